@@ -2,8 +2,8 @@
 -- A row lists its members with the primary first, and its version is one more with each new row of the partition.
 use Rattle.std.specs.Prelude.{ℕ, zero, suc, ◌+◌, ◌%◌, Bool, true, false, not, ◌&&◌, ◌||◌, ◌==◌, nat_eq, List, [], ◌∷◌, ◌++◌, map, take, Option, Some, None, filter}
 use Rattle.std.specs.List.{list_any, find}
-use Rattle.partition_table.specs.declared.members.RowMember.{RowMember}
-use Rattle.partition_table.specs.declared.row.Row.{Row}
+pub use Rattle.partition_table.specs.declared.members.RowMember.{RowMember}
+pub use Rattle.partition_table.specs.declared.row.Row.{Row}
 
 -- is the member's number m?
 abbrev pub has_number : ℕ → RowMember → Bool
