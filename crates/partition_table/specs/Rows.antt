@@ -78,7 +78,7 @@ first_eligible rs = find (λ (r : RowMember). r.eligible) rs
 abbrev pub others : ℕ → List RowMember → List RowMember
 others m rs = filter (λ (r : RowMember). not (has_number m r)) rs
 
--- led by this one: it moves to the front, and the others keep their order
+-- led by this one: it moves to the front, and the others keep their order. With nobody to lead there are none
 abbrev pub led_by : Option RowMember → List RowMember → List RowMember
 led_by None rs = []
 led_by (Some r) rs = r ∷ others r.member rs
