@@ -1,9 +1,10 @@
 -- What holds of a partition after every list of events: whatever is lost, repeated or late, and whoever crashes.
 use Rattle.std.specs.Prelude.{◌≡◌, ℕ, ◌≤◌, ◌<◌, Bool, true, false, List, [], ◌++◌, map, Some, slice_get, Contains, filter}
+use Rattle.grid_base.specs.Objects.{Object}
 use Rattle.partition_table.specs.declared.RowMember.{RowMember}
 use Rattle.partition_table.specs.Rows.{is_primary}
 use Rattle.partition_protocol.specs.Node.{Node, Held}
-use Rattle.partition_protocol.specs.History.{Object, Executed, Entry, Called, Reset, Base, begins_anew, IsLegal}
+use Rattle.partition_protocol.specs.History.{Executed, Entry, Called, Reset, Base, begins_anew, IsLegal}
 use Rattle.partition_protocol.specs.World.{World, start, is_live, pair_history, pair_state, trail}
 use Rattle.partition_protocol.specs.Events.{Event, happens, run}
 use Rattle.partition_protocol.specs.Arrivals.{name, arrivals, calls_in, NamedOnce}

@@ -1,5 +1,6 @@
 -- What can happen to a partition, what each event does, and its outcome.
 use Rattle.std.specs.Prelude.{ℕ, ◌+◌, Bool, not, ◌&&◌, ◌==◌, nat_lt, if◌then◌else◌, List, [], ◌∷◌, ◌++◌, Option, Some, None, slice_get}
+use Rattle.grid_base.specs.Objects.{Object}
 use Rattle.partition_table.specs.Rows.{is_in, is_empty, is_primary, is_among}
 use Rattle.partition_protocol.specs.Messages.{Message, Joined, Freeze, Frozen, Packet}
 use Rattle.partition_protocol.specs.Took.{Took, Dropped, Other}
@@ -7,7 +8,7 @@ use Rattle.partition_protocol.specs.Node.{Node, Pair, settled}
 use Rattle.partition_protocol.specs.Replica.{taking, sent_again}
 use Rattle.partition_protocol.specs.Execution.{reached, Reached, Executes, PartitionLost, WrongTarget, Migrating, executing, sent_on_executing}
 use Rattle.partition_protocol.specs.Service.{Service, NoMove, Freezing, telling, detecting, MoveRefused, join_refused, move_refused, handover_refused, beginning, handing_over, Nothing, Freezes, MakesRow, AdvanceStep, advance_of, ReopenRefused, reopen_refused, reopening, on_joined, on_frozen, freezing_again, with_row}
-use Rattle.partition_protocol.specs.History.{Object, Executed, Called, Reset}
+use Rattle.partition_protocol.specs.History.{Executed, Called, Reset}
 use Rattle.partition_protocol.specs.World.{World, map_or, is_live, pair_state, trail, with_base, with_node, with_entry, with_service}
 use Rattle.partition_protocol.specs.Links.{link, taken_out, with_packets, sending}
 

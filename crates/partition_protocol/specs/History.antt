@@ -1,14 +1,7 @@
 -- What was executed, and the history and state that a pair names. Contents aren't kept: a state is that which the calls of a history leave.
 use Rattle.std.specs.Prelude.{◌≡◌, ℕ, Bool, false, not, ◌&&◌, ◌==◌, nat_le, if◌then◌else◌, List, [], ◌∷◌, ◌++◌, filter}
+use Rattle.grid_base.specs.Objects.{Object}
 use Rattle.partition_protocol.specs.Node.{Pair}
-
--- An object used by one thread: the state at the start, what a call answers at a moment, the state that it leaves, and whether it has an effect.
--- Of a partition the object is all that it keeps
-pub record Object (Call State : Type 0) : Type 0 where
-  pub empty : State
-  pub reply : State → Call → ℕ → List ℕ
-  pub after : State → Call → ℕ → State
-  pub changes : State → Call → ℕ → Bool
 
 -- a call as it was executed: its connection and number, the version in which it was executed, the count that it saw, its moment and its reply
 pub record Executed (C : Type 0) : Type 0 where

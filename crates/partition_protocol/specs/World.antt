@@ -1,12 +1,13 @@
 -- A partition with its members, its messages in flight and its table service; and the history that it stands by.
 use Rattle.std.specs.Prelude.{ℕ, Bool, not, ◌&&◌, nat_lt, if◌then◌else◌, List, [], ◌∷◌, ◌++◌, map, Option, Some, None, slice_get, slice_set}
+use Rattle.grid_base.specs.Objects.{Object}
 use Rattle.partition_table.specs.Rows.{initial_row, first_of, is_among, is_primary}
 use Rattle.partition_protocol.specs.Messages.{Packet}
 use Rattle.partition_protocol.specs.Node.{Node, Pair, Held, opening_node, settled, now_released, no_pair}
 use Rattle.partition_protocol.specs.Adoption.{is_before_reset}
 use Rattle.partition_protocol.specs.Replica.{is_newer}
 use Rattle.partition_protocol.specs.Service.{Service, NoMove, numbers_below}
-use Rattle.partition_protocol.specs.History.{Object, Entry, Base, history, state_after, opening_at}
+use Rattle.partition_protocol.specs.History.{Entry, Base, history, state_after, opening_at}
 use Rattle.partition_protocol.specs.Recorded.{Recorded}
 
 pub record World (C : Type 0) : Type 0 where
