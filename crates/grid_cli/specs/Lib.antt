@@ -1,0 +1,9 @@
+pub mod Words
+pub mod Lines
+pub mod Requests
+pub mod Replies
+pub mod PartitionObjects
+pub mod Runs
+pub mod Printing
+pub mod Transcripts
+pub mod Linearizability

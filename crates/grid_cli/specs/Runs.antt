@@ -1,0 +1,181 @@
+-- The run of a script: what its lines so far have made. The worlds of the partitions are not kept: each is the protocol's run of its events.
+use Rattle.std.specs.Prelude.{ℕ, ◌+◌, ◌-◌, ◌==◌, Bool, true, false, if◌then◌else◌, List, [], ◌∷◌, ◌++◌, length, map, filter, drop, Option, Some, None, option_map, option_and_then, is_some, nat_eq}
+use Rattle.std.specs.List.{list_any, find, filter_map}
+use Rattle.grid_base.specs.Objects.{Object}
+use Rattle.grid_base.specs.Names.{is_same_call}
+use Rattle.grid_base.specs.declared.names.CallId.{CallId}
+use Rattle.grid_base.specs.declared.calls.Request.{Request}
+use Rattle.partition_protocol.specs.Node.{Held}
+use Rattle.partition_protocol.specs.History.{Executed, Entry, Called, Reset}
+use Rattle.partition_protocol.specs.Execution.{Reached, Executes, PartitionLost, WrongTarget, Migrating}
+use Rattle.partition_protocol.specs.World.{World, start}
+use Rattle.partition_protocol.specs.Events.{Event, Call, Outcome, Refused, Happened, happens, run}
+use Rattle.grid_cli.specs.Words.{are_same}
+use Rattle.grid_cli.specs.Requests.{request_of}
+use Rattle.grid_cli.specs.Replies.{error_bytes, partition_lost, wrong_target, migrating, want_of_memory}
+use Rattle.grid_cli.specs.declared.script.Line.{Line}
+use Rattle.grid_cli.specs.declared.script.Line.TheVariants.{Grid, OpenConn, Arrive, End}
+
+-- a connection: its number, the member that it is to, whether it began with its prefix, and how many messages are complete
+pub record Connection : Type 0 where
+  pub conn : ℕ
+  pub member : ℕ
+  pub greeted : Bool
+  pub messages : ℕ
+
+-- an event of one partition
+pub record At : Type 0 where
+  pub partition : ℕ
+  pub event : Event Request
+
+-- a call as it arrived: at which line, at which member, at which moment of that member
+pub record Arrival : Type 0 where
+  pub id : CallId
+  pub line : ℕ
+  pub member : ℕ
+  pub now : ℕ
+  pub request : Request
+
+-- a message appended to a connection's output at a line, and the call that it answers, if it answers one
+pub record Appended : Type 0 where
+  pub conn : ℕ
+  pub line : ℕ
+  pub bytes : List ℕ
+  pub answers : Option CallId
+
+pub record Run : Type 0 where
+  pub members : ℕ
+  pub backups : ℕ
+  pub lines : ℕ  -- how many lines were run
+  pub connections : List Connection
+  pub events : List At  -- of all partitions, in order
+  pub arrivals : List Arrival
+  pub appended : List Appended
+
+-- after the first line
+abbrev pub begun : ℕ → ℕ → Run
+begun members backups = record { members = members; backups = backups; lines = 1; connections = []; events = []; arrivals = []; appended = [] }
+
+abbrev pub is_at : ℕ → At → Bool
+is_at p e = e.partition == p
+
+abbrev pub events_at : ℕ → List At → List (Event Request)
+events_at p events = map (λ (e : At). e.event) (filter (is_at p) events)
+
+-- a partition's world
+abbrev pub world_at : {State : Type 0} → Object Request State → Run → ℕ → World Request
+world_at o r p = run o (start p r.members r.backups) (events_at p r.events)
+
+abbrev pub is_connection : ℕ → Connection → Bool
+is_connection c connection = connection.conn == c
+
+abbrev pub connection_of : Run → ℕ → Option Connection
+connection_of r c = find (is_connection c) r.connections
+
+abbrev pub updated : Connection → List Connection → List Connection
+updated new connections = map (λ (old : Connection). if old.conn == new.conn then new else old) connections
+
+-- answers
+
+abbrev pub id_of : Executed Request → CallId
+id_of x = record { conn = x.conn; number = x.number }
+
+-- the entry of a call in what was executed
+abbrev pub entry_named : CallId → List (Entry Request) → Option (Executed Request)
+entry_named id [] = None
+entry_named id (Called x ∷ es) = if is_same_call (id_of x) id then Some x else entry_named id es
+entry_named id (Reset version ∷ es) = entry_named id es
+
+abbrev pub entry_of_answer : World Request → Held → Option (Executed Request)
+entry_of_answer w h = entry_named (record { conn = h.conn; number = h.number }) w.recorded.log
+
+-- the calls whose answers an event released, in order of release
+abbrev pub released_by : World Request → World Request → List (Executed Request)
+released_by before after = filter_map (entry_of_answer after) (drop (length before.released) after.released)
+
+abbrev pub answer_to : ℕ → Executed Request → Appended
+answer_to line x = record { conn = x.conn; line = line; bytes = x.reply; answers = Some (id_of x) }
+
+-- a refusal, which answers no call
+abbrev pub refusal : ℕ → Request → ℕ → ℕ → Appended
+refusal line request code first = record { conn = request.id.conn; line = line; bytes = error_bytes request.correlation code first 0; answers = None }
+
+abbrev pub refused_at : ℕ → Request → Reached → List Appended
+refused_at line request Executes = []
+refused_at line request (PartitionLost version) = refusal line request partition_lost version ∷ []
+refused_at line request (WrongTarget version) = refusal line request wrong_target version ∷ []
+refused_at line request (Migrating version) = refusal line request migrating version ∷ []
+
+abbrev pub refused_by : ℕ → Request → Outcome → List Appended
+refused_by line request (Refused reached) = refused_at line request reached
+refused_by line request _ = []
+
+-- A message is complete and is a call: it arrives at the connection's member, at that member's moment, which is 0 at first.
+
+abbrev pub arrival_at : Run → Connection → Request → Arrival
+arrival_at r connection request = record { id = request.id; line = r.lines + 1; member = connection.member; now = 0; request = request }
+
+abbrev pub call_of : Arrival → Event Request
+call_of a = Call a.member a.id.conn a.id.number a.request a.now
+
+-- the call with an event, which may release answers or refuse it
+abbrev pub happening : {State : Type 0} → Object Request State → Run → Arrival → List Appended
+happening o r a =
+    let before = world_at o r a.request.partition in
+    let next = happens o before (call_of a) in
+    refused_by a.line a.request next.outcome ++ map (answer_to a.line) (released_by before next.world)
+
+abbrev pub arrived : Run → Connection → Arrival → List At → List Appended → Run
+arrived r connection a events appended = record {
+  members = r.members;
+  backups = r.backups;
+  lines = a.line;
+  connections = updated (record connection { messages = connection.messages + 1 }) r.connections;
+  events = r.events ++ events;
+  arrivals = r.arrivals ++ a ∷ [];
+  appended = r.appended ++ appended;
+}
+
+-- The skips are the calls that found no memory: such a call makes no event and is answered with error 10.
+abbrev pub is_skipped : List CallId → CallId → Bool
+is_skipped skips id = list_any (is_same_call id) skips
+
+abbrev pub asked : {State : Type 0} → Object Request State → List CallId → Run → Connection → Arrival → Run
+asked o skips r connection a =
+    if is_skipped skips a.id then arrived r connection a [] (refusal a.line a.request want_of_memory 0 ∷ [])
+    else arrived r connection a (record { partition = a.request.partition; event = call_of a } ∷ []) (happening o r a)
+
+-- Lines after the first. Each has a condition: where it is false the line is refused, at this stage.
+
+abbrev pub next_line : Run → Run
+next_line r = record r { lines = r.lines + 1 }
+
+abbrev pub opened : Run → ℕ → ℕ → Run
+opened r c member = record r { lines = r.lines + 1; connections = r.connections ++ record { conn = c; member = member; greeted = false; messages = 0 } ∷ [] }
+
+-- the first bytes of a connection
+abbrev pub prefix : List ℕ
+prefix = 67 ∷ 80 ∷ 50 ∷ []
+
+abbrev pub greeting : Run → Connection → List ℕ → Option Run
+greeting r connection bytes =
+    if are_same bytes prefix then Some (record r { lines = r.lines + 1; connections = updated (record connection { greeted = true }) r.connections })
+    else None
+
+abbrev pub next_id : Connection → CallId
+next_id connection = record { conn = connection.conn; number = connection.messages }
+
+abbrev pub requested : {State : Type 0} → Object Request State → List CallId → Run → Connection → List ℕ → Option Run
+requested o skips r connection bytes =
+    option_map (λ request. asked o skips r connection (arrival_at r connection request)) (request_of (next_id connection) bytes)
+
+-- The first bytes on a connection are its prefix alone, and later ones are one whole request.
+abbrev pub bytes_arrived : {State : Type 0} → Object Request State → List CallId → Run → List ℕ → Connection → Option Run
+bytes_arrived o skips r bytes connection = if connection.greeted then requested o skips r connection bytes else greeting r connection bytes
+
+-- the run after a line, where it may run; the line `end` leaves it to be printed
+abbrev pub after_line : {State : Type 0} → Object Request State → List CallId → Run → Line → Option Run
+after_line o skips r (Grid members backups capacity) = None
+after_line o skips r (OpenConn c member) = if is_some (connection_of r c) then None else Some (opened r c member)
+after_line o skips r (Arrive c bytes) = option_and_then (bytes_arrived o skips r bytes) (connection_of r c)
+after_line o skips r End = Some (next_line r)

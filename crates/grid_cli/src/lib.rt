@@ -1,0 +1,6 @@
+//! The program's commands: `grid replay` reads a script and prints its transcript.
+#![tactic(auto)]
+
+mod script;
+
+pub use script::{Line, LineWhy};
