@@ -1,11 +1,12 @@
-ghost use Rattle.std.specs.Prelude.{◌≡◌};
-ghost use Rattle.partition_table.specs.Rows.{is_primary};
+ghost use Rattle.std.specs.Prelude.{◌≡◌, ◌+◌, ◌<◌, IfOk};
+ghost use Rattle.partition_table.specs.Rows.{first_of, is_primary, is_backup, is_in, is_eligible, backups_of, first_live_eligible, initial_row, without, with_joiner, handed, with_eligible, reopened};
 
-use crate::MemberId;
-use crate::members::RowMembers;
+use crate::members::{RowMember, RowMembers};
+use crate::{MemberId, PartitionId};
+use std::alloc::{AllocError, Global};
 
 /// Who keeps a partition, in which version.
-#[derive(Drop)]
+#[derive(Clone, Debug, Drop)]
 pub struct Row {
     /// One more with each new row of the partition.
     pub version: u32,
@@ -18,6 +19,12 @@ pub struct Row {
 }
 
 impl Row {
+    pub fn primary(&self) -> Option<MemberId>
+        ensures { result ≡ first_of self.now.members }
+    {
+        self.members.as_slice().first().map(|first| first.member)
+    }
+
     /// Takes no memory.
     pub fn is_primary(&self, member: MemberId) -> bool
         ensures { result ≡ is_primary self.now member }
@@ -27,4 +34,60 @@ impl Row {
             [first, ..] => first.member == member,
         }
     }
+
+    pub fn contains(&self, member: MemberId) -> bool
+        ensures { result ≡ is_in self.now member }
+    {
+        self.members
+            .as_slice()
+            .iter()
+            .map(|listed| listed.member)
+            .any(|listed| member == listed)
+    }
+
+    pub fn is_backup(&self, member: MemberId) -> bool
+        ensures { result ≡ is_backup self.now member }
+    {
+        !self.is_primary(member) && self.contains(member)
+    }
+
+    pub fn is_eligible(&self, member: MemberId) -> bool
+        ensures { result ≡ is_eligible self.now member }
+    {
+        self.members
+            .as_slice()
+            .iter()
+            .any(|listed| listed.member == member && listed.eligible)
+    }
+
+    pub fn backups(&self) -> &[RowMember]
+        ensures { result.now ≡ backups_of self.now }
+    {
+        match self.members.as_slice() {
+            [] => &[],
+            [_, backups @ ..] => backups,
+        }
+    }
+
+    pub fn first_live_eligible(&self, detected: &[MemberId]) -> Option<MemberId>
+        ensures { result ≡ first_live_eligible self.now detected.now }
+    {
+        self.members
+            .as_slice()
+            .iter()
+            .find(|listed| listed.eligible && !detected.contains(&listed.member))
+            .map(|listed| listed.member)
+    }
+
+    pub fn mark_eligible(&mut self, member: MemberId)
+        ensures { self.new ≡ with_eligible self.old member }
+    {
+        self.members.mark_eligible(member);
+    }
+}
+
+fn copied(row: &Row) -> Result<Row, AllocError>
+    ensures { IfOk result (λ r. r ≡ row.now) }
+{
+    row.clone()
 }
