@@ -1,7 +1,9 @@
-ghost use Rattle.std.specs.Prelude.{◌≡◌, length, vec_len, map, ◌==◌};
-ghost use Rattle.partition_table.specs.Rows.{marked};
+ghost use Rattle.std.specs.Prelude.{◌≡◌, length, vec_len, map, ◌==◌, ◌∷◌, [], ◌++◌, false, IfOk};
+ghost use Rattle.partition_table.specs.Rows.{marked, others, first_eligible, begun_by as members_begun_by};
 
 use crate::MemberId;
+use std::alloc::{AllocError, Global};
+use std::iter;
 use std::marker::Model;
 
 /// A member of a row.
@@ -73,4 +75,78 @@ impl RowMembers {
             listed.eligible |= listed.member == member;
         }
     }
+}
+
+/// The first of the members but `leaving` that may lead.
+pub(crate) fn first_eligible_but(members: &[RowMember], leaving: MemberId) -> Option<RowMember>
+    ensures { result ≡ first_eligible (others leaving members.now) }
+{
+    members
+        .iter()
+        .copied()
+        .filter(|listed| listed.member != leaving)
+        .find(|listed| listed.eligible)
+}
+
+/// The leader, and then the others but `leaving`.
+pub(crate) fn led_by(
+    alloc: Global,
+    leader: RowMember,
+    members: &[RowMember],
+    leaving: MemberId,
+) -> Result<RowMembers, AllocError>
+    ensures { IfOk result (λ led. led ≡ leader ∷ others leader.member (others leaving members.now)) }
+{
+    let led = iter::once(leader).chain(
+        members
+            .iter()
+            .copied()
+            .filter(|listed| listed.member != leaving)
+            .filter(|listed| listed.member != leader.member),
+    );
+    Ok(RowMembers::from_vec(led.collect(alloc)?))
+}
+
+/// The members, and then one more that may not lead yet.
+pub(crate) fn joined(
+    alloc: Global,
+    members: &[RowMember],
+    member: MemberId,
+) -> Result<RowMembers, AllocError>
+    ensures { IfOk result (λ all. all ≡ members.now ++ record { member = member; eligible = false } ∷ []) }
+{
+    let joiner = RowMember {
+        member,
+        eligible: false,
+    };
+    let all = members.iter().copied().chain(iter::once(joiner));
+    Ok(RowMembers::from_vec(all.collect(alloc)?))
+}
+
+/// The first of these may lead, and the others not yet.
+pub(crate) fn begun_by(alloc: Global, members: &[MemberId]) -> Result<RowMembers, AllocError>
+    ensures { IfOk result (λ begun. begun ≡ members_begun_by members.now) }
+{
+    match members {
+        [] => Ok(RowMembers::from_vec(Vec::new(alloc))),
+        [leader, others @ ..] => begun_with(alloc, *leader, others),
+    }
+}
+
+fn begun_with(
+    alloc: Global,
+    leader: MemberId,
+    others: &[MemberId],
+) -> Result<RowMembers, AllocError>
+    ensures { IfOk result (λ begun. begun ≡ members_begun_by (leader ∷ others.now)) }
+{
+    let leader = RowMember {
+        member: leader,
+        eligible: true,
+    };
+    let others = others.iter().copied().map(|member| RowMember {
+        member,
+        eligible: false,
+    });
+    Ok(RowMembers::from_vec(iter::once(leader).chain(others).collect(alloc)?))
 }

@@ -1,7 +1,7 @@
 ghost use Rattle.std.specs.Prelude.{◌≡◌, ◌+◌, ◌<◌, IfOk};
-ghost use Rattle.partition_table.specs.Rows.{first_of, is_primary, is_backup, is_in, is_eligible, backups_of, first_live_eligible, initial_row, without, with_joiner, handed, with_eligible, reopened};
+ghost use Rattle.partition_table.specs.Rows.{first_of, is_primary, is_backup, is_in, is_eligible, backups_of, first_live_eligible, initial_row, without, with_joiner, handed, with_eligible, reopened, next_row};
 
-use crate::members::{RowMember, RowMembers};
+use crate::members::{RowMember, RowMembers, begun_by, first_eligible_but, joined, led_by};
 use crate::{MemberId, PartitionId};
 use std::alloc::{AllocError, Global};
 
@@ -84,10 +84,64 @@ impl Row {
     {
         self.members.mark_eligible(member);
     }
-}
 
-fn copied(row: &Row) -> Result<Row, AllocError>
-    ensures { IfOk result (λ r. r ≡ row.now) }
-{
-    row.clone()
+    /// Without that member: the first eligible of the others leads, and the row is lost if none is.
+    /// Allocates in one pass.
+    pub fn without(&self, alloc: Global, member: MemberId) -> Result<Row, AllocError>
+        requires { self.now.version < u32.MAX }
+        ensures row { IfOk result (λ row. row ≡ without self.now member) }
+    {
+        let members = self.members.as_slice();
+        match first_eligible_but(members, member) {
+            None => Ok(self.next(RowMembers::from_vec(Vec::new(alloc)))),
+            Some(leader) => Ok(self.next(led_by(alloc, leader, members, member)?)),
+        }
+    }
+
+    /// With that member last, as one that may not lead yet. Allocates in one pass.
+    pub fn with_joiner(&self, alloc: Global, member: MemberId) -> Result<Row, AllocError>
+        requires { self.now.version < u32.MAX }
+        ensures row { IfOk result (λ row. row ≡ with_joiner self.now member) }
+    {
+        Ok(self.next(joined(alloc, self.members.as_slice(), member)?))
+    }
+
+    /// Handed over: `from` leaves, and `to` leads. Allocates in one pass.
+    pub fn handed(&self, alloc: Global, from: MemberId, to: MemberId) -> Result<Row, AllocError>
+        requires { self.now.version < u32.MAX }
+        ensures row { IfOk result (λ row. row ≡ handed self.now from to) }
+    {
+        let leader = RowMember {
+            member: to,
+            eligible: true,
+        };
+        Ok(self.next(led_by(alloc, leader, self.members.as_slice(), from)?))
+    }
+
+    /// Reopened by these members: the row begins empty, and its first member alone may lead.
+    /// Allocates in one pass.
+    pub fn reopened(&self, alloc: Global, members: &[MemberId]) -> Result<Row, AllocError>
+        requires { self.now.version < u32.MAX }
+        ensures row { IfOk result (λ row. row ≡ reopened self.now members.now) }
+    {
+        let version = self.version + 1;
+        Ok(Row {
+            version,
+            reset: version,
+            lost: false,
+            members: begun_by(alloc, members)?,
+        })
+    }
+
+    fn next(&self, members: RowMembers) -> Row
+        requires { self.now.version < u32.MAX }
+        ensures { result ≡ next_row self.now members }
+    {
+        Row {
+            version: self.version + 1,
+            reset: self.reset,
+            lost: members.is_empty(),
+            members,
+        }
+    }
 }
