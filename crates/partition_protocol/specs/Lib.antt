@@ -1,0 +1,16 @@
+pub mod Messages
+pub mod Took
+pub mod Node
+pub mod CatchUp
+pub mod Adoption
+pub mod Replica
+pub mod Execution
+pub mod Service
+pub mod History
+pub mod Recorded
+pub mod World
+pub mod Links
+pub mod Events
+pub mod Arrivals
+pub mod Sequences
+pub mod Claims
