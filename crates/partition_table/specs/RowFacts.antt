@@ -1,6 +1,6 @@
 -- What every row of a partition keeps, whatever made it.
 use Rattle.std.specs.Prelude.{ℕ, Bool, true, false, not, ◌&&◌, List, [], ◌∷◌}
-use Rattle.partition_table.specs.Rows.{Row, RowMember, is_among, is_empty, numbers_of}
+use Rattle.partition_table.specs.Rows.{Row, RowMember, is_among, numbers_of}
 
 -- no number stands twice
 abbrev pub are_distinct : List ℕ → Bool

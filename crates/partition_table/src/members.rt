@@ -1,7 +1,7 @@
 ghost use Rattle.std.specs.Prelude.{◌≡◌, length, vec_len, map, ◌==◌, ◌∷◌, [], ◌++◌, false, IfOk};
-ghost use Rattle.partition_table.specs.Rows.{marked, others, first_eligible, begun_by as members_begun_by};
+ghost use Rattle.partition_table.specs.Rows.{marked, others, first_eligible, eligible_member, members_from, with_backups, begun_by as members_begun_by};
 
-use crate::MemberId;
+use crate::{MemberId, PartitionId};
 use std::alloc::{AllocError, Global};
 use std::iter;
 use std::marker::Model;
@@ -75,6 +75,27 @@ impl RowMembers {
             listed.eligible |= listed.member == member;
         }
     }
+}
+
+/// Of so many members, the one whose number is the partition's modulo theirs, and those that follow.
+pub(crate) fn opening(
+    alloc: Global,
+    partition: PartitionId,
+    members: u8,
+    backups: u8,
+) -> Result<RowMembers, AllocError>
+    ensures { IfOk result (λ all. all ≡ map eligible_member (with_backups backups (members_from members members partition))) }
+{
+    let count = members.min(backups.saturating_add(1));
+    let mut opening = Vec::new(alloc);
+    for k in 0..count {
+        let member = (u32::from(partition) + u32::from(k)) % u32::from(members);
+        opening.push(RowMember {
+            member: member as MemberId,
+            eligible: true,
+        })?;
+    }
+    Ok(RowMembers::from_vec(opening))
 }
 
 /// The first of the members but `leaving` that may lead.

@@ -1,7 +1,9 @@
 ghost use Rattle.std.specs.Prelude.{◌≡◌, ◌+◌, ◌<◌, IfOk};
 ghost use Rattle.partition_table.specs.Rows.{first_of, is_primary, is_backup, is_in, is_eligible, backups_of, first_live_eligible, initial_row, without, with_joiner, handed, with_eligible, reopened, next_row};
 
-use crate::members::{RowMember, RowMembers, begun_by, first_eligible_but, joined, led_by};
+use crate::members::{
+    RowMember, RowMembers, begun_by, first_eligible_but, joined, led_by, opening,
+};
 use crate::{MemberId, PartitionId};
 use std::alloc::{AllocError, Global};
 
@@ -19,6 +21,25 @@ pub struct Row {
 }
 
 impl Row {
+    /// The opening row of a partition: the member whose number is the partition's modulo `members`
+    /// leads, and the next ones are its backups. Allocates for its members alone.
+    pub fn initial(
+        alloc: Global,
+        partition: PartitionId,
+        members: u8,
+        backups: u8,
+    ) -> Result<Row, AllocError>
+        ensures row { IfOk result (λ row. row ≡ initial_row partition members backups) }
+    {
+        let members = opening(alloc, partition, members, backups)?;
+        Ok(Row {
+            version: 1,
+            reset: 0,
+            lost: false,
+            members,
+        })
+    }
+
     pub fn primary(&self) -> Option<MemberId>
         ensures { result ≡ first_of self.now.members }
     {
