@@ -5,8 +5,16 @@
 #![tactic(auto)]
 
 mod count;
+mod memory_sink;
+mod memory_source;
+mod plan;
 mod sink;
 mod source;
+mod standard;
+mod unread;
 
+pub use memory_sink::MemorySink;
+pub use memory_source::{MemorySource, SteadySource};
 pub use sink::{Sink, WriteFault, write_all};
 pub use source::{ReadFault, Source};
+pub use standard::{StdSink, StdSource};
