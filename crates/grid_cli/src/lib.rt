@@ -1,6 +1,8 @@
 //! The program's commands: `grid replay` reads a script and prints its transcript.
 #![tactic(auto)]
 
+mod print;
 mod script;
+mod words;
 
-pub use script::{Line, LineWhy};
+pub use script::{Line, LineWhy, read_line};
