@@ -7,3 +7,4 @@ pub mod Runs
 pub mod Printing
 pub mod Transcripts
 pub mod Linearizability
+pub mod Effects

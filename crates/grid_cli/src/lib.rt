@@ -1,6 +1,7 @@
 //! The program's commands: `grid replay` reads a script and prints its transcript.
 #![tactic(auto)]
 
+mod replies;
 mod script;
 
 pub use script::{Line, LineWhy};
