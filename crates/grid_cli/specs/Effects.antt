@@ -1,6 +1,7 @@
 -- Effects as bytes: what makes the state after a call of the state before it.
 use Rattle.std.specs.Prelude.{ℕ, ◌+◌, ◌^◌, ◌<◌, ◌≤◌, ◌==◌, ◌&&◌, if◌then◌else◌, List, [], ◌∷◌, ◌++◌, length, take, drop, Option, Some, None, IfSome, nat_le, nat_lt}
 use Rattle.std.specs.Option.{option_map}
+use Rattle.std.specs.Borrow.{Bor}
 use Rattle.std.specs.Int.{w32, to_le_bytes, from_le_bytes}
 use Rattle.frame_codec.specs.declared.frames.TheConstants.{MAX_PAYLOAD}
 use Rattle.grid_base.specs.MapEntries.{MapEntry}
@@ -10,6 +11,7 @@ use Rattle.grid_base.specs.declared.calls.Answer.TheVariants.{Maybe}
 use Rattle.grid_base.specs.declared.calls.MapCall.{MapCall}
 use Rattle.grid_base.specs.declared.calls.MapCall.TheVariants.{Put, Get}
 use Rattle.grid_base.specs.declared.calls.Request.{Request}
+use Rattle.grid_cli.specs.declared.shelf.effects.MapSet.{MapSet}
 use Rattle.grid_cli.specs.Words.{are_same}
 use Rattle.grid_cli.specs.Requests.{◌>>=◌}
 use Rattle.grid_cli.specs.PartitionObjects.{Partition, with_entry, map_call_of, target_of, entry_after, entry_changes}
@@ -86,6 +88,14 @@ effect_at bytes = do
   if are_same value.1 rest_of_record && nat_le (length value.0) MAX_PAYLOAD
     then Some (record { map = map.0; key = key.0 }, value.0)
     else None
+
+-- what the code's readers give, without where it lies in memory
+
+abbrev pub parts_of : Bor (List ℕ) × Bor (List ℕ) → List ℕ × List ℕ
+parts_of parts = (parts.0.now, parts.1.now)
+
+abbrev pub set_by : MapSet → ObjectName × List ℕ
+set_by set = (record { map = set.name.now; key = set.key.now }, set.value.now)
 
 -- A call that changes its entry has the effect that sets the entry.
 abbrev pub effect_on : MapEntry → Request → ℕ → Option (List ℕ)

@@ -8,3 +8,4 @@ pub mod Printing
 pub mod Transcripts
 pub mod Linearizability
 pub mod Effects
+pub mod MapLists

@@ -3,5 +3,6 @@
 
 mod replies;
 mod script;
+mod shelf;
 
 pub use script::{Line, LineWhy};

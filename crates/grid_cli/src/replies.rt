@@ -24,9 +24,9 @@ fn head_of(alloc: Global, kind: u32, correlation: i64) -> Result<Vec<u8>, Memory
     Ok(head)
 }
 
-fn write_nullable(alloc: Global, value: &Option<Bytes>, out: &mut Vec<u8>) -> Result<(), Memory>
-    requires { IfSome value.now FitsFrame }
-    ensures { OnOk result (out.new.items ≡ out.old.items ++ nullable_frame value.now) }
+fn write_nullable(alloc: Global, value: Option<&Bytes>, out: &mut Vec<u8>) -> Result<(), Memory>
+    requires { IfSome (option_copied value) FitsFrame }
+    ensures { OnOk result (out.new.items ≡ out.old.items ++ nullable_frame (option_copied value.entry)) }
 {
     let frame = match value {
         Some(value) => Frame {
@@ -59,7 +59,7 @@ pub(crate) fn write_reply(
     };
     write_frame(&head, &mut reply)?;
     let Answer::Maybe(value) = answer;
-    write_nullable(alloc, value, &mut reply)?;
+    write_nullable(alloc, value.as_ref(), &mut reply)?;
     Ok(Bytes::from_vec(reply))
 }
 
