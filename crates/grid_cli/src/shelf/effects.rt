@@ -23,7 +23,7 @@ const ABSENT: u8 = 0;
 const REST_OF_RECORD: [u8; 3] = [ABSENT; 3];
 
 /// The new value of a map entry.
-#[derive(Clone, Copy, Drop)]
+#[derive(Clone, Copy)]
 pub(super) struct MapSet<'a> {
     pub name: &'a [u8],
     pub key: &'a [u8],
