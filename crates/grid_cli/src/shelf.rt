@@ -81,3 +81,53 @@ fn is_value(old: Option<&Bytes>, value: &Bytes) -> bool
         None => false,
     }
 }
+
+/// What makes the state after a call, if it changes the value that its entry had.
+fn effect_of(
+    alloc: Global,
+    call: &Request,
+    old: Option<&Bytes>,
+    now: Moment,
+) -> Result<Option<Bytes>, Memory>
+    requires { RequestFits call.now }
+    ensures { IfOk result (λ effect. effect ≡ effect_on (record { value = option_copied old.entry }) call.now now) }
+{
+    let GridCall::Map(map_call) = &call.call;
+    match map_call {
+        MapCall::Put {
+            name, key, value, ..
+        } => {
+            if is_value(old, value) {
+                return Ok(None);
+            }
+            Ok(Some(write_set(
+                alloc,
+                name.as_slice(),
+                key.as_slice(),
+                value.as_slice(),
+            )?))
+        }
+        MapCall::Get { .. } => Ok(None),
+    }
+}
+
+/// Sets the value of an entry, which is added if there is none of that name. Want of memory changes nothing.
+fn set_value(alloc: Global, entries: &mut Vec<StoredEntry>, set: MapSet) -> Result<(), Memory>
+    requires list { IsMapList entries.old.items }
+    requires fits { FitsFrame set.value.now }
+    ensures list { IsMapList entries.new.items }
+    ensures ok { OnOk result (partition_of entries.new.items
+        ≡ with_entry (partition_of entries.old.items) (set_by set.entry).0 (record { value = Some (set_by set.entry).1 })) }
+    ensures err { OnErr result (entries.new.items ≡ entries.old.items) }
+{
+    let value = Bytes::copied_from(alloc, set.value)?;
+    match place_of(entries.as_slice(), set.name, set.key) {
+        Some(place) => entries[place].value = value,
+        None => entries.push(StoredEntry {
+            name: Bytes::copied_from(alloc, set.name)?,
+            key: Bytes::copied_from(alloc, set.key)?,
+            value,
+        })?,
+    }
+    Ok(())
+}
