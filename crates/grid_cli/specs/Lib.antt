@@ -8,3 +8,7 @@ pub mod Printing
 pub mod Transcripts
 pub mod Linearizability
 pub mod Splitting
+pub mod Effects
+pub mod MapLists
+pub mod Tables
+pub mod Grids
