@@ -10,5 +10,3 @@ pub mod Linearizability
 pub mod Splitting
 pub mod Effects
 pub mod MapLists
-pub mod Tables
-pub mod Grids

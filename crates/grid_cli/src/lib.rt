@@ -1,11 +1,8 @@
 //! The program's commands: `grid replay` reads a script and prints its transcript.
 #![tactic(auto)]
 
-mod connections;
-mod grid;
 mod print;
 mod replies;
-mod requests;
 mod script;
 mod shelf;
 mod words;
