@@ -16,7 +16,7 @@ use Rattle.partition_protocol.proofs.Histories.{IsBase, good_nil, start_at}
 use Rattle.partition_protocol.proofs.Invariant.{PairUp, Shape, shape, NodeAt, RowsOk, HasUpTo, NodeOk, AcksOk, Frame, ContentOk}
 use Rattle.partition_protocol.proofs.RowFacts.{eligible_in, first_among, number_same}
 use Rattle.partition_protocol.proofs.Forward.{le_cases}
-use Rattle.partition_protocol.proofs.Rows.{members_from_below, with_backups_in, is_in_member}
+use Rattle.partition_protocol.proofs.NextRows.{members_from_below, with_backups_in, is_in_member}
 use Rattle.partition_protocol.proofs.Safe.{safe}
 use Rattle.partition_protocol.proofs.Extends.{run_longer}
 use Rattle.partition_protocol.proofs.Faithful.{faithful}
