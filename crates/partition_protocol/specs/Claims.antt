@@ -1,5 +1,5 @@
 -- What holds of a partition after every list of events: whatever is lost, repeated or late, and whoever crashes.
-use Rattle.std.specs.Prelude.{◌≡◌, ℕ, ◌≤◌, ◌<◌, Bool, true, false, List, [], ◌++◌, map, Some, slice_get, Contains, filter}
+use Rattle.std.specs.Prelude.{◌≡◌, ℕ, ◌≤◌, ◌<◌, ◌⊎◌, Bool, true, false, List, [], ◌++◌, map, Some, slice_get, Contains, filter}
 use Rattle.grid_base.specs.Objects.{Object}
 use Rattle.partition_table.specs.declared.RowMember.{RowMember}
 use Rattle.partition_table.specs.Rows.{is_primary}
@@ -33,7 +33,10 @@ pub record IsSafe {C State : Type 0} (o : Object C State) (w : World C) : Type 0
   -- a live member that was replaced as primary, and doesn't know it yet, is frozen and holds no answer
   pub deposed : (m : ℕ) (node : Node) → is_live w m ≡ true → slice_get w.nodes m ≡ Some node → is_primary node.known m ≡ true
       → is_primary w.service.row m ≡ false → (node.frozen ≡ true) × (node.held ≡ [])
-  -- so is one that knows itself primary of a version after which another began
+  -- so is one that knows itself primary of a version before the newest row's reset
+  pub outlived : (m : ℕ) (node : Node) → is_live w m ≡ true → slice_get w.nodes m ≡ Some node → is_primary node.known m ≡ true
+      → node.known.version < w.service.row.reset → (node.frozen ≡ true) × (node.held ≡ [])
+  -- and one that knows itself primary of a version after which another began
   pub stopped : (m : ℕ) (node : Node) (b : Base) → is_live w m ≡ true → slice_get w.nodes m ≡ Some node → is_primary node.known m ≡ true
       → Contains w.recorded.bases b → node.known.version < b.version → (node.frozen ≡ true) × (node.held ≡ [])
 
@@ -53,6 +56,13 @@ abbrev pub EveryRunExtends : {C State : Type 0} → Object C State → Type 0
 EveryRunExtends {C} o = (partition members backups : ℕ) (events more : List (Event C))
     → IsFrontOf (run o (start partition members backups) events).recorded.log (run o (start partition members backups) (events ++ more)).recorded.log
     × IsFrontOf (run o (start partition members backups) events).released (run o (start partition members backups) (events ++ more)).released
+
+-- An answer that a member holds is held on until it is released. So a member that stops being primary holds none
+abbrev pub EveryAnswerStays : {C State : Type 0} → Object C State → Type 0
+EveryAnswerStays {C} o = (partition members backups : ℕ) (events : List (Event C)) (event : Event C) (m : ℕ) (node : Node) (h : Held) → 1 ≤ members
+    → slice_get (run o (start partition members backups) events).nodes m ≡ Some node → Contains node.held h
+    → Contains (happens o (run o (start partition members backups) events) event).world.released h
+    ⊎ ((next : Node) × (slice_get (happens o (run o (start partition members backups) events) event).world.nodes m ≡ Some next) × Contains next.held h)
 
 -- contents
 

@@ -7,7 +7,7 @@
 #![tactic(auto)]
 
 ghost use Rattle.grid_base.specs.Objects.{Object};
-ghost use Rattle.partition_protocol.specs.Claims.{EveryRunIsSafe, EveryRunExtends, EveryStateStays, EveryBridgeStays, EveryBeginningIsEmpty};
+ghost use Rattle.partition_protocol.specs.Claims.{EveryRunIsSafe, EveryRunExtends, EveryAnswerStays, EveryStateStays, EveryBridgeStays, EveryBeginningIsEmpty};
 
 /// Whatever is lost, repeated or late, and whoever crashes: after every list of events in which no two calls have one
 /// name, the history by which the partition stands is that of one object used by one thread and emptied at each
@@ -20,9 +20,10 @@ pub fn every_run_is_safe<C, S>()
     ensures { (o : Object C S) → EveryRunIsSafe o }
 {}
 
-/// Nothing that was executed or answered is taken back, and its order stays.
+/// Nothing that was executed or answered is taken back, and its order stays. No member drops an answer that it holds.
 pub fn every_run_extends<C, S>()
-    ensures { (o : Object C S) → EveryRunExtends o }
+    ensures extends { (o : Object C S) → EveryRunExtends o }
+    ensures answers { (o : Object C S) → EveryAnswerStays o }
 {}
 
 /// The contents of a member change only where it takes something that changes them. For an object whose calls without
