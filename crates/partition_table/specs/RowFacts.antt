@@ -1,4 +1,4 @@
--- What every row of a partition keeps, whatever made it.
+-- What the rows of a partition keep, whatever made them.
 use Rattle.std.specs.Prelude.{ℕ, Bool, true, false, not, ◌&&◌, List, [], ◌∷◌}
 use Rattle.partition_table.specs.Rows.{Row, RowMember, is_among, numbers_of}
 

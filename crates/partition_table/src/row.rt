@@ -1,4 +1,5 @@
-ghost use Rattle.std.specs.Prelude.{◌≡◌, ◌+◌, ◌<◌, IfOk};
+ghost use Rattle.std.specs.Prelude.{◌≡◌, ◌+◌, ◌<◌, ◌↔◌, [], false, IsTrue, IfOk};
+ghost use Rattle.partition_table.specs.RowFacts.{are_distinct, has_distinct_members, begins_eligible};
 ghost use Rattle.partition_table.specs.Rows.{first_of, is_primary, is_backup, is_in, is_eligible, backups_of, first_live_eligible, initial_row, without, with_joiner, handed, with_eligible, reopened, next_row};
 
 use crate::members::{
@@ -30,6 +31,7 @@ impl Row {
         backups: u8,
     ) -> Result<Row, AllocError>
         ensures row { IfOk result (λ row. row ≡ initial_row partition members backups) }
+        ensures distinct { IfOk result (λ row. IsTrue (has_distinct_members row)) }
     {
         let members = opening(alloc, partition, members, backups)?;
         Ok(Row {
@@ -111,6 +113,11 @@ impl Row {
     pub fn without(&self, alloc: Global, member: MemberId) -> Result<Row, AllocError>
         requires { self.now.version < u32.MAX }
         ensures row { IfOk result (λ row. row ≡ without self.now member) }
+        ensures version { IfOk result (λ row. row.version ≡ self.now.version + 1) }
+        ensures lost { IfOk result (λ row. IsTrue row.lost ↔ (row.members ≡ [])) }
+        ensures gone { IfOk result (λ row. is_in row member ≡ false) }
+        ensures led { IfOk result (λ row. row.lost ≡ false → IsTrue (begins_eligible row.members)) }
+        ensures distinct { IfOk result (λ row. IsTrue (has_distinct_members self.now) → IsTrue (has_distinct_members row)) }
     {
         let members = self.members.as_slice();
         match first_eligible_but(members, member) {
@@ -123,6 +130,9 @@ impl Row {
     pub fn with_joiner(&self, alloc: Global, member: MemberId) -> Result<Row, AllocError>
         requires { self.now.version < u32.MAX }
         ensures row { IfOk result (λ row. row ≡ with_joiner self.now member) }
+        ensures version { IfOk result (λ row. row.version ≡ self.now.version + 1) }
+        ensures lost { IfOk result (λ row. IsTrue row.lost ↔ (row.members ≡ [])) }
+        ensures distinct { IfOk result (λ row. is_in self.now member ≡ false → IsTrue (has_distinct_members self.now) → IsTrue (has_distinct_members row)) }
     {
         Ok(self.next(joined(alloc, self.members.as_slice(), member)?))
     }
@@ -131,6 +141,9 @@ impl Row {
     pub fn handed(&self, alloc: Global, from: MemberId, to: MemberId) -> Result<Row, AllocError>
         requires { self.now.version < u32.MAX }
         ensures row { IfOk result (λ row. row ≡ handed self.now from to) }
+        ensures version { IfOk result (λ row. row.version ≡ self.now.version + 1) }
+        ensures lost { IfOk result (λ row. IsTrue row.lost ↔ (row.members ≡ [])) }
+        ensures distinct { IfOk result (λ row. IsTrue (has_distinct_members self.now) → IsTrue (has_distinct_members row)) }
     {
         let leader = RowMember {
             member: to,
@@ -144,6 +157,9 @@ impl Row {
     pub fn reopened(&self, alloc: Global, members: &[MemberId]) -> Result<Row, AllocError>
         requires { self.now.version < u32.MAX }
         ensures row { IfOk result (λ row. row ≡ reopened self.now members.now) }
+        ensures version { IfOk result (λ row. row.version ≡ self.now.version + 1) }
+        ensures reset { IfOk result (λ row. row.reset ≡ row.version) }
+        ensures distinct { IfOk result (λ row. IsTrue (are_distinct members.now) → IsTrue (has_distinct_members row)) }
     {
         let version = self.version + 1;
         Ok(Row {
