@@ -1,0 +1,4 @@
+pub mod Histories
+pub mod MapEntries
+pub mod Names
+pub mod Objects

@@ -1,0 +1,18 @@
+//! The grid's common words: bytes, names, calls and answers, and what a partition keeps.
+#![tactic(auto)]
+
+mod bytes;
+mod calls;
+mod names;
+mod shelf;
+
+pub use bytes::Bytes;
+pub use calls::{Answer, Change, Executed, GridCall, MapCall, Request};
+pub use names::{CallId, ClientKey, MemberId, Moment, Owner, PartitionId};
+pub use shelf::Shelf;
+
+/// Want of memory: the one error whose coming no contract explains.
+pub type Memory = std::alloc::AllocError;
+
+/// How many partitions a grid has.
+pub const PARTITIONS: u16 = 271;
