@@ -1,8 +1,8 @@
 ghost use Rattle.std.specs.Prelude.{◌≡◌, length, vec_len, map, ◌==◌, ◌∷◌, [], ◌++◌, false, IfOk};
 ghost use Rattle.partition_table.specs.Rows.{marked, others, first_eligible, eligible_member, members_from, with_backups, begun_by as members_begun_by};
 
-use crate::{MemberId, PartitionId};
-use std::alloc::{AllocError, Global};
+use grid_base::{MemberId, Memory, PartitionId};
+use std::alloc::Global;
 use std::iter;
 use std::marker::Model;
 
@@ -83,7 +83,7 @@ pub(crate) fn opening(
     partition: PartitionId,
     members: u8,
     backups: u8,
-) -> Result<RowMembers, AllocError>
+) -> Result<RowMembers, Memory>
     ensures { IfOk result (λ all. all ≡ map eligible_member (with_backups backups (members_from members members partition))) }
 {
     let count = members.min(backups.saturating_add(1));
@@ -115,7 +115,7 @@ pub(crate) fn led_by(
     leader: RowMember,
     members: &[RowMember],
     leaving: MemberId,
-) -> Result<RowMembers, AllocError>
+) -> Result<RowMembers, Memory>
     ensures { IfOk result (λ led. led ≡ leader ∷ others leader.member (others leaving members.now)) }
 {
     let led = iter::once(leader).chain(
@@ -133,7 +133,7 @@ pub(crate) fn joined(
     alloc: Global,
     members: &[RowMember],
     member: MemberId,
-) -> Result<RowMembers, AllocError>
+) -> Result<RowMembers, Memory>
     ensures { IfOk result (λ all. all ≡ members.now ++ record { member = member; eligible = false } ∷ []) }
 {
     let joiner = RowMember {
@@ -145,7 +145,7 @@ pub(crate) fn joined(
 }
 
 /// The first of these may lead, and the others not yet.
-pub(crate) fn begun_by(alloc: Global, members: &[MemberId]) -> Result<RowMembers, AllocError>
+pub(crate) fn begun_by(alloc: Global, members: &[MemberId]) -> Result<RowMembers, Memory>
     ensures { IfOk result (λ begun. begun ≡ members_begun_by members.now) }
 {
     match members {
@@ -154,11 +154,7 @@ pub(crate) fn begun_by(alloc: Global, members: &[MemberId]) -> Result<RowMembers
     }
 }
 
-fn begun_with(
-    alloc: Global,
-    leader: MemberId,
-    others: &[MemberId],
-) -> Result<RowMembers, AllocError>
+fn begun_with(alloc: Global, leader: MemberId, others: &[MemberId]) -> Result<RowMembers, Memory>
     ensures { IfOk result (λ begun. begun ≡ members_begun_by (leader ∷ others.now)) }
 {
     let leader = RowMember {

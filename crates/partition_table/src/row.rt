@@ -5,8 +5,8 @@ ghost use Rattle.partition_table.specs.Rows.{first_of, is_primary, is_backup, is
 use crate::members::{
     RowMember, RowMembers, begun_by, first_eligible_but, joined, led_by, opening,
 };
-use crate::{MemberId, PartitionId};
-use std::alloc::{AllocError, Global};
+use grid_base::{MemberId, Memory, PartitionId};
+use std::alloc::Global;
 
 /// Who keeps a partition, in which version.
 #[derive(Clone, Debug, Drop)]
@@ -29,7 +29,7 @@ impl Row {
         partition: PartitionId,
         members: u8,
         backups: u8,
-    ) -> Result<Row, AllocError>
+    ) -> Result<Row, Memory>
         ensures row { IfOk result (λ row. row ≡ initial_row partition members backups) }
         ensures distinct { IfOk result (λ row. IsTrue (has_distinct_members row)) }
     {
@@ -110,7 +110,7 @@ impl Row {
 
     /// Without that member: the first eligible of the others leads, and the row is lost if none is.
     /// Allocates in one pass.
-    pub fn without(&self, alloc: Global, member: MemberId) -> Result<Row, AllocError>
+    pub fn without(&self, alloc: Global, member: MemberId) -> Result<Row, Memory>
         requires { self.now.version < u32.MAX }
         ensures row { IfOk result (λ row. row ≡ without self.now member) }
         ensures version { IfOk result (λ row. row.version ≡ self.now.version + 1) }
@@ -127,7 +127,7 @@ impl Row {
     }
 
     /// With that member last, as one that may not lead yet. Allocates in one pass.
-    pub fn with_joiner(&self, alloc: Global, member: MemberId) -> Result<Row, AllocError>
+    pub fn with_joiner(&self, alloc: Global, member: MemberId) -> Result<Row, Memory>
         requires { self.now.version < u32.MAX }
         ensures row { IfOk result (λ row. row ≡ with_joiner self.now member) }
         ensures version { IfOk result (λ row. row.version ≡ self.now.version + 1) }
@@ -138,7 +138,7 @@ impl Row {
     }
 
     /// Handed over: `from` leaves, and `to` leads. Allocates in one pass.
-    pub fn handed(&self, alloc: Global, from: MemberId, to: MemberId) -> Result<Row, AllocError>
+    pub fn handed(&self, alloc: Global, from: MemberId, to: MemberId) -> Result<Row, Memory>
         requires { self.now.version < u32.MAX }
         ensures row { IfOk result (λ row. row ≡ handed self.now from to) }
         ensures version { IfOk result (λ row. row.version ≡ self.now.version + 1) }
@@ -154,7 +154,7 @@ impl Row {
 
     /// Reopened by these members: the row begins empty, and its first member alone may lead.
     /// Allocates in one pass.
-    pub fn reopened(&self, alloc: Global, members: &[MemberId]) -> Result<Row, AllocError>
+    pub fn reopened(&self, alloc: Global, members: &[MemberId]) -> Result<Row, Memory>
         requires { self.now.version < u32.MAX }
         ensures row { IfOk result (λ row. row ≡ reopened self.now members.now) }
         ensures version { IfOk result (λ row. row.version ≡ self.now.version + 1) }
