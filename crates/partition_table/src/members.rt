@@ -1,4 +1,4 @@
-ghost use Rattle.std.specs.Prelude.{◌≡◌, length, vec_len, map, ◌==◌, ◌∷◌, [], ◌++◌, false, IfOk};
+ghost use Rattle.std.specs.Prelude.{◌≡◌, ◌↔◌, length, vec_len, map, IsTrue, ◌∷◌, [], ◌++◌, false, IfOk};
 ghost use Rattle.partition_table.specs.Rows.{marked, others, first_eligible, eligible_member, members_from, with_backups, begun_by as members_begun_by};
 
 use grid_base::{MemberId, Memory, PartitionId};
@@ -15,7 +15,7 @@ pub struct RowMember {
 }
 
 /// An owned list of the members of a row, the primary first.
-#[derive(Clone, Debug, Drop)]
+#[derive(Debug, Drop)]
 pub struct RowMembers {
     listed: Vec<RowMember>,
 }
@@ -32,6 +32,15 @@ impl Model for RowMembers {
 }
 
 impl RowMembers {
+    /// A copy of these members, at the cost of their number.
+    pub fn copied_from(alloc: Global, listed: &[RowMember]) -> Result<Self, Memory>
+        ensures { IfOk result (λ copy. copy ≡ listed.now) }
+    {
+        Ok(RowMembers {
+            listed: Vec::from_slice(alloc, listed)?,
+        })
+    }
+
     /// Takes the list over, in constant time and with no memory.
     pub fn from_vec(listed: Vec<RowMember>) -> Self
         ensures { result ≡ listed.items }
@@ -55,7 +64,7 @@ impl RowMembers {
 
     /// Whether there are none.
     pub fn is_empty(&self) -> bool
-        ensures { result ≡ (length self.now == 0) }
+        ensures { IsTrue result ↔ (self.now ≡ []) }
     {
         self.listed.is_empty()
     }
@@ -84,7 +93,8 @@ pub(crate) fn opening(
     members: u8,
     backups: u8,
 ) -> Result<RowMembers, Memory>
-    ensures { IfOk result (λ all. all ≡ map eligible_member (with_backups backups (members_from members members partition))) }
+    ensures { let all = with_backups backups (members_from members members partition) in
+        IfOk result (λ opening. opening ≡ map eligible_member all) }
 {
     let count = members.min(backups.saturating_add(1));
     let mut opening = Vec::new(alloc);
