@@ -11,6 +11,7 @@ use Rattle.partition_protocol.specs.Events.{Event, happens, run}
 use Rattle.partition_protocol.specs.Arrivals.{name, arrivals, calls_in, NamedOnce}
 use Rattle.partition_protocol.specs.Sequences.{IsSubsequence, IsFrontOf}
 
+-- a reopening, and no call
 abbrev pub is_reset : {C : Type 0} → Entry C → Bool
 is_reset (Called x) = false
 is_reset (Reset r) = true
@@ -19,6 +20,7 @@ is_reset (Reset r) = true
 abbrev pub Stands : {C : Type 0} → Held → List (Entry C) → Type 0
 Stands {C} h es = (x : Executed C) × Contains es (Called x) × (x.conn ≡ h.conn) × (x.number ≡ h.number) × (x.seen ≡ h.seen)
 
+-- how a partition stands at any time
 pub record IsSafe {C State : Type 0} (o : Object C State) (w : World C) : Type 0 where
   -- the trail is the history of one object used by one thread, and emptied at each reset
   pub legal : IsLegal o o.empty (trail w)
@@ -83,6 +85,7 @@ pub record IsAcknowledged {C : Type 0} (w : World C) : Type 0 where
   pub counted : (m : ℕ) (node : Node) (b c : ℕ) → slice_get w.nodes m ≡ Some node → is_backup node.known b ≡ true → acked node b ≡ Some c
       → HasReached w b node.known.version c
 
+-- of any number of members and backups
 abbrev pub EveryAckHolds : {C State : Type 0} → Object C State → Type 0
 EveryAckHolds {C} o = (partition members backups : ℕ) (events : List (Event C)) → 1 ≤ members → IsAcknowledged (run o (start partition members backups) events)
 

@@ -34,6 +34,7 @@ abbrev pub is_in_pair : {C : Type 0} → Pair → Entry C → Bool
 is_in_pair p (Called x) = (x.version == p.version) && nat_le x.seen p.count
 is_in_pair p (Reset r) = false
 
+-- what of the log a pair counts, in order of execution
 abbrev pub entries_in : {C : Type 0} → Pair → List (Entry C) → List (Entry C)
 entries_in p log = filter (is_in_pair p) log
 

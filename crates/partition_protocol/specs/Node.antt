@@ -26,6 +26,7 @@ pub record Earlier : Type 0 where
   pub version : ℕ
   pub acks : List Acknowledged
 
+-- what a member knows
 pub record Node : Type 0 where
   pub known : Row  -- the newest row that it has taken
   pub pair : Pair  -- the name of its contents
@@ -83,6 +84,7 @@ acked node b = or_opening node.opening (acked_by b node.acks)
 
 -- releases
 
+-- something was acknowledged, and it is no less than k
 abbrev pub is_at_least : ℕ → Option ℕ → Bool
 is_at_least k None = false
 is_at_least k (Some c) = nat_le k c
