@@ -5,7 +5,7 @@ use Rattle.partition_table.specs.declared.RowMember.{RowMember}
 use Rattle.partition_table.specs.declared.Row.{Row}
 use Rattle.partition_table.specs.Rows.{is_in, backups_of}
 
--- a version and a count of effects executed in it: the name of a state
+-- a version, and a count of effects that goes on from version to version: the name of a state
 pub record Pair : Type 0 where
   pub version : ℕ
   pub count : ℕ
@@ -28,7 +28,7 @@ pub record Earlier : Type 0 where
 
 -- what a member knows
 pub record Node : Type 0 where
-  pub known : Row  -- the newest row that it has taken
+  pub known : Row  -- the newest row that it has taken; of one version, the one taken first
   pub pair : Pair  -- the name of its contents
   pub opening : Bool  -- it knows the initial row, in which each member has acknowledged 0 from the start
   pub acks : List Acknowledged  -- taken in the known version, as its primary
