@@ -5,6 +5,8 @@ mod print;
 mod replies;
 mod script;
 mod shelf;
+mod status;
 mod words;
 
+pub use status::{LimitWhat, Status};
 pub use script::{Line, LineWhy, read_line};
