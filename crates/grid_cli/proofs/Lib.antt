@@ -1,2 +1,4 @@
 pub mod Names
 pub mod Entries
+pub mod Spelling
+pub mod EffectLaws
