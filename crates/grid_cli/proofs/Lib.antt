@@ -1,4 +1,3 @@
 pub mod Names
 pub mod Entries
 pub mod Spelling
-pub mod EffectLaws

@@ -1,4 +1,4 @@
--- An effect is read as what it was written from, and what is read is spelled so.
+-- What is read as an effect is spelled so.
 use Rattle.std.proofs.Common.{◌≡◌, ℕ, suc, inl, inr, ◌+◌, ◌^◌, ◌<◌, ◌≤◌, Bool, true, false, cond, ltb, leb, eqb, List, [], ◌∷◌, ◌++◌, ◌&&◌, length, get_or, take, drop, Option, Some, None, refl, sym, ap, subst, ◌∙◌, append_assoc, arith}
 use Rattle.std.specs.Int.{w32, from_le_bytes, to_le_bytes}
 use Rattle.std.proofs.lemmas.Bool.{cases_lt, ltb-false, le-ltb, le-leb, leb-true, eqb-true, and_parts, and_from}
@@ -10,27 +10,7 @@ use Rattle.grid_base.specs.Names.{ObjectName}
 use Rattle.grid_cli.specs.Requests.{◌>>=◌}
 use Rattle.grid_cli.specs.Words.{are_same}
 use Rattle.grid_cli.specs.Effects.{FitsFrame, sized, sized_at, after_byte, effect_bytes, effect_at, rest_of_record, set_map, map_kind, present, name_bytes, record_bytes}
-use Rattle.grid_cli.proofs.Names.{same_text, are_same_self}
-
-sized_behind : (number bytes rest : List ℕ) → length number ≡ 4 → from_le_bytes w32 number ≡ length bytes → sized_at (number ++ (bytes ++ rest)) ≡ Some (bytes, rest)
-unfolding sized_at
-sized_behind number bytes rest len is =
-    let long : ltb (length (number ++ (bytes ++ rest))) 4 ≡ false = le-ltb _ _ (omega (arith, length-append number (bytes ++ rest))) in
-    let enough : ltb (length (bytes ++ rest)) (length bytes) ≡ false = le-ltb _ _ (omega (arith, length-append bytes rest)) in
-    rw (long, take_at number (bytes ++ rest) 4 len, drop_at number (bytes ++ rest) 4 len, is, enough, take_at bytes rest (length bytes) refl, drop_at bytes rest (length bytes) refl) refl
-
-sized_again : (bytes rest : List ℕ) → FitsFrame bytes → sized_at (sized bytes ++ rest) ≡ Some (bytes, rest)
-sized_again bytes rest fits =
-    ap sized_at (append_assoc (to_le_bytes w32 (length bytes)) bytes rest)
-    ∙ sized_behind (to_le_bytes w32 (length bytes)) bytes rest refl (from_le_bytes-to_le_bytes_4 (length bytes) (omega arith))
-
-pub effect_again : (name : ObjectName) (value : List ℕ) → FitsFrame name.map → FitsFrame name.key → FitsFrame value → effect_at (effect_bytes name value) ≡ Some (name, value)
-unfolding effect_at
-effect_again name value map_fits key_fits value_fits =
-    let grouped : effect_bytes name value ≡ set_map ∷ map_kind ∷ (sized name.map ++ (sized name.key ++ record_bytes value)) = ap (λ (bytes : List ℕ). set_map ∷ map_kind ∷ bytes) (append_assoc (sized name.map) (sized name.key) (record_bytes value)) in
-    ap effect_at grouped ∙ rw (sized_again name.map (sized name.key ++ record_bytes value) map_fits, sized_again name.key (record_bytes value) key_fits, sized_again value rest_of_record value_fits, le-leb (length value) 1048570 value_fits) refl
-
--- ---- what is read is spelled so
+use Rattle.grid_cli.specs.SameNames.{same_text}
 
 abbrev pub IsBytes : List ℕ → Type 0
 IsBytes bytes = (i : ℕ) → get_or bytes i 0 < 256

@@ -9,3 +9,5 @@ pub mod Transcripts
 pub mod Linearizability
 pub mod Effects
 pub mod MapLists
+pub mod SameNames
+pub mod EffectLaws

@@ -1,30 +1,42 @@
 -- A call changes its entry exactly where it has an effect, and the effect makes the state that the call leaves.
-use Rattle.std.proofs.Common.{◌≡◌, ℕ, Bool, true, false, cond, not, List, Option, Some, None, refl, sym, ap, subst, ◌∙◌}
+use Rattle.std.specs.Prelude.{◌≡◌, ℕ, ◌++◌, ◌∷◌, Bool, true, false, cond, not, List, length, Option, Some, None, refl}
+use Rattle.std.specs.Int.{w32, from_le_bytes, to_le_bytes}
 use Rattle.std.specs.Option.{option_map, is_some}
-use Rattle.std.proofs.lemmas.Bool.{not-false}
+use Rattle.std.proofs.Common.{ltb, sym, ap, ◌∙◌, append_assoc, arith}
+use Rattle.std.proofs.lemmas.Bool.{not-false, le-ltb, le-leb}
+use Rattle.std.proofs.lemmas.List.{take_at, drop_at, length-append}
+use Rattle.std.proofs.lemmas.Nat.{from_le_bytes-to_le_bytes_4}
 use Rattle.std.proofs.lemmas.Option.{none-some, cond_some}
+use Rattle.frame_codec.specs.declared.frames.TheConstants.{MAX_PAYLOAD}
 use Rattle.grid_base.specs.MapEntries.{MapEntry, after}
-use Rattle.grid_base.specs.Names.{ObjectName, is_same, entry_of, object_of}
-use Rattle.grid_base.specs.declared.calls.MapCall.{MapCall}
+use Rattle.grid_base.specs.Names.{ObjectName, entry_of, object_of}
 use Rattle.grid_base.specs.declared.calls.MapCall.TheVariants.{Put, Get}
 use Rattle.grid_base.specs.declared.calls.GridCall.{GridCall}
 use Rattle.grid_base.specs.declared.calls.GridCall.TheVariants.{Map}
 use Rattle.grid_base.specs.declared.calls.Request.{Request}
-use Rattle.grid_cli.specs.Effects.{CallFits, FitsFrame, RequestFits, effect_bytes, effect_at, effect_on, effect_of, applied}
+use Rattle.grid_cli.specs.Effects.{FitsFrame, CallFits, RequestFits, set_map, map_kind, sized, sized_at, rest_of_record, record_bytes, effect_bytes, effect_at, effect_of, applied}
 use Rattle.grid_cli.specs.PartitionObjects.{Partition, with_entry, map_call_of, target_of, has_value, entry_after, entry_changes}
-use Rattle.grid_cli.proofs.Names.{same_text, are_same_self}
-use Rattle.grid_cli.proofs.Entries.{one_entry_set}
-use Rattle.grid_cli.proofs.Spelling.{effect_again}
+use Rattle.grid_cli.specs.SameNames.{has_value_self, same_value, one_entry_set}
 
-has_value_self : (value : Option (List ℕ)) → has_value value value ≡ true
-has_value_self None = refl
-has_value_self (Some bytes) = are_same_self bytes
+-- ---- an effect is read as what it was written from
 
-same_value : (a b : Option (List ℕ)) → has_value a b ≡ true → a ≡ b
-same_value None None t = refl
-same_value None (Some y) t = absurd cc
-same_value (Some x) None t = absurd cc
-same_value (Some x) (Some y) t = ap Some (same_text x y t)
+sized_behind : (number bytes rest : List ℕ) → length number ≡ 4 → from_le_bytes w32 number ≡ length bytes → sized_at (number ++ (bytes ++ rest)) ≡ Some (bytes, rest)
+unfolding sized_at
+sized_behind number bytes rest len is =
+    let long : ltb (length (number ++ (bytes ++ rest))) 4 ≡ false = le-ltb _ _ (omega (arith, length-append number (bytes ++ rest))) in
+    let enough : ltb (length (bytes ++ rest)) (length bytes) ≡ false = le-ltb _ _ (omega (arith, length-append bytes rest)) in
+    rw (long, take_at number (bytes ++ rest) 4 len, drop_at number (bytes ++ rest) 4 len, is, enough, take_at bytes rest (length bytes) refl, drop_at bytes rest (length bytes) refl) refl
+
+sized_again : (bytes rest : List ℕ) → FitsFrame bytes → sized_at (sized bytes ++ rest) ≡ Some (bytes, rest)
+sized_again bytes rest fits =
+    ap sized_at (append_assoc (to_le_bytes w32 (length bytes)) bytes rest)
+    ∙ sized_behind (to_le_bytes w32 (length bytes)) bytes rest refl (from_le_bytes-to_le_bytes_4 (length bytes) (omega arith))
+
+pub effect_again : (name : ObjectName) (value : List ℕ) → FitsFrame name.map → FitsFrame name.key → FitsFrame value → effect_at (effect_bytes name value) ≡ Some (name, value)
+unfolding effect_at
+effect_again name value map_fits key_fits value_fits =
+    let grouped : effect_bytes name value ≡ set_map ∷ map_kind ∷ (sized name.map ++ (sized name.key ++ record_bytes value)) = ap (λ (bytes : List ℕ). set_map ∷ map_kind ∷ bytes) (append_assoc (sized name.map) (sized name.key) (record_bytes value)) in
+    ap effect_at grouped ∙ rw (sized_again name.map (sized name.key ++ record_bytes value) map_fits, sized_again name.key (record_bytes value) key_fits, sized_again value rest_of_record value_fits, le-leb (length value) MAX_PAYLOAD value_fits) refl
 
 -- ---- a call has an effect exactly where it changes its entry
 
