@@ -11,3 +11,5 @@ pub mod Splitting
 pub mod Effects
 pub mod MapLists
 pub mod Statuses
+pub mod SameNames
+pub mod EffectLaws
