@@ -14,3 +14,5 @@ pub mod Events
 pub mod Arrivals
 pub mod Sequences
 pub mod Claims
+pub mod Examples
+pub mod Traces

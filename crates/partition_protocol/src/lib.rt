@@ -1,2 +1,35 @@
-//! The partition protocol as a pure machine, and what holds of its every run.
+//! The partition protocol: how the members of a partition and the table service keep one history, as a pure machine.
+//!
+//! `specs/` has the machine: what is said (`Messages`), what a member knows (`Node`) and how it takes each message
+//! (`Replica`), what the service does (`Service`), and what each event does to the whole (`Events`).
+//! It moves no contents: what a member has is the state that its pair of a version and a count names (`History`).
+//! The functions here compute nothing. Their contracts are what holds of every run, for any calls and any object.
 #![tactic(auto)]
+
+ghost use Rattle.grid_base.specs.Objects.{Object};
+ghost use Rattle.partition_protocol.specs.Claims.{EveryRunIsSafe, EveryRunExtends, EveryStateStays, EveryBridgeStays, EveryBeginningIsEmpty};
+
+/// Whatever is lost, repeated or late, and whoever crashes: after every list of events in which no two calls have one
+/// name, the history by which the partition stands is that of one object used by one thread and emptied at each
+/// reopening. It has every answer that was given, and so has every member that may be promoted. What it has are calls
+/// that arrived, in order of arrival, each at most once. A member that was replaced as primary executes and answers
+/// nothing more.
+///
+/// Nothing is said of progress: a lost message stays lost until someone sends it again.
+pub fn every_run_is_safe<C, S>()
+    ensures { (o : Object C S) → EveryRunIsSafe o }
+{}
+
+/// Nothing that was executed or answered is taken back, and its order stays.
+pub fn every_run_extends<C, S>()
+    ensures { (o : Object C S) → EveryRunExtends o }
+{}
+
+/// The contents of a member change only where it takes something that changes them. For an object whose calls without
+/// an effect leave the state, no event changes the state that a member's pair names, a bridge joins two names of one
+/// state, and a version that is begun anew begins empty.
+pub fn every_state_stays<C, S>()
+    ensures states { (o : Object C S) → EveryStateStays o }
+    ensures bridges { (o : Object C S) → EveryBridgeStays o }
+    ensures beginnings { (o : Object C S) → EveryBeginningIsEmpty o }
+{}
