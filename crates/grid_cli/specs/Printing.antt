@@ -12,7 +12,8 @@ use Rattle.partition_protocol.specs.History.{Executed, Entry, Called, Reset}
 use Rattle.partition_protocol.specs.World.{trail}
 use Rattle.partition_protocol.specs.Service.{numbers_below}
 use Rattle.grid_cli.specs.PartitionObjects.{map_call_of, target_of}
-use Rattle.grid_cli.specs.Runs.{Run, Arrival, Appended, world_at, id_of}
+use Rattle.partition_world.specs.Answers.{id_of}
+use Rattle.grid_cli.specs.Runs.{Run, Arrival, Appended, world_at}
 
 -- an entry of a trail: its place there, its call, the lines at which the call arrived and was answered, and the reply
 pub record Printed : Type 0 where

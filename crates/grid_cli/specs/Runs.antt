@@ -10,6 +10,7 @@ use Rattle.partition_protocol.specs.History.{Executed, Entry, Called, Reset}
 use Rattle.partition_protocol.specs.Execution.{Reached, Executes, PartitionLost, WrongTarget, Migrating}
 use Rattle.partition_protocol.specs.World.{World, start}
 use Rattle.partition_protocol.specs.Events.{Event, Call, Outcome, Refused, Happened, happens, run}
+use Rattle.partition_world.specs.Answers.{id_of, newest_call}
 use Rattle.grid_cli.specs.Words.{are_same}
 use Rattle.grid_cli.specs.Requests.{request_of}
 use Rattle.grid_cli.specs.Replies.{error_bytes, partition_lost, wrong_target, migrating, want_of_memory}
@@ -77,21 +78,13 @@ updated new connections = map (λ (old : Connection). if old.conn == new.conn th
 
 -- answers
 
-abbrev pub id_of : Executed Request → CallId
-id_of x = record { conn = x.conn; number = x.number }
-
--- the entry of a call in what was executed
-abbrev pub entry_named : CallId → List (Entry Request) → Option (Executed Request)
-entry_named id [] = None
-entry_named id (Called x ∷ es) = if is_same_call (id_of x) id then Some x else entry_named id es
-entry_named id (Reset version ∷ es) = entry_named id es
-
-abbrev pub entry_of_answer : World Request → Held → Option (Executed Request)
-entry_of_answer w h = entry_named (record { conn = h.conn; number = h.number }) w.recorded.log
+-- the call of an answer, as it was executed
+abbrev pub executed_for : World Request → Held → Option (Executed Request)
+executed_for w h = newest_call (record { conn = h.conn; number = h.number }) w.recorded.log
 
 -- the calls whose answers an event released, in order of release
 abbrev pub released_by : World Request → World Request → List (Executed Request)
-released_by before after = filter_map (entry_of_answer after) (drop (length before.released) after.released)
+released_by before after = filter_map (executed_for after) (drop (length before.released) after.released)
 
 abbrev pub answer_to : ℕ → Executed Request → Appended
 answer_to line x = record { conn = x.conn; line = line; bytes = x.reply; answers = Some (id_of x) }

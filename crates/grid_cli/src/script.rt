@@ -1,4 +1,9 @@
-use grid_base::{Bytes, MemberId};
+ghost use Rattle.std.specs.Prelude.{◌≡◌, ◌<◌, Some, None, IfOk, IfSome, IfNone, ◌∷◌, ◌+◌, drop, length, take, list_all, ◌≤◌};
+ghost use Rattle.grid_cli.specs.Words.{number_of, bytes_of};
+ghost use Rattle.grid_cli.specs.Lines.{line_of};
+
+use grid_base::{Bytes, MemberId, Memory};
+use std::alloc::Global;
 
 /// A line of a script, at this stage.
 #[derive(Debug, Drop)]

@@ -1,11 +1,14 @@
-ghost use Rattle.std.specs.Prelude.{◌≡◌};
-ghost use Rattle.partition_table.specs.Rows.{is_primary};
+ghost use Rattle.std.specs.Prelude.{◌≡◌, ◌+◌, ◌<◌, IfOk};
+ghost use Rattle.partition_table.specs.Rows.{first_of, is_primary, is_backup, is_in, is_eligible, backups_of, first_live_eligible, initial_row, without, with_joiner, handed, with_eligible, reopened, next_row};
 
-use crate::MemberId;
-use crate::members::RowMembers;
+use crate::members::{
+    RowMember, RowMembers, begun_by, first_eligible_but, joined, led_by, opening,
+};
+use crate::{MemberId, PartitionId};
+use std::alloc::{AllocError, Global};
 
 /// Who keeps a partition, in which version.
-#[derive(Drop)]
+#[derive(Clone, Debug, Drop)]
 pub struct Row {
     /// One more with each new row of the partition.
     pub version: u32,
@@ -18,6 +21,31 @@ pub struct Row {
 }
 
 impl Row {
+    /// The opening row of a partition: the member whose number is the partition's modulo `members`
+    /// leads, and the next ones are its backups. Allocates for its members alone.
+    pub fn initial(
+        alloc: Global,
+        partition: PartitionId,
+        members: u8,
+        backups: u8,
+    ) -> Result<Row, AllocError>
+        ensures row { IfOk result (λ row. row ≡ initial_row partition members backups) }
+    {
+        let members = opening(alloc, partition, members, backups)?;
+        Ok(Row {
+            version: 1,
+            reset: 0,
+            lost: false,
+            members,
+        })
+    }
+
+    pub fn primary(&self) -> Option<MemberId>
+        ensures { result ≡ first_of self.now.members }
+    {
+        self.members.as_slice().first().map(|first| first.member)
+    }
+
     /// Takes no memory.
     pub fn is_primary(&self, member: MemberId) -> bool
         ensures { result ≡ is_primary self.now member }
@@ -25,6 +53,116 @@ impl Row {
         match self.members.as_slice() {
             [] => false,
             [first, ..] => first.member == member,
+        }
+    }
+
+    pub fn contains(&self, member: MemberId) -> bool
+        ensures { result ≡ is_in self.now member }
+    {
+        self.members
+            .as_slice()
+            .iter()
+            .map(|listed| listed.member)
+            .any(|listed| member == listed)
+    }
+
+    pub fn is_backup(&self, member: MemberId) -> bool
+        ensures { result ≡ is_backup self.now member }
+    {
+        !self.is_primary(member) && self.contains(member)
+    }
+
+    pub fn is_eligible(&self, member: MemberId) -> bool
+        ensures { result ≡ is_eligible self.now member }
+    {
+        self.members
+            .as_slice()
+            .iter()
+            .any(|listed| listed.member == member && listed.eligible)
+    }
+
+    pub fn backups(&self) -> &[RowMember]
+        ensures { result.now ≡ backups_of self.now }
+    {
+        match self.members.as_slice() {
+            [] => &[],
+            [_, backups @ ..] => backups,
+        }
+    }
+
+    pub fn first_live_eligible(&self, detected: &[MemberId]) -> Option<MemberId>
+        ensures { result ≡ first_live_eligible self.now detected.now }
+    {
+        self.members
+            .as_slice()
+            .iter()
+            .find(|listed| listed.eligible && !detected.contains(&listed.member))
+            .map(|listed| listed.member)
+    }
+
+    pub fn mark_eligible(&mut self, member: MemberId)
+        ensures { self.new ≡ with_eligible self.old member }
+    {
+        self.members.mark_eligible(member);
+    }
+
+    /// Without that member: the first eligible of the others leads, and the row is lost if none is.
+    /// Allocates in one pass.
+    pub fn without(&self, alloc: Global, member: MemberId) -> Result<Row, AllocError>
+        requires { self.now.version < u32.MAX }
+        ensures row { IfOk result (λ row. row ≡ without self.now member) }
+    {
+        let members = self.members.as_slice();
+        match first_eligible_but(members, member) {
+            None => Ok(self.next(RowMembers::from_vec(Vec::new(alloc)))),
+            Some(leader) => Ok(self.next(led_by(alloc, leader, members, member)?)),
+        }
+    }
+
+    /// With that member last, as one that may not lead yet. Allocates in one pass.
+    pub fn with_joiner(&self, alloc: Global, member: MemberId) -> Result<Row, AllocError>
+        requires { self.now.version < u32.MAX }
+        ensures row { IfOk result (λ row. row ≡ with_joiner self.now member) }
+    {
+        Ok(self.next(joined(alloc, self.members.as_slice(), member)?))
+    }
+
+    /// Handed over: `from` leaves, and `to` leads. Allocates in one pass.
+    pub fn handed(&self, alloc: Global, from: MemberId, to: MemberId) -> Result<Row, AllocError>
+        requires { self.now.version < u32.MAX }
+        ensures row { IfOk result (λ row. row ≡ handed self.now from to) }
+    {
+        let leader = RowMember {
+            member: to,
+            eligible: true,
+        };
+        Ok(self.next(led_by(alloc, leader, self.members.as_slice(), from)?))
+    }
+
+    /// Reopened by these members: the row begins empty, and its first member alone may lead.
+    /// Allocates in one pass.
+    pub fn reopened(&self, alloc: Global, members: &[MemberId]) -> Result<Row, AllocError>
+        requires { self.now.version < u32.MAX }
+        ensures row { IfOk result (λ row. row ≡ reopened self.now members.now) }
+    {
+        let version = self.version + 1;
+        Ok(Row {
+            version,
+            reset: version,
+            lost: false,
+            members: begun_by(alloc, members)?,
+        })
+    }
+
+    fn next(&self, members: RowMembers) -> Row
+        requires { self.now.version < u32.MAX }
+        ensures { result ≡ next_row self.now members }
+    {
+        Row {
+            version: self.version + 1,
+            reset: self.reset,
+            lost: members.is_empty(),
+            members,
         }
     }
 }

@@ -1,0 +1,116 @@
+// The process's standard streams, which tell nothing of their bytes.
+ghost use Rattle.std.specs.Prelude.{◌≡◌, ◌≤◌, ◌<◌, ℕ, None, IfOk, length};
+
+use crate::count::next_count;
+use crate::{ReadFault, Sink, Source, WriteFault};
+use std::io::{ErrorKind, Read, Stdin, Stdout, Write};
+use std::marker::Model;
+
+/// Standard input. Contracts see how many reads have failed, up to the last value of a `u64`.
+#[derive(Drop)]
+pub struct StdSource {
+    stdin: Stdin,
+    faults: u64,
+}
+
+impl Model for StdSource {
+    ghost use Rattle.std.specs.Prelude.{ℕ};
+
+    ghost Value = { ℕ };
+
+    ghost view = { λ s. s.faults };
+}
+
+impl StdSource {
+    /// Reads from standard input.
+    pub fn new(stdin: Stdin) -> Self
+        ensures { result ≡ 0 }
+    {
+        StdSource { stdin, faults: 0 }
+    }
+}
+
+impl Source for StdSource {
+    ghost faults = { λ s. s };
+
+    ghost left = { λ _. None };
+
+    /// Costs a system call, and another one for each time that it is interrupted.
+    fn read(&mut self, into: &mut [u8]) -> Result<usize, ReadFault> {
+        let answer = read_again(&mut self.stdin, into);
+        if answer.is_err() {
+            self.faults = next_count(self.faults);
+        }
+        answer
+    }
+}
+
+/// Standard output. Contracts see how many writes have failed, up to the last value of a `u64`.
+#[derive(Drop)]
+pub struct StdSink {
+    stdout: Stdout,
+    faults: u64,
+}
+
+impl Model for StdSink {
+    ghost use Rattle.std.specs.Prelude.{ℕ};
+
+    ghost Value = { ℕ };
+
+    ghost view = { λ s. s.faults };
+}
+
+impl StdSink {
+    /// Writes to standard output.
+    pub fn new(stdout: Stdout) -> Self
+        ensures { result ≡ 0 }
+    {
+        StdSink { stdout, faults: 0 }
+    }
+}
+
+impl Sink for StdSink {
+    ghost faults = { λ s. s };
+
+    ghost taken = { λ _. None };
+
+    /// A write that takes nothing of a piece counts as a fault. Costs a system call, and another one for
+    /// each time that it is interrupted.
+    fn write(&mut self, from: &[u8]) -> Result<usize, WriteFault> {
+        let answer = write_again(&mut self.stdout, from);
+        if answer.is_err() {
+            self.faults = next_count(self.faults);
+        }
+        answer
+    }
+}
+
+// Reads once, and again where the read was interrupted.
+fn read_again<R: Read>(reader: &mut R, into: &mut [u8]) -> Result<usize, ReadFault>
+    ensures { IfOk result (λ n. n ≤ length into.new) }
+{
+    for _ in 0..u64::MAX {
+        match reader.read(into) {
+            Ok(count) => return Ok(count),
+            Err(error) if error.kind() == ErrorKind::Interrupted => {}
+            Err(_) => break,
+        }
+    }
+    Err(ReadFault)
+}
+
+// Writes once, and again where the write was interrupted. It fails where nothing of a piece was taken.
+fn write_again<W: Write>(writer: &mut W, from: &[u8]) -> Result<usize, WriteFault>
+    ensures within { IfOk result (λ n. n ≤ length from.now) }
+    ensures progress { IfOk result (λ n. 0 < length from.now → 0 < n) }
+{
+    for _ in 0..u64::MAX {
+        match writer.write(from) {
+            Ok(0) if !from.is_empty() => break,
+            Ok(count) => return Ok(count),
+            Err(error) if error.kind() == ErrorKind::Interrupted => {}
+            Err(_) => break,
+        }
+    }
+    Err(WriteFault)
+}

@@ -1,0 +1,5 @@
+pub mod Answers
+pub mod Entries
+pub mod Events
+pub mod Nodes
+pub mod Worlds
