@@ -1,3 +1,10 @@
 pub mod Parts
+pub mod Counts
 pub mod Releases
 pub mod Places
+pub mod Trails
+pub mod RunFacts
+pub mod Lines
+pub mod Locality
+pub mod Answers
+pub mod Linear

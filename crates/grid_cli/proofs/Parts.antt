@@ -54,6 +54,15 @@ part_filter t (x ∷ xs) = go (t x) (part_filter t xs)
     go true h = inr (filter t xs, refl, h)
     go false h = inl h
 
+pub part_trans : {X : Type 0} (xs ys zs : List X) → IsPart xs ys → IsPart ys zs → IsPart xs zs
+part_trans xs ys [] h k = subst (λ ws. IsPart xs ws) k h
+part_trans xs ys (z ∷ zs) h (inl k) = inl (part_trans xs ys zs h k)
+part_trans {X} xs ys (z ∷ zs) h (inr (ws, e, k)) = go (subst (λ vs. IsPart xs vs) e h) (λ us j. part_trans us ws zs j k)
+  where
+    go : IsPart xs (z ∷ ws) → ((us : List X) → IsPart us ws → IsPart us zs) → IsPart xs (z ∷ zs)
+    go (inl j) f = inl (f xs j)
+    go (inr (us, s, j)) f = inr (us, s, f us j)
+
 -- the first before the second
 
 pub before_first : {X : Type 0} (xs : List X) (a b : X) → Before xs a b → In a xs
