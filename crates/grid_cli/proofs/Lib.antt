@@ -4,6 +4,8 @@ pub mod Releases
 pub mod Places
 pub mod Trails
 pub mod RunFacts
+pub mod Arriving
+pub mod Answering
 pub mod Lines
 pub mod Locality
 pub mod Answers

@@ -17,7 +17,7 @@ use Rattle.partition_protocol.specs.Service.{numbers_below}
 use Rattle.partition_protocol.specs.Events.{Event, entry_of, happens, run}
 use Rattle.partition_protocol.specs.Arrivals.{CallName, NamedOnce, name, calls_in}
 use Rattle.partition_protocol.proofs.Lists.{In, in_contains, contains_in, on_if, cases}
-use Rattle.partition_protocol.proofs.RowFacts.{both_left, both_right, false_or_not}
+use Rattle.partition_protocol.proofs.RowFacts.{both, both_left, both_right, false_or_not}
 use Rattle.partition_protocol.proofs.Faithful.{calls_append}
 use Rattle.partition_protocol.proofs.Walk.{walk}
 
@@ -59,6 +59,11 @@ times_none n (m ∷ ms) f =
     let r = times_none n ms (λ k i. f k (inr i)) in
     let other : is_named_so n m ≡ false = false_or_not (is_named_so n m) (λ e. f m (inl refl) (named_so n m e)) in
     rw other (omega (arith, r))
+
+pub times_in : (n : CallName) (ms : List CallName) → In n ms → 1 ≤ times n ms
+times_in n [] i = absurd i
+times_in n (m ∷ ms) (inl e) = let same : is_named_so n m ≡ true = subst (λ k. is_named_so n k ≡ true) (sym e) (both (n.conn == n.conn) (n.number == n.number) (grind (arith, nat_tests)) (grind (arith, nat_tests))) in rw same (omega arith)
+times_in n (m ∷ ms) (inr i) = let r = times_in n ms i in omega (arith, r)
 
 pub times_once : (n : CallName) (ms : List CallName) → NamedOnce ms → times n ms ≤ 1
 times_once n [] h = omega arith
