@@ -14,13 +14,14 @@ use Rattle.partition_protocol.proofs.RowFacts.{less, not_less}
 use Rattle.partition_protocol.proofs.Faithful.{part_in}
 use Rattle.partition_world.specs.Answers.{id_of}
 use Rattle.grid_cli.specs.PartitionObjects.{target_of, map_entry, partition_object}
-use Rattle.grid_cli.specs.Runs.{Run, Arrival, Appended, world_at}
+use Rattle.grid_cli.specs.Runs.{Run, begun, Arrival, Appended, world_at}
 use Rattle.grid_cli.specs.Printing.{Printed, partitions, entries_of, all_entries, printed, printed_from, arrival_of, answer_of}
-use Rattle.grid_cli.specs.Linearizability.{is_on, history_of, Before, answered_call, IsOf, Fits, IsLinearizable, EveryRunIsLinearizable}
+use Rattle.grid_cli.specs.Linearizability.{is_on, history_of, Before, answered_call, IsOf, Fits, IsLinearizable, run_after, EveryRunIsLinearizable}
 use Rattle.grid_cli.proofs.Parts.{before_first, before_second, part_filter, before_part, named_apart, in_filter, in_filtered}
 use Rattle.grid_cli.proofs.Places.{home, same_name, same_name_refl, same_number}
 use Rattle.grid_cli.proofs.Trails.{executed, asked, executed_name, Prints, printed_in, in_printed, printed_before}
 use Rattle.grid_cli.proofs.RunFacts.{RunOk, asked_of, arrival_name, id_name, is_of, safe, log_once, origin, origins, one_arrival, arrival_found, IsGivenIn}
+use Rattle.grid_cli.proofs.Lines.{run_after_ok, begun_ok}
 use Rattle.grid_cli.proofs.Locality.{legal_on, history_elsewhere, history_at, history_past}
 use Rattle.grid_cli.proofs.Answers.{trail_part, given_at, one_call, given_call_in, PrintedAnswer, printed_answer, answer_stands, answer_found, arrived_before}
 
@@ -186,4 +187,5 @@ linear r ok name = ⊎_elim below past (cases (nat_lt (home name) partitions))
     past e = let far = not_less (home name) partitions e in subst (λ es. Fits map_entry name r es) (sym (history_past name (entries_of partition_object r) (home name) elsewhere partitions far)) (nothing_fits r ok name far)
 
 pub every_run_is_linearizable : EveryRunIsLinearizable
-every_run_is_linearizable members backups skips texts grid name = ?
+every_run_is_linearizable members backups skips texts grid =
+    linear (run_after partition_object skips (begun members backups) texts) (run_after_ok partition_object skips (begun members backups) texts (begun_ok partition_object members backups grid))

@@ -1,95 +1,110 @@
--- Each line of a script keeps what holds of a run.
-use Rattle.std.proofs.Common.{◌≡◌, ◌≢◌, ℕ, ◌+◌, ◌≤◌, ◌<◌, Bool, true, false, cond, ◌==◌, ◌&&◌, List, [], ◌∷◌, ◌++◌, map, filter, length, drop, Option, Some, None, refl, ap, sym, ◌∙◌, subst, ◌⊎◌, ⊎_elim, inl, inr, arith, append-nil, append_assoc}
-use Rattle.std.proofs.lemmas.List.{map-append}
-use Rattle.std.proofs.lemmas.List.Elements.{filter-append}
-use Rattle.std.proofs.lemmas.Bool.Decides.{nat_tests}
-use Rattle.std.proofs.Math.Seq.{drop-append_seam}
-use Rattle.std.specs.List.{find, filter_map}
+-- Each line of a script keeps what holds of a run, and so does a list of lines.
+use Rattle.std.proofs.Common.{◌≡◌, ℕ, ◌+◌, ◌≤◌, Bool, true, false, cond, List, [], ◌∷◌, ◌++◌, Option, Some, None, refl, ap, sym, ◌∙◌, subst, inl, inr, arith}
 use Rattle.std.specs.Option.{is_some, option_map, option_and_then}
 use Rattle.grid_base.specs.Objects.{Object}
-use Rattle.grid_base.specs.Names.{is_same_call}
 use Rattle.grid_base.specs.declared.names.CallId.{CallId}
 use Rattle.grid_base.specs.declared.calls.Request.{Request}
-use Rattle.partition_protocol.specs.Node.{Node, Held}
-use Rattle.partition_protocol.specs.History.{Entry, Executed, Called, Reset}
-use Rattle.partition_protocol.specs.Execution.{Reached, Executes, PartitionLost, WrongTarget, Migrating, reached}
-use Rattle.partition_protocol.specs.World.{World, start, is_live}
-use Rattle.partition_protocol.specs.Events.{Event, Call, Happened, Outcome, Refused, happens, run}
-use Rattle.partition_protocol.specs.Arrivals.{Asked, CallName, NamedOnce, name, arrivals, calls_in}
-use Rattle.partition_protocol.specs.Sequences.{IsFrontOf}
-use Rattle.partition_protocol.specs.Claims.{is_reset}
-use Rattle.partition_protocol.proofs.Lists.{In, in_left, in_right, in_cases, in_contains, contains_in, IsPart, part_longer, part_both, cases, on_if}
-use Rattle.partition_protocol.proofs.RowFacts.{false_or_not}
-use Rattle.partition_protocol.proofs.Extends.{run_append, front_trans, same}
-use Rattle.partition_protocol.proofs.Theorem.{every_run_extends}
-use Rattle.partition_world.specs.Answers.{id_of}
-use Rattle.grid_cli.specs.PartitionObjects.{target_of}
+use Rattle.grid_cli.specs.Words.{are_same}
+use Rattle.grid_cli.specs.Lines.{line_of}
 use Rattle.grid_cli.specs.Requests.{request_of}
-use Rattle.grid_cli.specs.Runs.{Run, Arrival, Appended, Connection, At, begun, is_at, world_at, events_at, is_connection, connection_of, updated, executed_for, released_by, answer_to, refusal, refused_at, refused_by, arrival_at, call_of, happening, arrived, is_skipped, asked, next_line, opened, greeting, next_id, requested, bytes_arrived, after_line}
-use Rattle.grid_cli.specs.Printing.{is_named, is_answer_to}
-use Rattle.grid_cli.specs.Linearizability.{Before}
+use Rattle.grid_cli.specs.Replies.{want_of_memory}
+use Rattle.grid_cli.specs.Runs.{Run, Connection, begun, is_connection, connection_of, updated, refusal, arrival_at, happening, arrived, is_skipped, asked, opened, prefix, greeting, next_id, requested, bytes_arrived, after_line}
+use Rattle.grid_cli.specs.Transcripts.{ran}
+use Rattle.grid_cli.specs.Linearizability.{run_after}
 use Rattle.grid_cli.specs.declared.script.Line.{Line}
 use Rattle.grid_cli.specs.declared.script.Line.TheVariants.{Grid, OpenConn, Arrive, End}
-use Rattle.grid_cli.proofs.Parts.{in_map, in_mapped, before_last, named_more}
-use Rattle.grid_cli.proofs.Counts.{count, count-append, count_none, count_in, count_cases}
-use Rattle.grid_cli.proofs.Releases.{held_name, times, released_once}
-use Rattle.grid_cli.proofs.Places.{IsPlaced, request_read, same_call, same_call_refl, same_number}
-use Rattle.grid_cli.proofs.Trails.{executed, asked as asked_by, executed_name, newest_executed}
-use Rattle.grid_cli.proofs.RunFacts.{id_name, asked_of, arrival_name, is_of, ArrivalsOk, AnswersOk, IsGiven, IsGivenIn, RunOk, safe, log_once, origin, one_arrival}
+use Rattle.grid_cli.proofs.Places.{IsRead, request_read, same_number}
+use Rattle.grid_cli.proofs.Trails.{find_some}
+use Rattle.grid_cli.proofs.RunFacts.{RunOk}
+use Rattle.grid_cli.proofs.Arriving.{opened_grows, updated_grows, quiet, arrivals_with, its_event}
+use Rattle.grid_cli.proofs.Answering.{skipped_answers, answers_after}
 
--- connections
+module _ {State : Type 0} (o : Object Request State) (skips : List CallId) (r next : Run) (ok : RunOk o r) where
+  -- a call, with an event or none
+  pub asked_ok : (k : Connection) (request : Request) → connection_of r k.conn ≡ Some k → IsRead (next_id k) request → asked o skips r k (arrival_at r k request) ≡ next → RunOk o next
+  asked_ok k request there read e = subst (λ n. RunOk o n) e (go (is_skipped skips request.id))
+    where
+      go : (b : Bool) → RunOk o (cond b (arrived r k (arrival_at r k request) [] (refusal (r.lines + 1) request want_of_memory 0 ∷ [])) (arrived r k (arrival_at r k request) (its_event (arrival_at r k request) ∷ []) (happening o r (arrival_at r k request))))
+      go true = record {
+        members = ok.members;
+        of_arrivals = arrivals_with r ok.of_arrivals k there request read.0 read.1 [] (refusal (r.lines + 1) request want_of_memory 0 ∷ []) (inl refl);
+        of_answers = skipped_answers o r ok k (arrival_at r k request);
+      }
+      go false =
+          let come = arrivals_with r ok.of_arrivals k there request read.0 read.1 (its_event (arrival_at r k request) ∷ []) (happening o r (arrival_at r k request)) (inr refl) in
+          record { members = ok.members; of_arrivals = come; of_answers = answers_after o r ok k (arrival_at r k request) come }
 
--- the connections that arrivals came on are still there, and have counted no less
-abbrev pub Grows : Run → List Connection → Type 0
-Grows r ks = (c : ℕ) (k : Connection) → connection_of r c ≡ Some k → (j : Connection) × (find (is_connection c) ks ≡ Some j) × (k.messages ≤ j.messages)
+  pub requested_ok : (k : Connection) (bytes : List ℕ) → connection_of r k.conn ≡ Some k → requested o skips r k bytes ≡ Some next → RunOk o next
+  requested_ok k bytes there e = go (request_of (next_id k) bytes) (λ request s. request_read (next_id k) bytes request s) e
+    where
+      go : (found : Option Request) → ((request : Request) → found ≡ Some request → IsRead (next_id k) request) → option_map (λ request. asked o skips r k (arrival_at r k request)) found ≡ Some next → RunOk o next
+      go None f s = absurd cc
+      go (Some request) f s = let same : asked o skips r k (arrival_at r k request) ≡ next = cc in asked_ok k request there (f request refl) same
 
-pub opened_grows : (r : Run) (new : Connection) → Grows r (r.connections ++ new ∷ [])
-opened_grows r new = ?
+  pub greeting_ok : (k : Connection) (bytes : List ℕ) → connection_of r k.conn ≡ Some k → greeting r k bytes ≡ Some next → RunOk o next
+  greeting_ok k bytes there e = go (are_same bytes prefix) e
+    where
+      after : Run
+      after = record r { lines = r.lines + 1; connections = updated (record k { greeted = true }) r.connections }
 
-pub updated_grows : (r : Run) (old new : Connection) → connection_of r old.conn ≡ Some old → new.conn ≡ old.conn → old.messages ≤ new.messages → Grows r (updated new r.connections)
-updated_grows r old new there same more = ?
+      after_ok : RunOk o after
+      after_ok = quiet o r (updated (record k { greeted = true }) r.connections) ok (updated_grows r k (record k { greeted = true }) there refl (omega arith))
 
--- lines without a call
+      go : (b : Bool) → cond b (Some after) None ≡ Some next → RunOk o next
+      go true s = let same : after ≡ next = cc in subst (λ n. RunOk o n) same after_ok
+      go false s = absurd cc
 
-pub quiet : {State : Type 0} (o : Object Request State) (r : Run) (ks : List Connection) → RunOk o r → Grows r ks → RunOk o (record r { lines = r.lines + 1; connections = ks })
-quiet o r ks ok grows = ?
+  pub bytes_ok : (c : ℕ) (bytes : List ℕ) → option_and_then (bytes_arrived o skips r bytes) (connection_of r c) ≡ Some next → RunOk o next
+  bytes_ok c bytes e = go (connection_of r c) refl e
+    where
+      on : (k : Connection) → connection_of r k.conn ≡ Some k → (b : Bool) → cond b (requested o skips r k bytes) (greeting r k bytes) ≡ Some next → RunOk o next
+      on k there true s = requested_ok k bytes there s
+      on k there false s = greeting_ok k bytes there s
 
--- a call
+      go : (found : Option Connection) → connection_of r c ≡ found → option_and_then (bytes_arrived o skips r bytes) found ≡ Some next → RunOk o next
+      go None there s = absurd cc
+      go (Some k) there s = on k (ap (connection_of r) (same_number k.conn c (find_some (is_connection c) r.connections k there).1) ∙ there) k.greeted s
 
-module _ (r : Run) (ok : ArrivalsOk r) (k : Connection) (there : connection_of r k.conn ≡ Some k) (request : Request) (named : request.id ≡ next_id k) (placed : IsPlaced request) where
-  abbrev pub a : Arrival
-  a = arrival_at r k request
+  pub opened_ok : (c member : ℕ) (b : Bool) → cond b None (Some (opened r c member)) ≡ Some next → RunOk o next
+  opened_ok c member true e = absurd cc
+  opened_ok c member false e =
+      let same : opened r c member ≡ next = cc in
+      let new : Connection = record { conn = c; member = member; greeted = false; messages = 0 } in
+      subst (λ n. RunOk o n) same (quiet o r (r.connections ++ new ∷ []) ok (opened_grows r new))
 
-  -- its name is new
-  pub fresh : (b : Arrival) → In b r.arrivals → arrival_name b ≢ arrival_name a
-  fresh b i e = ?
+  pub line_ok : (line : Line) → after_line o skips r line ≡ Some next → RunOk o next
+  line_ok (Grid members backups capacity) e = absurd cc
+  line_ok (OpenConn c member) e = opened_ok c member (is_some (connection_of r c)) e
+  line_ok (Arrive c bytes) e = bytes_ok c bytes e
+  line_ok End e =
+      let same : record r { lines = r.lines + 1 } ≡ next = cc in
+      subst (λ n. RunOk o n) same (quiet o r r.connections ok (λ c k s. (k, s, omega arith)))
 
-  -- the events that it makes, of the partition of the call
-  pub calls_with : (p : ℕ) (events : List At) → (events ≡ []) ⊎ (events ≡ record { partition = request.partition; event = call_of a } ∷ [])
-      → IsPart (arrivals (events_at p (r.events ++ events))) (map asked_of (filter (is_of p) (r.arrivals ++ a ∷ [])))
-  calls_with p events h = ?
+pub ran_ok : {State : Type 0} (o : Object Request State) (skips : List CallId) (r : Run) (text : List ℕ) (x : Line × Run) → RunOk o r → ran o skips r text ≡ Some x → RunOk o x.1
+ran_ok o skips r text x ok e = go (line_of false text) e
+  where
+    at : (line : Line) (after : Option Run) → after_line o skips r line ≡ after → option_map (λ next. (line, next)) after ≡ Some x → RunOk o x.1
+    at line None f s = absurd cc
+    at line (Some next) f s =
+        let same : (line, next) ≡ x = cc in
+        subst (λ (y : Line × Run). RunOk o y.1) same (line_ok o skips r next ok line f)
 
-  pub arrivals_with : (events : List At) (appended : List Appended) → (events ≡ []) ⊎ (events ≡ record { partition = request.partition; event = call_of a } ∷ []) → ArrivalsOk (arrived r k a events appended)
-  arrivals_with events appended h = ?
+    go : (found : Option Line) → option_and_then (λ line. option_map (λ next. (line, next)) (after_line o skips r line)) found ≡ Some x → RunOk o x.1
+    go None s = absurd cc
+    go (Some line) s = at line (after_line o skips r line) refl s
 
--- what an event adds
+pub run_after_ok : {State : Type 0} (o : Object Request State) (skips : List CallId) (r : Run) (texts : List (List ℕ)) → RunOk o r → RunOk o (run_after o skips r texts)
+run_after_ok o skips r [] ok = ok
+run_after_ok o skips r (text ∷ texts) ok = go (ran o skips r text) refl (λ x k. run_after_ok o skips x.1 texts k)
+  where
+    go : (found : Option (Line × Run)) → ran o skips r text ≡ found → ((x : Line × Run) → RunOk o x.1 → RunOk o (run_after o skips x.1 texts)) → RunOk o (elim found [ None ↦ r | Some x ↦ run_after o skips x.1 texts ])
+    go None e f = ok
+    go (Some x) e f = f x (ran_ok o skips r text x ok e)
 
-pub run_extends : {State : Type 0} (o : Object Request State) (r : Run) (k : Connection) (a : Arrival) (events : List At) (appended : List Appended) (p : ℕ)
-    → IsFrontOf (world_at o r p).recorded.log (world_at o (arrived r k a events appended) p).recorded.log × IsFrontOf (world_at o r p).released (world_at o (arrived r k a events appended) p).released
-run_extends o r k a events appended p = ?
-
--- an answer stays given
-pub given_longer : (log more : List (Entry Request)) (released after : List Held) (come since : List Arrival) (m : Appended) (id : CallId)
-    → IsFrontOf log more → IsFrontOf released after → ((b : Arrival) → In b come → In b since) → IsGiven log released come m id → IsGiven more after since m id
-given_longer log more released after come since m id f g h given = ?
-
--- a call resets nothing
-pub call_resets : {State : Type 0} (o : Object Request State) (w : World Request) (a : Arrival) → filter is_reset w.recorded.log ≡ [] → filter is_reset (happens o w (call_of a)).world.recorded.log ≡ []
-call_resets o w a h = ?
-
--- what an event releases is answered, and no more
-pub answers_times : (w : World Request) (line : ℕ) (id : CallId) (hs : List Held) → count (is_answer_to id) (map (answer_to line) (filter_map (executed_for w) hs)) ≤ times (id_name id) (map held_name hs)
-answers_times w line id hs = ?
-
-pub after_line_ok : {State : Type 0} (o : Object Request State) (skips : List CallId) (r next : Run) (line : Line) → RunOk o r → after_line o skips r line ≡ Some next → RunOk o next
-after_line_ok o skips r next line ok e = ?
+-- the first line has made nothing
+pub begun_ok : {State : Type 0} (o : Object Request State) (members backups : ℕ) → 1 ≤ members → RunOk o (begun members backups)
+begun_ok o members backups grid = record {
+  members = grid;
+  of_arrivals = record { placed = λ a i. absurd i; once = tt; counted = λ a i. absurd i; in_order = λ a b h. absurd h; by_now = λ a i. absurd i; calls = λ p. refl };
+  of_answers = record { given = λ m id i e. absurd i; once = λ id. omega arith; resets = λ p. refl };
+}
