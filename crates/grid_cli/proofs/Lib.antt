@@ -1,3 +1,8 @@
+pub mod Decimals
+pub mod Pieces
+pub mod Names
+pub mod Entries
+pub mod Spelling
 pub mod Parts
 pub mod Counts
 pub mod Releases

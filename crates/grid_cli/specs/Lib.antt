@@ -7,3 +7,9 @@ pub mod Runs
 pub mod Printing
 pub mod Transcripts
 pub mod Linearizability
+pub mod Splitting
+pub mod Effects
+pub mod MapLists
+pub mod Statuses
+pub mod SameNames
+pub mod EffectLaws

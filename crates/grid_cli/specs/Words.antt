@@ -1,5 +1,5 @@
 -- The lines of a script and the words of a line, as lists of bytes.
-use Rattle.std.specs.Prelude.{ℕ, ◌+◌, ◌-◌, ◌*◌, ◌==◌, ◌&&◌, not, Bool, false, if◌then◌else◌, List, [], ◌∷◌, Option, Some, None, nat_eq, nat_lt, fold, option_and_then}
+use Rattle.std.specs.Prelude.{ℕ, ◌+◌, ◌-◌, ◌*◌, ◌==◌, ◌&&◌, Bool, false, if◌then◌else◌, List, [], ◌∷◌, Option, Some, None, nat_eq, nat_lt, length, slice_index, fold, option_and_then}
 use Rattle.std.specs.List.{list_all}
 use Rattle.std.specs.Char.{is_ascii_digit}
 use Rattle.std.specs.Cmp.Lexicographic.{pointwise}
@@ -47,10 +47,14 @@ abbrev pub unfinished : List ℕ → List ℕ
 unfinished bytes = last_piece (pieces_at newline bytes)
 
 -- A number is decimal digits, without a leading zero.
+abbrev pub has_leading_zero : List ℕ → Bool
+has_leading_zero digits = nat_lt 1 (length digits) && (slice_index digits 0 == 48)
+
 abbrev pub is_decimal : List ℕ → Bool
-is_decimal [] = false
-is_decimal (d ∷ []) = is_ascii_digit d
-is_decimal (d ∷ e ∷ ds) = is_ascii_digit d && not (d == 48) && list_all is_ascii_digit (e ∷ ds)
+is_decimal digits =
+    if length digits == 0 then false
+    else if has_leading_zero digits then false
+    else list_all is_ascii_digit digits
 
 abbrev pub decimal_value : List ℕ → ℕ
 decimal_value digits = fold (λ n d. n * 10 + (d - 48)) 0 digits

@@ -2,7 +2,13 @@
 #![tactic(auto)]
 
 mod laws;
+mod print;
+mod replies;
 mod script;
+mod shelf;
+mod status;
+mod words;
 
 pub use laws::every_run_is_linearizable;
-pub use script::{Line, LineWhy};
+pub use status::{LimitWhat, Status};
+pub use script::{Line, LineWhy, read_line};
