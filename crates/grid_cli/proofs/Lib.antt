@@ -6,3 +6,15 @@ pub mod Spelling
 pub mod Progress
 pub mod SkipLaws
 pub mod LineEnds
+pub mod Parts
+pub mod Counts
+pub mod Releases
+pub mod Places
+pub mod Trails
+pub mod RunFacts
+pub mod Arriving
+pub mod Answering
+pub mod Lines
+pub mod Locality
+pub mod Answers
+pub mod Linear
