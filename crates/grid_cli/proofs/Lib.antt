@@ -18,3 +18,5 @@ pub mod Lines
 pub mod Locality
 pub mod Answers
 pub mod Linear
+pub mod Fresh
+pub mod TranscriberLaws

@@ -16,7 +16,7 @@ use Rattle.grid_cli.specs.Transcripts.{Transcript, Ended, Refused, first_line, l
 use Rattle.grid_cli.specs.Linearizability.{run_after}
 use Rattle.grid_cli.specs.Skips.{AgreeOn, AreOfLine, call_at, arrival_of_line}
 use Rattle.grid_cli.specs.Statuses.{whole}
-use Rattle.grid_cli.specs.Progress.{IsAt, from_stage, lines_run, come, run_of}
+use Rattle.grid_cli.specs.Progress.{IsAt, run_of}
 use Rattle.grid_cli.specs.declared.script.Line.{Line}
 use Rattle.grid_cli.specs.declared.script.Line.TheVariants.{Grid, OpenConn, Arrive, End}
 use Rattle.grid_cli.specs.declared.script.LineWhy.TheVariants.{NotBuilt}
@@ -28,20 +28,11 @@ following-following a b t = ap (λ text. record { text = text; ending = t.ending
 nothing_in : {X : Type 0} (x : X) → Contains [] x → ⊥
 nothing_in x c = in_contains x [] c
 
--- before the first line
-pub at_start : IsAt None [] [] []
-at_start = record {
-  goes_on = λ s agree too_long texts. refl;
-  runs = λ s agree r e texts. absurd (cc e);
-  skipped = λ id c. absurd (nothing_in id c);
-  count = refl;
-}
-
 -- the first line makes the grid
-pub at_first : (text : List ℕ) → line_of true text ≡ Some (Grid 1 0 10) → IsAt (Some (begun 1 0)) [] (text ∷ []) (ok_text 1)
+pub at_first : (text : List ℕ) → line_of true text ≡ Some (Grid 1 0 10) → IsAt (begun 1 0) [] (text ∷ []) (ok_text 1)
 at_first text e = record {
   goes_on = λ s agree too_long texts. rw (e, first_line) refl;
-  runs = λ s agree r is texts. (let same : begun 1 0 ≡ r = cc is in ap (λ (q : Run). run_after partition_object s q texts) same);
+  runs = λ s agree texts. refl;
   skipped = λ id c. absurd (nothing_in id c);
   count = refl;
 }
@@ -69,7 +60,7 @@ same_call a b e =
 unless_same : (a b : CallId) → a ≢ b → is_same_call a b ≡ false
 unless_same a b different = false_or_not (is_same_call a b) (λ e. different (same_call a b e))
 
-module _ (r : Run) (skips : List CallId) (done : List (List ℕ)) (written text : List ℕ) (at : IsAt (Some r) skips done written)
+module _ (r : Run) (skips : List CallId) (done : List (List ℕ)) (written text : List ℕ) (at : IsAt r skips done written)
   (line : Line) (read : line_of false text ≡ Some line)
   (k : List CallId) (of_line : AreOfLine r line k) (next : Run) (after : after_line partition_object k r line ≡ Some next)
   (new : (b : Arrival) (id : CallId) → In b r.arrivals → call_at r line ≡ Some id → b.id ≢ id) where
@@ -113,18 +104,17 @@ module _ (r : Run) (skips : List CallId) (done : List (List ℕ)) (written text 
   line_ran s agree = rw (read, runs_alike s agree) refl
 
   -- a line that isn't the last leads on
-  pub at_next : is_end line ≡ false → IsAt (Some next) (k ++ skips) (done ++ text ∷ []) (written ++ line_text r next)
+  pub at_next : is_end line ≡ false → IsAt next (k ++ skips) (done ++ text ∷ []) (written ++ line_text r next)
   at_next going = record {
     goes_on = λ s agree too_long texts.
       ap (first_line partition_object s too_long) (append_assoc done (text ∷ []) texts)
       ∙ at.goes_on s (agree_before s agree) too_long (text ∷ texts)
       ∙ ap (following written) (later_ran s agree too_long texts)
       ∙ following-following written (line_text r next) (later_lines partition_object s too_long next texts);
-    runs = λ s agree q is texts.
+    runs = λ s agree texts.
       ap (run_of s) (append_assoc done (text ∷ []) texts)
-      ∙ at.runs s (agree_before s agree) r refl (text ∷ texts)
-      ∙ run_ran s agree texts
-      ∙ (let same : next ≡ q = cc is in ap (λ (x : Run). run_after partition_object s x texts) same);
+      ∙ at.runs s (agree_before s agree) (text ∷ texts)
+      ∙ run_ran s agree texts;
     skipped = λ id c. ⊎_elim (λ i. call_arrived id (of_line id (contains_in id k i))) (λ i. let a = at.skipped id (contains_in id skips i) in (a.0, arrived_stays a.0 a.1, a.2)) (in_cases id k skips (in_contains id (k ++ skips) c));
     count = counts.lines ∙ ap (λ n. n + 1) at.count ∙ sym (length-append done (text ∷ []));
   }
@@ -154,7 +144,7 @@ agree_with_itself : (come : List Arrival) (skips : List CallId) → AgreeOn come
 agree_with_itself come skips a c = refl
 
 -- a line that isn't read, or whose condition is false, is refused
-pub at_refused : (r : Run) (skips : List CallId) (done : List (List ℕ)) (written text : List ℕ) → IsAt (Some r) skips done written → ran partition_object skips r text ≡ None
+pub at_refused : (r : Run) (skips : List CallId) (done : List (List ℕ)) (written text : List ℕ) → IsAt r skips done written → ran partition_object skips r text ≡ None
     → (too_long : Bool) (texts : List (List ℕ)) → first_line partition_object skips too_long (done ++ text ∷ texts) ≡ following written (refused (r.lines + 1) NotBuilt)
 at_refused r skips done written text at none too_long texts =
     at.goes_on skips (agree_with_itself r.arrivals skips) too_long (text ∷ texts) ∙ ap (following written) refused_there
@@ -167,13 +157,9 @@ at_refused r skips done written text at none too_long texts =
         ]) none
 
 -- where the lines stop
-pub at_stop : (stage : Option Run) (skips : List CallId) (done : List (List ℕ)) (written : List ℕ) → IsAt stage skips done written → (too_long : Bool)
+pub at_stop : (r : Run) (skips : List CallId) (done : List (List ℕ)) (written : List ℕ) → IsAt r skips done written → (too_long : Bool)
     → first_line partition_object skips too_long done ≡ following written (stopped too_long (length done))
-at_stop stage skips done written at too_long =
+at_stop r skips done written at too_long =
     ap (first_line partition_object skips too_long) (sym (append-nil done))
-    ∙ at.goes_on skips (agree_with_itself (come stage) skips) too_long []
-    ∙ ap (following written) (stop stage at.count)
-  where
-    stop : (o : Option Run) → lines_run o ≡ length done → from_stage skips too_long o [] ≡ stopped too_long (length done)
-    stop None e = ap (stopped too_long) e
-    stop (Some r) e = ap (stopped too_long) e
+    ∙ at.goes_on skips (agree_with_itself r.arrivals skips) too_long []
+    ∙ ap (λ n. following written (stopped too_long n)) at.count

@@ -15,3 +15,5 @@ pub mod SameNames
 pub mod EffectLaws
 pub mod Skips
 pub mod Progress
+pub mod Grids
+pub mod Transcribing

@@ -1,12 +1,14 @@
 //! The program's commands: `grid replay` reads a script and prints its transcript.
 #![tactic(auto)]
 
+mod grid;
 mod laws;
 mod print;
 mod replies;
 mod script;
 mod shelf;
 mod status;
+mod transcriber;
 mod words;
 
 pub use laws::every_run_is_linearizable;

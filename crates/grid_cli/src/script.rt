@@ -1,4 +1,5 @@
 ghost use Rattle.std.specs.Prelude.{◌≡◌, IfOk};
+ghost use Rattle.grid_cli.specs.Transcripts.{why_text, is_end};
 ghost use Rattle.grid_cli.specs.Words.{bytes_of, words_of};
 ghost use Rattle.grid_cli.specs.Lines.{line_of, line_of_words, open_line, bytes_line};
 
@@ -30,6 +31,27 @@ pub enum LineWhy {
     NotBuilt,
     /// The script stopped before a line `end`.
     NoEnd,
+}
+
+impl LineWhy {
+    /// The word that a transcript has for it.
+    pub fn word(self) -> &'static str
+        ensures { result.now ≡ why_text self }
+    {
+        match self {
+            LineWhy::NotBuilt => "notbuilt",
+            LineWhy::NoEnd => "noend",
+        }
+    }
+}
+
+impl Line {
+    /// Whether it is the last line that is looked at.
+    pub(crate) fn is_end(&self) -> bool
+        ensures { result ≡ is_end self.now }
+    {
+        matches!(self, Line::End)
+    }
 }
 
 /// The greatest number of a connection, and one.
