@@ -29,7 +29,7 @@ use Rattle.grid_cli.proofs.Counts.{count, count-append, count_none, count_in, co
 use Rattle.grid_cli.proofs.Releases.{held_name, one, times, times-append, times_in, released_once}
 use Rattle.grid_cli.proofs.Places.{same_number}
 use Rattle.grid_cli.proofs.Trails.{executed, executed_name, executed-append, newest_executed}
-use Rattle.grid_cli.proofs.RunFacts.{id_name, arrival_name, is_of, ArrivalsOk, AnswersOk, IsGiven, IsGivenIn, RunOk, safe, origin, one_arrival}
+use Rattle.grid_cli.proofs.RunFacts.{id_name, arrival_name, is_of, ArrivalsOk, AnswersOk, IsGiven, IsGivenIn, given_executed, RunOk, safe, origin, one_partition}
 use Rattle.grid_cli.proofs.Arriving.{events_at-append, events_of_more, maybe_one, its_event}
 use Rattle.grid_cli.proofs.Answers.{named_answer}
 
@@ -106,9 +106,6 @@ given_longer log more released since come arrivals m id f g h given = record {
   has = given.has;
   arrived = λ x i. let k = given.arrived x i in (k.0, h k.0 k.1, k.2, k.3);
 }
-
-pub given_call_in_log : {log : List (Entry Request)} {released : List Held} {come : List Arrival} (m : Appended) (id : CallId) (g : IsGiven log released come m id) → In g.call (executed log)
-given_call_in_log m id g = subst (λ es. In g.call (executed es)) g.front.1 (subst (λ xs. In g.call xs) (sym (executed-append g.log_then g.front.0)) (in_left g.call (executed g.log_then) (executed g.front.0) g.has))
 
 module _ {State : Type 0} (o : Object Request State) (r : Run) (ok : RunOk o r) (k : Connection) (a : Arrival) where
   -- with more events the log and the answers go on
@@ -238,10 +235,7 @@ module _ {State : Type 0} (o : Object Request State) (r : Run) (ok : RunOk o r) 
         before_now m n i e j f =
             let old = given_still (its_event a ∷ []) (happening o r a) m id i e in
             let new = given_now n id j f in
-            let here = origin o next ok.members arrivals p new.call (given_call_in_log n id new) in
-            let there = origin o next ok.members arrivals old.0 old.2.call (given_call_in_log m id old.2) in
-            let one : there.0 ≡ here.0 = one_arrival next arrivals there.0 here.0 there.1 here.1 (ap name there.3 ∙ ap id_name (old.2.call_is ∙ sym new.call_is) ∙ sym (ap name here.3)) in
-            let q : old.0 ≡ p = sym (same_number there.0.request.partition old.0 there.2) ∙ ap (λ (b : Arrival). b.request.partition) one ∙ same_number here.0.request.partition p here.2 in
+            let q = one_partition o next ok.members arrivals old.0 p old.2.call new.call (given_executed m id old.2) (given_executed n id new) (ap id_name old.2.call_is ∙ ap id_name (sym new.call_is)) in
             let g = subst (λ v. IsGivenIn o r v m id) q old.1 in
             times_in (id_name id) (map held_name before.released) (subst (λ v. In v (map held_name before.released)) (g.held_is ∙ ap id_name g.call_is) (in_map held_name before.released g.held g.is_released))
 

@@ -17,13 +17,14 @@ use Rattle.grid_cli.specs.PartitionObjects.{target_of, map_entry, partition_obje
 use Rattle.grid_cli.specs.Runs.{Run, begun, Arrival, Appended, world_at}
 use Rattle.grid_cli.specs.Printing.{Printed, partitions, entries_of, all_entries, printed, printed_from, arrival_of, answer_of}
 use Rattle.grid_cli.specs.Linearizability.{is_on, history_of, Before, answered_call, IsOf, Fits, IsLinearizable, run_after, EveryRunIsLinearizable}
+use Rattle.grid_cli.specs.SameNames.{same_name}
 use Rattle.grid_cli.proofs.Parts.{before_first, before_second, part_filter, before_part, named_apart, in_filter, in_filtered}
-use Rattle.grid_cli.proofs.Places.{home, same_name, same_name_refl, same_number}
+use Rattle.grid_cli.proofs.Places.{home, same_number}
 use Rattle.grid_cli.proofs.Trails.{executed, asked, executed_name, Prints, printed_in, in_printed, printed_before}
-use Rattle.grid_cli.proofs.RunFacts.{RunOk, asked_of, arrival_name, id_name, is_of, safe, log_once, origin, origins, one_arrival, arrival_found, IsGivenIn}
+use Rattle.grid_cli.proofs.RunFacts.{RunOk, asked_of, arrival_name, id_name, is_of, safe, log_once, origin, origins, one_arrival, arrival_found, IsGivenIn, given_executed, asked_as}
 use Rattle.grid_cli.proofs.Lines.{run_after_ok, begun_ok}
 use Rattle.grid_cli.proofs.Locality.{legal_on, history_elsewhere, history_at, history_past}
-use Rattle.grid_cli.proofs.Answers.{trail_part, given_at, one_call, given_call_in, PrintedAnswer, printed_answer, answer_stands, answer_found, arrived_before}
+use Rattle.grid_cli.proofs.Answers.{trail_part, given_at, PrintedAnswer, printed_answer, answer_stands, answer_found, arrived_before}
 
 module _ (r : Run) (ok : RunOk partition_object r) (p : ℕ) where
   abbrev pub w : World Request
@@ -59,6 +60,10 @@ module _ (r : Run) (ok : RunOk partition_object r) (p : ℕ) where
   arrival_of_entry x e i prints =
       let from = origin partition_object r ok.members ok.of_arrivals p x i in
       record { arrival = from.0; there = from.1; here = from.2; is = is_of_arrival from.0 x e from.1 from.3 prints }
+
+  -- and no other arrival has its name
+  pub line_of_entry : (x : Executed Request) (e : Printed) → In x log → Prints r p x e → (a : Arrival) → In a r.arrivals → arrival_name a ≡ executed_name x → e.arrived ≡ a.line
+  line_of_entry x e i prints a j same = (is_of_arrival a x e j (asked_as partition_object r ok.members ok.of_arrivals a p x j i (sym same)) prints).line
 
   -- two entries in order
   pub record InOrder (a b : Printed) : Type 0 where
@@ -100,22 +105,29 @@ module _ (r : Run) (ok : RunOk partition_object r) (p : ℕ) where
         named_apart executed_name log k.first k.second (log_once partition_object r ok.members ok.of_arrivals p) k.before
         (ap id_name (ap (λ (f : Printed). f.id) k.prints_first.is ∙ same ∙ ap (λ (f : Printed). f.id) (sym k.prints_second.is)))
 
+    -- an entry of the call that an answer was given to
+    pub entry_of_answer : (a : Arrival) (m : Appended) (g : IsGivenIn partition_object r p m a.id) (e : Printed) → In a r.arrivals → is_same (target_of a.request) name ≡ true → answer_of r a.id ≡ Some m → In e (printed_from r p 0 (trail w)) → Prints r p g.call e
+        → Contains h e × IsOf a e × (e.reply ≡ m.bytes) × (e.answered ≡ Some m.line)
+    entry_of_answer a m g e i on found j prints =
+        let is = is_of_arrival a g.call e i (asked_as partition_object r ok.members ok.of_arrivals a p g.call i (given_executed m a.id g) (ap id_name g.call_is)) prints in
+        (contains_in e h (in_filter (is_on name) (printed_from r p 0 (trail w)) e j (ap (λ q. is_same (target_of q) name) is.request ∙ on)), is,
+        ap (λ (f : Printed). f.reply) (sym prints.is) ∙ sym g.reply,
+        ap (λ (f : Printed). f.answered) (sym prints.is) ∙ ap (λ c. option_map (λ (n : Appended). n.line) (answer_of r c)) g.call_is ∙ ap (λ n. option_map (λ (n : Appended). n.line) n) found)
+
+    pub answered_there : (a : Arrival) (m : Appended) (g : IsGivenIn partition_object r p m a.id) → In a r.arrivals → is_same (target_of a.request) name ≡ true → answer_of r a.id ≡ Some m
+        → (e : Printed) × Contains h e × IsOf a e × (e.reply ≡ m.bytes) × (e.answered ≡ Some m.line)
+    answered_there a m g i on found =
+        let k = in_printed r p 0 (trail w) g.call (answer_stands partition_object r ok p m a.id g) in
+        let e = entry_of_answer a m g k.0 i on found k.1 k.2 in
+        (k.0, e.0, e.1, e.2, e.3)
+
     pub answered : home name ≡ p → (a : Arrival) (m : Appended) → Contains r.arrivals a → is_same (target_of a.request) name ≡ true → Contains r.appended m → m.answers ≡ Some a.id
         → (e : Printed) × Contains h e × IsOf a e × (e.reply ≡ m.bytes) × (e.answered ≡ Some m.line)
     answered at a m c on d s =
         let i = in_contains a r.arrivals c in
         let j = in_contains m r.appended d in
         let there : a.request.partition ≡ p = sym (ok.of_arrivals.placed a i).there ∙ ap home (same_name (target_of a.request) name on) ∙ at in
-        let g : IsGivenIn partition_object r p m a.id = subst (λ k. IsGivenIn partition_object r k m a.id) there (given_at partition_object r ok a m i j s) in
-        let k = in_printed r p 0 (trail w) g.call (answer_stands partition_object r ok p m a.id g) in
-        let from = arrival_of_entry g.call k.0 (given_call_in partition_object r ok p m a.id g) k.2 in
-        let named : k.0.id ≡ a.id = ap (λ (f : Printed). f.id) (sym k.2.is) ∙ g.call_is in
-        let same : from.arrival ≡ a = one_arrival r ok.of_arrivals from.arrival a from.there i (ap id_name (sym from.is.id ∙ named)) in
-        let is : IsOf a k.0 = subst (λ b. IsOf b k.0) same from.is in
-        let on_name : is_on name k.0 ≡ true = ap (λ q. is_same (target_of q) name) is.request ∙ on in
-        (k.0, contains_in k.0 h (in_filter (is_on name) (printed_from r p 0 (trail w)) k.0 k.1 on_name), is,
-        ap (λ (f : Printed). f.reply) (sym k.2.is) ∙ sym g.reply,
-        ap (λ (f : Printed). f.answered) (sym k.2.is) ∙ ap (λ c. option_map (λ (n : Appended). n.line) (answer_of r c)) g.call_is ∙ ap (λ n. option_map (λ (n : Appended). n.line) n) (answer_found partition_object r ok m a.id j s))
+        answered_there a m (subst (λ k. IsGivenIn partition_object r k m a.id) there (given_at partition_object r ok a m i j s)) i on (answer_found partition_object r ok m a.id j s)
 
     pub given : (e : Printed) (line : ℕ) → Contains h e → e.answered ≡ Some line → (m : Appended) × Contains r.appended m × (m.answers ≡ Some e.id) × (m.line ≡ line) × (m.bytes ≡ e.reply)
     given e line c s =
@@ -128,13 +140,10 @@ module _ (r : Run) (ok : RunOk partition_object r) (p : ℕ) where
     pub ordered : (a b : Printed) (line : ℕ) → Before h a b → b.answered ≡ Some line → a.arrived ≤ line
     ordered a b line before s =
         let k = entries_in_order a b before in
-        let first = arrival_of_entry k.first a (before_first log k.first k.second k.before) k.prints_first in
         let found = printed_answer partition_object r ok p k.second line (before_second log k.first k.second k.before) (ap (λ (f : Printed). f.answered) k.prints_second.is ∙ s) in
         let by_then = arrived_before partition_object r ok p k.first k.second found.message (id_of k.second) found.given found.is k.before in
-        let named : id_of k.first ≡ a.id = ap (λ (f : Printed). f.id) k.prints_first.is in
-        let same : first.arrival ≡ by_then.0 = one_arrival r ok.of_arrivals first.arrival by_then.0 first.there by_then.1 (ap id_name (sym first.is.id ∙ sym named) ∙ sym by_then.2) in
-        let lines = ap (λ (c : Arrival). c.line) same in
-        omega (arith, lines, by_then.3, first.is.line, found.at_line)
+        let at = line_of_entry k.first a (before_first log k.first k.second k.before) k.prints_first by_then.0 by_then.1 by_then.2 in
+        omega (arith, at, by_then.3, found.at_line)
 
     pub same_line : (a b : Printed) → Before h a b → a.arrived ≡ b.arrived → a.id.number < b.id.number
     same_line a b before s =

@@ -16,13 +16,14 @@ use Rattle.grid_cli.specs.PartitionObjects.{Partition, target_of, with_entry, en
 use Rattle.grid_cli.specs.Runs.{Run}
 use Rattle.grid_cli.specs.Printing.{Printed, printed, printed_from}
 use Rattle.grid_cli.specs.Linearizability.{is_on, history_of, answered_call}
-use Rattle.grid_cli.proofs.Places.{home, same_name, same_name_refl, same_name_sym}
+use Rattle.grid_cli.specs.SameNames.{same_name, is_same_self}
+use Rattle.grid_cli.proofs.Places.{home, same_name_sym}
 use Rattle.grid_cli.proofs.Trails.{executed}
 
 -- what a call leaves at a name
 
 pub entry_same : (s : Partition) (target name : ObjectName) (e : MapEntry) → is_same target name ≡ true → with_entry s target e name ≡ e
-entry_same s target name e p = let q : is_same name target ≡ true = subst (λ n. is_same n target ≡ true) (same_name target name p) (same_name_refl target) in rw q refl
+entry_same s target name e p = let q : is_same name target ≡ true = subst (λ n. is_same n target ≡ true) (same_name target name p) (is_same_self target) in rw q refl
 
 pub entry_other : (s : Partition) (target name : ObjectName) (e : MapEntry) → is_same target name ≡ false → with_entry s target e name ≡ s name
 entry_other s target name e p = let q = same_name_sym target name p in rw q refl
