@@ -1,25 +1,22 @@
 -- The answer of a printed entry: it is the one that was given, and a call that was answered stands in its partition's history.
-use Rattle.std.proofs.Common.{◌≡◌, ℕ, ◌≤◌, Bool, true, false, List, [], ◌∷◌, ◌++◌, map, filter, Option, Some, None, refl, ap, sym, ◌∙◌, subst, ◌⊎◌, ⊎_elim, inl, inr, arith}
-use Rattle.std.specs.List.{find}
+use Rattle.std.proofs.Common.{◌≡◌, ℕ, ◌≤◌, true, map, Option, Some, None, refl, ap, sym, ◌∙◌, subst, ⊎_elim}
 use Rattle.std.specs.Option.{option_map}
 use Rattle.grid_base.specs.Objects.{Object}
-use Rattle.grid_base.specs.Names.{is_same_call}
 use Rattle.grid_base.specs.declared.names.CallId.{CallId}
 use Rattle.grid_base.specs.declared.calls.Request.{Request}
 use Rattle.partition_protocol.specs.History.{Executed, Called}
 use Rattle.partition_protocol.specs.World.{trail}
-use Rattle.partition_protocol.specs.Claims.{Stands}
 use Rattle.partition_protocol.specs.Arrivals.{CallName, NamedOnce, name}
-use Rattle.partition_protocol.proofs.Lists.{In, in_left, in_contains, contains_in, IsPart}
+use Rattle.partition_protocol.proofs.Lists.{In, in_contains, contains_in, IsPart}
 use Rattle.partition_protocol.proofs.Faithful.{part_in}
 use Rattle.partition_world.specs.Answers.{id_of}
 use Rattle.grid_cli.specs.Runs.{Run, Arrival, Appended, world_at}
 use Rattle.grid_cli.specs.Printing.{is_named, is_answer_to, answer_of}
 use Rattle.grid_cli.specs.Linearizability.{Before}
 use Rattle.grid_cli.proofs.Parts.{subsequence_part, named_same, named_append, before_append}
-use Rattle.grid_cli.proofs.Counts.{count, find_only}
+use Rattle.grid_cli.proofs.Counts.{find_only}
 use Rattle.grid_cli.proofs.Places.{same_call, same_call_refl, same_number}
-use Rattle.grid_cli.proofs.Trails.{executed, asked, executed_name, executed-append, in_executed, part_executed, find_some}
+use Rattle.grid_cli.proofs.Trails.{executed, executed_name, in_executed, part_executed, find_some}
 use Rattle.grid_cli.proofs.RunFacts.{id_name, RunOk, IsGivenIn, log_since, given_executed, arrival_name, safe, log_once, origin, partition_of_call}
 
 abbrev pub id_of_name : CallName → CallId
@@ -37,7 +34,9 @@ answer_named id m e = subst (λ o. is_named id o ≡ true) (sym e) (same_call_re
 
 module _ {State : Type 0} (o : Object Request State) (r : Run) (ok : RunOk o r) where
   pub trail_part : (p : ℕ) → IsPart (executed (trail (world_at o r p))) (executed (world_at o r p).recorded.log)
-  trail_part p = part_executed (trail (world_at o r p)) (world_at o r p).recorded.log (subsequence_part (trail (world_at o r p)) (world_at o r p).recorded.log (safe o r ok.members ok.of_arrivals p).0.in_order)
+  trail_part p =
+      part_executed (trail (world_at o r p)) (world_at o r p).recorded.log
+      (subsequence_part (trail (world_at o r p)) (world_at o r p).recorded.log (safe o r ok.members ok.of_arrivals p).0.in_order)
 
   -- two executed calls of one name are one
   pub one_call : (p : ℕ) (x y : Executed Request) → In x (executed (world_at o r p).recorded.log) → In y (executed (world_at o r p).recorded.log) → executed_name x ≡ executed_name y → x ≡ y
@@ -59,7 +58,8 @@ module _ {State : Type 0} (o : Object Request State) (r : Run) (ok : RunOk o r) 
     pub given : IsGivenIn o r p message (id_of x)
     pub is : given.call ≡ x
 
-  pub printed_answer : (p : ℕ) (x : Executed Request) (line : ℕ) → In x (executed (world_at o r p).recorded.log) → option_map (λ (m : Appended). m.line) (answer_of r (id_of x)) ≡ Some line → PrintedAnswer p x line
+  pub printed_answer : (p : ℕ) (x : Executed Request) (line : ℕ) → In x (executed (world_at o r p).recorded.log)
+      → option_map (λ (m : Appended). m.line) (answer_of r (id_of x)) ≡ Some line → PrintedAnswer p x line
   printed_answer p x line i e = go (answer_of r (id_of x)) (λ m s. find_some (is_answer_to (id_of x)) r.appended m s) e
     where
       message : (m : Appended) → In m r.appended → m.answers ≡ Some (id_of x) → m.line ≡ line → PrintedAnswer p x line
@@ -71,7 +71,8 @@ module _ {State : Type 0} (o : Object Request State) (r : Run) (ok : RunOk o r) 
           let g : IsGivenIn o r p m (id_of x) = subst (λ c. IsGivenIn o r p m c) named (subst (λ k. IsGivenIn o r k m from.0.id) there at_arrival) in
           record { message = m; there = j; answers = s; at_line = l; given = g; is = one_call p g.call x (given_executed m (id_of x) g) i (ap id_name g.call_is) }
 
-      go : (found : Option Appended) → ((m : Appended) → found ≡ Some m → In m r.appended × (is_answer_to (id_of x) m ≡ true)) → option_map (λ (m : Appended). m.line) found ≡ Some line → PrintedAnswer p x line
+      go : (found : Option Appended) → ((m : Appended) → found ≡ Some m → In m r.appended × (is_answer_to (id_of x) m ≡ true))
+          → option_map (λ (m : Appended). m.line) found ≡ Some line → PrintedAnswer p x line
       go None f s = absurd cc
       go (Some m) f s = let k = f m refl in let l : m.line ≡ line = cc in message m k.0 (named_answer (id_of x) m k.1) l
 
@@ -88,9 +89,11 @@ module _ {State : Type 0} (o : Object Request State) (r : Run) (ok : RunOk o r) 
   answer_found m id i e = find_only (is_answer_to id) r.appended m (ok.of_answers.once id) i (answer_named id m e)
 
   -- what was executed before a call that was answered had arrived by then
-  pub arrived_before : (p : ℕ) (x y : Executed Request) (m : Appended) (id : CallId) (g : IsGivenIn o r p m id) → g.call ≡ y → Before (executed (world_at o r p).recorded.log) x y → (a : Arrival) × In a r.arrivals × (arrival_name a ≡ executed_name x) × (a.line ≤ m.line)
+  pub arrived_before : (p : ℕ) (x y : Executed Request) (m : Appended) (id : CallId) (g : IsGivenIn o r p m id) → g.call ≡ y
+      → Before (executed (world_at o r p).recorded.log) x y → (a : Arrival) × In a r.arrivals × (arrival_name a ≡ executed_name x) × (a.line ≤ m.line)
   arrived_before p x y m id g same h =
       let log = log_since m id g in
       ⊎_elim (λ i. g.arrived x i)
-      (λ j. absurd (named_append executed_name (executed g.log_then) (executed g.front.0) g.call y (subst (λ xs. NamedOnce (map executed_name xs)) log (log_once o r ok.members ok.of_arrivals p)) g.has j (ap executed_name same)))
+      (λ j. absurd (named_append executed_name (executed g.log_then) (executed g.front.0) g.call y
+      (subst (λ xs. NamedOnce (map executed_name xs)) log (log_once o r ok.members ok.of_arrivals p)) g.has j (ap executed_name same)))
       (before_append (executed g.log_then) (executed g.front.0) x y (subst (λ xs. Before xs x y) log h))

@@ -1,12 +1,12 @@
 -- What is printed for an object fits the run: it is the history of that object, used by one thread.
-use Rattle.std.proofs.Common.{◌≡◌, ◌≢◌, ℕ, ◌+◌, ◌≤◌, ◌<◌, Bool, true, false, nat_lt, List, [], ◌∷◌, map, filter, Option, Some, None, Contains, refl, ap, sym, ◌∙◌, subst, ◌⊎◌, ⊎_elim, inl, inr, arith}
+use Rattle.std.proofs.Common.{◌≡◌, ◌≢◌, ℕ, ◌≤◌, ◌<◌, true, false, nat_lt, List, [], map, Option, Some, Contains, refl, ap, sym, ◌∙◌, subst, ⊎_elim, arith}
 use Rattle.std.specs.Prelude.{unwrap_or, option_map}
 use Rattle.grid_base.specs.Histories.{IsLegal}
 use Rattle.grid_base.specs.MapEntries.{empty_entry}
 use Rattle.grid_base.specs.Names.{ObjectName, is_same}
 use Rattle.grid_base.specs.declared.names.CallId.{CallId}
 use Rattle.grid_base.specs.declared.calls.Request.{Request}
-use Rattle.partition_protocol.specs.History.{Entry, Executed}
+use Rattle.partition_protocol.specs.History.{Executed}
 use Rattle.partition_protocol.specs.World.{World, trail}
 use Rattle.partition_protocol.specs.Arrivals.{Asked}
 use Rattle.partition_protocol.proofs.Lists.{In, in_contains, contains_in, cases}
@@ -15,16 +15,16 @@ use Rattle.partition_protocol.proofs.Faithful.{part_in}
 use Rattle.partition_world.specs.Answers.{id_of}
 use Rattle.grid_cli.specs.PartitionObjects.{target_of, map_entry, partition_object}
 use Rattle.grid_cli.specs.Runs.{Run, begun, Arrival, Appended, world_at}
-use Rattle.grid_cli.specs.Printing.{Printed, partitions, entries_of, all_entries, printed, printed_from, arrival_of, answer_of}
+use Rattle.grid_cli.specs.Printing.{Printed, partitions, entries_of, all_entries, printed_from, arrival_of, answer_of}
 use Rattle.grid_cli.specs.Linearizability.{is_on, history_of, Before, answered_call, IsOf, Fits, IsLinearizable, run_after, EveryRunIsLinearizable}
 use Rattle.grid_cli.specs.SameNames.{same_name}
 use Rattle.grid_cli.proofs.Parts.{before_first, before_second, part_filter, before_part, named_apart, in_filter, in_filtered}
 use Rattle.grid_cli.proofs.Places.{home, same_number}
 use Rattle.grid_cli.proofs.Trails.{executed, asked, executed_name, Prints, printed_in, in_printed, printed_before}
-use Rattle.grid_cli.proofs.RunFacts.{RunOk, asked_of, arrival_name, id_name, is_of, safe, log_once, origin, origins, one_arrival, arrival_found, IsGivenIn, given_executed, asked_as}
+use Rattle.grid_cli.proofs.RunFacts.{RunOk, asked_of, arrival_name, id_name, is_of, safe, log_once, origin, origins, arrival_found, IsGivenIn, given_executed, asked_as}
 use Rattle.grid_cli.proofs.Lines.{run_after_ok, begun_ok}
 use Rattle.grid_cli.proofs.Locality.{legal_on, history_elsewhere, history_at, history_past}
-use Rattle.grid_cli.proofs.Answers.{trail_part, given_at, PrintedAnswer, printed_answer, answer_stands, answer_found, arrived_before}
+use Rattle.grid_cli.proofs.Answers.{trail_part, given_at, printed_answer, answer_stands, answer_found, arrived_before}
 
 module _ (r : Run) (ok : RunOk partition_object r) (p : ℕ) where
   abbrev pub w : World Request
@@ -86,7 +86,13 @@ module _ (r : Run) (ok : RunOk partition_object r) (p : ℕ) where
     pub entries_in_order : (a b : Printed) → Before h a b → InOrder a b
     entries_in_order a b before =
         let k = printed_before r p 0 (trail w) a b (before_part h (printed_from r p 0 (trail w)) a b (part_filter (is_on name) (printed_from r p 0 (trail w))) before) in
-        record { first = k.0; second = k.1.0; before = before_part (executed (trail w)) log k.0 k.1.0 (trail_part partition_object r ok p) k.1.1; prints_first = k.1.2; prints_second = k.1.3 }
+        record {
+          first = k.0;
+          second = k.1.0;
+          before = before_part (executed (trail w)) log k.0 k.1.0 (trail_part partition_object r ok p) k.1.1;
+          prints_first = k.1.2;
+          prints_second = k.1.3;
+        }
 
     pub legal : IsLegal map_entry empty_entry (map answered_call h)
     legal =
@@ -106,13 +112,16 @@ module _ (r : Run) (ok : RunOk partition_object r) (p : ℕ) where
         (ap id_name (ap (λ (f : Printed). f.id) k.prints_first.is ∙ same ∙ ap (λ (f : Printed). f.id) (sym k.prints_second.is)))
 
     -- an entry of the call that an answer was given to
-    pub entry_of_answer : (a : Arrival) (m : Appended) (g : IsGivenIn partition_object r p m a.id) (e : Printed) → In a r.arrivals → is_same (target_of a.request) name ≡ true → answer_of r a.id ≡ Some m → In e (printed_from r p 0 (trail w)) → Prints r p g.call e
+    pub entry_of_answer : (a : Arrival) (m : Appended) (g : IsGivenIn partition_object r p m a.id) (e : Printed) → In a r.arrivals → is_same (target_of a.request) name ≡ true
+        → answer_of r a.id ≡ Some m → In e (printed_from r p 0 (trail w)) → Prints r p g.call e
         → Contains h e × IsOf a e × (e.reply ≡ m.bytes) × (e.answered ≡ Some m.line)
     entry_of_answer a m g e i on found j prints =
-        let is = is_of_arrival a g.call e i (asked_as partition_object r ok.members ok.of_arrivals a p g.call i (given_executed m a.id g) (ap id_name g.call_is)) prints in
-        (contains_in e h (in_filter (is_on name) (printed_from r p 0 (trail w)) e j (ap (λ q. is_same (target_of q) name) is.request ∙ on)), is,
-        ap (λ (f : Printed). f.reply) (sym prints.is) ∙ sym g.reply,
-        ap (λ (f : Printed). f.answered) (sym prints.is) ∙ ap (λ c. option_map (λ (n : Appended). n.line) (answer_of r c)) g.call_is ∙ ap (λ n. option_map (λ (n : Appended). n.line) n) found)
+        let is = is_of_arrival a g.call e i (asked_as partition_object r ok.members ok.of_arrivals a p g.call i (given_executed m a.id g) (ap id_name g.call_is)) prints in (
+          contains_in e h (in_filter (is_on name) (printed_from r p 0 (trail w)) e j (ap (λ q. is_same (target_of q) name) is.request ∙ on)),
+          is,
+          ap (λ (f : Printed). f.reply) (sym prints.is) ∙ sym g.reply,
+          ap (λ (f : Printed). f.answered) (sym prints.is) ∙ ap (λ c. option_map (λ (n : Appended). n.line) (answer_of r c)) g.call_is ∙ ap (λ n. option_map (λ (n : Appended). n.line) n) found,
+        )
 
     pub answered_there : (a : Arrival) (m : Appended) (g : IsGivenIn partition_object r p m a.id) → In a r.arrivals → is_same (target_of a.request) name ≡ true → answer_of r a.id ≡ Some m
         → (e : Printed) × Contains h e × IsOf a e × (e.reply ≡ m.bytes) × (e.answered ≡ Some m.line)
@@ -133,9 +142,13 @@ module _ (r : Run) (ok : RunOk partition_object r) (p : ℕ) where
     given e line c s =
         let k = entry_call e (in_contains e h c) in
         let prints = k.1.2 in
-        let found = printed_answer partition_object r ok p k.1.0 line k.1.1 (ap (λ (f : Printed). f.answered) prints.is ∙ s) in
-        (found.message, contains_in found.message r.appended found.there, found.answers ∙ ap (λ (f : Printed). Some f.id) prints.is, found.at_line,
-        found.given.reply ∙ ap (λ (x : Executed Request). x.reply) found.is ∙ ap (λ (f : Printed). f.reply) prints.is)
+        let found = printed_answer partition_object r ok p k.1.0 line k.1.1 (ap (λ (f : Printed). f.answered) prints.is ∙ s) in (
+          found.message,
+          contains_in found.message r.appended found.there,
+          found.answers ∙ ap (λ (f : Printed). Some f.id) prints.is,
+          found.at_line,
+          found.given.reply ∙ ap (λ (x : Executed Request). x.reply) found.is ∙ ap (λ (f : Printed). f.reply) prints.is,
+        )
 
     pub ordered : (a b : Printed) (line : ℕ) → Before h a b → b.answered ≡ Some line → a.arrived ≤ line
     ordered a b line before s =
@@ -190,11 +203,17 @@ linear r ok name = ⊎_elim below past (cases (nat_lt (home name) partitions))
     elsewhere q other = history_elsewhere r q 0 name (trail (world_at partition_object r q)) (trail_at_home r ok q) other
 
     below : nat_lt (home name) partitions ≡ true → Fits map_entry name r (history_of name (all_entries partition_object r))
-    below e = subst (λ es. Fits map_entry name r es) (sym (history_at name (entries_of partition_object r) (home name) elsewhere partitions (less (home name) partitions e))) (fits r ok (home name) name refl)
+    below e =
+        subst (λ es. Fits map_entry name r es)
+        (sym (history_at name (entries_of partition_object r) (home name) elsewhere partitions (less (home name) partitions e)))
+        (fits r ok (home name) name refl)
 
     past : nat_lt (home name) partitions ≡ false → Fits map_entry name r (history_of name (all_entries partition_object r))
-    past e = let far = not_less (home name) partitions e in subst (λ es. Fits map_entry name r es) (sym (history_past name (entries_of partition_object r) (home name) elsewhere partitions far)) (nothing_fits r ok name far)
+    past e =
+        let far = not_less (home name) partitions e in
+        subst (λ es. Fits map_entry name r es) (sym (history_past name (entries_of partition_object r) (home name) elsewhere partitions far)) (nothing_fits r ok name far)
 
 pub every_run_is_linearizable : EveryRunIsLinearizable
 every_run_is_linearizable members backups skips texts grid =
-    linear (run_after partition_object skips (begun members backups) texts) (run_after_ok partition_object skips (begun members backups) texts (begun_ok partition_object members backups grid))
+    linear (run_after partition_object skips (begun members backups) texts)
+    (run_after_ok partition_object skips (begun members backups) texts (begun_ok partition_object members backups grid))
