@@ -21,7 +21,7 @@ use Rattle.grid_cli.specs.SameNames.{same_name}
 use Rattle.grid_cli.proofs.Parts.{before_first, before_second, part_filter, before_part, named_apart, in_filter, in_filtered}
 use Rattle.grid_cli.proofs.Places.{home, same_number}
 use Rattle.grid_cli.proofs.Trails.{executed, asked, executed_name, Prints, printed_in, in_printed, printed_before}
-use Rattle.grid_cli.proofs.RunFacts.{RunOk, asked_of, arrival_name, id_name, is_of, safe, log_once, origin, origins, arrival_found, IsGivenIn, given_executed, asked_as}
+use Rattle.grid_cli.proofs.RunFacts.{RunOk, asked_of, arrival_name, id_name, safe, log_once, origin, origins, arrival_found, IsGivenIn, given_executed, asked_as}
 use Rattle.grid_cli.proofs.Lines.{run_after_ok, begun_ok}
 use Rattle.grid_cli.proofs.Locality.{legal_on, history_elsewhere, history_at, history_past}
 use Rattle.grid_cli.proofs.Answers.{trail_part, given_at, printed_answer, answer_stands, answer_found, arrived_before}
@@ -49,19 +49,7 @@ module _ (r : Run) (ok : RunOk partition_object r) (p : ℕ) where
         line = ap (λ (f : Printed). f.arrived) entry ∙ ap (λ c. line_of (arrival_of r c)) named ∙ ap line_of (arrival_found r ok.of_arrivals a i);
       }
 
-  -- the arrival of an entry
-  pub record Arrived (e : Printed) : Type 0 where
-    pub arrival : Arrival
-    pub there : In arrival r.arrivals
-    pub here : is_of p arrival ≡ true
-    pub is : IsOf arrival e
-
-  pub arrival_of_entry : (x : Executed Request) (e : Printed) → In x log → Prints r p x e → Arrived e
-  arrival_of_entry x e i prints =
-      let from = origin partition_object r ok.members ok.of_arrivals p x i in
-      record { arrival = from.0; there = from.1; here = from.2; is = is_of_arrival from.0 x e from.1 from.3 prints }
-
-  -- and no other arrival has its name
+  -- it has the line of that arrival
   pub line_of_entry : (x : Executed Request) (e : Printed) → In x log → Prints r p x e → (a : Arrival) → In a r.arrivals → arrival_name a ≡ executed_name x → e.arrived ≡ a.line
   line_of_entry x e i prints a j same = (is_of_arrival a x e j (asked_as partition_object r ok.members ok.of_arrivals a p x j i (sym same)) prints).line
 
@@ -77,6 +65,7 @@ module _ (r : Run) (ok : RunOk partition_object r) (p : ℕ) where
     abbrev pub h : List Printed
     h = history_of name (printed_from r p 0 (trail w))
 
+    -- the call of an entry
     pub entry_call : (e : Printed) → In e h → (is_on name e ≡ true) × ((x : Executed Request) × In x log × Prints r p x e)
     entry_call e i =
         let f = in_filtered (is_on name) (printed_from r p 0 (trail w)) e i in
@@ -102,8 +91,8 @@ module _ (r : Run) (ok : RunOk partition_object r) (p : ℕ) where
     pub arrived : (e : Printed) → Contains h e → (is_on name e ≡ true) × ((a : Arrival) × Contains r.arrivals a × IsOf a e)
     arrived e c =
         let k = entry_call e (in_contains e h c) in
-        let from = arrival_of_entry k.1.0 e k.1.1 k.1.2 in
-        (k.0, (from.arrival, contains_in from.arrival r.arrivals from.there, from.is))
+        let from = origin partition_object r ok.members ok.of_arrivals p k.1.0 k.1.1 in
+        (k.0, (from.0, contains_in from.0 r.arrivals from.1, is_of_arrival from.0 k.1.0 e from.1 from.3 k.1.2))
 
     pub once : (a b : Printed) → Before h a b → a.id ≢ b.id
     once a b before same =
@@ -196,6 +185,7 @@ trail_at_home r ok p x i =
     let from = origin partition_object r ok.members ok.of_arrivals p x (part_in (executed (trail (world_at partition_object r p))) (log r ok p) x (trail_part partition_object r ok p) i) in
     ap (λ (k : Asked Request). home (target_of k.call)) (sym from.3) ∙ (ok.of_arrivals.placed from.0 from.1).there ∙ same_number from.0.request.partition p from.2
 
+-- so one thread that used one map entry could have seen each history of the run
 pub linear : (r : Run) → RunOk partition_object r → IsLinearizable r
 linear r ok name = ⊎_elim below past (cases (nat_lt (home name) partitions))
   where
