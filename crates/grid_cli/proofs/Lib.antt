@@ -3,6 +3,9 @@ pub mod Pieces
 pub mod Names
 pub mod Entries
 pub mod Spelling
+pub mod Progress
+pub mod SkipLaws
+pub mod LineEnds
 pub mod Parts
 pub mod Counts
 pub mod Releases

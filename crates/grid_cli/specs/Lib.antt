@@ -13,3 +13,5 @@ pub mod MapLists
 pub mod Statuses
 pub mod SameNames
 pub mod EffectLaws
+pub mod Skips
+pub mod Progress
