@@ -1,5 +1,5 @@
 -- A line that opens a connection or brings bytes on one keeps what holds of arrivals.
-use Rattle.std.proofs.Common.{◌≡◌, ◌≢◌, ℕ, ◌+◌, ◌≤◌, ◌<◌, Bool, true, false, cond, ◌==◌, List, [], ◌∷◌, ◌++◌, map, filter, Option, Some, None, refl, ap, sym, ◌∙◌, subst, ◌⊎◌, ⊎_elim, inl, inr, arith, append-nil, append_assoc}
+use Rattle.std.proofs.Common.{◌≡◌, ◌≢◌, ℕ, ◌+◌, ◌≤◌, ◌<◌, Bool, true, false, cond, ◌==◌, List, [], ◌∷◌, ◌++◌, map, filter, Some, refl, ap, sym, ◌∙◌, subst, ◌⊎◌, ⊎_elim, inl, inr, arith, append-nil, append_assoc}
 use Rattle.std.proofs.lemmas.List.{map-append}
 use Rattle.std.proofs.lemmas.List.Elements.{filter-append}
 use Rattle.std.proofs.lemmas.Bool.Decides.{nat_tests}
@@ -8,15 +8,14 @@ use Rattle.std.specs.Option.{option_map}
 use Rattle.grid_base.specs.Objects.{Object}
 use Rattle.grid_base.specs.declared.names.CallId.{CallId}
 use Rattle.grid_base.specs.declared.calls.Request.{Request}
-use Rattle.partition_protocol.specs.Events.{Event, Call}
-use Rattle.partition_protocol.specs.Arrivals.{Asked, CallName, NamedOnce, name, asked_by, arrivals}
-use Rattle.partition_protocol.proofs.Lists.{In, in_left, in_cases, IsPart, part_longer, part_both, cases}
+use Rattle.partition_protocol.specs.Events.{Event}
+use Rattle.partition_protocol.specs.Arrivals.{CallName, asked_by, arrivals}
+use Rattle.partition_protocol.proofs.Lists.{In, in_cases, IsPart, part_longer, part_both, cases}
 use Rattle.grid_cli.specs.Runs.{Run, Arrival, Appended, Connection, At, is_at, events_at, is_connection, connection_of, updated, arrival_at, call_of, arrived, next_id}
-use Rattle.grid_cli.specs.Linearizability.{Before}
 use Rattle.grid_cli.proofs.Parts.{before_last, named_more}
 use Rattle.grid_cli.proofs.Places.{IsPlaced, same_number}
 use Rattle.grid_cli.proofs.Trails.{find_some}
-use Rattle.grid_cli.proofs.RunFacts.{id_name, asked_of, arrival_name, is_of, ArrivalsOk, AnswersOk, RunOk}
+use Rattle.grid_cli.proofs.RunFacts.{id_name, asked_of, arrival_name, is_of, ArrivalsOk, RunOk}
 
 -- connections
 
@@ -112,7 +111,8 @@ abbrev pub its_event : Arrival → At
 its_event a = record { partition = a.request.partition; event = call_of a }
 
 -- the partition's arrivals with one more
-pub arrivals_of_more : (p : ℕ) (come : List Arrival) (a : Arrival) → map asked_of (filter (is_of p) (come ++ a ∷ [])) ≡ map asked_of (filter (is_of p) come) ++ maybe_one (is_of p a) (asked_of a)
+pub arrivals_of_more : (p : ℕ) (come : List Arrival) (a : Arrival)
+    → map asked_of (filter (is_of p) (come ++ a ∷ [])) ≡ map asked_of (filter (is_of p) come) ++ maybe_one (is_of p a) (asked_of a)
 arrivals_of_more p come a =
     ap (map asked_of) (filter-append (is_of p) come (a ∷ [])) ∙ map-append asked_of (filter (is_of p) come) (maybe_one (is_of p a) a)
     ∙ ap (λ ks. map asked_of (filter (is_of p) come) ++ ks) (map-maybe_one asked_of (is_of p a) a)

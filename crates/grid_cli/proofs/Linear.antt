@@ -1,12 +1,12 @@
 -- What is printed for an object fits the run: it is the history of that object, used by one thread.
-use Rattle.std.proofs.Common.{◌≡◌, ◌≢◌, ℕ, ◌+◌, ◌≤◌, ◌<◌, Bool, true, false, nat_lt, List, [], ◌∷◌, map, filter, Option, Some, None, Contains, refl, ap, sym, ◌∙◌, subst, ◌⊎◌, ⊎_elim, inl, inr, arith}
+use Rattle.std.proofs.Common.{◌≡◌, ◌≢◌, ℕ, ◌≤◌, ◌<◌, true, false, nat_lt, List, [], map, Option, Some, Contains, refl, ap, sym, ◌∙◌, subst, ⊎_elim, arith}
 use Rattle.std.specs.Prelude.{unwrap_or, option_map}
 use Rattle.grid_base.specs.Histories.{IsLegal}
 use Rattle.grid_base.specs.MapEntries.{empty_entry}
 use Rattle.grid_base.specs.Names.{ObjectName, is_same}
 use Rattle.grid_base.specs.declared.names.CallId.{CallId}
 use Rattle.grid_base.specs.declared.calls.Request.{Request}
-use Rattle.partition_protocol.specs.History.{Entry, Executed}
+use Rattle.partition_protocol.specs.History.{Executed}
 use Rattle.partition_protocol.specs.World.{World, trail}
 use Rattle.partition_protocol.specs.Arrivals.{Asked}
 use Rattle.partition_protocol.proofs.Lists.{In, in_contains, contains_in, cases}
@@ -15,15 +15,16 @@ use Rattle.partition_protocol.proofs.Faithful.{part_in}
 use Rattle.partition_world.specs.Answers.{id_of}
 use Rattle.grid_cli.specs.PartitionObjects.{target_of, map_entry, partition_object}
 use Rattle.grid_cli.specs.Runs.{Run, begun, Arrival, Appended, world_at}
-use Rattle.grid_cli.specs.Printing.{Printed, partitions, entries_of, all_entries, printed, printed_from, arrival_of, answer_of}
+use Rattle.grid_cli.specs.Printing.{Printed, partitions, entries_of, all_entries, printed_from, arrival_of, answer_of}
 use Rattle.grid_cli.specs.Linearizability.{is_on, history_of, Before, answered_call, IsOf, Fits, IsLinearizable, run_after, EveryRunIsLinearizable}
+use Rattle.grid_cli.specs.SameNames.{same_name}
 use Rattle.grid_cli.proofs.Parts.{before_first, before_second, part_filter, before_part, named_apart, in_filter, in_filtered}
-use Rattle.grid_cli.proofs.Places.{home, same_name, same_name_refl, same_number}
+use Rattle.grid_cli.proofs.Places.{home, same_number}
 use Rattle.grid_cli.proofs.Trails.{executed, asked, executed_name, Prints, printed_in, in_printed, printed_before}
-use Rattle.grid_cli.proofs.RunFacts.{RunOk, asked_of, arrival_name, id_name, is_of, safe, log_once, origin, origins, one_arrival, arrival_found, IsGivenIn}
+use Rattle.grid_cli.proofs.RunFacts.{RunOk, asked_of, arrival_name, id_name, safe, log_once, origin, origins, arrival_found, IsGivenIn, given_executed, asked_as}
 use Rattle.grid_cli.proofs.Lines.{run_after_ok, begun_ok}
 use Rattle.grid_cli.proofs.Locality.{legal_on, history_elsewhere, history_at, history_past}
-use Rattle.grid_cli.proofs.Answers.{trail_part, given_at, one_call, given_call_in, PrintedAnswer, printed_answer, answer_stands, answer_found, arrived_before}
+use Rattle.grid_cli.proofs.Answers.{trail_part, given_at, printed_answer, answer_stands, answer_found, arrived_before}
 
 module _ (r : Run) (ok : RunOk partition_object r) (p : ℕ) where
   abbrev pub w : World Request
@@ -48,17 +49,9 @@ module _ (r : Run) (ok : RunOk partition_object r) (p : ℕ) where
         line = ap (λ (f : Printed). f.arrived) entry ∙ ap (λ c. line_of (arrival_of r c)) named ∙ ap line_of (arrival_found r ok.of_arrivals a i);
       }
 
-  -- the arrival of an entry
-  pub record Arrived (e : Printed) : Type 0 where
-    pub arrival : Arrival
-    pub there : In arrival r.arrivals
-    pub here : is_of p arrival ≡ true
-    pub is : IsOf arrival e
-
-  pub arrival_of_entry : (x : Executed Request) (e : Printed) → In x log → Prints r p x e → Arrived e
-  arrival_of_entry x e i prints =
-      let from = origin partition_object r ok.members ok.of_arrivals p x i in
-      record { arrival = from.0; there = from.1; here = from.2; is = is_of_arrival from.0 x e from.1 from.3 prints }
+  -- it has the line of that arrival
+  pub line_of_entry : (x : Executed Request) (e : Printed) → In x log → Prints r p x e → (a : Arrival) → In a r.arrivals → arrival_name a ≡ executed_name x → e.arrived ≡ a.line
+  line_of_entry x e i prints a j same = (is_of_arrival a x e j (asked_as partition_object r ok.members ok.of_arrivals a p x j i (sym same)) prints).line
 
   -- two entries in order
   pub record InOrder (a b : Printed) : Type 0 where
@@ -72,6 +65,7 @@ module _ (r : Run) (ok : RunOk partition_object r) (p : ℕ) where
     abbrev pub h : List Printed
     h = history_of name (printed_from r p 0 (trail w))
 
+    -- the call of an entry
     pub entry_call : (e : Printed) → In e h → (is_on name e ≡ true) × ((x : Executed Request) × In x log × Prints r p x e)
     entry_call e i =
         let f = in_filtered (is_on name) (printed_from r p 0 (trail w)) e i in
@@ -81,7 +75,13 @@ module _ (r : Run) (ok : RunOk partition_object r) (p : ℕ) where
     pub entries_in_order : (a b : Printed) → Before h a b → InOrder a b
     entries_in_order a b before =
         let k = printed_before r p 0 (trail w) a b (before_part h (printed_from r p 0 (trail w)) a b (part_filter (is_on name) (printed_from r p 0 (trail w))) before) in
-        record { first = k.0; second = k.1.0; before = before_part (executed (trail w)) log k.0 k.1.0 (trail_part partition_object r ok p) k.1.1; prints_first = k.1.2; prints_second = k.1.3 }
+        record {
+          first = k.0;
+          second = k.1.0;
+          before = before_part (executed (trail w)) log k.0 k.1.0 (trail_part partition_object r ok p) k.1.1;
+          prints_first = k.1.2;
+          prints_second = k.1.3;
+        }
 
     pub legal : IsLegal map_entry empty_entry (map answered_call h)
     legal =
@@ -91,8 +91,8 @@ module _ (r : Run) (ok : RunOk partition_object r) (p : ℕ) where
     pub arrived : (e : Printed) → Contains h e → (is_on name e ≡ true) × ((a : Arrival) × Contains r.arrivals a × IsOf a e)
     arrived e c =
         let k = entry_call e (in_contains e h c) in
-        let from = arrival_of_entry k.1.0 e k.1.1 k.1.2 in
-        (k.0, (from.arrival, contains_in from.arrival r.arrivals from.there, from.is))
+        let from = origin partition_object r ok.members ok.of_arrivals p k.1.0 k.1.1 in
+        (k.0, (from.0, contains_in from.0 r.arrivals from.1, is_of_arrival from.0 k.1.0 e from.1 from.3 k.1.2))
 
     pub once : (a b : Printed) → Before h a b → a.id ≢ b.id
     once a b before same =
@@ -100,41 +100,52 @@ module _ (r : Run) (ok : RunOk partition_object r) (p : ℕ) where
         named_apart executed_name log k.first k.second (log_once partition_object r ok.members ok.of_arrivals p) k.before
         (ap id_name (ap (λ (f : Printed). f.id) k.prints_first.is ∙ same ∙ ap (λ (f : Printed). f.id) (sym k.prints_second.is)))
 
+    -- an entry of the call that an answer was given to
+    pub entry_of_answer : (a : Arrival) (m : Appended) (g : IsGivenIn partition_object r p m a.id) (e : Printed) → In a r.arrivals → is_same (target_of a.request) name ≡ true
+        → answer_of r a.id ≡ Some m → In e (printed_from r p 0 (trail w)) → Prints r p g.call e
+        → Contains h e × IsOf a e × (e.reply ≡ m.bytes) × (e.answered ≡ Some m.line)
+    entry_of_answer a m g e i on found j prints =
+        let is = is_of_arrival a g.call e i (asked_as partition_object r ok.members ok.of_arrivals a p g.call i (given_executed m a.id g) (ap id_name g.call_is)) prints in (
+          contains_in e h (in_filter (is_on name) (printed_from r p 0 (trail w)) e j (ap (λ q. is_same (target_of q) name) is.request ∙ on)),
+          is,
+          ap (λ (f : Printed). f.reply) (sym prints.is) ∙ sym g.reply,
+          ap (λ (f : Printed). f.answered) (sym prints.is) ∙ ap (λ c. option_map (λ (n : Appended). n.line) (answer_of r c)) g.call_is ∙ ap (λ n. option_map (λ (n : Appended). n.line) n) found,
+        )
+
+    pub answered_there : (a : Arrival) (m : Appended) (g : IsGivenIn partition_object r p m a.id) → In a r.arrivals → is_same (target_of a.request) name ≡ true → answer_of r a.id ≡ Some m
+        → (e : Printed) × Contains h e × IsOf a e × (e.reply ≡ m.bytes) × (e.answered ≡ Some m.line)
+    answered_there a m g i on found =
+        let k = in_printed r p 0 (trail w) g.call (answer_stands partition_object r ok p m a.id g) in
+        let e = entry_of_answer a m g k.0 i on found k.1 k.2 in
+        (k.0, e.0, e.1, e.2, e.3)
+
     pub answered : home name ≡ p → (a : Arrival) (m : Appended) → Contains r.arrivals a → is_same (target_of a.request) name ≡ true → Contains r.appended m → m.answers ≡ Some a.id
         → (e : Printed) × Contains h e × IsOf a e × (e.reply ≡ m.bytes) × (e.answered ≡ Some m.line)
     answered at a m c on d s =
         let i = in_contains a r.arrivals c in
         let j = in_contains m r.appended d in
         let there : a.request.partition ≡ p = sym (ok.of_arrivals.placed a i).there ∙ ap home (same_name (target_of a.request) name on) ∙ at in
-        let g : IsGivenIn partition_object r p m a.id = subst (λ k. IsGivenIn partition_object r k m a.id) there (given_at partition_object r ok a m i j s) in
-        let k = in_printed r p 0 (trail w) g.call (answer_stands partition_object r ok p m a.id g) in
-        let from = arrival_of_entry g.call k.0 (given_call_in partition_object r ok p m a.id g) k.2 in
-        let named : k.0.id ≡ a.id = ap (λ (f : Printed). f.id) (sym k.2.is) ∙ g.call_is in
-        let same : from.arrival ≡ a = one_arrival r ok.of_arrivals from.arrival a from.there i (ap id_name (sym from.is.id ∙ named)) in
-        let is : IsOf a k.0 = subst (λ b. IsOf b k.0) same from.is in
-        let on_name : is_on name k.0 ≡ true = ap (λ q. is_same (target_of q) name) is.request ∙ on in
-        (k.0, contains_in k.0 h (in_filter (is_on name) (printed_from r p 0 (trail w)) k.0 k.1 on_name), is,
-        ap (λ (f : Printed). f.reply) (sym k.2.is) ∙ sym g.reply,
-        ap (λ (f : Printed). f.answered) (sym k.2.is) ∙ ap (λ c. option_map (λ (n : Appended). n.line) (answer_of r c)) g.call_is ∙ ap (λ n. option_map (λ (n : Appended). n.line) n) (answer_found partition_object r ok m a.id j s))
+        answered_there a m (subst (λ k. IsGivenIn partition_object r k m a.id) there (given_at partition_object r ok a m i j s)) i on (answer_found partition_object r ok m a.id j s)
 
     pub given : (e : Printed) (line : ℕ) → Contains h e → e.answered ≡ Some line → (m : Appended) × Contains r.appended m × (m.answers ≡ Some e.id) × (m.line ≡ line) × (m.bytes ≡ e.reply)
     given e line c s =
         let k = entry_call e (in_contains e h c) in
         let prints = k.1.2 in
-        let found = printed_answer partition_object r ok p k.1.0 line k.1.1 (ap (λ (f : Printed). f.answered) prints.is ∙ s) in
-        (found.message, contains_in found.message r.appended found.there, found.answers ∙ ap (λ (f : Printed). Some f.id) prints.is, found.at_line,
-        found.given.reply ∙ ap (λ (x : Executed Request). x.reply) found.is ∙ ap (λ (f : Printed). f.reply) prints.is)
+        let found = printed_answer partition_object r ok p k.1.0 line k.1.1 (ap (λ (f : Printed). f.answered) prints.is ∙ s) in (
+          found.message,
+          contains_in found.message r.appended found.there,
+          found.answers ∙ ap (λ (f : Printed). Some f.id) prints.is,
+          found.at_line,
+          found.given.reply ∙ ap (λ (x : Executed Request). x.reply) found.is ∙ ap (λ (f : Printed). f.reply) prints.is,
+        )
 
     pub ordered : (a b : Printed) (line : ℕ) → Before h a b → b.answered ≡ Some line → a.arrived ≤ line
     ordered a b line before s =
         let k = entries_in_order a b before in
-        let first = arrival_of_entry k.first a (before_first log k.first k.second k.before) k.prints_first in
         let found = printed_answer partition_object r ok p k.second line (before_second log k.first k.second k.before) (ap (λ (f : Printed). f.answered) k.prints_second.is ∙ s) in
         let by_then = arrived_before partition_object r ok p k.first k.second found.message (id_of k.second) found.given found.is k.before in
-        let named : id_of k.first ≡ a.id = ap (λ (f : Printed). f.id) k.prints_first.is in
-        let same : first.arrival ≡ by_then.0 = one_arrival r ok.of_arrivals first.arrival by_then.0 first.there by_then.1 (ap id_name (sym first.is.id ∙ sym named) ∙ sym by_then.2) in
-        let lines = ap (λ (c : Arrival). c.line) same in
-        omega (arith, lines, by_then.3, first.is.line, found.at_line)
+        let at = line_of_entry k.first a (before_first log k.first k.second k.before) k.prints_first by_then.0 by_then.1 by_then.2 in
+        omega (arith, at, by_then.3, found.at_line)
 
     pub same_line : (a b : Printed) → Before h a b → a.arrived ≡ b.arrived → a.id.number < b.id.number
     same_line a b before s =
@@ -174,6 +185,7 @@ trail_at_home r ok p x i =
     let from = origin partition_object r ok.members ok.of_arrivals p x (part_in (executed (trail (world_at partition_object r p))) (log r ok p) x (trail_part partition_object r ok p) i) in
     ap (λ (k : Asked Request). home (target_of k.call)) (sym from.3) ∙ (ok.of_arrivals.placed from.0 from.1).there ∙ same_number from.0.request.partition p from.2
 
+-- so one thread that used one map entry could have seen each history of the run
 pub linear : (r : Run) → RunOk partition_object r → IsLinearizable r
 linear r ok name = ⊎_elim below past (cases (nat_lt (home name) partitions))
   where
@@ -181,11 +193,17 @@ linear r ok name = ⊎_elim below past (cases (nat_lt (home name) partitions))
     elsewhere q other = history_elsewhere r q 0 name (trail (world_at partition_object r q)) (trail_at_home r ok q) other
 
     below : nat_lt (home name) partitions ≡ true → Fits map_entry name r (history_of name (all_entries partition_object r))
-    below e = subst (λ es. Fits map_entry name r es) (sym (history_at name (entries_of partition_object r) (home name) elsewhere partitions (less (home name) partitions e))) (fits r ok (home name) name refl)
+    below e =
+        subst (λ es. Fits map_entry name r es)
+        (sym (history_at name (entries_of partition_object r) (home name) elsewhere partitions (less (home name) partitions e)))
+        (fits r ok (home name) name refl)
 
     past : nat_lt (home name) partitions ≡ false → Fits map_entry name r (history_of name (all_entries partition_object r))
-    past e = let far = not_less (home name) partitions e in subst (λ es. Fits map_entry name r es) (sym (history_past name (entries_of partition_object r) (home name) elsewhere partitions far)) (nothing_fits r ok name far)
+    past e =
+        let far = not_less (home name) partitions e in
+        subst (λ es. Fits map_entry name r es) (sym (history_past name (entries_of partition_object r) (home name) elsewhere partitions far)) (nothing_fits r ok name far)
 
 pub every_run_is_linearizable : EveryRunIsLinearizable
 every_run_is_linearizable members backups skips texts grid =
-    linear (run_after partition_object skips (begun members backups) texts) (run_after_ok partition_object skips (begun members backups) texts (begun_ok partition_object members backups grid))
+    linear (run_after partition_object skips (begun members backups) texts)
+    (run_after_ok partition_object skips (begun members backups) texts (begun_ok partition_object members backups grid))

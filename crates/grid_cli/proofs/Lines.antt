@@ -1,5 +1,5 @@
 -- Each line of a script keeps what holds of a run, and so does a list of lines.
-use Rattle.std.proofs.Common.{◌≡◌, ℕ, ◌+◌, ◌≤◌, Bool, true, false, cond, List, [], ◌∷◌, ◌++◌, Option, Some, None, refl, ap, sym, ◌∙◌, subst, inl, inr, arith}
+use Rattle.std.proofs.Common.{◌≡◌, ℕ, ◌+◌, ◌≤◌, Bool, true, false, cond, List, [], ◌∷◌, ◌++◌, Option, Some, None, refl, ap, ◌∙◌, subst, inl, inr, arith}
 use Rattle.std.specs.Option.{is_some, option_map, option_and_then}
 use Rattle.grid_base.specs.Objects.{Object}
 use Rattle.grid_base.specs.declared.names.CallId.{CallId}
@@ -24,7 +24,13 @@ module _ {State : Type 0} (o : Object Request State) (skips : List CallId) (r ne
   pub asked_ok : (k : Connection) (request : Request) → connection_of r k.conn ≡ Some k → IsRead (next_id k) request → asked o skips r k (arrival_at r k request) ≡ next → RunOk o next
   asked_ok k request there read e = subst (λ n. RunOk o n) e (go (is_skipped skips request.id))
     where
-      go : (b : Bool) → RunOk o (cond b (arrived r k (arrival_at r k request) [] (refusal (r.lines + 1) request want_of_memory 0 ∷ [])) (arrived r k (arrival_at r k request) (its_event (arrival_at r k request) ∷ []) (happening o r (arrival_at r k request))))
+      without : Run
+      without = arrived r k (arrival_at r k request) [] (refusal (r.lines + 1) request want_of_memory 0 ∷ [])
+
+      with : Run
+      with = arrived r k (arrival_at r k request) (its_event (arrival_at r k request) ∷ []) (happening o r (arrival_at r k request))
+
+      go : (b : Bool) → RunOk o (cond b without with)
       go true = record {
         members = ok.members;
         of_arrivals = arrivals_with r ok.of_arrivals k there request read.0 read.1 [] (refusal (r.lines + 1) request want_of_memory 0 ∷ []) (inl refl);
@@ -37,7 +43,8 @@ module _ {State : Type 0} (o : Object Request State) (skips : List CallId) (r ne
   pub requested_ok : (k : Connection) (bytes : List ℕ) → connection_of r k.conn ≡ Some k → requested o skips r k bytes ≡ Some next → RunOk o next
   requested_ok k bytes there e = go (request_of (next_id k) bytes) (λ request s. request_read (next_id k) bytes request s) e
     where
-      go : (found : Option Request) → ((request : Request) → found ≡ Some request → IsRead (next_id k) request) → option_map (λ request. asked o skips r k (arrival_at r k request)) found ≡ Some next → RunOk o next
+      go : (found : Option Request) → ((request : Request) → found ≡ Some request → IsRead (next_id k) request)
+          → option_map (λ request. asked o skips r k (arrival_at r k request)) found ≡ Some next → RunOk o next
       go None f s = absurd cc
       go (Some request) f s = let same : asked o skips r k (arrival_at r k request) ≡ next = cc in asked_ok k request there (f request refl) same
 
@@ -97,7 +104,8 @@ pub run_after_ok : {State : Type 0} (o : Object Request State) (skips : List Cal
 run_after_ok o skips r [] ok = ok
 run_after_ok o skips r (text ∷ texts) ok = go (ran o skips r text) refl (λ x k. run_after_ok o skips x.1 texts k)
   where
-    go : (found : Option (Line × Run)) → ran o skips r text ≡ found → ((x : Line × Run) → RunOk o x.1 → RunOk o (run_after o skips x.1 texts)) → RunOk o (elim found [ None ↦ r | Some x ↦ run_after o skips x.1 texts ])
+    go : (found : Option (Line × Run)) → ran o skips r text ≡ found → ((x : Line × Run) → RunOk o x.1 → RunOk o (run_after o skips x.1 texts))
+        → RunOk o (elim found [ None ↦ r | Some x ↦ run_after o skips x.1 texts ])
     go None e f = ok
     go (Some x) e f = f x (ran_ok o skips r text x ok e)
 

@@ -1,5 +1,5 @@
 -- A partition's history, of one of its objects: it is the history of that object, and no other partition has any of it.
-use Rattle.std.proofs.Common.{◌≡◌, ◌≢◌, ℕ, ◌+◌, ◌<◌, ◌≤◌, suc, zero, Bool, true, false, cond, List, [], ◌∷◌, ◌++◌, map, filter, flat_map, refl, ap, sym, ◌∙◌, subst, ◌⊎◌, ⊎_elim, inl, inr, arith, append-nil}
+use Rattle.std.proofs.Common.{◌≡◌, ◌≢◌, ℕ, ◌+◌, ◌<◌, ◌≤◌, suc, zero, true, false, List, [], ◌∷◌, ◌++◌, map, filter, flat_map, refl, ap, sym, ◌∙◌, subst, ⊎_elim, inl, inr, arith, append-nil}
 use Rattle.std.proofs.lemmas.List.Elements.{filter-append}
 use Rattle.std.proofs.lemmas.Grind.{flat_map-append}
 use Rattle.grid_base.specs.MapEntries.{MapEntry}
@@ -16,24 +16,28 @@ use Rattle.grid_cli.specs.PartitionObjects.{Partition, target_of, with_entry, en
 use Rattle.grid_cli.specs.Runs.{Run}
 use Rattle.grid_cli.specs.Printing.{Printed, printed, printed_from}
 use Rattle.grid_cli.specs.Linearizability.{is_on, history_of, answered_call}
-use Rattle.grid_cli.proofs.Places.{home, same_name, same_name_refl, same_name_sym}
+use Rattle.grid_cli.specs.SameNames.{same_name, is_same_self}
+use Rattle.grid_cli.proofs.Places.{home, same_name_sym}
 use Rattle.grid_cli.proofs.Trails.{executed}
 
 -- what a call leaves at a name
 
 pub entry_same : (s : Partition) (target name : ObjectName) (e : MapEntry) → is_same target name ≡ true → with_entry s target e name ≡ e
-entry_same s target name e p = let q : is_same name target ≡ true = subst (λ n. is_same n target ≡ true) (same_name target name p) (same_name_refl target) in rw q refl
+entry_same s target name e p = let q : is_same name target ≡ true = subst (λ n. is_same n target ≡ true) (same_name target name p) (is_same_self target) in rw q refl
 
 pub entry_other : (s : Partition) (target name : ObjectName) (e : MapEntry) → is_same target name ≡ false → with_entry s target e name ≡ s name
 entry_other s target name e p = let q = same_name_sym target name p in rw q refl
 
 -- a legal history of a partition without reopenings is legal for each of its objects
-pub legal_on : (r : Run) (p place : ℕ) (name : ObjectName) (s : Partition) (e : MapEntry) (es : List (Entry Request)) → filter is_reset es ≡ [] → s name ≡ e → IsLegalOf partition_object s es
+pub legal_on : (r : Run) (p place : ℕ) (name : ObjectName) (s : Partition) (e : MapEntry) (es : List (Entry Request)) → filter is_reset es ≡ []
+    → s name ≡ e → IsLegalOf partition_object s es
     → IsLegal map_entry e (map answered_call (history_of name (printed_from r p place es)))
 legal_on r p place name s e [] none same h = tt
 legal_on r p place name s e (Reset version ∷ es) none same h = absurd cc
 legal_on r p place name s e (Called x ∷ es) none same h =
-    ⊎_elim (λ t. here t (legal_on r p (place + 1) name after (entry_after e x.call x.now) es none (kept t) h.1)) (λ t. there t (legal_on r p (place + 1) name after e es none (entry_other s (target_of x.call) name left t ∙ same) h.1)) (cases (is_same (target_of x.call) name))
+    ⊎_elim (λ t. here t (legal_on r p (place + 1) name after (entry_after e x.call x.now) es none (kept t) h.1))
+    (λ t. there t (legal_on r p (place + 1) name after e es none (entry_other s (target_of x.call) name left t ∙ same) h.1))
+    (cases (is_same (target_of x.call) name))
   where
     left : MapEntry
     left = entry_after (s (target_of x.call)) x.call x.now
@@ -61,7 +65,8 @@ pub history_elsewhere : (r : Run) (p place : ℕ) (name : ObjectName) (es : List
 history_elsewhere r p place name [] f other = refl
 history_elsewhere r p place name (Reset version ∷ es) f other = history_elsewhere r p (place + 1) name es f other
 history_elsewhere r p place name (Called x ∷ es) f other =
-    let no_match : is_same (target_of x.call) name ≡ false = false_or_not (is_same (target_of x.call) name) (λ e. other (ap home (sym (same_name (target_of x.call) name e)) ∙ f x (inl refl))) in
+    let no_match : is_same (target_of x.call) name ≡ false = false_or_not (is_same (target_of x.call) name)
+    (λ e. other (ap home (sym (same_name (target_of x.call) name e)) ∙ f x (inl refl))) in
     rw no_match (history_elsewhere r p (place + 1) name es (λ y i. f y (inr i)) other)
 
 -- of the entries of many partitions, those on an object are of its own, p

@@ -1,5 +1,5 @@
 -- The order of a list's elements: which stands before which, in a part of it and in what is made of each.
-use Rattle.std.proofs.Common.{◌≡◌, ◌≢◌, ℕ, Bool, true, false, cond, List, [], ◌∷◌, ◌++◌, map, filter, refl, ap, sym, ◌∙◌, subst, ◌⊎◌, ⊎_elim, inl, inr}
+use Rattle.std.proofs.Common.{◌≡◌, ◌≢◌, Bool, true, false, cond, List, [], ◌∷◌, ◌++◌, map, filter, refl, ap, sym, ◌∙◌, subst, ◌⊎◌, ⊎_elim, inl, inr}
 use Rattle.partition_protocol.specs.Sequences.{IsSubsequence, picked}
 use Rattle.partition_protocol.specs.Arrivals.{CallName, NamedOnce}
 use Rattle.partition_protocol.proofs.Lists.{In, in_right, in_cases, in_contains, contains_in, IsPart, part_nil, cases}

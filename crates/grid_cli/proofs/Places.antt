@@ -1,14 +1,14 @@
 -- A request that is read has the name of its call, and its key says which partition it is for.
-use Rattle.std.proofs.Common.{◌≡◌, ℕ, ◌≤◌, ◌<◌, Bool, true, false, cond, ◌&&◌, ◌==◌, nat_eq, nat_le, nat_lt, List, [], ◌∷◌, take, length, Option, Some, None, refl, ap, sym, ◌∙◌, subst, ◌⊎◌, ⊎_elim, inl, inr, arith, true≢false}
+use Rattle.std.proofs.Common.{◌≡◌, ℕ, ◌≤◌, Bool, true, false, cond, ◌&&◌, ◌==◌, nat_le, nat_lt, List, take, length, Option, Some, None, refl, ap, sym, ◌∙◌, subst, arith, true≢false}
 use Rattle.std.proofs.lemmas.Bool.Decides.{nat_tests}
 use Rattle.std.specs.Str.{is_utf8}
 use Rattle.std.specs.Int.{w32, w64, from_be_bytes, cast_signed}
-use Rattle.std.specs.Cmp.Lexicographic.{pointwise, same_text}
 use Rattle.grid_base.specs.Names.{ObjectName, is_same, is_same_call}
 use Rattle.grid_base.specs.declared.names.CallId.{CallId}
 use Rattle.grid_base.specs.declared.calls.Request.{Request}
 use Rattle.grid_base.specs.declared.calls.MapCall.TheVariants.{Put, Get}
 use Rattle.partition_protocol.proofs.RowFacts.{both_left, both_right, false_or_not, both}
+use Rattle.grid_cli.specs.SameNames.{same_name, is_same_self}
 use Rattle.grid_cli.specs.PartitionObjects.{target_of}
 use Rattle.grid_cli.specs.Requests.{◌>>=◌, request_of, payload_at, put_at, get_at, request_with, owner_of, is_placed, is_none_left, never_ends, u32_at, u64_at, put_kind, get_kind, final, unfragmented, most_bytes_of_message}
 
@@ -32,22 +32,9 @@ same_call a b e =
 pub same_call_refl : (a : CallId) → is_same_call a a ≡ true
 same_call_refl a = both (a.conn == a.conn) (a.number == a.number) (grind (arith, nat_tests)) (grind (arith, nat_tests))
 
-pub same_name : (a b : ObjectName) → is_same a b ≡ true → a ≡ b
-same_name a b e =
-    let m = same_text a.map b.map (sym (both_left (pointwise nat_eq a.map b.map) (pointwise nat_eq a.key b.key) e)) in
-    let k = same_text a.key b.key (sym (both_right (pointwise nat_eq a.map b.map) (pointwise nat_eq a.key b.key) e)) in
-    ap (λ v. record { map = v; key = a.key }) m ∙ ap (λ v. record { map = b.map; key = v }) k
-
-pub same_text_refl : (xs : List ℕ) → pointwise nat_eq xs xs ≡ true
-same_text_refl [] = refl
-same_text_refl (x ∷ xs) = both (nat_eq x x) (pointwise nat_eq xs xs) (grind (arith, nat_tests)) (same_text_refl xs)
-
-pub same_name_refl : (a : ObjectName) → is_same a a ≡ true
-same_name_refl a = both (pointwise nat_eq a.map a.map) (pointwise nat_eq a.key a.key) (same_text_refl a.map) (same_text_refl a.key)
-
 -- it doesn't matter which is named first
 pub same_name_sym : (a b : ObjectName) → is_same a b ≡ false → is_same b a ≡ false
-same_name_sym a b e = false_or_not (is_same b a) (λ s. true≢false (sym (subst (λ c. is_same a c ≡ true) (sym (same_name b a s)) (same_name_refl a)) ∙ e))
+same_name_sym a b e = false_or_not (is_same b a) (λ s. true≢false (sym (subst (λ c. is_same a c ≡ true) (sym (same_name b a s)) (is_same_self a)) ∙ e))
 
 -- parts that were read
 

@@ -1,5 +1,5 @@
 -- What holds of a run after every line: what its arrivals, its events and its answers have to do with one another.
-use Rattle.std.proofs.Common.{◌≡◌, ◌≢◌, ℕ, ◌+◌, ◌≤◌, ◌<◌, Bool, true, false, cond, ◌==◌, List, [], ◌∷◌, ◌++◌, map, filter, Option, Some, None, refl, ap, sym, ◌∙◌, subst, ◌⊎◌, ⊎_elim, inl, inr, arith}
+use Rattle.std.proofs.Common.{◌≡◌, ℕ, ◌≤◌, ◌<◌, Bool, true, false, ◌==◌, List, [], ◌∷◌, ◌++◌, map, filter, Some, refl, ap, sym, ◌∙◌, subst, inl, inr}
 use Rattle.std.specs.List.{find}
 use Rattle.grid_base.specs.Objects.{Object}
 use Rattle.grid_base.specs.Names.{is_same_call}
@@ -7,24 +7,22 @@ use Rattle.grid_base.specs.declared.names.CallId.{CallId}
 use Rattle.grid_base.specs.declared.calls.Request.{Request}
 use Rattle.partition_protocol.specs.Node.{Held}
 use Rattle.partition_protocol.specs.History.{Entry, Executed}
-use Rattle.partition_protocol.specs.World.{World, start}
-use Rattle.partition_protocol.specs.Events.{Event, run}
 use Rattle.partition_protocol.specs.Arrivals.{Asked, CallName, NamedOnce, name, arrivals, calls_in}
 use Rattle.partition_protocol.specs.Sequences.{IsFrontOf}
 use Rattle.partition_protocol.specs.Claims.{IsSafe, IsFaithful, is_reset}
-use Rattle.partition_protocol.proofs.Lists.{In, contains_in, IsPart}
+use Rattle.partition_protocol.proofs.Lists.{In, in_left, contains_in, IsPart}
 use Rattle.partition_protocol.proofs.RowFacts.{false_or_not}
 use Rattle.partition_protocol.proofs.Faithful.{part_in, part_map, part_once}
 use Rattle.partition_protocol.proofs.Theorem.{every_run_is_safe}
 use Rattle.partition_world.specs.Answers.{id_of}
-use Rattle.grid_cli.specs.Runs.{Run, Arrival, Appended, Connection, At, world_at, events_at, connection_of}
+use Rattle.grid_cli.specs.Runs.{Run, Arrival, Appended, Connection, world_at, events_at, connection_of}
 use Rattle.grid_cli.specs.Printing.{arrival_of, is_answer_to}
 use Rattle.grid_cli.specs.Linearizability.{Before}
 use Rattle.grid_cli.proofs.Parts.{in_map, before_map, subsequence_part, part_filter, part_trans, before_part, before_mapped, in_mapped, in_filtered, named_same}
 use Rattle.grid_cli.proofs.Counts.{count}
 use Rattle.grid_cli.proofs.Releases.{held_name}
-use Rattle.grid_cli.proofs.Places.{IsPlaced, same_call, same_call_refl}
-use Rattle.grid_cli.proofs.Trails.{executed, asked, executed_name, calls_executed, names_executed}
+use Rattle.grid_cli.proofs.Places.{IsPlaced, same_call, same_call_refl, same_number}
+use Rattle.grid_cli.proofs.Trails.{executed, executed-append, asked, executed_name, calls_executed, names_executed}
 
 -- arrivals
 
@@ -84,6 +82,14 @@ pub record RunOk {State : Type 0} (o : Object Request State) (r : Run) : Type 0 
   pub of_arrivals : ArrivalsOk r
   pub of_answers : AnswersOk o r
 
+-- the log is as it was then, and more
+pub log_since : {log : List (Entry Request)} {released : List Held} {come : List Arrival} (m : Appended) (id : CallId) (g : IsGiven log released come m id)
+    → executed log ≡ executed g.log_then ++ executed g.front.0
+log_since m id g = ap executed (sym g.front.1) ∙ executed-append g.log_then g.front.0
+
+pub given_executed : {log : List (Entry Request)} {released : List Held} {come : List Arrival} (m : Appended) (id : CallId) (g : IsGiven log released come m id) → In g.call (executed log)
+given_executed m id g = subst (λ xs. In g.call xs) (sym (log_since m id g)) (in_left g.call (executed g.log_then) (executed g.front.0) g.has)
+
 -- what follows of a partition
 
 pub names_asked : (xs : List Arrival) → map name (map asked_of xs) ≡ map arrival_name xs
@@ -94,10 +100,10 @@ module _ {State : Type 0} (o : Object Request State) (r : Run) (members : 1 ≤ 
   pub named : NamedOnce (map name (arrivals (events_at p r.events)))
   named =
       part_once (map name (arrivals (events_at p r.events))) (map arrival_name r.arrivals)
-          (part_trans (map name (arrivals (events_at p r.events))) (map arrival_name (filter (is_of p) r.arrivals)) (map arrival_name r.arrivals)
-          (subst (λ ns. IsPart (map name (arrivals (events_at p r.events))) ns) (names_asked (filter (is_of p) r.arrivals)) (part_map name (arrivals (events_at p r.events)) (map asked_of (filter (is_of p) r.arrivals)) (ok.calls p)))
-          (part_map arrival_name (filter (is_of p) r.arrivals) r.arrivals (part_filter (is_of p) r.arrivals)))
-          ok.once
+      (part_trans (map name (arrivals (events_at p r.events))) (map arrival_name (filter (is_of p) r.arrivals)) (map arrival_name r.arrivals)
+      (subst (λ ns. IsPart (map name (arrivals (events_at p r.events))) ns) (names_asked (filter (is_of p) r.arrivals)) (part_map name (arrivals (events_at p r.events)) (map asked_of (filter (is_of p) r.arrivals)) (ok.calls p)))
+      (part_map arrival_name (filter (is_of p) r.arrivals) r.arrivals (part_filter (is_of p) r.arrivals)))
+      ok.once
 
   pub safe : IsSafe o (world_at o r p) × IsFaithful (events_at p r.events) (world_at o r p)
   safe = every_run_is_safe o p r.members r.backups (events_at p r.events) members named
@@ -131,7 +137,8 @@ pub find_named : (xs : List Arrival) (a : Arrival) → NamedOnce (map arrival_na
 find_named [] a n i = absurd i
 find_named (b ∷ bs) a n (inl s) = let p : is_same_call b.id a.id ≡ true = subst (λ (c : Arrival). is_same_call b.id c.id ≡ true) s (same_call_refl b.id) in rw p (ap (λ z. Some z) s)
 find_named (b ∷ bs) a n (inr i) =
-    let p : is_same_call b.id a.id ≡ false = false_or_not (is_same_call b.id a.id) (λ e. n.0 (arrival_name a) (contains_in (arrival_name a) (map arrival_name bs) (in_map arrival_name bs a i)) (ap id_name (sym (same_call b.id a.id e)))) in
+    let p : is_same_call b.id a.id ≡ false = false_or_not (is_same_call b.id a.id)
+    (λ e. n.0 (arrival_name a) (contains_in (arrival_name a) (map arrival_name bs) (in_map arrival_name bs a i)) (ap id_name (sym (same_call b.id a.id e)))) in
     rw p (find_named bs a n.1 i)
 
 pub one_arrival : (r : Run) → ArrivalsOk r → (a b : Arrival) → In a r.arrivals → In b r.arrivals → arrival_name a ≡ arrival_name b → a ≡ b
@@ -139,3 +146,26 @@ one_arrival r ok a b i j e = named_same arrival_name r.arrivals a b ok.once i j 
 
 pub arrival_found : (r : Run) → ArrivalsOk r → (a : Arrival) → In a r.arrivals → arrival_of r a.id ≡ Some a
 arrival_found r ok a i = find_named r.arrivals a ok.once i
+
+-- a call was executed as it arrived, in the partition in which it arrived
+module _ {State : Type 0} (o : Object Request State) (r : Run) (members : 1 ≤ r.members) (ok : ArrivalsOk r) (a : Arrival) (p : ℕ) (x : Executed Request) (i : In a r.arrivals)
+    (j : In x (executed (world_at o r p).recorded.log)) (e : executed_name x ≡ arrival_name a) where
+  pub from : (b : Arrival) × In b r.arrivals × (is_of p b ≡ true) × (asked_of b ≡ asked x)
+  from = origin o r members ok p x j
+
+  pub from_arrival : from.0 ≡ a
+  from_arrival = one_arrival r ok from.0 a from.1 i (ap name from.3 ∙ e)
+
+  pub partition_of_call : a.request.partition ≡ p
+  partition_of_call = ap (λ (b : Arrival). b.request.partition) (sym from_arrival) ∙ same_number from.0.request.partition p from.2
+
+  pub asked_as : asked_of a ≡ asked x
+  asked_as = ap asked_of (sym from_arrival) ∙ from.3
+
+-- and in no other
+pub one_partition : {State : Type 0} (o : Object Request State) (r : Run) → 1 ≤ r.members → ArrivalsOk r → (p q : ℕ) (x y : Executed Request)
+    → In x (executed (world_at o r p).recorded.log) → In y (executed (world_at o r q).recorded.log)
+    → executed_name x ≡ executed_name y → p ≡ q
+one_partition o r members ok p q x y i j e =
+    let here = origin o r members ok p x i in
+    sym (same_number here.0.request.partition p here.2) ∙ partition_of_call o r members ok here.0 q y here.1 j (sym e ∙ sym (ap name here.3))

@@ -1,15 +1,13 @@
 -- The calls of a log and of a trail, and what is printed of each.
-use Rattle.std.proofs.Common.{◌≡◌, ℕ, ◌+◌, Bool, true, false, cond, List, [], ◌∷◌, ◌++◌, map, filter, reverse, Option, Some, None, refl, ap, sym, ◌∙◌, subst, ◌⊎◌, ⊎_elim, inl, inr}
+use Rattle.std.proofs.Common.{◌≡◌, ℕ, ◌+◌, Bool, true, false, List, [], ◌∷◌, ◌++◌, map, reverse, Option, Some, None, refl, ap, sym, ◌∙◌, subst, ◌⊎◌, ⊎_elim, inl, inr}
 use Rattle.std.proofs.lemmas.Grind.{reverse_onto}
 use Rattle.std.specs.List.{find}
 use Rattle.std.specs.Option.{option_and_then}
-use Rattle.grid_base.specs.Names.{is_same_call}
 use Rattle.grid_base.specs.declared.names.CallId.{CallId}
 use Rattle.grid_base.specs.declared.calls.Request.{Request}
 use Rattle.partition_protocol.specs.History.{Entry, Executed, Called, Reset}
-use Rattle.partition_protocol.specs.Arrivals.{Asked, CallName, NamedOnce, name, calls_in}
-use Rattle.partition_protocol.proofs.Lists.{In, in_right, in_cases, in_contains, contains_in, IsPart, part_nil, cases}
-use Rattle.partition_protocol.proofs.Faithful.{part_in}
+use Rattle.partition_protocol.specs.Arrivals.{Asked, CallName, name, calls_in}
+use Rattle.partition_protocol.proofs.Lists.{In, in_cases, in_contains, contains_in, IsPart, cases}
 use Rattle.partition_world.specs.Answers.{id_of, is_call, executed_in, newest_call}
 use Rattle.grid_cli.specs.Runs.{Run}
 use Rattle.grid_cli.specs.Printing.{Printed, printed, printed_from}
@@ -82,7 +80,8 @@ find_some t (y ∷ ys) x e = ⊎_elim here (there (λ s. find_some t ys x s)) (c
 pub newest_executed : {C : Type 0} (id : CallId) (log : List (Entry C)) (x : Executed C) → newest_call id log ≡ Some x → In x (executed log) × (id_of x ≡ id)
 newest_executed {C} id log x e = go (find (is_call id) (reverse log)) (λ y s. find_some (is_call id) (reverse log) y s) e
   where
-    go : (found : Option (Entry C)) → ((y : Entry C) → found ≡ Some y → In y (reverse log) × (is_call id y ≡ true)) → option_and_then executed_in found ≡ Some x → In x (executed log) × (id_of x ≡ id)
+    go : (found : Option (Entry C)) → ((y : Entry C) → found ≡ Some y → In y (reverse log) × (is_call id y ≡ true))
+        → option_and_then executed_in found ≡ Some x → In x (executed log) × (id_of x ≡ id)
     go None f s = absurd cc
     go (Some (Reset version)) f s = absurd cc
     go (Some (Called y)) f s =
