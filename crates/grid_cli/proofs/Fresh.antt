@@ -3,7 +3,8 @@ use Rattle.std.proofs.Common.{◌≡◌, ◌≢◌, ℕ, ◌<◌, ◌+◌, Bool,
 use Rattle.std.specs.Prelude.{option_map, option_and_then}
 use Rattle.grid_base.specs.declared.names.CallId.{CallId}
 use Rattle.grid_base.specs.declared.calls.Request.{Request}
-use Rattle.partition_protocol.proofs.Lists.{In, find_some}
+use Rattle.partition_protocol.proofs.Lists.{In}
+use Rattle.grid_cli.proofs.Trails.{find_some}
 use Rattle.partition_protocol.proofs.RowFacts.{same_number}
 use Rattle.grid_cli.specs.PartitionObjects.{partition_object}
 use Rattle.grid_cli.specs.Requests.{request_of}

@@ -2,6 +2,7 @@
 use Rattle.std.proofs.Common.{◌≡◌, ℕ, ◌+◌, ◌==◌, Bool, true, false, cond, List, [], ◌∷◌, ◌++◌, length, take, drop, refl, ap, sym, ◌∙◌, subst}
 use Rattle.memchr.specs.Find.{Nowhere, NoneBefore, Passes, is_byte}
 use Rattle.grid_cli.specs.Words.{newline, pieces_at, onto_first, fronts, last_piece, whole_lines, unfinished}
+use Rattle.grid_cli.specs.Pieces.{IsOnePiece}
 use Rattle.grid_cli.proofs.Pieces.{first_piece, cut, uncut}
 
 -- pieces after a text that no separator ends: the first goes on from it
@@ -42,10 +43,6 @@ last_piece-append : (fs : List (List ℕ)) (z : List ℕ) (zs : List (List ℕ))
 last_piece-append [] z zs = refl
 last_piece-append (f ∷ []) z zs = refl
 last_piece-append (f ∷ g ∷ gs) z zs = last_piece-append (g ∷ gs) z zs
-
--- a text without a newline is one piece
-abbrev pub IsOnePiece : List ℕ → Type 0
-IsOnePiece text = pieces_at newline text ≡ text ∷ []
 
 -- what no newline ends has none
 pub unfinished_is_one : (xs : List ℕ) → IsOnePiece (unfinished xs)

@@ -1,12 +1,14 @@
 -- What the code that runs lines has done, line by line.
-use Rattle.std.proofs.Common.{◌≡◌, ℕ, ◌+◌, ◌≤◌, Bool, true, false, if◌then◌else◌, List, [], ◌∷◌, ◌++◌, length, Option, Some, None, refl, ap, sym, ◌∙◌, subst, arith, append-nil, append_assoc}
+use Rattle.std.proofs.Common.{◌≡◌, ℕ, ◌+◌, ◌≤◌, Bool, true, false, if◌then◌else◌, List, [], ◌∷◌, ◌++◌, length, Option, Some, None, refl, ap, sym, ◌∙◌, subst, arith, append-nil, append_assoc, length-append, take, drop}
+use Rattle.std.proofs.lemmas.List.{take-append-drop}
+use Rattle.partition_protocol.specs.Sequences.{IsFrontOf}
 use Rattle.std.specs.Prelude.{option_map, option_and_then}
 use Rattle.grid_base.specs.declared.names.CallId.{CallId}
 use Rattle.grid_cli.specs.Lines.{line_of}
 use Rattle.grid_cli.specs.PartitionObjects.{partition_object}
 use Rattle.grid_cli.specs.Runs.{Run, begun, after_line}
 use Rattle.grid_cli.specs.Printing.{ok_text, refused_text, line_text, end_text}
-use Rattle.grid_cli.specs.Transcripts.{Transcript, Ended, Refused, first_line, following, ran, refused, why_text, is_end}
+use Rattle.grid_cli.specs.Transcripts.{Transcript, Ending, Ended, Refused, first_line, later_lines, following, ran, refused, why_text, is_end}
 use Rattle.grid_cli.specs.Skips.{AgreeOn, AreOfLine}
 use Rattle.grid_cli.specs.Statuses.{whole}
 use Rattle.grid_cli.specs.Grids.{Stands, lines_run, text_at}
@@ -16,6 +18,7 @@ use Rattle.grid_cli.specs.declared.grid.Grid.{Grid}
 use Rattle.grid_cli.specs.declared.script.Line.{Line}
 use Rattle.grid_cli.specs.declared.script.Line.TheVariants.{Grid as GridLine}
 use Rattle.grid_cli.specs.declared.script.LineWhy.TheVariants.{NotBuilt}
+use Rattle.grid_cli.specs.declared.transcriber.Ran.{Ran}
 use Rattle.grid_cli.specs.declared.transcriber.Ran.TheVariants.{Goes, Ended as IsEnded, Refused as IsRefused}
 use Rattle.grid_cli.proofs.RunFacts.{RunOk}
 use Rattle.grid_cli.proofs.Lines.{begun_ok, run_after_ok}
@@ -92,3 +95,54 @@ first_refused new skips done written text added follows read shown too_long text
     ap (λ d. first_line partition_object skips too_long (d ++ text ∷ texts)) follows.no_lines
     ∙ refused_first text read too_long texts skips
     ∙ sym (ap (λ t. whole t (Refused 1 NotBuilt)) (ap (λ w. w ++ added) follows.no_text ∙ shown))
+
+-- where no text of a line is written
+
+front_of_whole : (text : List ℕ) (e : Ending) (t : Transcript) → t ≡ whole text e → IsFrontOf text t.text
+front_of_whole text e t is = ([], append-nil text ∙ sym (ap (λ (u : Transcript). u.text) is))
+
+front_of_following : (text : List ℕ) (rest t : Transcript) → t ≡ following text rest → IsFrontOf text t.text
+front_of_following text rest t is = (rest.text, sym (ap (λ (u : Transcript). u.text) is))
+
+-- a front of a front
+front_taken : (written added text : List ℕ) (n : ℕ) → IsFrontOf (written ++ added) text → IsFrontOf (written ++ take n added) text
+front_taken written added text n front =
+    (drop n added ++ front.0,
+      append_assoc written (take n added) (drop n added ++ front.0)
+      ∙ ap (λ x. written ++ x) (sym (append_assoc (take n added) (drop n added) front.0) ∙ ap (λ x. x ++ front.0) (take-append-drop n added))
+      ∙ sym (append_assoc written added front.0) ∙ front.1)
+
+pub stops_unwritten : (grid : Option Grid) (skips : List CallId) (done : List (List ℕ)) (written text : List ℕ) → Follows grid skips done written
+    → Continues skips done text (λ t. IsFrontOf written t.text)
+stops_unwritten None skips done written text follows too_long texts =
+    (t.text, ap (λ w. w ++ t.text) follows.no_text)
+  where
+    t : Transcript
+    t = first_line partition_object skips too_long (done ++ text ∷ texts)
+stops_unwritten (Some grid) skips done written text follows too_long texts =
+    front_of_following written (later_lines partition_object skips too_long follows.run (text ∷ texts)) _ (follows.at.goes_on skips (λ a c. refl) too_long (text ∷ texts))
+
+-- where a front of it is written
+pub stops_in_text : (ran : Ran) (grid : Option Grid) (skips : List CallId) (done : List (List ℕ)) (written text added : List ℕ) (n : ℕ) → RanAs ran grid skips done text written added
+    → (more : List CallId) × Continues (more ++ skips) done text (λ t. IsFrontOf (written ++ take n added) t.text)
+stops_in_text Goes None skips done written text added n h = absurd (not_begun _ (length done) (length-append done (text ∷ [])) (ap length h.1.no_lines))
+  where
+    not_begun : (m k : ℕ) → m ≡ k + 1 → m ≡ 0 → ⊥
+    not_begun m k a b = omega arith
+stops_in_text Goes (Some grid) skips done written text added n h =
+    (h.0, λ too_long texts.
+      front_taken written added _ n
+      (front_of_following (written ++ added) (later_lines partition_object (h.0 ++ skips) too_long h.1.run texts) _
+        (sym (ap (first_line partition_object (h.0 ++ skips) too_long) (append_assoc done (text ∷ []) texts)) ∙ h.1.at.goes_on (h.0 ++ skips) (λ a c. refl) too_long texts)))
+stops_in_text IsEnded grid skips done written text added n h = (h.0, λ too_long texts. front_taken written added _ n (front_of_whole (written ++ added) Ended _ (h.1 too_long texts)))
+stops_in_text (IsRefused line) grid skips done written text added n h = ([], λ too_long texts. front_taken written added _ n (front_of_whole (written ++ added) (Refused line NotBuilt) _ (h too_long texts)))
+
+-- a line whose condition is false
+pub ran_none : (text : List ℕ) (line : Line) (skips : List CallId) (r : Run) → line_of false text ≡ Some line → after_line partition_object skips r line ≡ None → ran partition_object skips r text ≡ None
+ran_none text line skips r read none =
+    ap (option_and_then (λ l. option_map (λ next. (l, next)) (after_line partition_object skips r l))) read ∙ ap (option_map (λ next. (line, next))) none
+
+pub stops_at_once : (grid : Option Grid) (skips : List CallId) (done : List (List ℕ)) (written text : List ℕ) → Follows grid skips done written
+    → Continues skips done text (λ t. IsFrontOf (written ++ []) t.text)
+stops_at_once grid skips done written text follows =
+    subst (λ w. Continues skips done text (λ t. IsFrontOf w t.text)) (sym (append-nil written)) (stops_unwritten grid skips done written text follows)

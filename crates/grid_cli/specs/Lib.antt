@@ -17,3 +17,5 @@ pub mod Skips
 pub mod Progress
 pub mod Grids
 pub mod Transcribing
+pub mod Pieces
+pub mod Replays

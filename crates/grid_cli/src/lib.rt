@@ -5,6 +5,7 @@ mod grid;
 mod laws;
 mod print;
 mod replies;
+mod replay;
 mod script;
 mod shelf;
 mod status;

@@ -134,8 +134,12 @@ impl Transcriber {
         ensures never_falls { K.faults out.old ≤ K.faults out.new }
         ensures cause { IsErrOf result Status.WriteFault → Rose (K.faults out.old) (K.faults out.new) }
     {
-        let ran = self.run(alloc, text).map_err(|_| Status::Memory)?;
-        write_all(out, self.text.as_slice()).map_err(|_| Status::WriteFault)?;
+        let Ok(ran) = self.run(alloc, text) else {
+            return Err(Status::Memory);
+        };
+        let Ok(()) = write_all(out, self.text.as_slice()) else {
+            return Err(Status::WriteFault);
+        };
         match ran {
             Ran::Goes => Ok(()),
             Ran::Ended => Err(Status::Done),

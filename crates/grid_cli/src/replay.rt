@@ -1,0 +1,65 @@
+ghost use Rattle.std.specs.Prelude.{◌≡◌, ◌+◌, ◌≤◌, ◌<◌, ◌^◌, ◌++◌, ◌∷◌, [], List, ℕ, length, OnOk, IfErr, IsErrOf};
+ghost use Rattle.std.specs.Io.KnownBytes.{append_known};
+ghost use Rattle.grid_base.specs.declared.names.CallId.{CallId};
+ghost use Rattle.grid_edge.specs.Faults.{Rose};
+ghost use Rattle.grid_cli.specs.Words.{whole_lines};
+ghost use Rattle.grid_cli.specs.Pieces.{IsOnePiece};
+ghost use Rattle.grid_cli.specs.Replays.{HasRead, StopsWithin, ended_line};
+
+use crate::print::{push_limit, push_refused};
+use crate::script::LineWhy;
+use crate::status::{LimitWhat, Status};
+use crate::transcriber::Transcriber;
+use grid_edge::{Sink, Source, write_all};
+use memchr::memchr;
+use std::alloc::Global;
+
+/// How many bytes a script may have.
+pub const MOST_BYTES: usize = 16_777_216;
+
+/// How many bytes are asked for at a time.
+const PIECE: usize = 65_536;
+
+/// Runs each line of a script when its last byte has come.
+#[derive(Drop)]
+pub(crate) struct Replay {
+    transcriber: Transcriber,
+    /// The bytes after the last newline.
+    unfinished: Vec<u8>,
+}
+
+impl Replay {
+    pub(crate) fn new(alloc: Global) -> Self
+        ensures { HasRead result [] [] [] }
+    {
+        Replay {
+            transcriber: Transcriber::new(alloc),
+            unfinished: Vec::new(alloc),
+        }
+    }
+
+    /// Runs the line that ends with these bytes and a newline.
+    fn complete<K: Sink>(&mut self, alloc: Global, end: &[u8], out: &mut K) -> Result<(), Status>
+        requires read { (skips : List CallId) × (read written : List ℕ) × HasRead self.old skips read written × (length read < MOST_BYTES) }
+        requires one { IsOnePiece end.now }
+        ensures goes { (skips : List CallId) (read written : List ℕ) → HasRead self.old skips read written
+            → OnOk result ((more : List CallId) × (added : List ℕ) × HasRead self.new (more ++ skips) (read ++ ended_line end.now) (written ++ added)
+            × (K.taken out.new ≡ append_known (K.taken out.old) added)) }
+        ensures stops { (skips : List CallId) (read written : List ℕ) → HasRead self.old skips read written
+            → IfErr result (λ status. (more : List CallId) × (added : List ℕ) × StopsWithin status (more ++ skips) (whole_lines (read ++ ended_line end.now)) (written ++ added)
+            × (K.taken out.new ≡ append_known (K.taken out.old) added)) }
+        ensures never_falls { K.faults out.old ≤ K.faults out.new }
+        ensures cause { IsErrOf result Status.WriteFault → Rose (K.faults out.old) (K.faults out.new) }
+    {
+        if self.unfinished.is_empty() {
+            return self.transcriber.transcribe(alloc, end, out);
+        }
+        if self.unfinished.extend_from_slice(end).is_err() {
+            return Err(Status::Memory);
+        }
+        self.transcriber
+            .transcribe(alloc, self.unfinished.as_slice(), out)?;
+        self.unfinished.clear();
+        Ok(())
+    }
+}
