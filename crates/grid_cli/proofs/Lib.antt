@@ -20,3 +20,5 @@ pub mod Answers
 pub mod Linear
 pub mod Fresh
 pub mod TranscriberLaws
+pub mod ReplayLaws
+pub mod ReplaySteps

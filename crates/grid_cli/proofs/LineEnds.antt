@@ -59,7 +59,7 @@ unfinished_is_one (x ∷ xs) = by_test (unfinished_is_one xs) (x == newline) ref
     by_test ih false e = let P : List (List ℕ) → Type 0 = λ ps. IsOnePiece (last_piece ps) → IsOnePiece (last_piece (onto_first x ps)) in subst P (sym p.2) (single e p.0 p.1) ih
 
 -- the pieces of a text that was one piece, and of more
-one-append : (text ys : List ℕ) → IsOnePiece text → pieces_at newline (text ++ ys) ≡ joined text (pieces_at newline ys)
+pub one-append : (text ys : List ℕ) → IsOnePiece text → pieces_at newline (text ++ ys) ≡ joined text (pieces_at newline ys)
 one-append text ys one = pieces-append newline text ys ∙ ap (λ ps. fronts ps ++ joined (last_piece ps) (pieces_at newline ys)) one
 
 -- more of a text: the lines that were whole stay, and the rest goes on

@@ -51,15 +51,44 @@ impl Replay {
         ensures never_falls { K.faults out.old ≤ K.faults out.new }
         ensures cause { IsErrOf result Status.WriteFault → Rose (K.faults out.old) (K.faults out.new) }
     {
-        if self.unfinished.is_empty() {
-            return self.transcriber.transcribe(alloc, end, out);
-        }
-        if self.unfinished.extend_from_slice(end).is_err() {
+        let Ok(()) = self.unfinished.extend_from_slice(end) else {
             return Err(Status::Memory);
+        };
+        let transcribed = self
+            .transcriber
+            .transcribe(alloc, self.unfinished.as_slice(), out);
+        match transcribed {
+            Ok(()) => {
+                self.unfinished.clear();
+                Ok(())
+            }
+            Err(status) => Err(status),
         }
-        self.transcriber
-            .transcribe(alloc, self.unfinished.as_slice(), out)?;
-        self.unfinished.clear();
+    }
+
+    /// Takes the next bytes of the script, and copies each once.
+    fn take<K: Sink>(&mut self, alloc: Global, piece: &[u8], out: &mut K) -> Result<(), Status>
+        requires read { (skips : List CallId) × (read written : List ℕ) × HasRead self.old skips read written × (length read + length piece.now ≤ MOST_BYTES) }
+        ensures goes { (skips : List CallId) (read written : List ℕ) → HasRead self.old skips read written
+            → OnOk result ((more : List CallId) × (added : List ℕ) × HasRead self.new (more ++ skips) (read ++ piece.now) (written ++ added)
+            × (K.taken out.new ≡ append_known (K.taken out.old) added)) }
+        ensures stops { (skips : List CallId) (read written : List ℕ) → HasRead self.old skips read written
+            → IfErr result (λ status. (more : List CallId) × (added : List ℕ) × StopsWithin status (more ++ skips) (whole_lines (read ++ piece.now)) (written ++ added)
+            × (K.taken out.new ≡ append_known (K.taken out.old) added)) }
+        ensures never_falls { K.faults out.old ≤ K.faults out.new }
+        ensures cause { IsErrOf result Status.WriteFault → Rose (K.faults out.old) (K.faults out.new) }
+    {
+        let mut rest = piece;
+        'lines: while let Some(at) = memchr(b'\n', rest) {
+            match self.complete(alloc, &rest[..at], out) {
+                Ok(()) => {}
+                Err(status) => return Err(status),
+            }
+            rest = &rest[at + 1..];
+        }
+        let Ok(()) = self.unfinished.extend_from_slice(rest) else {
+            return Err(Status::Memory);
+        };
         Ok(())
     }
 }
