@@ -22,3 +22,5 @@ pub mod Fresh
 pub mod TranscriberLaws
 pub mod ReplayLaws
 pub mod ReplaySteps
+pub mod ReplayEnds
+pub mod ReplayRuns

@@ -15,6 +15,7 @@ use Rattle.grid_cli.specs.declared.replay.Replay.{Replay}
 use Rattle.grid_cli.specs.declared.status.Status.{Status}
 use Rattle.grid_cli.specs.declared.status.Status.TheVariants.{Done, Usage, ScriptRefused, ReadFault, WriteFault, Limit, Memory}
 use Rattle.grid_cli.proofs.Pieces.{first_piece}
+use Rattle.grid_cli.proofs.TranscriberLaws.{lines_followed}
 use Rattle.grid_cli.proofs.LineEnds.{joined, one-append, unfinished_is_one, whole_lines-append, unfinished-append, one_piece_lines}
 
 -- how many lines
@@ -41,11 +42,7 @@ few_lines xs =
     let pieces_are : length (pieces_at newline xs) ≡ length p.1 + 1 = ap length p.2 ∙ omega arith in
     omega (arith, few_pieces newline xs, fronts_are, pieces_are)
 
-pub lines_followed : (grid : Option Grid) (skips : List CallId) (done : List (List ℕ)) (written : List ℕ) → Follows grid skips done written → lines_of grid ≡ length done
-lines_followed None skips done written follows = sym (ap length follows.no_lines)
-lines_followed (Some grid) skips done written follows = follows.stands.lines ∙ follows.at.count
-
-pub has_room : (replay : Replay) (skips : List CallId) (read written : List ℕ) → HasRead replay skips read written → length read < 16777216 → lines_of replay.transcriber.grid + 1 < 4294967295
+pub has_room : (replay : Replay) (skips : List CallId) (read written : List ℕ) → HasRead replay skips read written → length read ≤ 16777216 → lines_of replay.transcriber.grid + 1 < 4294967295
 has_room replay skips read written has few = omega (arith, few_lines read, lines_followed replay.transcriber.grid skips (whole_lines read) written has.follows)
 
 -- which lines

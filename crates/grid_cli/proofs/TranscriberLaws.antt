@@ -7,23 +7,23 @@ use Rattle.grid_base.specs.declared.names.CallId.{CallId}
 use Rattle.grid_cli.specs.Lines.{line_of}
 use Rattle.grid_cli.specs.PartitionObjects.{partition_object}
 use Rattle.grid_cli.specs.Runs.{Run, begun, after_line}
-use Rattle.grid_cli.specs.Printing.{ok_text, refused_text, line_text, end_text}
-use Rattle.grid_cli.specs.Transcripts.{Transcript, Ending, Ended, Refused, first_line, later_lines, following, ran, refused, why_text, is_end}
+use Rattle.grid_cli.specs.Printing.{ok_text, refused_text, limit_text, line_text, end_text}
+use Rattle.grid_cli.specs.Transcripts.{Transcript, Ending, Ended, Refused, TooLong, first_line, later_lines, following, stopped, ran, refused, why_text, is_end}
 use Rattle.grid_cli.specs.Skips.{AgreeOn, AreOfLine}
 use Rattle.grid_cli.specs.Statuses.{whole}
 use Rattle.grid_cli.specs.Grids.{Stands, lines_run, text_at}
 use Rattle.grid_cli.specs.Progress.{IsAt, run_of}
-use Rattle.grid_cli.specs.Transcribing.{HasRun, HasRunNone, Follows, RanAs, Continues}
+use Rattle.grid_cli.specs.Transcribing.{HasRun, HasRunNone, Follows, RanAs, Continues, lines_of}
 use Rattle.grid_cli.specs.declared.grid.Grid.{Grid}
 use Rattle.grid_cli.specs.declared.script.Line.{Line}
 use Rattle.grid_cli.specs.declared.script.Line.TheVariants.{Grid as GridLine}
-use Rattle.grid_cli.specs.declared.script.LineWhy.TheVariants.{NotBuilt}
+use Rattle.grid_cli.specs.declared.script.LineWhy.TheVariants.{NotBuilt, NoEnd}
 use Rattle.grid_cli.specs.declared.transcriber.Ran.{Ran}
 use Rattle.grid_cli.specs.declared.transcriber.Ran.TheVariants.{Goes, Ended as IsEnded, Refused as IsRefused}
 use Rattle.grid_cli.proofs.RunFacts.{RunOk}
 use Rattle.grid_cli.proofs.Lines.{begun_ok, run_after_ok}
 use Rattle.grid_cli.proofs.Fresh.{call_is_new}
-use Rattle.grid_cli.proofs.Progress.{at_first, refused_first, at_next, at_end, at_refused}
+use Rattle.grid_cli.proofs.Progress.{at_first, refused_first, at_next, at_end, at_refused, at_stop}
 
 -- the facts of every run hold of the run that is reached
 pub run_ok : (r : Run) (skips : List CallId) (done : List (List ℕ)) (written : List ℕ) → IsAt r skips done written → RunOk partition_object r
@@ -146,3 +146,40 @@ pub stops_at_once : (grid : Option Grid) (skips : List CallId) (done : List (Lis
     → Continues skips done text (λ t. IsFrontOf (written ++ []) t.text)
 stops_at_once grid skips done written text follows =
     subst (λ w. Continues skips done text (λ t. IsFrontOf w t.text)) (sym (append-nil written)) (stops_unwritten grid skips done written text follows)
+
+-- where the lines stop
+
+pub stop_of_lines : (grid : Option Grid) (skips : List CallId) (done : List (List ℕ)) (written : List ℕ) → Follows grid skips done written → (too_long : Bool)
+    → first_line partition_object skips too_long done ≡ following written (stopped too_long (length done))
+stop_of_lines None skips done written follows too_long =
+    ap (first_line partition_object skips too_long) follows.no_lines
+    ∙ ap (λ w. following w (stopped too_long 0)) (sym follows.no_text)
+    ∙ ap (λ n. following written (stopped too_long n)) (sym (ap length follows.no_lines))
+stop_of_lines (Some grid) skips done written follows too_long = at_stop follows.run skips done written follows.at too_long
+
+pub lines_followed : (grid : Option Grid) (skips : List CallId) (done : List (List ℕ)) (written : List ℕ) → Follows grid skips done written → lines_of grid ≡ length done
+lines_followed None skips done written follows = sym (ap length follows.no_lines)
+lines_followed (Some grid) skips done written follows = follows.stands.lines ∙ follows.at.count
+
+pub end_refused : (grid : Option Grid) (skips : List CallId) (done : List (List ℕ)) (written text : List ℕ) (line : ℕ) → Follows grid skips done written → line ≡ lines_of grid
+    → text ≡ refused_text line (why_text NoEnd) → first_line partition_object skips false done ≡ whole (written ++ text) (Refused line NoEnd)
+end_refused grid skips done written text line follows counted shown =
+    stop_of_lines grid skips done written follows false
+    ∙ ap (λ n. following written (stopped false n)) (sym (counted ∙ lines_followed grid skips done written follows))
+    ∙ ap (λ t. whole (written ++ t) (Refused line NoEnd)) (sym shown)
+
+pub limit_passed : (grid : Option Grid) (skips : List CallId) (done : List (List ℕ)) (written text : List ℕ) (line : ℕ) → Follows grid skips done written → line ≡ lines_of grid + 1
+    → text ≡ limit_text line → first_line partition_object skips true done ≡ whole (written ++ text) (TooLong line)
+limit_passed grid skips done written text line follows counted shown =
+    stop_of_lines grid skips done written follows true
+    ∙ ap (λ n. following written (record { text = limit_text n; ending = TooLong n })) (sym (counted ∙ ap (λ n. n + 1) (lines_followed grid skips done written follows)))
+    ∙ ap (λ t. whole (written ++ t) (TooLong line)) (sym shown)
+
+pub front_written : (written text : List ℕ) (e : Ending) (t : Transcript) (n : ℕ) → t ≡ whole (written ++ text) e → IsFrontOf (written ++ take n text) t.text
+front_written written text e t n is = front_taken written text t.text n (front_of_whole (written ++ text) e t is)
+
+pub nothing_written : (grid : Option Grid) (skips : List CallId) (done : List (List ℕ)) (written : List ℕ) → Follows grid skips done written → (too_long : Bool)
+    → IsFrontOf (written ++ []) (first_line partition_object skips too_long done).text
+nothing_written grid skips done written follows too_long =
+    subst (λ w. IsFrontOf w (first_line partition_object skips too_long done).text) (sym (append-nil written))
+    (front_of_following written (stopped too_long (length done)) _ (stop_of_lines grid skips done written follows too_long))

@@ -1,5 +1,6 @@
 -- The statuses of a command, and what is written of a script's transcript at each.
-use Rattle.std.specs.Prelude.{◌≡◌, ℕ, Bool, false, List, [], ◌∷◌, ◌++◌, length, Contains}
+use Rattle.std.specs.Prelude.{◌≡◌, ℕ, Bool, false, List, [], ◌∷◌, length, Option, Some}
+use Rattle.std.specs.Io.KnownBytes.{append_known}
 use Rattle.grid_base.specs.declared.names.CallId.{CallId}
 use Rattle.partition_protocol.specs.Sequences.{IsFrontOf}
 use Rattle.grid_cli.specs.declared.script.LineWhy.{LineWhy}
@@ -38,3 +39,8 @@ Writes ReadFault skips script text = IsTextSoFar skips script text
 Writes WriteFault skips script text = IsFrontOf text (transcript partition_object skips script).text
 Writes (Limit what) skips script text = (line : ℕ) × (transcript partition_object skips script ≡ whole text (TooLong line))
 Writes Memory skips script text = IsFrontOf text (transcript partition_object skips script).text
+
+-- Where the source tells its script, a text is written that the script's transcript has, for some calls that found no memory.
+abbrev pub WritesText : Status → Option (List ℕ) → Option (List ℕ) → Option (List ℕ) → Type 0
+WritesText status left before after = (script : List ℕ) → left ≡ Some script
+    → (skips : List CallId) × (text : List ℕ) × (after ≡ append_known before text) × Writes status skips script text

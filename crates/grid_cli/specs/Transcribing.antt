@@ -12,7 +12,7 @@ use Rattle.grid_cli.specs.declared.transcriber.Ran.{Ran}
 use Rattle.grid_cli.specs.declared.transcriber.Ran.TheVariants.{Goes, Ended as IsEnded, Refused as IsRefused}
 use Rattle.grid_cli.specs.PartitionObjects.{partition_object}
 use Rattle.grid_cli.specs.Runs.{Run}
-use Rattle.grid_cli.specs.Transcripts.{Transcript, Ended, Refused, first_line}
+use Rattle.grid_cli.specs.Transcripts.{Transcript, Ended, Refused, TooLong, first_line}
 use Rattle.grid_cli.specs.Statuses.{whole}
 use Rattle.grid_cli.specs.Grids.{Stands, lines_run}
 use Rattle.grid_cli.specs.Progress.{IsAt}
@@ -59,3 +59,13 @@ StopsAs Memory skips done text written = Continues skips done text (λ t. IsFron
 StopsAs Usage skips done text written = ⊥
 StopsAs ReadFault skips done text written = ⊥
 StopsAs (Limit what) skips done text written = ⊥
+
+-- The status with which a run ends whose lines are these and no more, where this was written; the script may have gone past the limit.
+abbrev pub Concludes : Bool → Status → List CallId → List (List ℕ) → List ℕ → Type 0
+Concludes too_long Done skips lines written = first_line partition_object skips too_long lines ≡ whole written Ended
+Concludes too_long (ScriptRefused line why) skips lines written = first_line partition_object skips too_long lines ≡ whole written (Refused line why)
+Concludes too_long WriteFault skips lines written = IsFrontOf written (first_line partition_object skips too_long lines).text
+Concludes too_long (Limit what) skips lines written = (line : ℕ) × (first_line partition_object skips too_long lines ≡ whole written (TooLong line))
+Concludes too_long Memory skips lines written = IsFrontOf written (first_line partition_object skips too_long lines).text
+Concludes too_long Usage skips lines written = ⊥
+Concludes too_long ReadFault skips lines written = ⊥

@@ -1,4 +1,4 @@
-ghost use Rattle.std.specs.Prelude.{◌≡◌, ◌+◌, ◌-◌, ◌<◌, ◌≤◌, ◌^◌, ◌++◌, ◌∷◌, [], List, ℕ, OnOk, IfOk, IfErr, IsErrOf, MatchOption, true, Some, None};
+ghost use Rattle.std.specs.Prelude.{◌≡◌, ◌+◌, ◌-◌, ◌<◌, ◌≤◌, ◌^◌, ◌++◌, ◌∷◌, [], List, ℕ, OnOk, IfOk, IfErr, IsErrOf, MatchOption, true, false, Some, None};
 ghost use Rattle.std.specs.Io.KnownBytes.{append_known};
 ghost use Rattle.grid_base.specs.declared.names.CallId.{CallId};
 ghost use Rattle.grid_edge.specs.Faults.{Rose};
@@ -7,12 +7,12 @@ ghost use Rattle.grid_cli.specs.Runs.{Run, begun};
 ghost use Rattle.grid_cli.specs.Printing.{ok_text, refused_text};
 ghost use Rattle.grid_cli.specs.Transcripts.{why_text};
 ghost use Rattle.grid_cli.specs.Grids.{Stands, lines_run};
-ghost use Rattle.grid_cli.specs.Transcribing.{Follows, RanAs, StopsAs, lines_done, lines_of};
+ghost use Rattle.grid_cli.specs.Transcribing.{Follows, RanAs, StopsAs, Concludes, lines_done, lines_of};
 
 use crate::grid::{Grid, RunEnd};
-use crate::print::{push_ok, push_refused};
+use crate::print::{push_limit, push_ok, push_refused};
 use crate::script::{Line, LineWhy, read_line};
-use crate::status::Status;
+use crate::status::{LimitWhat, Status};
 use grid_base::Memory;
 use grid_edge::{Sink, write_all};
 use std::alloc::{AllocError, Global};
@@ -147,6 +147,59 @@ impl Transcriber {
                 line,
                 why: LineWhy::NotBuilt,
             }),
+        }
+    }
+
+    /// How many lines were run.
+    fn lines(&self) -> u32
+        ensures { result ≡ lines_done self.now }
+    {
+        match &self.grid {
+            None => 0,
+            Some(grid) => grid.lines(),
+        }
+    }
+
+    /// Ends a script that stopped without a line `end`.
+    pub(crate) fn refuse_end<K: Sink>(&mut self, out: &mut K) -> Status
+        requires room { lines_done self.old + 1 < 2 ^ 32 - 1 }
+        ensures concludes { (skips : List CallId) (done : List (List ℕ)) (written : List ℕ) → Follows self.old.grid skips done written
+            → (added : List ℕ) × Concludes false result skips done (written ++ added) × (K.taken out.new ≡ append_known (K.taken out.old) added) }
+        ensures never_falls { K.faults out.old ≤ K.faults out.new }
+        ensures cause { result ≡ Status.WriteFault → Rose (K.faults out.old) (K.faults out.new) }
+    {
+        let line = self.lines();
+        self.text.clear();
+        let Ok(()) = push_refused(&mut self.text, line, LineWhy::NoEnd) else {
+            return Status::Memory;
+        };
+        let Ok(()) = write_all(out, self.text.as_slice()) else {
+            return Status::WriteFault;
+        };
+        Status::ScriptRefused {
+            line,
+            why: LineWhy::NoEnd,
+        }
+    }
+
+    /// Ends a script that has more bytes than it may.
+    pub(crate) fn stop_at_limit<K: Sink>(&mut self, out: &mut K) -> Status
+        requires room { lines_done self.old + 1 < 2 ^ 32 - 1 }
+        ensures concludes { (skips : List CallId) (done : List (List ℕ)) (written : List ℕ) → Follows self.old.grid skips done written
+            → (added : List ℕ) × Concludes true result skips done (written ++ added) × (K.taken out.new ≡ append_known (K.taken out.old) added) }
+        ensures never_falls { K.faults out.old ≤ K.faults out.new }
+        ensures cause { result ≡ Status.WriteFault → Rose (K.faults out.old) (K.faults out.new) }
+    {
+        let line = self.lines() + 1;
+        self.text.clear();
+        let Ok(()) = push_limit(&mut self.text, line) else {
+            return Status::Memory;
+        };
+        let Ok(()) = write_all(out, self.text.as_slice()) else {
+            return Status::WriteFault;
+        };
+        Status::Limit {
+            what: LimitWhat::Bytes,
         }
     }
 }

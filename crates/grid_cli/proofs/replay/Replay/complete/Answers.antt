@@ -1,4 +1,4 @@
-use Rattle.std.proofs.Common.{◌≡◌, List, [], ℕ, ◌++◌, sym, ◌∙◌, ap}
+use Rattle.std.proofs.Common.{◌≡◌, List, [], ℕ, ◌++◌, sym, ◌∙◌, ap, arith}
 use Rattle.grid_edge.proofs.Told.{append_known-nil}
 use Rattle.grid_cli.specs.Words.{whole_lines, unfinished}
 use Rattle.grid_cli.proofs.ReplayLaws.{has_room, line_read, line_stops, line_without_memory}
@@ -9,7 +9,7 @@ returns-in_default-clause-stops g c = λ skips read written has.
     ([], [], line_without_memory c.args.self.now skips read written c.args.end.now has c.requires.one, sym (append_known-nil (g.K.Sink.taken c.args.out.now)))
 
 pub transcribe-transcribed-requires-clause-room : goal.transcribe-transcribed-requires-clause-room
-transcribe-transcribed-requires-clause-room g c = has_room c.args.self.now c.requires.read.0 c.requires.read.1 c.requires.read.2 c.requires.read.3 c.requires.read.4
+transcribe-transcribed-requires-clause-room g c = has_room c.args.self.now c.requires.read.0 c.requires.read.1 c.requires.read.2 c.requires.read.3 (omega (arith, c.requires.read.4))
 
 pub returns-in-Ok-transcribed-clause-goes : goal.returns-in-Ok-transcribed-clause-goes
 returns-in-Ok-transcribed-clause-goes g c = λ skips read written has.

@@ -1,0 +1,12 @@
+use Rattle.std.proofs.Common.{◌≤◌, ◌<◌, ◌-◌, ◌+◌, length}
+use Rattle.grid_cli.proofs.ReplayRuns.{HasPlayed}
+use Rattle.grid_cli.proofs.replay.run_pieces.Given as goal
+
+-- what was read and written so far is the script's, within its limit, and no fault is forgotten
+abbrev pub invariant-pieces : goal.invariant-pieces
+invariant-pieces g l =
+    HasPlayed l.replay l.read (g.S.Source.left l.fn.script) (g.S.Source.left l.script) (g.K.Sink.taken l.fn.out) (g.K.Sink.taken l.out)
+    × (l.read ≤ 16777216) × (g.S.Source.faults l.fn.script ≤ g.S.Source.faults l.script) × (g.K.Sink.faults l.fn.out ≤ g.K.Sink.faults l.out) × (0 < length l.buffer)
+
+abbrev pub decreases-pieces : goal.decreases-pieces
+decreases-pieces g l = 16777216 - l.read
