@@ -2,3 +2,4 @@ pub mod Decimals
 pub mod Pieces
 pub mod Names
 pub mod Entries
+pub mod Slots

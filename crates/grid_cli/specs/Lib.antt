@@ -10,3 +10,4 @@ pub mod Linearizability
 pub mod Splitting
 pub mod Effects
 pub mod MapLists
+pub mod Tables

@@ -1,6 +1,7 @@
 //! The program's commands: `grid replay` reads a script and prints its transcript.
 #![tactic(auto)]
 
+mod connections;
 mod print;
 mod replies;
 mod script;
