@@ -1,11 +1,12 @@
 -- What a list of map entries has after one of them is set.
 use Rattle.std.proofs.Common.{◌≡◌, ℕ, ◌<◌, ◌+◌, Bool, true, false, cond, List, [], ◌∷◌, ◌++◌, length, get_or, set, map, Option, Some, None, refl, sym, ap, subst, ◌∙◌, ltb, arith}
-use Rattle.std.specs.List.{find, list_any, position, position_or_len, IsDistinct}
+use Rattle.std.specs.Prelude.{IfSome}
+use Rattle.std.specs.List.{All, find, list_any, position, position_or_len, IsDistinct}
 use Rattle.std.specs.Option.{option_map, option_or}
 use Rattle.std.proofs.lemmas.Bool.{cond-true, cond-false, ltb-true, ltb-false, or_from, false_from_ne_true}
 use Rattle.std.proofs.lemmas.Option.{cond_some, none-some, slice_get_past}
 use Rattle.std.proofs.lemmas.List.{map-set, set-get_or, map_push}
-use Rattle.std.proofs.lemmas.List.Elements.{All-set, All-push}
+use Rattle.std.proofs.lemmas.List.Elements.{All-nil, All-head, All-tail, All-set, All-push}
 use Rattle.std.proofs.lemmas.List.Folds.{find_at, find-set, find_past, find-append}
 use Rattle.std.proofs.lemmas.List.Sums.{passes_at_first}
 use Rattle.std.proofs.lemmas.Map.Keys.{IsDistinct-push}
@@ -15,7 +16,8 @@ use Rattle.grid_cli.specs.declared.shelf.StoredEntry.{StoredEntry}
 use Rattle.grid_cli.specs.Effects.{FitsFrame}
 use Rattle.grid_cli.specs.MapLists.{name_of, is_named, value_in, partition_of, IsMapList}
 use Rattle.grid_cli.specs.PartitionObjects.{Partition, with_entry}
-use Rattle.grid_cli.proofs.Names.{same_name, is_same_self, is_same_equivalence}
+use Rattle.grid_cli.specs.SameNames.{same_name, is_same_self, one_entry_set}
+use Rattle.grid_cli.proofs.Names.{is_same_equivalence}
 
 abbrev holding : Option (List ℕ) → MapEntry
 holding value = record { value = value }
@@ -23,18 +25,6 @@ holding value = record { value = value }
 -- what a partition has where a look-up found this
 abbrev entry_found : Option StoredEntry → MapEntry
 entry_found found = holding (option_map (λ entry. entry.value) found)
-
--- two partitions that have the same for each name
-pub same_partition : (s t : Partition) → ((name : ObjectName) → s name ≡ t name) → s ≡ t
-same_partition s t h = λ i name. h name i
-
--- A partition that has an entry at its name, and at each other name what it had before.
-pub one_entry_set : (s t : Partition) (name : ObjectName) (entry : MapEntry) → t name ≡ entry → ((other : ObjectName) → is_same other name ≡ false → t other ≡ s other) → t ≡ with_entry s name entry
-one_entry_set s t name entry here elsewhere = same_partition t (with_entry s name entry) (λ other. at other (is_same other name) refl)
-  where
-    at : (other : ObjectName) (b : Bool) → is_same other name ≡ b → t other ≡ cond b entry (s other)
-    at other true same = ap t (same_name other name same) ∙ here
-    at other false apart = elsewhere other apart
 
 option_or_none : (o : Option StoredEntry) → option_or o None ≡ o
 option_or_none None = refl
@@ -137,3 +127,19 @@ pub value_added : (name : ObjectName) (es : List StoredEntry) (value : List ℕ)
     → HasSet es (es ++ record { name = name.map; key = name.key; value = value } ∷ []) name value
 value_added name es value absent list fits =
     pushed name es (record { name = name.map; key = name.key; value = value }) (no_place (is_named name) es absent) refl list fits
+
+-- ---- an empty list, and a value of a list
+
+pub IsMapList-nil : IsMapList []
+unfolding IsDistinct
+IsMapList-nil = record { once = tt; fit = All-nil (λ entry. FitsFrame entry.value) }
+
+value_fits_at : (found : Option StoredEntry) (b : Bool) (x : StoredEntry) → FitsFrame x.value → IfSome (option_map (λ entry. entry.value) found) FitsFrame
+    → IfSome (option_map (λ entry. entry.value) (cond b (Some x) found)) FitsFrame
+value_fits_at found true x here later = here
+value_fits_at found false x here later = later
+
+pub value_fits : (name : ObjectName) (es : List StoredEntry) → All (λ entry. FitsFrame entry.value) es → IfSome (value_in es name) FitsFrame
+value_fits name [] fit = tt
+value_fits name (x ∷ es) fit =
+    value_fits_at (find (is_named name) es) (is_named name x) x (All-head (λ entry. FitsFrame entry.value) x es fit) (value_fits name es (All-tail (λ entry. FitsFrame entry.value) x es fit))

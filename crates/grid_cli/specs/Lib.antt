@@ -11,3 +11,8 @@ pub mod Splitting
 pub mod Effects
 pub mod MapLists
 pub mod Tables
+pub mod Statuses
+pub mod SameNames
+pub mod EffectLaws
+pub mod Skips
+pub mod Progress

@@ -2,10 +2,14 @@
 #![tactic(auto)]
 
 mod connections;
+mod laws;
 mod print;
 mod replies;
 mod script;
 mod shelf;
+mod status;
 mod words;
 
+pub use laws::every_run_is_linearizable;
+pub use status::{LimitWhat, Status};
 pub use script::{Line, LineWhy, read_line};

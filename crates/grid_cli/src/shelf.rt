@@ -40,6 +40,72 @@ impl Model for MapList {
     ghost invariant = { λ list. IsMapList list.entries.items };
 }
 
+impl Shelf for MapList {
+    ghost use Rattle.std.specs.Prelude.{None, refl};
+    ghost use Rattle.grid_cli.specs.Effects.{RequestFits, effect_of, applied};
+    ghost use Rattle.grid_cli.specs.MapLists.{partition_of};
+    ghost use Rattle.grid_cli.specs.PartitionObjects.{Partition, partition_object};
+    ghost use Rattle.grid_cli.specs.EffectLaws.{changes_by_effect, same_without_effect, made_by_effect};
+
+    type Env = ();
+
+    type Call = Request;
+
+    ghost State = { Partition };
+
+    ghost state = { partition_of };
+
+    ghost empty_state = { partition_object.empty };
+
+    ghost object = { λ _. partition_object };
+
+    ghost effect_of = { λ _. effect_of };
+
+    /// Changes are told from a later stage on.
+    ghost change_of = { λ _ _ _ _. None };
+
+    ghost within_limits = { RequestFits };
+
+    ghost applied = { applied };
+
+    fn empty(alloc: Global) -> Self {
+        MapList {
+            entries: Vec::new(alloc),
+        }
+    }
+
+    fn execute(
+        &self,
+        alloc: Global,
+        _env: &(),
+        call: &Request,
+        now: Moment,
+    ) -> Result<Executed, Memory> {
+        let GridCall::Map(map_call) = &call.call;
+        let (name, key) = target_of(map_call);
+        let old = find_value(self.entries.as_slice(), name.as_slice(), key.as_slice());
+        let answer = Answer::Maybe(copied(alloc, old)?);
+        Ok(Executed {
+            reply: write_reply(alloc, call.kind, call.correlation, &answer)?,
+            effect: effect_of(alloc, call, old, now)?,
+            change: None,
+        })
+    }
+
+    fn apply(&mut self, alloc: Global, effect: &Bytes) -> Result<(), Memory> {
+        let set = read_set(effect.as_slice()).unwrap();
+        set_value(alloc, &mut self.entries, set)
+    }
+
+    ghost begins_empty = { λ _. refl };
+
+    ghost changes_by_effect = { λ _. changes_by_effect };
+
+    ghost same_without_effect = { λ _. same_without_effect };
+
+    ghost made_by_effect = { λ _. made_by_effect };
+}
+
 fn is_named(entry: &StoredEntry, name: &[u8], key: &[u8]) -> bool
     ensures { result ≡ is_named (record { map = name.now; key = key.now }) entry.now }
 {
@@ -130,4 +196,13 @@ fn set_value(alloc: Global, entries: &mut Vec<StoredEntry>, set: MapSet) -> Resu
         })?,
     }
     Ok(())
+}
+
+fn copied(alloc: Global, value: Option<&Bytes>) -> Result<Option<Bytes>, Memory>
+    ensures { IfOk result (λ copy. copy ≡ option_copied value.entry) }
+{
+    match value {
+        Some(value) => Ok(Some(value.copied(alloc)?)),
+        None => Ok(None),
+    }
 }

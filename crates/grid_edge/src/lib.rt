@@ -18,3 +18,6 @@ pub use memory_source::{MemorySource, SteadySource};
 pub use sink::{Sink, WriteFault, write_all};
 pub use source::{ReadFault, Source};
 pub use standard::{StdSink, StdSource};
+
+#[cfg(test)]
+mod tests;

@@ -37,11 +37,11 @@ impl Source for StdSource {
 
     /// Costs a system call, and another one for each time that it is interrupted.
     fn read(&mut self, into: &mut [u8]) -> Result<usize, ReadFault> {
-        let answer = read_again(&mut self.stdin, into);
-        if answer.is_err() {
+        let given = read_again(&mut self.stdin, into);
+        if given.is_err() {
             self.faults = next_count(self.faults);
         }
-        answer
+        given
     }
 }
 
@@ -77,11 +77,11 @@ impl Sink for StdSink {
     /// A write that takes nothing of a piece counts as a fault. Costs a system call, and another one for
     /// each time that it is interrupted.
     fn write(&mut self, from: &[u8]) -> Result<usize, WriteFault> {
-        let answer = write_again(&mut self.stdout, from);
-        if answer.is_err() {
+        let written = write_again(&mut self.stdout, from);
+        if written.is_err() {
             self.faults = next_count(self.faults);
         }
-        answer
+        written
     }
 }
 
@@ -113,4 +113,97 @@ fn write_again<W: Write>(writer: &mut W, from: &[u8]) -> Result<usize, WriteFaul
         }
     }
     Err(WriteFault)
+}
+
+#[cfg(test)]
+mod tests {
+    use super::*;
+    use std::io;
+    use std::test::Fail;
+
+    // What a call of a stream does: it is interrupted, it fails, or it moves at most so many bytes.
+    enum Step {
+        Interrupted,
+        Failed,
+        Moves(usize),
+    }
+
+    // A stream whose calls take these steps.
+    #[derive(Drop)]
+    struct Stream<'a> {
+        steps: &'a [Step],
+    }
+
+    impl Stream<'_> {
+        fn step(&mut self, most: usize) -> io::Result<usize>
+            ensures { IfOk result (λ n. n ≤ most) }
+        {
+            let Some((step, rest)) = self.steps.split_first() else {
+                return Ok(0);
+            };
+            self.steps = rest;
+            match step {
+                Step::Interrupted => Err(io::Error::from(ErrorKind::Interrupted)),
+                Step::Failed => Err(io::Error::from(ErrorKind::BrokenPipe)),
+                Step::Moves(count) => Ok(most.min(*count)),
+            }
+        }
+    }
+
+    impl Read for Stream<'_> {
+        fn read(&mut self, buf: &mut [u8]) -> io::Result<usize> {
+            self.step(buf.len())
+        }
+    }
+
+    impl Write for Stream<'_> {
+        fn write(&mut self, buf: &[u8]) -> io::Result<usize> {
+            self.step(buf.len())
+        }
+
+        fn flush(&mut self) -> io::Result<()> {
+            Ok(())
+        }
+    }
+
+    const STEPS: [Step; 5] = [
+        Step::Interrupted,
+        Step::Interrupted,
+        Step::Moves(2),
+        Step::Failed,
+        Step::Moves(9),
+    ];
+
+    #[test]
+    fn an_interrupted_call_is_tried_again(rt: HostRuntime) {
+        let mut stream = Stream { steps: &STEPS };
+        let mut buffer = [0; 4];
+        assert_eq!(rt; read_again(&mut stream, &mut buffer), Ok(2));
+        assert_eq!(rt; read_again(&mut stream, &mut buffer), Err(ReadFault));
+        assert_eq!(rt; read_again(&mut stream, &mut buffer), Ok(4));
+        assert_eq!(rt; read_again(&mut stream, &mut buffer), Ok(0));
+
+        let mut stream = Stream { steps: &STEPS };
+        assert_eq!(rt; write_again(&mut stream, b"four"), Ok(2));
+        assert_eq!(rt; write_again(&mut stream, b"four"), Err(WriteFault));
+        assert_eq!(rt; write_again(&mut stream, b"four"), Ok(4));
+        // A write that takes nothing of a piece.
+        assert_eq!(rt; write_again(&mut stream, b"four"), Err(WriteFault));
+        assert_eq!(rt; write_again(&mut stream, b""), Ok(0));
+    }
+
+    #[test]
+    fn standard_input_ends(rt: HostRuntime) -> Result<(), Fail> {
+        let mut source = StdSource::new(rt.stdin());
+        let mut buffer = [0; 8];
+        assert_eq!(rt; source.read(&mut buffer)?, 0);
+        Ok(())
+    }
+
+    #[test]
+    fn standard_output_takes_bytes(rt: HostRuntime) -> Result<(), Fail> {
+        let mut sink = StdSink::new(rt.stdout());
+        crate::write_all(&mut sink, b"standard output takes bytes\n")?;
+        Ok(())
+    }
 }

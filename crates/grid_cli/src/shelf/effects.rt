@@ -91,7 +91,9 @@ fn sized_at(bytes: &[u8]) -> Option<(&[u8], &[u8])>
 /// The entry that an effect sets, if the bytes are an effect's.
 #[tactic(auto, unfolding(crate::specs::Effects::effect_at))]
 pub(super) fn read_set(effect: &[u8]) -> Option<MapSet<'_>>
-    ensures { option_map set_by result ≡ effect_at effect.now }
+    ensures exact { option_map set_by result ≡ effect_at effect.now }
+    ensures spelled { IfSome result (λ set. effect.now ≡ effect_bytes (set_by set).0 (set_by set).1) }
+    ensures fits { IfSome result (λ set. FitsFrame set.value.now) }
 {
     let rest = after_byte(SET_MAP, effect)?;
     let (name, rest) = sized_at(after_byte(MAP_KIND, rest)?)?;

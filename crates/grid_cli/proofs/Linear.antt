@@ -1,0 +1,191 @@
+-- What is printed for an object fits the run: it is the history of that object, used by one thread.
+use Rattle.std.proofs.Common.{◌≡◌, ◌≢◌, ℕ, ◌+◌, ◌≤◌, ◌<◌, Bool, true, false, nat_lt, List, [], ◌∷◌, map, filter, Option, Some, None, Contains, refl, ap, sym, ◌∙◌, subst, ◌⊎◌, ⊎_elim, inl, inr, arith}
+use Rattle.std.specs.Prelude.{unwrap_or, option_map}
+use Rattle.grid_base.specs.Histories.{IsLegal}
+use Rattle.grid_base.specs.MapEntries.{empty_entry}
+use Rattle.grid_base.specs.Names.{ObjectName, is_same}
+use Rattle.grid_base.specs.declared.names.CallId.{CallId}
+use Rattle.grid_base.specs.declared.calls.Request.{Request}
+use Rattle.partition_protocol.specs.History.{Entry, Executed}
+use Rattle.partition_protocol.specs.World.{World, trail}
+use Rattle.partition_protocol.specs.Arrivals.{Asked}
+use Rattle.partition_protocol.proofs.Lists.{In, in_contains, contains_in, cases}
+use Rattle.partition_protocol.proofs.RowFacts.{less, not_less}
+use Rattle.partition_protocol.proofs.Faithful.{part_in}
+use Rattle.partition_world.specs.Answers.{id_of}
+use Rattle.grid_cli.specs.PartitionObjects.{target_of, map_entry, partition_object}
+use Rattle.grid_cli.specs.Runs.{Run, begun, Arrival, Appended, world_at}
+use Rattle.grid_cli.specs.Printing.{Printed, partitions, entries_of, all_entries, printed, printed_from, arrival_of, answer_of}
+use Rattle.grid_cli.specs.Linearizability.{is_on, history_of, Before, answered_call, IsOf, Fits, IsLinearizable, run_after, EveryRunIsLinearizable}
+use Rattle.grid_cli.proofs.Parts.{before_first, before_second, part_filter, before_part, named_apart, in_filter, in_filtered}
+use Rattle.grid_cli.proofs.Places.{home, same_name, same_name_refl, same_number}
+use Rattle.grid_cli.proofs.Trails.{executed, asked, executed_name, Prints, printed_in, in_printed, printed_before}
+use Rattle.grid_cli.proofs.RunFacts.{RunOk, asked_of, arrival_name, id_name, is_of, safe, log_once, origin, origins, one_arrival, arrival_found, IsGivenIn}
+use Rattle.grid_cli.proofs.Lines.{run_after_ok, begun_ok}
+use Rattle.grid_cli.proofs.Locality.{legal_on, history_elsewhere, history_at, history_past}
+use Rattle.grid_cli.proofs.Answers.{trail_part, given_at, one_call, given_call_in, PrintedAnswer, printed_answer, answer_stands, answer_found, arrived_before}
+
+module _ (r : Run) (ok : RunOk partition_object r) (p : ℕ) where
+  abbrev pub w : World Request
+  w = world_at partition_object r p
+
+  abbrev pub log : List (Executed Request)
+  log = executed w.recorded.log
+
+  -- the line at which an arrival that was found arrived
+  abbrev pub line_of : Option Arrival → ℕ
+  line_of found = unwrap_or (option_map (λ (a : Arrival). a.line) found) 0
+
+  -- an entry is of the arrival of its call
+  pub is_of_arrival : (a : Arrival) (x : Executed Request) (e : Printed) → In a r.arrivals → asked_of a ≡ asked x → Prints r p x e → IsOf a e
+  is_of_arrival a x e i same prints =
+      let named : id_of x ≡ a.id = ap (λ (k : Asked Request). record { conn = k.conn; number = k.number }) (sym same) in
+      let entry = sym prints.is in
+      record {
+        id = ap (λ (f : Printed). f.id) entry ∙ named;
+        request = ap (λ (f : Printed). f.request) entry ∙ ap (λ (k : Asked Request). k.call) (sym same);
+        now = ap (λ (f : Printed). f.now) entry ∙ ap (λ (k : Asked Request). k.now) (sym same);
+        line = ap (λ (f : Printed). f.arrived) entry ∙ ap (λ c. line_of (arrival_of r c)) named ∙ ap line_of (arrival_found r ok.of_arrivals a i);
+      }
+
+  -- the arrival of an entry
+  pub record Arrived (e : Printed) : Type 0 where
+    pub arrival : Arrival
+    pub there : In arrival r.arrivals
+    pub here : is_of p arrival ≡ true
+    pub is : IsOf arrival e
+
+  pub arrival_of_entry : (x : Executed Request) (e : Printed) → In x log → Prints r p x e → Arrived e
+  arrival_of_entry x e i prints =
+      let from = origin partition_object r ok.members ok.of_arrivals p x i in
+      record { arrival = from.0; there = from.1; here = from.2; is = is_of_arrival from.0 x e from.1 from.3 prints }
+
+  -- two entries in order
+  pub record InOrder (a b : Printed) : Type 0 where
+    pub first : Executed Request
+    pub second : Executed Request
+    pub before : Before log first second
+    pub prints_first : Prints r p first a
+    pub prints_second : Prints r p second b
+
+  module _ (name : ObjectName) where
+    abbrev pub h : List Printed
+    h = history_of name (printed_from r p 0 (trail w))
+
+    pub entry_call : (e : Printed) → In e h → (is_on name e ≡ true) × ((x : Executed Request) × In x log × Prints r p x e)
+    entry_call e i =
+        let f = in_filtered (is_on name) (printed_from r p 0 (trail w)) e i in
+        let k = printed_in r p 0 (trail w) e f.0 in
+        (f.1, (k.0, part_in (executed (trail w)) log k.0 (trail_part partition_object r ok p) k.1, k.2))
+
+    pub entries_in_order : (a b : Printed) → Before h a b → InOrder a b
+    entries_in_order a b before =
+        let k = printed_before r p 0 (trail w) a b (before_part h (printed_from r p 0 (trail w)) a b (part_filter (is_on name) (printed_from r p 0 (trail w))) before) in
+        record { first = k.0; second = k.1.0; before = before_part (executed (trail w)) log k.0 k.1.0 (trail_part partition_object r ok p) k.1.1; prints_first = k.1.2; prints_second = k.1.3 }
+
+    pub legal : IsLegal map_entry empty_entry (map answered_call h)
+    legal =
+        let safe_at = (safe partition_object r ok.members ok.of_arrivals p).0 in
+        legal_on r p 0 name (λ other. empty_entry) empty_entry (trail w) (safe_at.resets ∙ ok.of_answers.resets p) refl safe_at.legal
+
+    pub arrived : (e : Printed) → Contains h e → (is_on name e ≡ true) × ((a : Arrival) × Contains r.arrivals a × IsOf a e)
+    arrived e c =
+        let k = entry_call e (in_contains e h c) in
+        let from = arrival_of_entry k.1.0 e k.1.1 k.1.2 in
+        (k.0, (from.arrival, contains_in from.arrival r.arrivals from.there, from.is))
+
+    pub once : (a b : Printed) → Before h a b → a.id ≢ b.id
+    once a b before same =
+        let k = entries_in_order a b before in
+        named_apart executed_name log k.first k.second (log_once partition_object r ok.members ok.of_arrivals p) k.before
+        (ap id_name (ap (λ (f : Printed). f.id) k.prints_first.is ∙ same ∙ ap (λ (f : Printed). f.id) (sym k.prints_second.is)))
+
+    pub answered : home name ≡ p → (a : Arrival) (m : Appended) → Contains r.arrivals a → is_same (target_of a.request) name ≡ true → Contains r.appended m → m.answers ≡ Some a.id
+        → (e : Printed) × Contains h e × IsOf a e × (e.reply ≡ m.bytes) × (e.answered ≡ Some m.line)
+    answered at a m c on d s =
+        let i = in_contains a r.arrivals c in
+        let j = in_contains m r.appended d in
+        let there : a.request.partition ≡ p = sym (ok.of_arrivals.placed a i).there ∙ ap home (same_name (target_of a.request) name on) ∙ at in
+        let g : IsGivenIn partition_object r p m a.id = subst (λ k. IsGivenIn partition_object r k m a.id) there (given_at partition_object r ok a m i j s) in
+        let k = in_printed r p 0 (trail w) g.call (answer_stands partition_object r ok p m a.id g) in
+        let from = arrival_of_entry g.call k.0 (given_call_in partition_object r ok p m a.id g) k.2 in
+        let named : k.0.id ≡ a.id = ap (λ (f : Printed). f.id) (sym k.2.is) ∙ g.call_is in
+        let same : from.arrival ≡ a = one_arrival r ok.of_arrivals from.arrival a from.there i (ap id_name (sym from.is.id ∙ named)) in
+        let is : IsOf a k.0 = subst (λ b. IsOf b k.0) same from.is in
+        let on_name : is_on name k.0 ≡ true = ap (λ q. is_same (target_of q) name) is.request ∙ on in
+        (k.0, contains_in k.0 h (in_filter (is_on name) (printed_from r p 0 (trail w)) k.0 k.1 on_name), is,
+        ap (λ (f : Printed). f.reply) (sym k.2.is) ∙ sym g.reply,
+        ap (λ (f : Printed). f.answered) (sym k.2.is) ∙ ap (λ c. option_map (λ (n : Appended). n.line) (answer_of r c)) g.call_is ∙ ap (λ n. option_map (λ (n : Appended). n.line) n) (answer_found partition_object r ok m a.id j s))
+
+    pub given : (e : Printed) (line : ℕ) → Contains h e → e.answered ≡ Some line → (m : Appended) × Contains r.appended m × (m.answers ≡ Some e.id) × (m.line ≡ line) × (m.bytes ≡ e.reply)
+    given e line c s =
+        let k = entry_call e (in_contains e h c) in
+        let prints = k.1.2 in
+        let found = printed_answer partition_object r ok p k.1.0 line k.1.1 (ap (λ (f : Printed). f.answered) prints.is ∙ s) in
+        (found.message, contains_in found.message r.appended found.there, found.answers ∙ ap (λ (f : Printed). Some f.id) prints.is, found.at_line,
+        found.given.reply ∙ ap (λ (x : Executed Request). x.reply) found.is ∙ ap (λ (f : Printed). f.reply) prints.is)
+
+    pub ordered : (a b : Printed) (line : ℕ) → Before h a b → b.answered ≡ Some line → a.arrived ≤ line
+    ordered a b line before s =
+        let k = entries_in_order a b before in
+        let first = arrival_of_entry k.first a (before_first log k.first k.second k.before) k.prints_first in
+        let found = printed_answer partition_object r ok p k.second line (before_second log k.first k.second k.before) (ap (λ (f : Printed). f.answered) k.prints_second.is ∙ s) in
+        let by_then = arrived_before partition_object r ok p k.first k.second found.message (id_of k.second) found.given found.is k.before in
+        let named : id_of k.first ≡ a.id = ap (λ (f : Printed). f.id) k.prints_first.is in
+        let same : first.arrival ≡ by_then.0 = one_arrival r ok.of_arrivals first.arrival by_then.0 first.there by_then.1 (ap id_name (sym first.is.id ∙ sym named) ∙ sym by_then.2) in
+        let lines = ap (λ (c : Arrival). c.line) same in
+        omega (arith, lines, by_then.3, first.is.line, found.at_line)
+
+    pub same_line : (a b : Printed) → Before h a b → a.arrived ≡ b.arrived → a.id.number < b.id.number
+    same_line a b before s =
+        let k = entries_in_order a b before in
+        let from = origins partition_object r ok.members ok.of_arrivals p k.first k.second k.before in
+        let first = is_of_arrival from.0 k.first a (before_first r.arrivals from.0 from.1.0 from.1.1) from.1.2 k.prints_first in
+        let second = is_of_arrival from.1.0 k.second b (before_second r.arrivals from.0 from.1.0 from.1.1) from.1.3 k.prints_second in
+        let apart = (ok.of_arrivals.in_order from.0 from.1.0 from.1.1).1 (sym first.line ∙ s ∙ second.line) in
+        let left = ap (λ (c : CallId). c.number) first.id in
+        let right = ap (λ (c : CallId). c.number) second.id in
+        omega (arith, apart, left, right)
+
+    pub fits : home name ≡ p → Fits map_entry name r h
+    fits at = record { legal = legal; arrived = arrived; once = once; answered = answered at; given = given; ordered = ordered; same_line = same_line }
+
+-- nothing is printed of an object that is nowhere
+pub nothing_fits : (r : Run) → RunOk partition_object r → (name : ObjectName) → partitions ≤ home name → Fits map_entry name r []
+nothing_fits r ok name far = record {
+  legal = tt;
+  arrived = λ e c. absurd (in_contains e [] c);
+  once = λ a b before. absurd before;
+  answered = λ a m c on d s. absurd (nowhere a (in_contains a r.arrivals c) on);
+  given = λ e line c s. absurd (in_contains e [] c);
+  ordered = λ a b line before s. absurd before;
+  same_line = λ a b before s. absurd before;
+}
+  where
+    nowhere : (a : Arrival) → In a r.arrivals → is_same (target_of a.request) name ≡ true → ⊥
+    nowhere a i on =
+        let placed = ok.of_arrivals.placed a i in
+        let there : home name ≡ a.request.partition = ap home (sym (same_name (target_of a.request) name on)) ∙ placed.there in
+        omega (arith, there, placed.below, far)
+
+-- each call of a partition's trail is on an object of the partition
+pub trail_at_home : (r : Run) → RunOk partition_object r → (p : ℕ) (x : Executed Request) → In x (executed (trail (world_at partition_object r p))) → home (target_of x.call) ≡ p
+trail_at_home r ok p x i =
+    let from = origin partition_object r ok.members ok.of_arrivals p x (part_in (executed (trail (world_at partition_object r p))) (log r ok p) x (trail_part partition_object r ok p) i) in
+    ap (λ (k : Asked Request). home (target_of k.call)) (sym from.3) ∙ (ok.of_arrivals.placed from.0 from.1).there ∙ same_number from.0.request.partition p from.2
+
+pub linear : (r : Run) → RunOk partition_object r → IsLinearizable r
+linear r ok name = ⊎_elim below past (cases (nat_lt (home name) partitions))
+  where
+    elsewhere : (q : ℕ) → home name ≢ q → history_of name (entries_of partition_object r q) ≡ []
+    elsewhere q other = history_elsewhere r q 0 name (trail (world_at partition_object r q)) (trail_at_home r ok q) other
+
+    below : nat_lt (home name) partitions ≡ true → Fits map_entry name r (history_of name (all_entries partition_object r))
+    below e = subst (λ es. Fits map_entry name r es) (sym (history_at name (entries_of partition_object r) (home name) elsewhere partitions (less (home name) partitions e))) (fits r ok (home name) name refl)
+
+    past : nat_lt (home name) partitions ≡ false → Fits map_entry name r (history_of name (all_entries partition_object r))
+    past e = let far = not_less (home name) partitions e in subst (λ es. Fits map_entry name r es) (sym (history_past name (entries_of partition_object r) (home name) elsewhere partitions far)) (nothing_fits r ok name far)
+
+pub every_run_is_linearizable : EveryRunIsLinearizable
+every_run_is_linearizable members backups skips texts grid =
+    linear (run_after partition_object skips (begun members backups) texts) (run_after_ok partition_object skips (begun members backups) texts (begun_ok partition_object members backups grid))

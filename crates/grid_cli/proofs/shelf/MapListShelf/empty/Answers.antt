@@ -1,0 +1,6 @@
+use Rattle.std.proofs.Common.{rules}
+use Rattle.grid_cli.proofs.Entries.{IsMapList-nil}
+use Rattle.grid_cli.proofs.shelf.MapListShelf.empty.Goals as goal
+
+pub invariant_of-result : goal.invariant_of-result
+invariant_of-result c = rw c.new.ensures.items IsMapList-nil

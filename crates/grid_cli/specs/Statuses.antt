@@ -1,0 +1,40 @@
+-- The statuses of a command, and what is written of a script's transcript at each.
+use Rattle.std.specs.Prelude.{◌≡◌, ℕ, Bool, false, List, [], ◌∷◌, ◌++◌, length, Contains}
+use Rattle.grid_base.specs.declared.names.CallId.{CallId}
+use Rattle.partition_protocol.specs.Sequences.{IsFrontOf}
+use Rattle.grid_cli.specs.declared.script.LineWhy.{LineWhy}
+use Rattle.grid_cli.specs.declared.script.LineWhy.TheVariants.{NoEnd}
+use Rattle.grid_cli.specs.declared.status.Status.{Status}
+use Rattle.grid_cli.specs.declared.status.Status.TheVariants.{Done, Usage, ScriptRefused, ReadFault, WriteFault, Limit, Memory}
+use Rattle.grid_cli.specs.Words.{whole_lines}
+use Rattle.grid_cli.specs.PartitionObjects.{partition_object}
+use Rattle.grid_cli.specs.Transcripts.{Transcript, Ending, Ended, Refused, TooLong, transcript, first_line, following, refused}
+
+abbrev pub exit_status : Status → ℕ
+exit_status Done = 0
+exit_status Usage = 1
+exit_status (ScriptRefused line why) = 2
+exit_status ReadFault = 3
+exit_status WriteFault = 4
+exit_status (Limit what) = 5
+exit_status Memory = 7
+
+abbrev pub whole : List ℕ → Ending → Transcript
+whole text ending = record { text = text; ending = ending }
+
+-- The bytes that were read are a front of the script, and the text is that of the lines completed in them, none of which ended the run:
+-- had the script stopped there, only the refusal of its missing end would follow.
+pub record IsTextSoFar (skips : List CallId) (script text : List ℕ) : Type 0 where
+  pub read : List ℕ
+  pub front : IsFrontOf read script
+  pub lines : first_line partition_object skips false (whole_lines read) ≡ following text (refused (length (whole_lines read)) NoEnd)
+
+-- With these statuses this text was written: the whole transcript where the run came to an end of its own, else a front of it.
+abbrev pub Writes : Status → List CallId → List ℕ → List ℕ → Type 0
+Writes Done skips script text = transcript partition_object skips script ≡ whole text Ended
+Writes Usage skips script text = text ≡ []
+Writes (ScriptRefused line why) skips script text = transcript partition_object skips script ≡ whole text (Refused line why)
+Writes ReadFault skips script text = IsTextSoFar skips script text
+Writes WriteFault skips script text = IsFrontOf text (transcript partition_object skips script).text
+Writes (Limit what) skips script text = (line : ℕ) × (transcript partition_object skips script ≡ whole text (TooLong line))
+Writes Memory skips script text = IsFrontOf text (transcript partition_object skips script).text

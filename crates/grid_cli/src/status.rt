@@ -1,0 +1,44 @@
+ghost use Rattle.std.specs.Prelude.{◌≡◌};
+ghost use Rattle.grid_cli.specs.Statuses.{exit_status};
+
+use crate::script::LineWhy;
+
+/// Which limit a script went past.
+#[derive(Clone, Copy, Debug, PartialEq, Eq)]
+pub enum LimitWhat {
+    /// The script's bytes.
+    Bytes,
+}
+
+/// How a command ended.
+#[derive(Clone, Copy, Debug, PartialEq, Eq)]
+pub enum Status {
+    /// The script was read to its line `end`.
+    Done,
+    /// The words are no command. Nothing was read or written.
+    Usage,
+    /// That line is the first that doesn't run, or the script stopped at it without a line `end`.
+    ScriptRefused { line: u32, why: LineWhy },
+    ReadFault,
+    WriteFault,
+    Limit { what: LimitWhat },
+    /// Want of memory.
+    Memory,
+}
+
+impl Status {
+    /// The exit status of the program.
+    pub fn code(self) -> u8
+        ensures { result ≡ exit_status self }
+    {
+        match self {
+            Status::Done => 0,
+            Status::Usage => 1,
+            Status::ScriptRefused { .. } => 2,
+            Status::ReadFault => 3,
+            Status::WriteFault => 4,
+            Status::Limit { .. } => 5,
+            Status::Memory => 7,
+        }
+    }
+}
