@@ -2,6 +2,7 @@ ghost use Rattle.std.specs.Prelude.{◌≡◌, ◌≢◌, ℕ, ◌+◌, ◌<◌,
 ghost use Rattle.partition_table.specs.Rows.{backups_of};
 ghost use Rattle.partition_protocol.specs.Node.{opening_node};
 ghost use Rattle.partition_protocol.specs.Service.{numbers_below};
+ghost use Rattle.partition_protocol.specs.Execution.{reached, Executes};
 ghost use Rattle.partition_protocol.specs.World.{World as Machine, is_live, trail};
 ghost use Rattle.partition_protocol.specs.Events.{Event as ProtocolEvent, Call as CallEvent, happens};
 ghost use Rattle.partition_world.specs.Nodes.{machine_node};
@@ -198,19 +199,31 @@ impl<S: Shelf> World<S> {
         ensures setup { setup_of self.new ≡ setup_of self.old }
         ensures steps { steps_of self.new ≡ steps_of self.old }
     {
+        if let Some(happened) = self.refusal(member) {
+            return Ok(happened);
+        }
+        let seen = self.execute(alloc, env, member, id, call, now)?;
+        Ok(Happened::Called(CallOutcome::Released { seen }))
+    }
+
+    /// What a call comes to that isn't executed. None where the member executes it.
+    fn refusal(&self, member: MemberId) -> Option<Happened>
+        requires { vec_len self.now.nodes ≡ self.now.members }
+        ensures refused { (env : S.Env) (w : Machine S.Call) → let o = S.object env in Agrees o S.state self.now w
+            → IfSome result (λ happened. (conn number : ℕ) (call : S.Call) (now : ℕ) → happens o w (CallEvent member conn number call now) ≡ record { world = w; outcome = happened_of happened }) }
+        ensures there { IfNone result (member < vec_len self.now.nodes) }
+        ensures executes { IfNone result ((node : Node S) → slice_get self.now.nodes.items member ≡ Some node → reached member (machine_node node) ≡ Executes) }
+    {
         if !self.is_member(member) {
-            return Ok(Happened::Nothing);
+            return Some(Happened::Nothing);
         }
         match self.nodes[usize::from(member)].replica.reached(member) {
-            Reached::Executes => {
-                let seen = self.execute(alloc, env, member, id, call, now)?;
-                Ok(Happened::Called(CallOutcome::Released { seen }))
-            }
+            Reached::Executes => None,
             Reached::PartitionLost { version } => {
-                Ok(Happened::Called(CallOutcome::PartitionLost { version }))
+                Some(Happened::Called(CallOutcome::PartitionLost { version }))
             }
             Reached::WrongTarget { version } => {
-                Ok(Happened::Called(CallOutcome::WrongTarget { version }))
+                Some(Happened::Called(CallOutcome::WrongTarget { version }))
             }
         }
     }
@@ -228,7 +241,7 @@ impl<S: Shelf> World<S> {
     where
         S::Call: Drop,
         requires limits { S.within_limits call }
-        requires there { member < length self.old.nodes.items }
+        requires there { member < vec_len self.old.nodes }
         requires alone { (node : Node S) → slice_get self.old.nodes.items member ≡ Some node → backups_of node.replica.known ≡ [] }
         requires fits { (node : Node S) → slice_get self.old.nodes.items member ≡ Some node → node.replica.count + 1 < 2 ^ 32 }
         ensures executed { (node : Node S) → slice_get self.old.nodes.items member ≡ Some node
