@@ -92,12 +92,15 @@ module _ {S Env C State : Type 0} (o : Object C State) (state : S → State) (ol
   pub waits_kept : HasKept state old new member node → (q : ℕ) → waiting new q ≡ waiting old q
   waits_kept k = nothing_more old new member node k.next there k.nodes k.released
 
-  pub counts_kept : HasKept state old new member node → (most : ℕ) → CountsAtMost old most → CountsAtMost new most
-  counts_kept k most counts q x e = go (get_set old.nodes.items member q k.next x (ap (λ ns. slice_get ns q) (sym k.nodes) ∙ e))
+  pub counts_set : (next : Node S) → new.nodes.items ≡ slice_set old.nodes.items member next → machine_node next ≡ machine_node node → (most : ℕ) → CountsAtMost old most → CountsAtMost new most
+  counts_set next nodes says most counts q x e = go (get_set old.nodes.items member q next x (ap (λ ns. slice_get ns q) (sym nodes) ∙ e))
     where
-      go : ((q ≡ member) × (k.next ≡ x)) ⊎ ((q ≢ member) × (slice_get old.nodes.items q ≡ Some x)) → x.replica.count ≤ most
-      go (inl is) = subst (λ c. c ≤ most) (ap (λ (z : ProtocolNode). z.pair.count) (sym k.says) ∙ ap (λ (z : Node S). z.replica.count) is.1) (counts member node there)
+      go : ((q ≡ member) × (next ≡ x)) ⊎ ((q ≢ member) × (slice_get old.nodes.items q ≡ Some x)) → x.replica.count ≤ most
+      go (inl is) = subst (λ c. c ≤ most) (ap (λ (z : ProtocolNode). z.pair.count) (sym says) ∙ ap (λ (z : Node S). z.replica.count) is.1) (counts member node there)
       go (inr is) = counts q x is.1
+
+  pub counts_kept : HasKept state old new member node → (most : ℕ) → CountsAtMost old most → CountsAtMost new most
+  counts_kept k = counts_set k.next k.nodes k.says
 
   module _ (change_of : State → C → ℕ → Option Change) (id : CallId) (call : C) (now seen : ℕ) (h : HasExecuted o change_of state old new member node id call now seen)
       (executes_it : reached member (machine_node node) ≡ Executes) where

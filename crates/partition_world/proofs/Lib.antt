@@ -4,3 +4,6 @@ pub mod LoneHistory
 pub mod LoneCalls
 pub mod Agreement
 pub mod Unchanged
+pub mod Starts
+pub mod Stands
+pub mod Given

@@ -1,6 +1,7 @@
 -- An element of a list, read, mapped and changed.
-use Rattle.std.proofs.Common.{◌≡◌, ◌≢◌, ℕ, zero, suc, ◌<◌, ◌==◌, Bool, true, false, List, [], ◌∷◌, map, length, Some, slice_get, slice_set, get_or, refl, ap, sym, ◌∙◌, ◌⊎◌, inl, inr, arith}
+use Rattle.std.proofs.Common.{◌≡◌, ◌≢◌, ℕ, zero, suc, ◌<◌, ◌==◌, Bool, true, false, List, [], ◌∷◌, map, length, Some, slice_get, slice_set, get_or, All, refl, ap, subst, sym, ◌∙◌, ◌⊎◌, inl, inr, arith}
 use Rattle.std.proofs.lemmas.Bool.Decides.{eqb_tells}
+use Rattle.std.proofs.lemmas.Option.{slice_get_within}
 
 -- the element that is read at a place is the one that stands there
 pub read_there : {X : Type 0} (xs : List X) (k i : ℕ) (x y : X) → i ≡ k → slice_get xs k ≡ Some x → y ≡ get_or xs i y → y ≡ x
@@ -64,6 +65,15 @@ set_get_other (y ∷ ys) zero (suc i) a other = refl
 set_get_other (y ∷ ys) (suc k) zero a other = refl
 set_get_other (y ∷ ys) (suc k) (suc i) a other = set_get_other ys k i a (λ same. other (ap suc same))
 
+-- what holds of each element holds of the one at a place
+pub all_at : {X : Type 0} (P : X → Type 0) (xs : List X) (k : ℕ) (x : X) → All P xs → slice_get xs k ≡ Some x → P x
+all_at P xs k x all there = subst P (read xs k there) (all k x (slice_get_within xs k x there))
+  where
+    read : (xs : List _) (k : ℕ) → slice_get xs k ≡ Some x → get_or xs k x ≡ x
+    read [] k there = absurd cc
+    read (y ∷ ys) zero there = cc
+    read (y ∷ ys) (suc k) there = read ys k there
+
 -- the one element of a list of one
 pub only_one : {X : Type 0} (x y : X) (k : ℕ) → slice_get (x ∷ []) k ≡ Some y → (k ≡ 0) × (x ≡ y)
 only_one x y zero e = (refl, cc)
@@ -78,3 +88,7 @@ other_number a b other = go (eqb_tells a b)
     go : (((a == b) ≡ true) × (a ≡ b)) ⊎ (((a == b) ≡ false) × (a ≢ b)) → (a == b) ≡ false
     go (inl e) = absurd (other e.1)
     go (inr e) = e.0
+
+pub all_one : {X : Type 0} (P : X → Type 0) (x : X) → P x → All P (x ∷ [])
+all_one P x p zero d within = p
+all_one P x p (suc k) d within = absurd (omega (arith, within))

@@ -1,4 +1,4 @@
-ghost use Rattle.std.specs.Prelude.{◌≡◌, ℕ, ◌+◌, ◌^◌, ◌<◌, List, [], ◌∷◌, ◌++◌, Option, Some, None, is_some, option_to_list, true, IfOk, OnOk, OnErr};
+ghost use Rattle.std.specs.Prelude.{◌≡◌, ℕ, ◌+◌, ◌^◌, ◌<◌, ◌↔◌, List, [], ◌∷◌, ◌++◌, Option, Some, None, is_some, option_to_list, IsNone, true, IfOk, OnOk, OnErr};
 ghost use Rattle.std.specs.VecDeque.{deque_len, deque_capacity};
 ghost use Rattle.partition_table.specs.Rows.{backups_of};
 ghost use Rattle.partition_protocol.specs.Node.{opening_node, settled};
@@ -100,7 +100,8 @@ impl Replica {
     /// The oldest released answer that wasn't given out, in constant time.
     pub(crate) fn pop_released(&mut self) -> Option<Released>
         ensures node { node_of self.new ≡ node_of self.old }
-        ensures released { self.old.released.items ≡ option_to_list result ++ self.new.released.items }
+        ensures given { self.old.released.items ≡ option_to_list result ++ self.new.released.items }
+        ensures none { IsNone result ↔ (self.old.released.items ≡ []) }
     {
         self.released.pop_front()
     }
