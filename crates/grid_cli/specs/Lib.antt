@@ -16,3 +16,6 @@ pub mod SameNames
 pub mod EffectLaws
 pub mod Skips
 pub mod Progress
+pub mod PrintedEntries
+pub mod Grids
+pub mod WorldCalls

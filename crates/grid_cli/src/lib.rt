@@ -2,9 +2,11 @@
 #![tactic(auto)]
 
 mod connections;
+mod grid;
 mod laws;
 mod print;
 mod replies;
+mod requests;
 mod script;
 mod shelf;
 mod status;
