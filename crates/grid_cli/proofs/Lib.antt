@@ -3,6 +3,11 @@ pub mod Pieces
 pub mod Names
 pub mod Entries
 pub mod Spelling
+pub mod Readers
+pub mod FrameReading
+pub mod RequestParts
+pub mod RequestReading
+pub mod RequestSpelling
 pub mod Progress
 pub mod SkipLaws
 pub mod LineEnds

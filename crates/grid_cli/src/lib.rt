@@ -4,11 +4,14 @@
 mod laws;
 mod print;
 mod replies;
+mod request_laws;
+mod requests;
 mod script;
 mod shelf;
 mod status;
 mod words;
 
 pub use laws::every_run_is_linearizable;
+pub use request_laws::requests_are_read_as_spelled;
 pub use status::{LimitWhat, Status};
 pub use script::{Line, LineWhy, read_line};
