@@ -8,6 +8,7 @@ pub mod FrameReading
 pub mod RequestParts
 pub mod RequestReading
 pub mod RequestSpelling
+pub mod ShortHeads
 pub mod Progress
 pub mod SkipLaws
 pub mod LineEnds

@@ -241,7 +241,10 @@ pub(crate) fn read_request(
     let Some((name, rest)) = payload_at(0, rest) else {
         return Ok(None);
     };
-    if bytes.len() > MAX_MESSAGE_LENGTH || head.len() < GET_HEAD_LENGTH {
+    if bytes.len() > MAX_MESSAGE_LENGTH {
+        return Ok(None);
+    }
+    if head.len() < GET_HEAD_LENGTH {
         return Ok(None);
     }
     match u32_at(KIND_PLACE, head) {
