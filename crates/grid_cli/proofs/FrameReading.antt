@@ -23,7 +23,6 @@ abbrev frame_of : ℕ → List ℕ → Frame
 frame_of n bytes = record { flags = from_le_bytes w16 (take 2 (drop 4 bytes)); payload = drop 6 (take n bytes) }
 
 module _ (bytes : List ℕ) (n : ℕ) (fits : IsBytes bytes) (is : n ≡ from_le_bytes w32 (take 4 bytes)) (header : 6 ≤ n) (most : n ≤ most_bytes_of_frame) (whole : n ≤ length bytes) where
-
   n-is : n ≡ 6 + (n - 6)
   n-is = omega arith
 
@@ -68,7 +67,7 @@ frame_takes bytes x fits e =
     let most : n ≤ most_bytes_of_frame = leb-true n most_bytes_of_frame three.1 in
     let whole : n ≤ length bytes = leb-true n (length bytes) all.1 in
     subst (λ (p : Frame × List ℕ). Takes bytes (frame_bytes p.0) p.1 × IsPayload p.0.payload) passed.1
-        (frame_taken bytes n fits refl header most whole, is_payload bytes n fits refl header most whole)
+    (frame_taken bytes n fits refl header most whole, is_payload bytes n fits refl header most whole)
 
 pub payload_takes : (flags : ℕ) (bytes : List ℕ) (x : List ℕ × List ℕ) → IsBytes bytes → payload_at flags bytes ≡ Some x → Takes bytes (framed flags x.0) x.1 × IsPayload x.0
 unfolding payload_at
@@ -79,7 +78,7 @@ payload_takes flags bytes x fits e =
     let same : frame.0.flags ≡ flags = eqb-true frame.0.flags flags passed.0 in
     let taken = frame_takes bytes frame fits read.1 in
     let here : Takes bytes (framed flags frame.0.payload) frame.1 × IsPayload frame.0.payload =
-        subst (λ (k : ℕ). Takes bytes (framed k frame.0.payload) frame.1 × IsPayload frame.0.payload) same taken in
+    subst (λ (k : ℕ). Takes bytes (framed k frame.0.payload) frame.1 × IsPayload frame.0.payload) same taken in
     subst (λ (p : List ℕ × List ℕ). Takes bytes (framed flags p.0) p.1 × IsPayload p.0) passed.1 here
 
 -- ---- spelled so, so read
@@ -101,8 +100,8 @@ frame_behind number flags payload rest four two is fits =
     let frame_length : length frame ≡ n = omega (arith, length-append number (flags ++ payload), length-append flags payload) in
     let six : length (number ++ flags) ≡ 6 = omega (arith, length-append number flags) in
     let payload-is : drop 6 (take n bytes) ≡ payload =
-        ap (λ (t : List ℕ). drop 6 (take n t)) frame-is ∙ ap (drop 6) (take_at frame rest n frame_length)
-        ∙ ap (drop 6) (sym (append_assoc number flags payload)) ∙ drop_at (number ++ flags) payload 6 six in
+    ap (λ (t : List ℕ). drop 6 (take n t)) frame-is ∙ ap (drop 6) (take_at frame rest n frame_length)
+    ∙ ap (drop 6) (sym (append_assoc number flags payload)) ∙ drop_at (number ++ flags) payload 6 six in
     let rest-is : drop n bytes ≡ rest = ap (drop n) frame-is ∙ drop_at frame rest n frame_length in
     let one : leb 6 (length bytes) ≡ true = le-leb 6 (length bytes) (omega (arith, all)) in
     let two : leb 6 n ≡ true = le-leb 6 n (omega arith) in

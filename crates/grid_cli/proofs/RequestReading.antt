@@ -54,8 +54,14 @@ put_found id head name bytes r first named fits kind e =
         named = refl;
         correlation = i64_fits 4 head first.bytes;
         partition = place.objects;
-        call = (kind, record { payload = named; text = place.text }, record { payload = key.1; long = place.long; begins = place.begins },
-            record { client = refl; thread = i64_fits 16 head first.bytes }, value.1, endless (u64_at 24 head) (u64_below 24 head first.bytes) two.1);
+        call = (
+          kind,
+          record { payload = named; text = place.text },
+          record { payload = key.1; long = place.long; begins = place.begins },
+          record { client = refl; thread = i64_fits 16 head first.bytes },
+          value.1,
+          endless (u64_at 24 head) (u64_below 24 head first.bytes) two.1,
+        );
         whole = whole;
       };
     } in
@@ -89,8 +95,12 @@ get_found id head name bytes r first named fits kind e =
         named = refl;
         correlation = i64_fits 4 head first.bytes;
         partition = place.objects;
-        call = (kind, record { payload = named; text = place.text }, record { payload = key.1; long = place.long; begins = place.begins },
-            record { client = refl; thread = i64_fits 16 head first.bytes });
+        call = (
+          kind,
+          record { payload = named; text = place.text },
+          record { payload = key.1; long = place.long; begins = place.begins },
+          record { client = refl; thread = i64_fits 16 head first.bytes },
+        );
         whole = whole;
       };
     } in

@@ -51,16 +51,16 @@ put_again id r name key owner value ttl h call =
     let ttl-is : cast_signed w64 (u64_at 24 head) ≡ ttl = i64_again ttl call.5.fits in
     let ended : never_ends (u64_at 24 head) ≡ true = ap never_ends (u64_again ttl call.5.fits) ∙ endless_again ttl call.5 in
     let place : is_placed head name key ≡ true = placed_again head name key r.partition partition-is
-        (record { text = call.1.text; long = call.2.long; begins = call.2.begins; objects = h.partition }) in
+    (record { text = call.1.text; long = call.2.long; begins = call.2.begins; objects = h.partition }) in
     let tests : (is_none_left [] && eqb (length head) 32 && never_ends (u64_at 24 head) && is_placed head name key) ≡ true = and_from _ _ (and_from _ _ refl ended) place in
     let same : Put name key (owner_of id head) value (cast_signed w64 (u64_at 24 head)) ≡ Put name key owner value ttl =
-        λ i. Put name key (owner-is id owner head (i64_again owner.thread call.3.thread) call.3 i) value (ttl-is i) in
+    λ i. Put name key (owner-is id owner head (i64_again owner.thread call.3.thread) call.3 i) value (ttl-is i) in
     let made = λ (key value : List ℕ × List ℕ). request_with id head (Put name key.0 (owner_of id head) value.0 (cast_signed w64 (u64_at 24 head))) in
     let passes = λ (key value : List ℕ × List ℕ). is_none_left value.1 && eqb (length head) 32 && never_ends (u64_at 24 head) && is_placed head name key.0 in
     bind_at (payload_at 0 (framed 0 key ++ (framed final value ++ []))) (λ key. payload_at final key.1 >>= λ value. cond (passes key value) (Some (made key value)) None) (key, framed final value ++ [])
-        (payload_again 0 key (framed final value ++ []) (omega arith) call.2.payload.fits)
+    (payload_again 0 key (framed final value ++ []) (omega arith) call.2.payload.fits)
     ∙ bind_at (payload_at final (framed final value ++ [])) (λ last. cond (passes (key, framed final value ++ []) last) (Some (made (key, framed final value ++ []) last)) None) (value, [])
-        (payload_again final value [] (omega arith) call.4.fits)
+    (payload_again final value [] (omega arith) call.4.fits)
     ∙ cond-true _ (Some (made (key, framed final value ++ []) (value, []))) None tests
     ∙ ap Some (request-is id r head _ _ h.named (i64_again r.correlation h.correlation) kind-is partition-is same)
 
@@ -74,12 +74,12 @@ get_again id r name key owner h call =
     let kind-is : u32_at 0 head ≡ r.kind = u32_again r.kind (omega (arith, call.0)) in
     let partition-is : u32_at 12 head ≡ r.partition = u32_again r.partition (omega (arith, h.partition.most)) in
     let place : is_placed head name key ≡ true = placed_again head name key r.partition partition-is
-        (record { text = call.1.text; long = call.2.long; begins = call.2.begins; objects = h.partition }) in
+    (record { text = call.1.text; long = call.2.long; begins = call.2.begins; objects = h.partition }) in
     let tests : (is_none_left [] && eqb (length head) 24 && is_placed head name key) ≡ true = and_from _ _ refl place in
     let same : Get name key (owner_of id head) ≡ Get name key owner = λ i. Get name key (owner-is id owner head (i64_again owner.thread call.3.thread) call.3 i) in
     let made = λ (key : List ℕ × List ℕ). request_with id head (Get name key.0 (owner_of id head)) in
     bind_at (payload_at final (framed final key ++ [])) (λ key. cond (is_none_left key.1 && eqb (length head) 24 && is_placed head name key.0) (Some (made key)) None) (key, [])
-        (payload_again final key [] (omega arith) call.2.payload.fits)
+    (payload_again final key [] (omega arith) call.2.payload.fits)
     ∙ cond-true _ (Some (made (key, []))) None tests
     ∙ ap Some (request-is id r head _ _ h.named (i64_again r.correlation h.correlation) kind-is partition-is same)
 
@@ -94,9 +94,9 @@ head_again id head name bytes most named short =
     let whole : List ℕ = framed unfragmented head ++ rest in
     let call = λ (head name : List ℕ × List ℕ). cond (eqb (u32_at 0 head.0) put_kind) (put_at id head.0 name.0 name.1) (cond (eqb (u32_at 0 head.0) get_kind) (get_at id head.0 name.0 name.1) None) in
     bind_at (payload_at unfragmented whole) (λ head. payload_at 0 head.1 >>= λ name. cond (ltb most_bytes_of_message (length whole)) None (call head name)) (head, rest)
-        (payload_again unfragmented head rest (omega arith) (omega arith))
+    (payload_again unfragmented head rest (omega arith) (omega arith))
     ∙ bind_at (payload_at 0 rest) (λ name. cond (ltb most_bytes_of_message (length whole)) None (call (head, rest) name)) (name, bytes)
-        (payload_again 0 name bytes (omega arith) named.fits)
+    (payload_again 0 name bytes (omega arith) named.fits)
     ∙ cond-false (ltb most_bytes_of_message (length whole)) None (call (head, rest) (name, bytes)) (le-ltb most_bytes_of_message (length whole) most)
 
 put_grouped : (h n k v : List ℕ) → h ++ n ++ k ++ v ≡ h ++ (n ++ (k ++ (v ++ [])))

@@ -11,15 +11,15 @@ unfolding put_at
 no_put id head name bytes short =
     let other : eqb (length head) 32 ≡ false = ne_eqb (length head) 32 (λ e. absurd (omega arith)) in
     bind_none (payload_at 0 bytes) _ (λ key. bind_none (payload_at final key.1) _ (λ value.
-        cond-false (is_none_left value.1 && eqb (length head) 32 && never_ends (u64_at 24 head) && is_placed head name key.0) _ None
-            (and_left _ _ (and_left _ _ (and_right (is_none_left value.1) _ other)))))
+    cond-false (is_none_left value.1 && eqb (length head) 32 && never_ends (u64_at 24 head) && is_placed head name key.0) _ None
+    (and_left _ _ (and_left _ _ (and_right (is_none_left value.1) _ other)))))
 
 no_get : (id : CallId) (head name bytes : List ℕ) → length head < 24 → get_at id head name bytes ≡ None
 unfolding get_at
 no_get id head name bytes short =
     let other : eqb (length head) 24 ≡ false = ne_eqb (length head) 24 (λ e. absurd (omega arith)) in
     bind_none (payload_at final bytes) _ (λ key.
-        cond-false (is_none_left key.1 && eqb (length head) 24 && is_placed head name key.0) _ None (and_left _ _ (and_right (is_none_left key.1) _ other)))
+    cond-false (is_none_left key.1 && eqb (length head) 24 && is_placed head name key.0) _ None (and_left _ _ (and_right (is_none_left key.1) _ other)))
 
 same_either : (b c : Bool) (x y : Option Request) → x ≡ None → y ≡ None → cond b x (cond c y None) ≡ None
 same_either true c x y p q = p
@@ -37,5 +37,5 @@ no_request id bytes head name read named short =
     bind_at (payload_at unfragmented bytes) (λ head. payload_at 0 head.1 >>= λ name. cond (ltb most_bytes_of_message (length bytes)) None (call head name)) head read
     ∙ bind_at (payload_at 0 head.1) (λ name. cond (ltb most_bytes_of_message (length bytes)) None (call head name)) name named
     ∙ same_guarded (ltb most_bytes_of_message (length bytes)) (call head name)
-        (same_either (eqb (u32_at 0 head.0) put_kind) (eqb (u32_at 0 head.0) get_kind) (put_at id head.0 name.0 name.1) (get_at id head.0 name.0 name.1)
-            (no_put id head.0 name.0 name.1 short) (no_get id head.0 name.0 name.1 short))
+    (same_either (eqb (u32_at 0 head.0) put_kind) (eqb (u32_at 0 head.0) get_kind) (put_at id head.0 name.0 name.1) (get_at id head.0 name.0 name.1)
+    (no_put id head.0 name.0 name.1 short) (no_get id head.0 name.0 name.1 short))

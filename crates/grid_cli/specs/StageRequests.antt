@@ -9,8 +9,6 @@ use Rattle.grid_base.specs.declared.names.ClientKey.TheVariants.{OfConn}
 use Rattle.grid_base.specs.declared.calls.MapCall.{MapCall}
 use Rattle.grid_base.specs.declared.calls.MapCall.TheVariants.{Put, Get}
 use Rattle.grid_base.specs.declared.calls.Request.{Request}
-use Rattle.frame_codec.specs.declared.frames.Frame.{Frame}
-use Rattle.grid_cli.specs.declared.requests.FoundFrame.{FoundFrame}
 use Rattle.grid_cli.specs.Requests.{put_kind, get_kind, most_bytes_of_message, request_bytes}
 use Rattle.grid_cli.specs.Effects.{FitsFrame, RequestFits}
 use Rattle.grid_cli.specs.PartitionObjects.{map_call_of}
@@ -70,7 +68,3 @@ pub record IsOfThisStage (id : CallId) (r : Request) : Type 0 where
   pub partition : HasObjects r.partition
   pub call : IsCallIn id r.partition r.kind (map_call_of r.call)
   pub whole : length (request_bytes r) ≤ most_bytes_of_message
-
--- a frame as the code found it, without where it lies in memory
-abbrev pub frame_found : FoundFrame → Frame × List ℕ
-frame_found f = (record { flags = f.flags; payload = f.payload.now }, f.rest.now)

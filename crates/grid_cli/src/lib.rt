@@ -13,5 +13,5 @@ mod words;
 
 pub use laws::every_run_is_linearizable;
 pub use request_laws::requests_are_read_as_spelled;
-pub use status::{LimitWhat, Status};
 pub use script::{Line, LineWhy, read_line};
+pub use status::{LimitWhat, Status};

@@ -3,8 +3,8 @@ ghost use Rattle.std.specs.Option.{option_map};
 ghost use Rattle.std.specs.Str.{is_utf8};
 ghost use Rattle.std.specs.Int.{w32, w64, from_be_bytes, cast_signed};
 ghost use Rattle.grid_cli.specs.Effects.{parts_of};
-ghost use Rattle.grid_cli.specs.Requests.{frame_at, payload_at, u32_at, u64_at, is_placed, never_ends, owner_of, request_with, put_at, get_at, request_of};
-ghost use Rattle.grid_cli.specs.StageRequests.{IsWithinLimits, frame_found};
+ghost use Rattle.grid_cli.specs.Requests.{frame_found, frame_at, payload_at, u32_at, u64_at, is_placed, never_ends, owner_of, request_with, put_at, get_at, request_of};
+ghost use Rattle.grid_cli.specs.StageRequests.{IsWithinLimits};
 
 use frame_codec::flags::{BEGIN_FRAGMENT, END_FRAGMENT, FINAL};
 use frame_codec::{HEADER_LENGTH, MAX_FRAME_LENGTH};
@@ -21,18 +21,26 @@ const PUT_KIND: u32 = 0x01_01_00;
 /// The message type of a get.
 const GET_KIND: u32 = 0x01_02_00;
 
-/// Where in the first payload the parts of a request are.
-const KIND_PLACE: usize = 0;
-const CORRELATION_PLACE: usize = 4;
-const PARTITION_PLACE: usize = 12;
-const THREAD_PLACE: usize = 16;
-const TTL_PLACE: usize = 24;
+/// Where the first payload of a request has the message type.
+const KIND_OFFSET: usize = 0;
+
+/// Where it has the client's number for the request.
+const CORRELATION_OFFSET: usize = 4;
+
+/// Where it has the partition.
+const PARTITION_OFFSET: usize = 12;
+
+/// Where it has the caller's thread.
+const THREAD_OFFSET: usize = 16;
+
+/// Where a put's has the time to live.
+const TTL_OFFSET: usize = 24;
 
 /// How many bytes the first payload of a put has.
-const PUT_HEAD_LENGTH: usize = 32;
+const PUT_HEAD_LENGTH: usize = TTL_OFFSET + 8;
 
 /// How many bytes the first payload of a get has.
-const GET_HEAD_LENGTH: usize = 24;
+const GET_HEAD_LENGTH: usize = THREAD_OFFSET + 8;
 
 /// The least length of a key, whose first four bytes are its partition.
 const MIN_KEY_LENGTH: usize = 8;
@@ -78,8 +86,7 @@ fn frame_at(bytes: &[u8]) -> Option<FoundFrame<'_>>
     if bytes.len() < HEADER_LENGTH {
         return None;
     }
-    let (front, _) = bytes.split_at(4);
-    let length = u32::from_le_bytes([front[0], front[1], front[2], front[3]]) as usize;
+    let length = u32_at(0, bytes) as usize;
     if length < HEADER_LENGTH || length > MAX_FRAME_LENGTH || length > bytes.len() {
         return None;
     }
@@ -126,7 +133,7 @@ fn is_placed(head: &[u8], name: &[u8], key: &[u8]) -> bool
     requires { 16 ≤ length head.now }
     ensures { result ≡ is_placed head.now name.now key.now }
 {
-    let partition = u32_at(PARTITION_PLACE, head);
+    let partition = u32_at(PARTITION_OFFSET, head);
     is_text(name)
         && key.len() >= MIN_KEY_LENGTH
         && partition_of(key) == partition
@@ -140,7 +147,7 @@ fn owner_of(id: CallId, head: &[u8]) -> Owner
 {
     Owner {
         client: ClientKey::OfConn(id.conn),
-        thread: i64_at(THREAD_PLACE, head),
+        thread: i64_at(THREAD_OFFSET, head),
     }
 }
 
@@ -151,9 +158,9 @@ fn request_with(id: CallId, head: &[u8], call: MapCall) -> Request
 {
     Request {
         id,
-        correlation: i64_at(CORRELATION_PLACE, head),
-        kind: u32_at(KIND_PLACE, head),
-        partition: u32_at(PARTITION_PLACE, head) as u16,
+        correlation: i64_at(CORRELATION_OFFSET, head),
+        kind: u32_at(KIND_OFFSET, head),
+        partition: u32_at(PARTITION_OFFSET, head) as u16,
         call: GridCall::Map(call),
     }
 }
@@ -163,7 +170,7 @@ fn never_ends(head: &[u8]) -> bool
     requires { 32 ≤ length head.now }
     ensures { result ≡ never_ends (u64_at 24 head.now) }
 {
-    i64_at(TTL_PLACE, head) <= 0
+    i64_at(TTL_OFFSET, head) <= 0
 }
 
 /// The put whose first payload is `head`, if its key and its value are all of these bytes.
@@ -194,7 +201,7 @@ fn put_at(
         key: Bytes::copied_from(alloc, key)?,
         owner: owner_of(id, head),
         value: Bytes::copied_from(alloc, value)?,
-        ttl: i64_at(TTL_PLACE, head),
+        ttl: i64_at(TTL_OFFSET, head),
     };
     Ok(Some(request_with(id, head, call)))
 }
@@ -247,9 +254,12 @@ pub(crate) fn read_request(
     if head.len() < GET_HEAD_LENGTH {
         return Ok(None);
     }
-    match u32_at(KIND_PLACE, head) {
+    match u32_at(KIND_OFFSET, head) {
         PUT_KIND => put_at(alloc, id, head, name, rest),
         GET_KIND => get_at(alloc, id, head, name, rest),
         _ => Ok(None),
     }
 }
+
+#[cfg(test)]
+mod tests;
