@@ -1,15 +1,14 @@
 -- A frame that is read is spelled so, and a frame that is spelled so is read again.
-use Rattle.std.proofs.Common.{◌≡◌, ℕ, ◌+◌, ◌-◌, ◌^◌, ◌<◌, ◌≤◌, cond, eqb, leb, true, ◌&&◌, List, ◌++◌, length, take, drop, Option, Some, None, refl, sym, ap, subst, ◌∙◌, append_assoc, arith}
+use Rattle.std.proofs.Common.{◌≡◌, ℕ, ◌+◌, ◌-◌, ◌^◌, ◌<◌, ◌≤◌, cond, eqb, leb, true, ◌&&◌, List, ◌++◌, length, take, drop, Some, None, refl, sym, ap, subst, ◌∙◌, append_assoc, arith}
 use Rattle.std.specs.Int.{w16, w32, from_le_bytes, to_le_bytes}
 use Rattle.std.proofs.lemmas.Bool.{leb-true, le-leb, eqb-true, eq-eqb, and_parts, cond-true}
 use Rattle.std.proofs.lemmas.List.{take_at, drop_at, drop-drop, drop-take, length-append, length-take, length-drop}
 use Rattle.std.proofs.lemmas.Option.{cond_some}
 use Rattle.std.proofs.lemmas.Nat.{le_bytes_2, le_bytes_4, from_le_bytes-to_le_bytes_2, from_le_bytes-to_le_bytes_4}
 use Rattle.frame_codec.specs.declared.frames.Frame.{Frame}
-use Rattle.frame_codec.specs.declared.frames.TheConstants.{MAX_PAYLOAD}
 use Rattle.frame_codec.specs.Frames.{frame_bytes}
 use Rattle.grid_cli.specs.Effects.{FitsFrame}
-use Rattle.grid_cli.specs.Requests.{◌>>=◌, most_bytes_of_frame, framed, frame_at, payload_at}
+use Rattle.grid_cli.specs.Requests.{most_bytes_of_frame, framed, frame_at, payload_at}
 use Rattle.grid_cli.specs.StageRequests.{IsBytes, IsPayload}
 use Rattle.grid_cli.proofs.Readers.{IsBytes-drop, IsBytes-take, bind_at, bind_some, Takes, Takes-then, front_takes}
 

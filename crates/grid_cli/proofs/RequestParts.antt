@@ -1,5 +1,5 @@
 -- The parts of a request: its numbers, its first payload, its name and its key.
-use Rattle.std.proofs.Common.{◌≡◌, ℕ, suc, ltb, ℤ, pos, negsuc, ◌+◌, ◌-◌, ◌^◌, ◌<◌, ◌≤◌, ◌≤ℤ◌, Bool, true, false, eqb, leb, ◌&&◌, ◌||◌, List, ◌++◌, length, take, drop, refl, sym, ap, ◌∙◌, ⊎_elim, arith}
+use Rattle.std.proofs.Common.{◌≡◌, ℕ, suc, ltb, ℤ, pos, negsuc, ◌+◌, ◌-◌, ◌^◌, ◌<◌, ◌≤◌, ◌≤ℤ◌, true, false, eqb, leb, ◌&&◌, List, ◌++◌, length, take, drop, refl, sym, ap, ◌∙◌, ⊎_elim, arith}
 use Rattle.std.specs.Prelude.{MatchResult, Result, Ok, Err, is_ok}
 use Rattle.std.specs.Str.{IsUtf8, is_utf8}
 use Rattle.std.specs.Int.{w32, w64, from_le_bytes, from_be_bytes, to_le_bytes, cast_signed, cast_unsigned}

@@ -1,5 +1,5 @@
 -- What is read as a request is one of this stage, and is spelled so.
-use Rattle.std.proofs.Common.{◌≡◌, ℕ, ◌+◌, ◌^◌, ◌≤◌, ◌<◌, Bool, true, false, cond, eqb, leb, ltb, ◌&&◌, List, [], ◌++◌, length, Option, Some, None, Result, Ok, Err, refl, sym, ap, subst, ◌∙◌, append_assoc, arith, inl, inr}
+use Rattle.std.proofs.Common.{◌≡◌, ℕ, ◌+◌, ◌^◌, ◌≤◌, ◌<◌, cond, eqb, ltb, ◌&&◌, List, [], ◌++◌, length, Option, Some, None, Result, Ok, Err, refl, sym, ap, subst, ◌∙◌, append_assoc, arith, inl, inr}
 use Rattle.std.specs.Prelude.{IfSome, IfOk}
 use Rattle.std.specs.Int.{w64, cast_signed}
 use Rattle.std.proofs.lemmas.Bool.{ltb-false, eqb-true, and_parts, cases_Bool}
@@ -13,7 +13,7 @@ use Rattle.grid_cli.specs.Effects.{CallFits}
 use Rattle.grid_cli.specs.PartitionObjects.{map_call_of}
 use Rattle.grid_cli.specs.Requests.{◌>>=◌, put_kind, get_kind, unfragmented, final, most_bytes_of_message, framed, request_bytes, is_none_left, u32_at, u64_at, payload_at, is_placed, never_ends, owner_of, request_with, put_at, get_at, request_of}
 use Rattle.grid_cli.specs.StageRequests.{IsWithinLimits, IsBytes, IsPayload, IsCallIn, IsOfThisStage}
-use Rattle.grid_cli.proofs.Readers.{bind_some, guard_passed, cond_passed, choice, Takes, Takes-then}
+use Rattle.grid_cli.proofs.Readers.{bind_some, guard_passed, cond_passed, choice, Takes-then}
 use Rattle.grid_cli.proofs.FrameReading.{payload_takes}
 use Rattle.grid_cli.proofs.RequestParts.{placed, u64_below, i64_fits, endless, get_head, put_head}
 

@@ -1,6 +1,6 @@
 -- A request of this stage is read from its spelling.
-use Rattle.std.proofs.Common.{◌≡◌, ℕ, ◌+◌, ◌^◌, ◌≤◌, ◌<◌, ℤ, Bool, true, false, cond, eqb, leb, ltb, ◌&&◌, List, [], ◌++◌, length, Option, Some, None, refl, sym, ap, subst, ◌∙◌, append_assoc, arith}
-use Rattle.std.specs.Int.{w32, w64, to_le_bytes, cast_signed, cast_unsigned}
+use Rattle.std.proofs.Common.{◌≡◌, ℕ, ◌≤◌, ℤ, true, cond, eqb, ltb, ◌&&◌, List, [], ◌++◌, length, Some, None, refl, sym, ap, subst, ◌∙◌, append_assoc, arith}
+use Rattle.std.specs.Int.{w64, to_le_bytes, cast_signed, cast_unsigned}
 use Rattle.std.specs.Int.RustNames.{FitsSigned}
 use Rattle.std.proofs.lemmas.Bool.{le-ltb, eq-eqb, and_from, cond-true, cond-false}
 use Rattle.std.proofs.lemmas.List.{append-nil}
@@ -13,7 +13,7 @@ use Rattle.grid_base.specs.declared.calls.GridCall.TheVariants.{Map}
 use Rattle.grid_base.specs.declared.calls.Request.{Request}
 use Rattle.grid_cli.specs.PartitionObjects.{map_call_of}
 use Rattle.grid_cli.specs.Requests.{◌>>=◌, put_kind, get_kind, unfragmented, final, most_bytes_of_message, framed, head_bytes, map_call_bytes, call_bytes, request_bytes, is_none_left, u32_at, u64_at, payload_at, is_placed, never_ends, owner_of, request_with, put_at, get_at, request_of}
-use Rattle.grid_cli.specs.StageRequests.{HasObjects, IsName, IsKeyIn, IsOwnerOn, IsPayload, IsEndless, IsCallIn, IsOfThisStage}
+use Rattle.grid_cli.specs.StageRequests.{HasObjects, IsOwnerOn, IsPayload, IsCallIn, IsOfThisStage}
 use Rattle.grid_cli.proofs.Readers.{bind_at}
 use Rattle.grid_cli.proofs.FrameReading.{payload_again}
 use Rattle.grid_cli.proofs.RequestParts.{u32_again, u64_again, i64_again, endless_again, placed_again}

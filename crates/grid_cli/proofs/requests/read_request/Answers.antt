@@ -1,5 +1,4 @@
 use Rattle.std.proofs.Common.{◌≡◌, Some, sym, arith, rules}
-use Rattle.std.specs.Prelude.{IfOk}
 use Rattle.grid_cli.specs.Requests.{unfragmented, payload_at, request_of}
 use Rattle.grid_cli.proofs.RequestReading.{limits_hold}
 use Rattle.grid_cli.proofs.ShortHeads.{no_request}
