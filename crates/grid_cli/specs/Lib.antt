@@ -1,6 +1,7 @@
 pub mod Words
 pub mod Lines
 pub mod Requests
+pub mod StageRequests
 pub mod Replies
 pub mod PartitionObjects
 pub mod Runs

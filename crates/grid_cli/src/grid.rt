@@ -10,6 +10,7 @@ ghost use Rattle.grid_cli.specs.MapLists.{partition_of};
 ghost use Rattle.grid_cli.specs.PartitionObjects.{partition_object};
 ghost use Rattle.grid_cli.specs.Runs.{Run, Connection as RunConnection, begun, connection_of, next_id, refused_by};
 ghost use Rattle.grid_cli.specs.Printing.{partitions, appended_text, entry_text, entries_of, all_entries, ok_text};
+ghost use Rattle.grid_cli.specs.Tables.{with_answer};
 ghost use Rattle.grid_cli.specs.Grids.{Stands, Holds, HasWorld, HasRun, HasRefused, lines_run, IsRead};
 ghost use Rattle.grid_cli.specs.WorldCalls.{reaching, refusals, texts_of, message_of, with_answers, IsCalled, IsSkipped, GivesOut, HasAsked};
 
@@ -20,7 +21,7 @@ use crate::requests::read_request;
 use crate::script::Line;
 use crate::shelf::MapList;
 use grid_base::{CallId, MemberId, Memory, PARTITIONS, PartitionId, Request};
-use partition_world::{CallOutcome, Event, Happened, World};
+use partition_world::{CallOutcome, Event, Happened, Released, World};
 use std::alloc::{AllocError, Global};
 
 /// The three bytes that a connection begins with.
@@ -134,6 +135,21 @@ fn call(
     }
 }
 
+/// Gives out an answer: marks its call as answered, and appends it as a message.
+fn give(
+    alloc: Global,
+    connections: &mut Connections,
+    line: u32,
+    answer: Released,
+    out: &mut Vec<u8>,
+) -> Result<(), Memory>
+    ensures table { connections.new ≡ with_answer connections.old answer.id line }
+    ensures text { OnOk result (out.new.items ≡ out.old.items ++ appended_text (message_of line answer)) }
+{
+    connections.answer(answer.id, line);
+    push_appended(alloc, out, line, answer.id.conn, answer.reply.as_slice())
+}
+
 /// Gives out the answers that wait at a member, the oldest first.
 fn give_out(
     alloc: Global,
@@ -148,8 +164,7 @@ fn give_out(
     ensures world { OnOk result (GivesOut world.old world.new member) }
 {
     while let Some(answer) = world.pop_released(member) {
-        connections.answer(answer.id, line);
-        push_appended(alloc, out, line, answer.id.conn, answer.reply.as_slice())?;
+        give(alloc, connections, line, answer, out)?;
     }
     Ok(())
 }

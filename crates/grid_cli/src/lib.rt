@@ -6,6 +6,7 @@ mod grid;
 mod laws;
 mod print;
 mod replies;
+mod request_laws;
 mod requests;
 mod script;
 mod shelf;
@@ -13,5 +14,6 @@ mod status;
 mod words;
 
 pub use laws::every_run_is_linearizable;
-pub use status::{LimitWhat, Status};
+pub use request_laws::requests_are_read_as_spelled;
 pub use script::{Line, LineWhy, read_line};
+pub use status::{LimitWhat, Status};
