@@ -70,7 +70,7 @@ pub line_refused : (old : Grid) (new : Option Grid) (skips : List CallId) (done 
     → RanAs (IsRefused number) new skips done text written added
 line_refused old new skips done written text added number follows none counted shown too_long texts =
     let r : Run = follows.run in
-    let same : r.lines + 1 ≡ number = ap (λ n. n + 1) (sym follows.stands.lines) ∙ sym counted in
+    let same : r.lines + 1 ≡ number = ap (λ n. n + 1) (sym follows.stands.holds.lines) ∙ sym counted in
     at_refused r skips done written text follows.at (none r follows.stands) too_long texts
     ∙ ap (λ n. following written (refused n NotBuilt)) same
     ∙ ap (λ t. whole (written ++ t) (Refused number NotBuilt)) (sym shown)
@@ -159,7 +159,7 @@ stop_of_lines (Some grid) skips done written follows too_long = at_stop follows.
 
 pub lines_followed : (grid : Option Grid) (skips : List CallId) (done : List (List ℕ)) (written : List ℕ) → Follows grid skips done written → lines_of grid ≡ length done
 lines_followed None skips done written follows = sym (ap length follows.no_lines)
-lines_followed (Some grid) skips done written follows = follows.stands.lines ∙ follows.at.count
+lines_followed (Some grid) skips done written follows = follows.stands.holds.lines ∙ follows.at.count
 
 pub end_refused : (grid : Option Grid) (skips : List CallId) (done : List (List ℕ)) (written text : List ℕ) (line : ℕ) → Follows grid skips done written → line ≡ lines_of grid
     → text ≡ refused_text line (why_text NoEnd) → first_line partition_object skips false done ≡ whole (written ++ text) (Refused line NoEnd)

@@ -1,6 +1,7 @@
 pub mod Words
 pub mod Lines
 pub mod Requests
+pub mod StageRequests
 pub mod Replies
 pub mod PartitionObjects
 pub mod Runs
@@ -10,6 +11,7 @@ pub mod Linearizability
 pub mod Splitting
 pub mod Effects
 pub mod MapLists
+pub mod Tables
 pub mod Statuses
 pub mod SameNames
 pub mod EffectLaws
@@ -19,3 +21,5 @@ pub mod Grids
 pub mod Transcribing
 pub mod Pieces
 pub mod Replays
+pub mod PrintedEntries
+pub mod WorldCalls

@@ -12,6 +12,7 @@ use Rattle.grid_base.specs.declared.calls.GridCall.TheVariants.{Map}
 use Rattle.grid_base.specs.declared.calls.Request.{Request}
 use Rattle.frame_codec.specs.declared.frames.Frame.{Frame}
 use Rattle.frame_codec.specs.Frames.{frame_bytes}
+use Rattle.grid_cli.specs.declared.requests.FoundFrame.{FoundFrame}
 
 -- A message type is service × 65,536 + method × 256 + kind: service 1 is that of maps, and kind 0 a request.
 abbrev pub put_kind : ℕ
@@ -111,15 +112,15 @@ put_at id head name bytes = do
   key ← payload_at 0 bytes
   value ← payload_at final key.1
   if is_none_left value.1 && (length head == 32) && never_ends (u64_at 24 head) && is_placed head name key.0
-    then Some (request_with id head (Put name key.0 (owner_of id head) value.0 (cast_signed w64 (u64_at 24 head))))
-    else None
+      then Some (request_with id head (Put name key.0 (owner_of id head) value.0 (cast_signed w64 (u64_at 24 head))))
+      else None
 
 unfoldable pub get_at : CallId → List ℕ → List ℕ → List ℕ → Option Request
 get_at id head name bytes = do
   key ← payload_at final bytes
   if is_none_left key.1 && (length head == 24) && is_placed head name key.0
-    then Some (request_with id head (Get name key.0 (owner_of id head)))
-    else None
+      then Some (request_with id head (Get name key.0 (owner_of id head)))
+      else None
 
 -- the request with that name which these bytes are, all of them
 unfoldable pub request_of : CallId → List ℕ → Option Request
@@ -127,6 +128,10 @@ request_of id bytes = do
   head ← payload_at unfragmented bytes
   name ← payload_at 0 head.1
   if nat_lt most_bytes_of_message (length bytes) then None
-    else if u32_at 0 head.0 == put_kind then put_at id head.0 name.0 name.1
-    else if u32_at 0 head.0 == get_kind then get_at id head.0 name.0 name.1
-    else None
+      else if u32_at 0 head.0 == put_kind then put_at id head.0 name.0 name.1
+      else if u32_at 0 head.0 == get_kind then get_at id head.0 name.0 name.1
+      else None
+
+-- what the code's reader of a frame gives, without where it lies in memory
+abbrev pub frame_found : FoundFrame → Frame × List ℕ
+frame_found found = (record { flags = found.flags; payload = found.payload.now }, found.rest.now)

@@ -1,11 +1,14 @@
 //! The program's commands: `grid replay` reads a script and prints its transcript.
 #![tactic(auto)]
 
+mod connections;
 mod grid;
 mod laws;
 mod print;
-mod replies;
 mod replay;
+mod replies;
+mod request_laws;
+mod requests;
 mod script;
 mod shelf;
 mod status;
@@ -13,5 +16,6 @@ mod transcriber;
 mod words;
 
 pub use laws::every_run_is_linearizable;
-pub use status::{LimitWhat, Status};
+pub use request_laws::requests_are_read_as_spelled;
 pub use script::{Line, LineWhy, read_line};
+pub use status::{LimitWhat, Status};

@@ -1,11 +1,16 @@
-ghost use Rattle.std.specs.Prelude.{◌≡◌, ◌++◌, ◌∷◌, OnOk, codes};
+ghost use Rattle.std.specs.Prelude.{◌≡◌, ◌++◌, ◌∷◌, OnOk, Option, codes};
 ghost use Rattle.hex.specs.Hex.{encode_lower};
-ghost use Rattle.grid_cli.specs.Printing.{number, number_or_dash, hex_word, word, ok_text, refused_text, limit_text};
+ghost use Rattle.grid_base.specs.declared.names.CallId.{CallId};
+ghost use Rattle.grid_cli.specs.PartitionObjects.{map_call_of, target_of};
+ghost use Rattle.grid_cli.specs.Printing.{number, number_or_dash, hex_word, word, ok_text, appended_text, call_name, entry_text, refused_text, limit_text};
+ghost use Rattle.grid_cli.specs.PrintedEntries.{arrived_in, answered_in, printed_as};
 ghost use Rattle.grid_cli.specs.Transcripts.{why_text};
 
+use crate::connections::CallLines;
 use crate::script::LineWhy;
-use grid_base::Memory;
+use grid_base::{GridCall, MapCall, Memory, PartitionId, Request};
 use itoa::Buffer;
+use partition_world::Entry;
 use std::alloc::Global;
 
 /// Appends text.
@@ -82,5 +87,87 @@ pub(crate) fn push_limit(out: &mut Vec<u8>, line: u32) -> Result<(), Memory>
     push_text(out, b"limit ")?;
     push_number(out, u64::from(line))?;
     push_text(out, b"bytes")?;
+    push_text(out, b"\n")
+}
+
+/// Appends a message that was appended to a connection's output at a line.
+pub(crate) fn push_appended(
+    alloc: Global,
+    out: &mut Vec<u8>,
+    line: u32,
+    conn: u32,
+    bytes: &[u8],
+) -> Result<(), Memory>
+    ensures { (answers : Option CallId) → OnOk result (out.new.items
+        ≡ out.old.items ++ appended_text (record { conn = conn; line = line; bytes = bytes.now; answers = answers })) }
+{
+    push_number(out, u64::from(line))?;
+    push_text(out, b"to ")?;
+    push_number(out, u64::from(conn))?;
+    push_hex(alloc, out, bytes)?;
+    push_text(out, b"\n")
+}
+
+/// Appends the lines at which a call arrived and was answered.
+fn push_lines(out: &mut Vec<u8>, lines: Option<CallLines>) -> Result<(), Memory>
+    ensures { OnOk result (out.new.items ≡ out.old.items ++ number (arrived_in lines) ++ number_or_dash (answered_in lines)) }
+{
+    match lines {
+        Some(lines) => {
+            push_number(out, u64::from(lines.arrived))?;
+            push_optional(out, lines.answered)
+        }
+        None => {
+            push_number(out, 0)?;
+            push_optional(out, None)
+        }
+    }
+}
+
+/// Appends which call a request is, and the entry that it is on.
+fn push_call(alloc: Global, out: &mut Vec<u8>, request: &Request) -> Result<(), Memory>
+    ensures { OnOk result (out.new.items ≡ out.old.items ++ word (call_name (map_call_of request.now.call))
+        ++ word (hex_word (target_of request.now).map) ++ word (hex_word (target_of request.now).key)) }
+{
+    let GridCall::Map(call) = &request.call;
+    let (name, map, key) = match call {
+        MapCall::Put { name, key, .. } => (b"put".as_slice(), name, key),
+        MapCall::Get { name, key, .. } => (b"get".as_slice(), name, key),
+    };
+    push_word(out, name)?;
+    push_hex_word(alloc, out, map.as_slice())?;
+    push_text(out, b" ")?;
+    push_hex_word(alloc, out, key.as_slice())?;
+    push_text(out, b" ")
+}
+
+/// Where an entry stands, as a line prints it: the partition and the place in its history, from 0.
+#[derive(Clone, Copy)]
+pub(crate) struct EntryPlace {
+    pub(crate) line: u32,
+    pub(crate) partition: PartitionId,
+    pub(crate) place: usize,
+}
+
+/// Appends an entry of a recorded history, with the lines at which its call arrived and was answered.
+pub(crate) fn push_entry(
+    alloc: Global,
+    out: &mut Vec<u8>,
+    at: EntryPlace,
+    executed: &Entry<Request>,
+    lines: Option<CallLines>,
+) -> Result<(), Memory>
+    ensures { OnOk result (out.new.items ≡ out.old.items ++ entry_text at.line (printed_as at.partition at.place executed.entry.now lines)) }
+{
+    push_number(out, u64::from(at.line))?;
+    push_text(out, b"entry ")?;
+    push_number(out, u64::from(at.partition))?;
+    push_number(out, at.place as u64)?;
+    push_number(out, u64::from(executed.id.conn))?;
+    push_number(out, u64::from(executed.id.number))?;
+    push_lines(out, lines)?;
+    push_number(out, executed.now)?;
+    push_call(alloc, out, &executed.call)?;
+    push_hex_word(alloc, out, executed.reply.as_slice())?;
     push_text(out, b"\n")
 }

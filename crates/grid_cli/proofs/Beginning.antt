@@ -1,0 +1,46 @@
+-- The grid after the first line.
+use Rattle.std.proofs.Common.{◌≡◌, ◌≢◌, ℕ, zero, suc, ◌+◌, ◌<◌, ◌≤◌, List, [], ◌∷◌, ◌++◌, length, replicate, Option, Some, None, slice_get, refl, ap, sym, ◌∙◌, subst, ◌⊎◌, ⊎_elim, inl, inr, arith}
+use Rattle.std.specs.Option.{option_map, option_and_then}
+use Rattle.std.proofs.lemmas.Bool.{cases_eq}
+use Rattle.partition_world.specs.Worlds.{waiting}
+use Rattle.grid_cli.specs.declared.grid.Grid.{Grid}
+use Rattle.grid_cli.specs.Runs.{Run, begun}
+use Rattle.grid_cli.specs.Printing.{partitions}
+use Rattle.grid_cli.specs.Tables.{Table, Opened, most_connections, unopened, no_connections, present, opened_at}
+use Rattle.grid_cli.specs.Grids.{MapWorld, IsWorld, HasTable, HasWorld, Stands, first, connection_as}
+use Rattle.grid_cli.proofs.TableChanges.{got_last, got_before, line_at}
+
+-- one world more
+pub more_worlds : (ws : List MapWorld) (r : Run) (n : ℕ) (world : MapWorld) → length ws ≡ n → ((p : ℕ) → p < n → HasWorld ws r p) → HasWorld (ws ++ world ∷ []) r n → (p : ℕ) → p < n + 1 → HasWorld (ws ++ world ∷ []) r p
+more_worlds ws r n world size have last p below = ⊎_elim (λ e. subst (λ q. HasWorld (ws ++ world ∷ []) r q) (sym e) last) (λ apart. kept apart (have p (omega arith))) (cases_eq p n)
+  where
+    kept : p ≢ n → HasWorld ws r p → HasWorld (ws ++ world ∷ []) r p
+    kept apart w = record { world = w.world; there = got_before ws world p (λ e. apart (e ∙ size)) ∙ w.there; is = w.is; given = w.given }
+
+pub last_world : (ws : List MapWorld) (r : Run) (n : ℕ) (world : MapWorld) → length ws ≡ n → IsWorld world r n → ((member : ℕ) → waiting world member ≡ []) → HasWorld (ws ++ world ∷ []) r n
+last_world ws r n world size is given = record { world = world; there = ap (slice_get (ws ++ world ∷ [])) (sym size) ∙ got_last ws world; is = is; given = given }
+
+sized : (n : ℕ) → length (unopened n) ≡ n
+sized zero = refl
+sized (suc n) = ap (λ k. suc k) (sized n)
+
+none_at : (n c : ℕ) → opened_at (unopened n) c ≡ None
+none_at zero c = refl
+none_at (suc n) zero = refl
+none_at (suc n) (suc c) = none_at n c
+
+begun_table : (members backups : ℕ) → HasTable no_connections (begun members backups)
+unfolding no_connections
+begun_table members backups = record {
+  size = sized most_connections;
+  connections = λ c. sym (ap (option_map (connection_as c)) (none_at most_connections c));
+  calls = λ id. ap (option_and_then (line_at id.number)) (none_at most_connections id.conn);
+  counted = λ c o e. absurd (let clash : None ≡ Some o = sym (none_at most_connections c) ∙ e in cc);
+}
+
+pub begun_stands : (grid : Grid) (members backups : ℕ) → 1 ≤ members → grid.lines ≡ 1 → grid.connections ≡ no_connections → ((p : ℕ) → p < partitions → HasWorld grid.worlds.items (begun members backups) p)
+    → Stands grid (begun members backups)
+begun_stands grid members backups some lines table worlds = record {
+  run = first members backups some;
+  holds = record { lines = lines; table = subst (λ t. HasTable t (begun members backups)) (sym table) (begun_table members backups); worlds = worlds; events = omega arith };
+}

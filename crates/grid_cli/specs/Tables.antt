@@ -1,0 +1,91 @@
+-- The table of connections: what each had, and at which lines each of its calls arrived and was answered.
+use Rattle.std.specs.Prelude.{ℕ, zero, suc, Bool, true, false, List, [], ◌∷◌, ◌++◌, Option, Some, None, map, option_map, option_and_then, slice_get, slice_set, replicate}
+use Rattle.grid_base.specs.declared.names.CallId.{CallId}
+use Rattle.grid_cli.specs.declared.connections.CallLines.{CallLines}
+use Rattle.grid_cli.specs.declared.connections.Connection.{Connection}
+
+-- a connection that was opened: its member, whether its prefix came, and the lines of its calls by their numbers
+pub record Opened : Type 0 where
+  pub member : ℕ
+  pub greeted : Bool
+  pub calls : List CallLines
+
+-- a slot for each number; none where the connection wasn't opened
+abbrev pub Table : Type 0
+Table = List (Option Opened)
+
+abbrev pub most_connections : ℕ
+most_connections = 64
+
+abbrev pub unopened : ℕ → Table
+unopened slots = replicate slots None
+
+unfoldable pub no_connections : Table
+no_connections = unopened most_connections
+
+-- as the code has it
+
+abbrev pub opened_as : Connection → Opened
+opened_as connection = record { member = connection.member; greeted = connection.greeted; calls = connection.calls.items }
+
+abbrev pub slots_as : List (Option Connection) → Table
+slots_as slots = map (option_map opened_as) slots
+
+-- reading
+
+abbrev pub present : Option (Option Opened) → Option Opened
+present None = None
+present (Some slot) = slot
+
+abbrev pub opened_at : Table → ℕ → Option Opened
+opened_at table c = present (slice_get table c)
+
+abbrev pub lines_of : Table → CallId → Option CallLines
+lines_of table id = option_and_then (λ (opened : Opened). slice_get opened.calls id.number) (opened_at table id.conn)
+
+-- changes
+
+-- a connection on which nothing has arrived
+abbrev pub silent : ℕ → Opened
+silent member = record { member = member; greeted = false; calls = [] }
+
+abbrev pub with_opened : Table → ℕ → ℕ → Table
+with_opened table c member = slice_set table c (Some (silent member))
+
+-- the list with a change to the element at a place, if there is one
+abbrev pub changed_at : {X : Type 0} → List X → ℕ → (X → X) → List X
+changed_at [] place change = []
+changed_at (x ∷ xs) zero change = change x ∷ xs
+changed_at (x ∷ xs) (suc place) change = x ∷ changed_at xs place change
+
+-- A change to one connection, if it was opened.
+abbrev pub with_change : Table → ℕ → (Opened → Opened) → Table
+with_change table c change = changed_at table c (option_map change)
+
+abbrev pub greeted : Opened → Opened
+greeted opened = record opened { greeted = true }
+
+abbrev pub with_greeting : Table → ℕ → Table
+with_greeting table c = with_change table c greeted
+
+-- one call more, which arrived at a line
+abbrev pub called : ℕ → Opened → Opened
+called line opened = record opened { calls = opened.calls ++ record { arrived = line; answered = None } ∷ [] }
+
+abbrev pub with_arrival : Table → ℕ → ℕ → Table
+with_arrival table c line = with_change table c (called line)
+
+-- The first answer counts.
+abbrev pub or_line : Option ℕ → ℕ → Option ℕ
+or_line None line = Some line
+or_line (Some earlier) line = Some earlier
+
+abbrev pub lines_answered : ℕ → CallLines → CallLines
+lines_answered line lines = record { arrived = lines.arrived; answered = or_line lines.answered line }
+
+-- the call of that number, if there is one, was answered at a line
+abbrev pub answered : ℕ → ℕ → Opened → Opened
+answered number line opened = record opened { calls = changed_at opened.calls number (lines_answered line) }
+
+abbrev pub with_answer : Table → CallId → ℕ → Table
+with_answer table id line = with_change table id.conn (answered id.number line)

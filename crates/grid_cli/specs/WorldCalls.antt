@@ -1,0 +1,71 @@
+-- What a call does to its partition's world, and the messages that it makes.
+use Rattle.std.specs.Prelude.{◌≡◌, ◌≢◌, ℕ, List, [], ◌∷◌, ◌++◌, Option, Some, None, Contains}
+use Rattle.std.specs.List.{flat_map}
+use Rattle.grid_base.specs.declared.names.CallId.{CallId}
+use Rattle.grid_base.specs.declared.calls.Change.{Change}
+use Rattle.grid_base.specs.declared.calls.Request.{Request}
+use Rattle.partition_protocol.specs.Events.{Event, happens}
+use Rattle.partition_world.specs.declared.node.Released.{Released}
+use Rattle.partition_world.specs.Answers.{released_at}
+use Rattle.partition_world.specs.Worlds.{StandsFor, run_of, setup_of, waiting}
+use Rattle.grid_cli.specs.declared.grid.Refusal.{Refusal}
+use Rattle.grid_cli.specs.declared.grid.Grid.{Grid}
+use Rattle.grid_cli.specs.MapLists.{partition_of}
+use Rattle.grid_cli.specs.PartitionObjects.{Partition, partition_object}
+use Rattle.grid_cli.specs.Replies.{want_of_memory}
+use Rattle.grid_cli.specs.Runs.{Run, Connection, Arrival, Appended, refusal, refused_by, call_of, arrival_at, asked}
+use Rattle.grid_cli.specs.Printing.{appended_text, line_text}
+use Rattle.grid_cli.specs.Tables.{Table, with_answer}
+use Rattle.grid_cli.specs.Grids.{MapWorld, Holds}
+
+-- A shelf of map entries tells of no changes at this stage.
+abbrev pub no_change : Partition → Request → ℕ → Option Change
+no_change s call now = None
+
+-- the call of a request that reaches a member at a line, at the member's moment 0
+abbrev pub reaching : ℕ → ℕ → Request → Arrival
+reaching line member request = record { id = request.id; line = line; member = member; now = 0; request = request }
+
+-- the message that refuses a call, if it is refused
+abbrev pub refusals : ℕ → Request → Option Refusal → List Appended
+refusals line request None = []
+refusals line request (Some r) = refusal line request r.code r.version ∷ []
+
+abbrev pub texts_of : List Appended → List ℕ
+texts_of messages = flat_map appended_text messages
+
+-- The call is one event more, with the answers that it released and the refusal that was written.
+pub record IsCalled (old new : MapWorld) (events : List (Event Request)) (a : Arrival) (added : List ℕ) : Type 0 where
+  pub stands : StandsFor partition_object partition_of new (events ++ call_of a ∷ [])
+  pub setup : setup_of new ≡ setup_of old
+  pub waiting : (member : ℕ) → waiting new member ≡ waiting old member ++ released_at partition_object no_change (run_of partition_object old events) (call_of a) member
+  pub text : added ≡ texts_of (refused_by a.line a.request (happens partition_object (run_of partition_object old events) (call_of a)).outcome)
+
+-- The call found no memory, is no event and was answered so.
+pub record IsSkipped (old new : MapWorld) (events : List (Event Request)) (a : Arrival) (added : List ℕ) : Type 0 where
+  pub stands : StandsFor partition_object partition_of new events
+  pub setup : setup_of new ≡ setup_of old
+  pub waiting : (member : ℕ) → waiting new member ≡ waiting old member
+  pub text : added ≡ texts_of (refusal a.line a.request want_of_memory 0 ∷ [])
+
+-- an answer that was given out at a line, as a message
+abbrev pub message_of : ℕ → Released → Appended
+message_of line answer = record { conn = answer.id.conn; line = line; bytes = answer.reply; answers = Some answer.id }
+
+abbrev pub with_answers : Table → ℕ → List Released → Table
+with_answers table line [] = table
+with_answers table line (answer ∷ answers) = with_answers (with_answer table answer.id line) line answers
+
+-- All answers that waited at a member were given out, which is no event.
+pub record GivesOut (old new : MapWorld) (member : ℕ) : Type 0 where
+  pub stands : (events : List (Event Request)) → StandsFor partition_object partition_of old events → StandsFor partition_object partition_of new events
+  pub setup : setup_of new ≡ setup_of old
+  pub given : waiting new member ≡ []
+  pub others : (other : ℕ) → other ≢ member → waiting new other ≡ waiting old other
+
+-- The call of a request was run, or skipped for want of memory, and its text was added.
+pub record HasAsked (new : Grid) (r : Run) (connection : Connection) (request : Request) (written text : List ℕ) : Type 0 where
+  pub skips : List CallId
+  pub its_own : (id : CallId) → Contains skips id → request.id ≡ id
+  pub holds : Holds new (asked partition_object skips r connection (arrival_at r connection request))
+  pub added : text ≡ written ++ line_text r (asked partition_object skips r connection (arrival_at r connection request))
