@@ -16,3 +16,6 @@ pub mod Sequences
 pub mod Claims
 pub mod Examples
 pub mod Traces
+pub mod Bounds
+pub mod Answers
+pub mod Ends
