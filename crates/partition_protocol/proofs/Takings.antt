@@ -1,6 +1,6 @@
 -- How a node is after a message, by the few ways in which it takes one.
-use Rattle.std.proofs.Common.{◌≡◌, ℕ, ◌+◌, true, false, cond, not, ◌&&◌, ◌==◌, Option, Some, None, nat_lt, nat_le, refl, ap, sym, subst, arith}
-use Rattle.partition_table.specs.Rows.{is_primary, is_backup}
+use Rattle.std.proofs.Common.{◌≡◌, ℕ, ◌+◌, true, false, cond, not, ◌&&◌, ◌==◌, Option, Some, None, nat_lt, nat_le, refl, ap, sym, subst, arith, ◌⊎◌, inl, inr, ◌∙◌, ◌<◌}
+use Rattle.partition_table.specs.Rows.{is_primary, is_backup, is_in}
 use Rattle.partition_protocol.specs.Messages.{Message, NewRow, Sync, Effect, Bridge, Ack, Joined as JoinedMessage, Freeze, Frozen as FrozenMessage}
 use Rattle.partition_protocol.specs.Took.{Synced, Applied, Bridged, Already, Gap, Other, Stale, Adopted, Acked, Frozen as TookFrozen}
 use Rattle.partition_protocol.specs.Node.{Node, with_ack}
@@ -8,7 +8,7 @@ use Rattle.partition_protocol.specs.Adoption.{adopted_row, sent_on_adopting}
 use Rattle.partition_protocol.specs.Replica.{Step, with_pair, is_newer, after_row, sent_by_row, is_ahead, unanswered, acknowledging, with_sent, sync_backup, bridge_backup, on_sync, on_bridge, on_effect, on_ack, on_freeze, taking}
 use Rattle.partition_table.specs.declared.Row.{Row}
 use Rattle.partition_protocol.proofs.Lists.{on_cond}
-use Rattle.partition_protocol.proofs.RowFacts.{both_left, both_right, not_less, same_number, not_false}
+use Rattle.partition_protocol.proofs.RowFacts.{both_left, both_right, not_less, same_number, not_false, not_true, not_both, less}
 use Rattle.partition_protocol.proofs.Adopt.{adopted_known}
 use Rattle.std.proofs.lemmas.Bool.Decides.{nat_tests}
 
@@ -130,3 +130,50 @@ module _ (m from : ℕ) (msg : Message) (n : Node) (R : Node → Type 0) (c : No
   -- whatever the message
   pub every_taking : (service : ℕ) → R (taking service m from msg n).node
   every_taking service = by_message service msg refl
+
+-- it knows the same row as before, and keeps its pair where it is primary, or it knows a newer one
+abbrev pub KeepsRow : ℕ → Node → Node → Type 0
+KeepsRow m n a = ((a.known ≡ n.known) × (is_primary n.known m ≡ true → a.pair ≡ n.pair)) ⊎ (n.known.version < a.known.version)
+
+pub backup_not_primary : (row : Row) (m : ℕ) → is_backup row m ≡ true → is_primary row m ≡ true → ⊥
+backup_not_primary row m b p = not_both (is_primary row m) p (not_true (is_primary row m) (both_left (not (is_primary row m)) (is_in row m) b))
+
+pub paired_keeps : (m v c : ℕ) (n a : Node) → is_backup a.known m ≡ true → KeepsRow m n a → KeepsRow m n (with_pair a v c)
+paired_keeps m v c n a b (inl h) = inl (h.0, λ p. absurd (backup_not_primary a.known m b (subst (λ row. is_primary row m ≡ true) (sym h.0) p)))
+paired_keeps m v c n a b (inr l) = inr l
+
+pub taking_keeps : (service m from : ℕ) (msg : Message) (n : Node) → KeepsRow m n (taking service m from msg n).node
+taking_keeps service m from msg n = every_taking m from msg n (KeepsRow m n) (record {
+  stays = λ u. inl (refl, λ p. refl);
+  adopts = λ row e newer. inr (subst (λ (k : Row). n.known.version < k.version) (sym (adopted_known m row n)) (less n.known.version row.version newer));
+  syncs = λ row c a e r v b l. paired_keeps m row.version c n a b r;
+  bridges = λ row v k a e r w b s t. paired_keeps m row.version k n a b r;
+  applies = λ v i e b s t. paired_keeps m v i n n b (inl (refl, λ p. refl));
+  acks = λ v c e p k b. inl (refl, λ z. refl);
+  freezes = λ v e p k. inl (refl, λ z. refl);
+}) service
+
+-- a newer row that the message brings is the one that it knows then
+pub unmoved_old : (m from : ℕ) (msg : Message) (n : Node) (row : Row) → brought msg ≡ Some row → IsUnmoved m from msg n → is_newer row n ≡ false
+unmoved_old m from (NewRow r) n row e u = let same : r ≡ row = cc in subst (λ k. is_newer k n ≡ false) same u
+unmoved_old m from (Sync r c) n row e u = let same : r ≡ row = cc in subst (λ k. is_newer k n ≡ false) same u
+unmoved_old m from (Bridge r v k) n row e u = let same : r ≡ row = cc in subst (λ x. is_newer x n ≡ false) same u
+unmoved_old m from (Effect v i) n row e u = absurd cc
+unmoved_old m from (Ack v c) n row e u = absurd cc
+unmoved_old m from (JoinedMessage v b) n row e u = absurd cc
+unmoved_old m from (Freeze v) n row e u = absurd cc
+unmoved_old m from (FrozenMessage v) n row e u = absurd cc
+
+pub taking_known : (service m from : ℕ) (msg : Message) (n : Node) (row : Row) → brought msg ≡ Some row → is_newer row n ≡ true → (taking service m from msg n).node.known ≡ row
+taking_known service m from msg n row e newer = every_taking m from msg n (λ a. a.known ≡ row) (record {
+  stays = λ u. absurd (not_both (is_newer row n) newer (unmoved_old m from msg n row e u));
+  adopts = λ r f z. (let same : r ≡ row = cc in adopted_known m r n ∙ same);
+  syncs = λ r c a f k v b l. k;
+  bridges = λ r v c a f k w b s t. k;
+  applies = λ v i f b s t. absurd (none cc);
+  acks = λ v c f p k b. absurd (none cc);
+  freezes = λ v f p k. absurd (none cc);
+}) service
+  where
+    none : brought msg ≡ None → ⊥
+    none f = absurd cc

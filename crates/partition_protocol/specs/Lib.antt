@@ -19,3 +19,4 @@ pub mod Traces
 pub mod Bounds
 pub mod Answers
 pub mod Ends
+pub mod InFlight

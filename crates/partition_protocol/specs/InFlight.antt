@@ -1,0 +1,58 @@
+-- What messages in flight name: states that stand whatever happens, and effects that lead from one to the next.
+use Rattle.std.specs.Prelude.{◌≡◌, ℕ, ◌-◌, ◌≤◌, ◌⊎◌, true, List, [], ◌∷◌, ◌++◌, Some, slice_get, Contains}
+use Rattle.grid_base.specs.Objects.{Object}
+use Rattle.partition_table.specs.declared.Row.{Row}
+use Rattle.partition_protocol.specs.Messages.{Message, NewRow, Sync, Effect, Bridge, Ack, Joined, Freeze, Frozen, Packet}
+use Rattle.partition_protocol.specs.Node.{Pair, Node}
+use Rattle.partition_protocol.specs.History.{Executed, Called}
+use Rattle.partition_protocol.specs.World.{World, start, pair_state}
+use Rattle.partition_protocol.specs.Events.{Event, run}
+use Rattle.partition_protocol.specs.Claims.{IsLawful}
+
+-- effects
+
+-- one executed call leads from what version v has after i - 1 effects to what it has after i
+pub record IsEffect {C State : Type 0} (o : Object C State) (w : World C) (v i : ℕ) : Type 0 where
+  pub executed : Executed C
+  pub logged : Contains w.recorded.log (Called executed)
+  pub version : executed.version ≡ v
+  pub seen : executed.seen ≡ i
+  pub changes : o.changes (pair_state o w (record { version = v; count = i - 1 })) executed.call executed.now ≡ true
+  pub state : pair_state o w (record { version = v; count = i }) ≡ o.after (pair_state o w (record { version = v; count = i - 1 })) executed.call executed.now
+
+-- each Effect in flight is one
+abbrev pub EveryEffectLeads : {C State : Type 0} → Object C State → Type 0
+EveryEffectLeads {C} o = (partition members backups : ℕ) (events : List (Event C)) (p : Packet) (v i : ℕ) → 1 ≤ members → IsLawful o
+    → Contains (run o (start partition members backups) events).packets p → p.message ≡ Effect v i
+    → (1 ≤ i) × IsEffect o (run o (start partition members backups) events) v i
+
+-- states
+
+-- the pairs whose states a message speaks of
+abbrev pub pairs_of : Message → List Pair
+pairs_of (Sync row c) = record { version = row.version; count = c } ∷ []
+pairs_of (Effect v i) = record { version = v; count = i - 1 } ∷ record { version = v; count = i } ∷ []
+pairs_of (Bridge row e k) = record { version = e; count = k } ∷ record { version = row.version; count = k } ∷ []
+pairs_of (NewRow row) = []
+pairs_of (Ack v c) = []
+pairs_of (Joined v b) = []
+pairs_of (Freeze v) = []
+pairs_of (Frozen v) = []
+
+-- it is a member's pair, or one that a message in flight speaks of
+abbrev pub IsNamed : {C : Type 0} → World C → Pair → Type 0
+IsNamed w pair =
+    ((m : ℕ) × (node : Node) × (slice_get w.nodes m ≡ Some node) × (node.pair ≡ pair))
+    ⊎ ((p : Packet) × Contains w.packets p × Contains (pairs_of p.message) pair)
+
+-- a pair that is named keeps its state, whatever happens from then on
+abbrev pub EveryNamedStateStays : {C State : Type 0} → Object C State → Type 0
+EveryNamedStateStays {C} o = (partition members backups : ℕ) (events more : List (Event C)) (pair : Pair) → 1 ≤ members → IsLawful o
+    → IsNamed (run o (start partition members backups) events) pair
+    → pair_state o (run o (start partition members backups) (events ++ more)) pair ≡ pair_state o (run o (start partition members backups) events) pair
+
+-- the two pairs of a Bridge in flight name one state
+abbrev pub EveryBridgeJoins : {C State : Type 0} → Object C State → Type 0
+EveryBridgeJoins {C} o = (partition members backups : ℕ) (events : List (Event C)) (p : Packet) (row : Row) (e k : ℕ) → 1 ≤ members → IsLawful o
+    → Contains (run o (start partition members backups) events).packets p → p.message ≡ Bridge row e k
+    → pair_state o (run o (start partition members backups) events) (record { version = row.version; count = k }) ≡ pair_state o (run o (start partition members backups) events) (record { version = e; count = k })
