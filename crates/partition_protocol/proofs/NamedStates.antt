@@ -1,24 +1,24 @@
 -- A pair that is named keeps its state in every longer run.
-use Rattle.std.proofs.Common.{◌≡◌, ◌≢◌, ℕ, ◌+◌, ◌-◌, ◌<◌, ◌≤◌, Bool, true, false, cond, ◌&&◌, List, [], ◌∷◌, ◌++◌, Some, slice_get, slice_set, Contains, refl, ap, sym, ◌∙◌, subst, ◌⊎◌, ⊎_elim, inl, inr, arith, le_trans, zero, suc}
+use Rattle.std.proofs.Common.{◌≡◌, ◌≢◌, ℕ, ◌+◌, ◌-◌, ◌<◌, ◌≤◌, Bool, true, false, cond, ◌&&◌, List, [], ◌∷◌, slice_set, refl, ap, sym, ◌∙◌, subst, ◌⊎◌, ⊎_elim, inl, inr, arith, le_trans, zero, suc}
 use Rattle.grid_base.specs.Objects.{Object}
 use Rattle.partition_table.specs.declared.Row.{Row}
 use Rattle.partition_table.specs.Rows.{is_primary, is_among}
 use Rattle.partition_protocol.specs.Messages.{Message, NewRow, Sync, Effect, Bridge, Ack, Joined as JoinedMessage, Freeze, Frozen as FrozenMessage, Packet}
 use Rattle.partition_protocol.specs.Node.{Pair, Node, no_pair, settled}
-use Rattle.partition_protocol.specs.Replica.{Step, is_newer, taking}
+use Rattle.partition_protocol.specs.Replica.{is_newer, taking}
 use Rattle.partition_protocol.specs.Execution.{executing}
 use Rattle.partition_protocol.specs.History.{Base}
-use Rattle.partition_protocol.specs.World.{World, start, bases_after, pair_state}
+use Rattle.partition_protocol.specs.World.{World, start, pair_state}
 use Rattle.partition_protocol.specs.Links.{taken_out, with_packets}
-use Rattle.partition_protocol.specs.Events.{Event, delivered, executes, happens, run}
+use Rattle.partition_protocol.specs.Events.{Event, delivered, happens, run}
 use Rattle.partition_protocol.specs.Claims.{IsLawful}
 use Rattle.partition_protocol.specs.InFlight.{pairs_of, IsNamed, EveryNamedStateStays, EveryBridgeJoins}
-use Rattle.partition_protocol.proofs.Lists.{In, Every, every_in, in_contains, get_set, on_if}
+use Rattle.partition_protocol.proofs.Lists.{In, every_in, in_contains, get_set, on_if}
 use Rattle.partition_protocol.proofs.Histories.{IsBase, Falling, base_below}
 use Rattle.partition_protocol.proofs.Invariant.{Shape, NodeAt, IsUpTo, PacketOk, PairUp, Invariant}
 use Rattle.partition_protocol.proofs.RowFacts.{is_less, both}
 use Rattle.partition_protocol.proofs.Contents.{IsPair}
-use Rattle.partition_protocol.proofs.Events.{Good, fewer, delivered_good, happens_good, run_good}
+use Rattle.partition_protocol.proofs.Events.{Good, fewer, delivered_good, happens_good}
 use Rattle.partition_protocol.proofs.Extends.{run_append}
 use Rattle.partition_protocol.proofs.States.{Grows, grown, stays, Bridged, run_bridged, pair_same}
 use Rattle.partition_protocol.proofs.Takings.{KeepsRow, taking_keeps}

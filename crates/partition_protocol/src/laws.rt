@@ -1,21 +1,32 @@
-//! Laws of every run of a partition, each proved and with nothing to run.
+//! More laws of every run. As those of the crate's root they compute nothing: each contract is what holds of every run.
 
+ghost use Rattle.grid_base.specs.Objects.{Object};
 ghost use Rattle.partition_protocol.specs.Answers.{EveryAnswerIsSingle};
 ghost use Rattle.partition_protocol.specs.Bounds.{EveryRunIsWithin};
 ghost use Rattle.partition_protocol.specs.Ends.{EveryRunIsPlaced};
-ghost use Rattle.grid_base.specs.Objects.{Object};
+ghost use Rattle.partition_protocol.specs.InFlight.{EveryEffectLeads, EveryNamedStateStays, EveryBridgeJoins};
 
-/// After `n` events every version is at most `n + 1`, and every count at most `n`.
-pub fn bounds<C, S>()
-    ensures within { (o : Object C S) → EveryRunIsWithin o }
+/// After `n` events every version and every reset is at most `n + 1`, and every count at most `n`: of rows, of pairs,
+/// of acknowledgements, of answers and in messages.
+pub fn every_count_is_bounded<C, S>()
+    ensures { (o : Object C S) → EveryRunIsWithin o }
 {}
 
-/// An answer is held by one member, once, until it is released, and released once.
-pub fn answers<C, S>()
-    ensures single { (o : Object C S) → EveryAnswerIsSingle o }
+/// An answer is held by the one member that executed its call until it is released, and it is released once.
+pub fn every_answer_is_single<C, S>()
+    ensures { (o : Object C S) → EveryAnswerIsSingle o }
 {}
 
-/// Messages are in flight between two ends, and rows list members, each once.
-pub fn ends<C, S>()
-    ensures placed { (o : Object C S) → EveryRunIsPlaced o }
+/// Each message in flight is between two ends, as its kind has them, and each row lists members, each once.
+pub fn every_message_is_placed<C, S>()
+    ensures { (o : Object C S) → EveryRunIsPlaced o }
+{}
+
+/// What a message in flight says of contents stays so until it comes, whatever happens meanwhile: each Effect is that of
+/// one executed call, the states that a Sync, an Effect or a Bridge names keep what they are, and so does the state that a
+/// member's own pair names. A Bridge names one state by two pairs.
+pub fn every_message_stays_right<C, S>()
+    ensures effects { (o : Object C S) → EveryEffectLeads o }
+    ensures states { (o : Object C S) → EveryNamedStateStays o }
+    ensures bridges { (o : Object C S) → EveryBridgeJoins o }
 {}
