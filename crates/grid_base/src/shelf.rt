@@ -33,6 +33,9 @@ pub trait Shelf: Sized + Drop {
 
     ghost change_of: { Self.Env → State → Self.Call → ℕ → Option ChangeOf };
 
+    /// What every call keeps to, so that its effect can be written down: the limits of a message.
+    ghost within_limits: { Self.Call → Type 0 };
+
     /// The state after an effect; none where the effect does not fit the state.
     ghost applied: { List ℕ → State → Option State };
 
@@ -48,6 +51,7 @@ pub trait Shelf: Sized + Drop {
         call: &Self::Call,
         now: Moment,
     ) -> Result<Executed, Memory>
+        requires { within_limits call.now }
         ensures reply { IfOk result (λ e. e.reply ≡ (object env.now).reply (state self.now) call.now now) }
         ensures effect { IfOk result (λ e. e.effect ≡ effect_of env.now (state self.now) call.now now) }
         ensures change { IfOk result (λ e. e.change ≡ change_of env.now (state self.now) call.now now) };
@@ -65,5 +69,5 @@ pub trait Shelf: Sized + Drop {
 
     ghost same_without_effect: { (env : Self.Env) (s : State) (call : Self.Call) (now : ℕ) → effect_of env s call now ≡ None → (object env).after s call now ≡ s };
 
-    ghost made_by_effect: { (env : Self.Env) (s : State) (call : Self.Call) (now : ℕ) (effect : List ℕ) → effect_of env s call now ≡ Some effect → applied effect s ≡ Some ((object env).after s call now) };
+    ghost made_by_effect: { (env : Self.Env) (s : State) (call : Self.Call) (now : ℕ) (effect : List ℕ) → within_limits call → effect_of env s call now ≡ Some effect → applied effect s ≡ Some ((object env).after s call now) };
 }

@@ -6,7 +6,7 @@ use Rattle.partition_protocol.specs.Took.{Dropped, Joined as TookJoined, Drained
 use Rattle.partition_protocol.specs.Node.{Node, settled, now_released}
 use Rattle.partition_protocol.specs.Replica.{sent_again}
 use Rattle.partition_protocol.specs.Execution.{reached, Executes, PartitionLost, WrongTarget, Migrating, executing, sent_on_executing}
-use Rattle.partition_protocol.specs.Service.{Service, Move, NoMove, Joining, Joined, Freezing, Drained, ServiceStep, numbers_below, undetected, telling, with_row, begun_move, is_in_move, move_in_row, move_after_loss, detecting, MoveRefused, is_idle, join_refused, move_refused, handover_refused, beginning, handing_over, Freezes, MakesRow, advance_by, ReopenRefused, candidates, reopen_refused, reopening, joined_move, drained_move, is_freezing, freeze_of, freezing_again}
+use Rattle.partition_protocol.specs.Service.{Service, Move, NoMove, Joining, Joined, Freezing, Drained, ServiceStep, undetected, telling, with_row, begun_move, is_in_move, move_in_row, move_after_loss, detecting, MoveRefused, is_idle, join_refused, move_refused, handover_refused, beginning, handing_over, Freezes, MakesRow, advance_by, ReopenRefused, candidates, reopen_refused, reopening, joined_move, drained_move, is_freezing, freeze_of, freezing_again}
 use Rattle.grid_base.specs.Objects.{Object}
 use Rattle.partition_protocol.specs.History.{Executed, Called}
 use Rattle.partition_protocol.specs.World.{World, map_or, is_live, with_entry, with_service, pair_state}

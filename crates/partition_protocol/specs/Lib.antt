@@ -20,3 +20,4 @@ pub mod Bounds
 pub mod Answers
 pub mod Ends
 pub mod InFlight
+pub mod CrashTraces

@@ -9,7 +9,7 @@
 pub mod laws;
 
 ghost use Rattle.grid_base.specs.Objects.{Object};
-ghost use Rattle.partition_protocol.specs.Claims.{EveryRunIsSafe, EveryRunExtends, EveryAnswerStays, EveryStateStays, EveryBridgeStays, EveryBeginningIsEmpty};
+ghost use Rattle.partition_protocol.specs.Claims.{EveryRunIsSafe, EveryAckHolds, EveryRunExtends, EveryAnswerStays, EveryStateStays, EveryBridgeStays, EveryBeginningIsEmpty};
 
 /// Whatever is lost, repeated or late, and whoever crashes: after every list of events in which no two calls have one
 /// name, the history by which the partition stands is that of one object used by one thread and emptied at each
@@ -20,6 +20,12 @@ ghost use Rattle.partition_protocol.specs.Claims.{EveryRunIsSafe, EveryRunExtend
 /// Nothing is said of progress: a lost message stays lost until someone sends it again.
 pub fn every_run_is_safe<C, S>()
     ensures { (o : Object C S) → EveryRunIsSafe o }
+{}
+
+/// A member that is said to have contents has them, or knows a later row: of every acknowledgement in flight, and of
+/// every one that a member counts.
+pub fn every_acknowledgement_holds<C, S>()
+    ensures { (o : Object C S) → EveryAckHolds o }
 {}
 
 /// Nothing that was executed or answered is taken back, and its order stays. No member drops an answer that it holds.

@@ -1,6 +1,6 @@
 -- The rows of the partition table: who keeps a partition, in which version.
 -- A row lists its members with the primary first, and its version is one more with each new row of the partition.
-use Rattle.std.specs.Prelude.{ℕ, zero, suc, ◌+◌, ◌%◌, Bool, true, false, not, ◌&&◌, ◌||◌, ◌==◌, nat_eq, List, [], ◌∷◌, ◌++◌, map, take, Option, Some, None, filter}
+use Rattle.std.specs.Prelude.{ℕ, zero, suc, ◌+◌, ◌%◌, Bool, true, false, not, ◌&&◌, ◌||◌, ◌==◌, nat_eq, List, [], ◌∷◌, ◌++◌, map, take, Option, Some, None, option_map, filter}
 use Rattle.std.specs.List.{list_any, find}
 pub use Rattle.partition_table.specs.declared.members.RowMember.{RowMember}
 pub use Rattle.partition_table.specs.declared.row.Row.{Row}
@@ -73,6 +73,10 @@ initial_row partition n b = record { version = 1; reset = 0; lost = false; membe
 -- the first member that may lead
 abbrev pub first_eligible : List RowMember → Option RowMember
 first_eligible rs = find (λ (r : RowMember). r.eligible) rs
+
+-- the number of the first member that may lead and isn't among these
+abbrev pub first_live_eligible : Row → List ℕ → Option ℕ
+first_live_eligible row detected = option_map number_of (find (λ (r : RowMember). r.eligible && not (is_among detected r.member)) row.members)
 
 -- the members but m
 abbrev pub others : ℕ → List RowMember → List RowMember
