@@ -302,7 +302,7 @@ module _ {C State : Type 0} (o : Object C State) (n : ℕ) (w : World C) (b : Bo
 
   pub within : EventCases o w (λ e u. Bounded (n + 1) u)
   within = record {
-    stays = λ e. grown;
+    stays = λ e z. grown;
     loses = λ f t i q at. others (taken_out f t i w.packets) (taken_every (PacketWithin (n + 1)) f t i w.packets grown.packets);
     drops = λ f t i q at z. others (taken_out f t i w.packets) (taken_every (PacketWithin (n + 1)) f t i w.packets grown.packets);
     repeats = λ f t i q at. others (w.packets ++ q ∷ []) (more_packets (q ∷ []) (every_in (PacketWithin (n + 1)) w.packets q grown.packets (place_in f t i w.packets q at), tt));
@@ -315,7 +315,7 @@ module _ {C State : Type 0} (o : Object C State) (n : ℕ) (w : World C) (b : Bo
     crashes = λ m lives. record { row = grown.row; standing = grown.standing; nodes = grown.nodes; packets = grown.packets; released = grown.released; bases = grown.bases; log = grown.log };
     detects = λ m l c d i. tells (detecting m w.service) (detecting_row m);
     notes = λ m l c d i. serves (detecting m w.service) w.packets w.recorded.log w.recorded.openings (detecting_row m) grown.packets grown.log;
-    begins = λ e source to r there. tells (beginning source to w.service) (next_within (with_joiner w.service.row to) refl refl);
+    begins = λ e source to r there z. tells (beginning source to w.service) (next_within (with_joiner w.service.row to) refl refl);
     hands_over = λ from to r. serves (handing_over from to w.service) w.packets w.recorded.log w.recorded.openings grown.row grown.packets grown.log;
     freezes = λ from to v p. serves (with_row w.service w.service.row (Freezing from to)) _ w.recorded.log w.recorded.openings grown.row (more_packets _ (grown.row.version, tt)) grown.log;
     leaves = λ from to v p. tells (with_row w.service (without w.service.row from) NoMove) (next_within (without w.service.row from) refl refl);

@@ -516,7 +516,7 @@ module _ {C State : Type 0} (o : Object C State) (law : IsLawful o) (w : World C
 
   pub led_after : EventCases o w LedAfter
   led_after = record {
-    stays = λ e k. still k (old_packets o w made inv led w k);
+    stays = λ e z k. still k (old_packets o w made inv led w k);
     loses = λ f t i q at k. fewer f t i k;
     drops = λ f t i q at z k. fewer f t i k;
     repeats = λ f t i q at k. (let u = with_packets w (w.packets ++ q ∷ []) in still_led o w made inv led u k refl refl (more_led o w made inv led u k (q ∷ []) (old_packet o w made inv led u k q (place_in f t i w.packets q at), tt)));
@@ -525,7 +525,7 @@ module _ {C State : Type 0} (o : Object C State) (law : IsLawful o) (w : World C
     crashes = λ m l k. (let u = record w { crashed = m ∷ w.crashed } in still_led o w made inv led u k refl refl (old_packets o w made inv led u k));
     detects = λ m l c d i k. tells _ w k refl refl refl;
     notes = λ m l c d i k. still_led o w made inv led _ k refl refl (old_packets o w made inv led _ k);
-    begins = λ e source to r there k. tells _ w k refl refl refl;
+    begins = λ e source to r there z k. tells _ w k refl refl refl;
     hands_over = λ from to r k. still_led o w made inv led _ k refl refl (old_packets o w made inv led _ k);
     freezes = λ from to v p k. still_led o w made inv led _ k refl refl (more_led o w made inv led _ k _ (tt, tt));
     leaves = λ from to v p k. tells _ w k refl refl refl;

@@ -25,10 +25,7 @@ use Rattle.partition_protocol.proofs.Theorem.{opened_node}
 use Rattle.partition_protocol.proofs.Takings.{brought, every_taking}
 use Rattle.partition_protocol.proofs.Says.{IsBackupIn, IsAnswered, Says, SaysSent, taking_says, again_says}
 use Rattle.partition_protocol.proofs.EventCases.{EventCases, every_event, place_in}
-use Rattle.partition_protocol.proofs.Distinct.{IsListing, listing_row, without_listing, joiner_listing, handed_listing, marked_listing, around_listing, filtered_listing, up_to_listing, initial_listing, reopened_listing}
-
-abbrev pub IsRowListing : ℕ → Row → Type 0
-IsRowListing n row = IsListing n (numbers_of row)
+use Rattle.partition_protocol.proofs.Listings.{IsListing, IsRowListing, listing_row, first_apart, without_listing, joiner_listing, handed_listing, marked_listing, members_from_listing, filter_listing, with_backups_listing, initial_listing, reopened_listing}
 
 abbrev pub MessagePlaced : ℕ → ℕ → ℕ → Message → Type 0
 MessagePlaced n from to (NewRow row) = IsFromService n from to × IsRowListing n row
@@ -70,7 +67,7 @@ backup_listing n m to row h e b = go row.members h e b
     go [] h e b = absurd b.1
     go (p ∷ ps) h e b =
         let there : In to (map number_of ps) = subst (λ k. In k (map number_of ps)) b.2 (in_map number_of ps b.0 b.1) in
-        (every_in (λ k. k < n) (map number_of ps) to h.0.1 there, λ z. h.1.0 (subst (λ k. In k (map number_of ps)) (sym z ∙ sym (same_number p.member m e)) there))
+        (every_in (λ k. k < n) (map number_of ps) to h.0.1 there, λ z. first_apart p.member (map number_of ps) h.1 (subst (λ k. In k (map number_of ps)) (sym z ∙ sym (same_number p.member m e)) there))
 
 module _ (n : ℕ) where
   pub brought_listing : (from to : ℕ) (msg : Message) (row : Row) → brought msg ≡ Some row → MessagePlaced n from to msg → IsRowListing n row
@@ -249,7 +246,7 @@ module _ {C State : Type 0} (o : Object C State) (w : World C) (b : Placed w) wh
 
   pub placed : EventCases o w (λ e u. Placed u)
   placed = record {
-    stays = λ e. b;
+    stays = λ e z. b;
     loses = λ f t i q at. others (taken_out f t i w.packets) (fewer f t i);
     drops = λ f t i q at z. others (taken_out f t i w.packets) (fewer f t i);
     repeats = λ f t i q at. others (w.packets ++ q ∷ []) (more (q ∷ []) (every_in (PacketPlaced w.members) w.packets q b.packets (place_in f t i w.packets q at), tt));
@@ -262,7 +259,7 @@ module _ {C State : Type 0} (o : Object C State) (w : World C) (b : Placed w) wh
     crashes = λ m lives. record { row = b.row; move = b.move; standing = b.standing; known = b.known; packets = b.packets };
     detects = λ m l c d i. tells (detecting m w.service) (detecting_row m) (detecting_move m);
     notes = λ m l c d i. serves (detecting m w.service) w.packets w.recorded.log w.recorded.openings (detecting_row m) (detecting_move m) b.packets;
-    begins = λ e source to r there. (let j = joiner to r in tells (beginning source to w.service) (joiner_listing w.members to w.service.row j.0 j.1 b.row) ((λ k z. in_listing w.members w.service.row k b.row (there k z)), j.0));
+    begins = λ e source to r there z. (let j = joiner to r in tells (beginning source to w.service) (joiner_listing w.members to w.service.row j.0 j.1 b.row) ((λ k z. in_listing w.members w.service.row k b.row (there k z)), j.0));
     hands_over = λ from to r. serves (handing_over from to w.service) w.packets w.recorded.log w.recorded.openings b.row (handover from to r) b.packets;
     freezes = λ from to v p. freezes from to (subst (MovePlaced w.members) v b.move);
     leaves = λ from to v p. tells (with_row w.service (without w.service.row from) NoMove) (without_listing w.members from w.service.row b.row) tt;
@@ -282,7 +279,7 @@ module _ {C State : Type 0} (o : Object C State) (w : World C) (b : Placed w) wh
       reopens =
           let s = reopening w.partition w.members w.backups w.service in
           let listing : IsRowListing w.members s.row = reopened_listing w.members w.service.row (with_backups w.backups (candidates w.partition w.members w.service.detected))
-          (up_to_listing w.members w.backups (candidates w.partition w.members w.service.detected) (filtered_listing w.members (λ m. not (is_among w.service.detected m)) (members_from w.members w.members w.partition) (around_listing w.members w.partition))) in
+          (with_backups_listing w.members w.backups (candidates w.partition w.members w.service.detected) (filter_listing w.members (λ m. not (is_among w.service.detected m)) (members_from w.members w.members w.partition) (members_from_listing w.members w.partition))) in
           serves s (w.packets ++ packets_from w.members (telling w.members s)) _ _ listing tt (more (packets_from w.members (telling w.members s)) (telling_placed w.members s listing))
 
       joined : (f t i v m : ℕ) → Placed (service_takes (with_packets w (taken_out f t i w.packets)) (JoinedMessage v m)).world

@@ -1,4 +1,5 @@
 -- What holds of the world after an event, by each thing that an event can do, with what is known as it does it.
+use Rattle.partition_protocol.specs.Taken.{handed_by}
 use Rattle.std.proofs.Common.{◌≡◌, ℕ, ◌+◌, ◌<◌, Bool, true, false, cond, not, ◌&&◌, ◌==◌, List, [], ◌∷◌, ◌++◌, Option, Some, None, nat_lt, slice_get, refl, sym, subst, ◌⊎◌, inl, inr}
 use Rattle.partition_table.specs.Rows.{is_among, is_in, is_primary, without, handed}
 use Rattle.partition_protocol.specs.Messages.{Message, NewRow, Sync, Effect, Bridge, Ack, Joined as JoinedMessage, Freeze, Frozen as FrozenMessage, Packet}
@@ -31,7 +32,7 @@ place_ends f t i ps q e =
 -- what has to be shown for each thing that an event can do
 pub record EventCases {C State : Type 0} (o : Object C State) (w : World C) (P : Event C → World C → Type 0) : Type 0 where
   -- nothing, or an answer alone
-  pub stays : (e : Event C) → P e w
+  pub stays : (e : Event C) → handed_by w e ≡ [] → P e w
   -- a message is lost, handed to an end that takes nothing, or repeated
   pub loses : (f t i : ℕ) (q : Packet) → slice_get (link f t w.packets) i ≡ Some q → P (Lose f t i) (with_packets w (taken_out f t i w.packets))
   pub drops : (f t i : ℕ) (q : Packet) → slice_get (link f t w.packets) i ≡ Some q → (is_live w q.to ≡ false) ⊎ (slice_get w.nodes q.to ≡ None) → P (Deliver f t i) (with_packets w (taken_out f t i w.packets))
@@ -44,7 +45,7 @@ pub record EventCases {C State : Type 0} (o : Object C State) (w : World C) (P :
   pub detects : (m : ℕ) → m < w.members → is_among w.crashed m ≡ true → is_among w.service.detected m ≡ false → is_in w.service.row m ≡ true → P (Detect m) (told_all w (detecting m w.service))
   pub notes : (m : ℕ) → m < w.members → is_among w.crashed m ≡ true → is_among w.service.detected m ≡ false → is_in w.service.row m ≡ false → P (Detect m) (with_service w (detecting m w.service))
   -- a move begins
-  pub begins : (e : Event C) (source : Option ℕ) (to : ℕ) → join_refused w.members to w.service ≡ None → ((s : ℕ) → source ≡ Some s → is_in w.service.row s ≡ true) → P e (told_all w (beginning source to w.service))
+  pub begins : (e : Event C) (source : Option ℕ) (to : ℕ) → join_refused w.members to w.service ≡ None → ((s : ℕ) → source ≡ Some s → is_in w.service.row s ≡ true) → handed_by w e ≡ [] → P e (told_all w (beginning source to w.service))
   pub hands_over : (from to : ℕ) → handover_refused from to w.service ≡ None → P (BeginHandover from to) (with_service w (handing_over from to w.service))
   -- and goes on: its source is frozen, a backup leaves, or another member becomes first
   pub freezes : (from to : ℕ) → w.service.move ≡ Joined from to → is_primary w.service.row from ≡ true
@@ -71,28 +72,28 @@ module _ {C State : Type 0} (o : Object C State) (w : World C) (P : Event C → 
   on_some e None d f g h = g refl
   on_some e (Some k) d f g h = h k refl
 
-  pub on_refused : (e : Event C) (r : Option MoveRefused) (h : Happened C) → (r ≡ None → P e h.world) → P e (unless_move_refused w r h).world
-  on_refused e None h f = f refl
-  on_refused e (Some r) h f = c.stays e
+  pub on_refused : (e : Event C) (r : Option MoveRefused) (h : Happened C) → handed_by w e ≡ [] → (r ≡ None → P e h.world) → P e (unless_move_refused w r h).world
+  on_refused e None h z f = f refl
+  on_refused e (Some r) h z f = c.stays e z
 
-  pub on_kept : (e : Event C) (r : Option ReopenRefused) (h : Happened C) → (r ≡ None → P e h.world) → P e (unless_reopen_refused w r h).world
-  on_kept e None h f = f refl
-  on_kept e (Some r) h f = c.stays e
+  pub on_kept : (e : Event C) (r : Option ReopenRefused) (h : Happened C) → handed_by w e ≡ [] → (r ≡ None → P e h.world) → P e (unless_reopen_refused w r h).world
+  on_kept e None h z f = f refl
+  on_kept e (Some r) h z f = c.stays e z
 
-  pub on_node : (e : Event C) (m : ℕ) (f : Node → Happened C) → ((n : Node) → NodeAt w.nodes m n → is_live w m ≡ true → P e (f n).world) → P e (at_node w m f).world
-  on_node e m f g = on_test e (is_live w m) (map_or (slice_get w.nodes m) (nothing w) f) (nothing w) (λ l. on_some e (slice_get w.nodes m) (nothing w) f (λ z. c.stays e) (λ n at. g n at l)) (λ l. c.stays e)
+  pub on_node : (e : Event C) (m : ℕ) (f : Node → Happened C) → handed_by w e ≡ [] → ((n : Node) → NodeAt w.nodes m n → is_live w m ≡ true → P e (f n).world) → P e (at_node w m f).world
+  on_node e m f q g = on_test e (is_live w m) (map_or (slice_get w.nodes m) (nothing w) f) (nothing w) (λ l. on_some e (slice_get w.nodes m) (nothing w) f (λ z. c.stays e q) (λ n at. g n at l)) (λ l. c.stays e q)
 
-  pub on_place : (e : Event C) (f t i : ℕ) (g : Packet → Happened C) → ((q : Packet) → slice_get (link f t w.packets) i ≡ Some q → P e (g q).world) → P e (at_place w f t i g).world
-  on_place e f t i g h = on_some e (slice_get (link f t w.packets) i) (nothing w) g (λ z. c.stays e) h
+  pub on_place : (e : Event C) (f t i : ℕ) (g : Packet → Happened C) → (slice_get (link f t w.packets) i ≡ None → handed_by w e ≡ []) → ((q : Packet) → slice_get (link f t w.packets) i ≡ Some q → P e (g q).world) → P e (at_place w f t i g).world
+  on_place e f t i g q h = on_some e (slice_get (link f t w.packets) i) (nothing w) g (λ z. c.stays e (q z)) h
 
   pub no_member : (m : ℕ) → m ≡ w.members → is_live w m ≡ false
   no_member m e = subst (λ k. is_live w k ≡ false) (sym e) (rw (is_not_less w.members w.members (le_refl w.members)) refl)
 
   pub on_advance : (v : Move) → w.service.move ≡ v → P Advance (advanced_by w (advance_by w.service.row v)).world
-  on_advance NoMove e = c.stays Advance
-  on_advance (Joining s t) e = c.stays Advance
+  on_advance NoMove e = c.stays Advance refl
+  on_advance (Joining s t) e = c.stays Advance refl
   on_advance (Joined s t) e = on_cond (λ a. P Advance (advanced_by w a).world) (is_primary w.service.row s) _ _ (c.freezes s t e) (c.leaves s t e)
-  on_advance (Freezing s t) e = c.stays Advance
+  on_advance (Freezing s t) e = c.stays Advance refl
   on_advance (Drained s t) e = c.hands s t e
 
   module _ (f t i : ℕ) (q : Packet) (at : slice_get (link f t w.packets) i ≡ Some q) where
@@ -127,13 +128,13 @@ module _ {C State : Type 0} (o : Object C State) (w : World C) (P : Event C → 
     Called h = P (Call m conn number call now) h.world
 
     pub on_call : P (Call m conn number call now) (at_node w m (calling o w m conn number call now)).world
-    on_call = on_node (Call m conn number call now) m (calling o w m conn number call now) reaches
+    on_call = on_node (Call m conn number call now) m (calling o w m conn number call now) refl reaches
       where
         reaches : (n : Node) → NodeAt w.nodes m n → is_live w m ≡ true → P (Call m conn number call now) (calling o w m conn number call now n).world
         reaches n at lives =
-            on_cond R n.known.lost (PartitionLost n.known.version) (cond (not (is_primary n.known m)) (WrongTarget n.known.version) (cond n.frozen (Migrating n.known.version) Executes)) (λ a. c.stays _)
-            (λ a. on_cond R (not (is_primary n.known m)) (WrongTarget n.known.version) (cond n.frozen (Migrating n.known.version) Executes) (λ b. c.stays _)
-            (λ b. on_cond R n.frozen (Migrating n.known.version) Executes (λ d. c.stays _) (λ d. c.calls m conn number call now n at lives a (not_false (is_primary n.known m) b) d)))
+            on_cond R n.known.lost (PartitionLost n.known.version) (cond (not (is_primary n.known m)) (WrongTarget n.known.version) (cond n.frozen (Migrating n.known.version) Executes)) (λ a. c.stays _ refl)
+            (λ a. on_cond R (not (is_primary n.known m)) (WrongTarget n.known.version) (cond n.frozen (Migrating n.known.version) Executes) (λ b. c.stays _ refl)
+            (λ b. on_cond R n.frozen (Migrating n.known.version) Executes (λ d. c.stays _ refl) (λ d. c.calls m conn number call now n at lives a (not_false (is_primary n.known m) b) d)))
           where
             R : Reached → Type 0
             R r = P (Call m conn number call now) (if_executes w r (executes o w m conn number call now n)).world
@@ -154,22 +155,22 @@ module _ {C State : Type 0} (o : Object C State) (w : World C) (P : Event C → 
   -- whatever happens
   pub every_event : (e : Event C) → P e (happens o w e).world
   every_event (Call m conn number call now) = on_call m conn number call now
-  every_event (Deliver f t i) = on_place (Deliver f t i) f t i (λ q. handed_over (with_packets w (taken_out f t i w.packets)) q) (λ q at. on_handed f t i q at)
-  every_event (Lose f t i) = on_place (Lose f t i) f t i (λ q. done (with_packets w (taken_out f t i w.packets))) (λ q at. c.loses f t i q at)
-  every_event (Repeat f t i) = on_place (Repeat f t i) f t i (λ q. done (with_packets w (w.packets ++ q ∷ []))) (λ q at. c.repeats f t i q at)
+  every_event (Deliver f t i) = on_place (Deliver f t i) f t i (λ q. handed_over (with_packets w (taken_out f t i w.packets)) q) (λ z. rw (z, handed_by) refl) (λ q at. on_handed f t i q at)
+  every_event (Lose f t i) = on_place (Lose f t i) f t i (λ q. done (with_packets w (taken_out f t i w.packets))) (λ z. refl) (λ q at. c.loses f t i q at)
+  every_event (Repeat f t i) = on_place (Repeat f t i) f t i (λ q. done (with_packets w (w.packets ++ q ∷ []))) (λ z. refl) (λ q at. c.repeats f t i q at)
   every_event (Resend m) = on_test (Resend m) (m == w.members) (done (sending w m (telling w.members w.service ++ freezing_again w.service))) (at_node w m (λ n. cond (is_primary n.known m) (done (sending w m (sent_again w.members n))) (nothing w)))
       (λ a. subst (λ k. P (Resend k) (sending w k (telling w.members w.service ++ freezing_again w.service))) (sym (same_number m w.members a)) c.tells_again)
-      (λ a. on_node (Resend m) m (λ n. cond (is_primary n.known m) (done (sending w m (sent_again w.members n))) (nothing w)) (λ n at l. on_test (Resend m) (is_primary n.known m) (done (sending w m (sent_again w.members n))) (nothing w) (λ k. c.sends_again m n at l k) (λ k. c.stays (Resend m))))
-  every_event (Crash m) = on_test (Crash m) (is_live w m) (done (record w { crashed = m ∷ w.crashed })) (nothing w) (c.crashes m) (λ a. c.stays (Crash m))
+      (λ a. on_node (Resend m) m (λ n. cond (is_primary n.known m) (done (sending w m (sent_again w.members n))) (nothing w)) refl (λ n at l. on_test (Resend m) (is_primary n.known m) (done (sending w m (sent_again w.members n))) (nothing w) (λ k. c.sends_again m n at l k) (λ k. c.stays (Resend m) refl)))
+  every_event (Crash m) = on_test (Crash m) (is_live w m) (done (record w { crashed = m ∷ w.crashed })) (nothing w) (c.crashes m) (λ a. c.stays (Crash m) refl)
   every_event (Detect m) = on_test (Detect m) (nat_lt m w.members && is_among w.crashed m && not (is_among w.service.detected m)) (cond (is_in w.service.row m) (row_made w (detecting m w.service)) (done (with_service w (detecting m w.service)))) (nothing w)
       (λ a.
       let crashed = both_left (nat_lt m w.members && is_among w.crashed m) (not (is_among w.service.detected m)) a in
       let member = less m w.members (both_left (nat_lt m w.members) (is_among w.crashed m) crashed) in
       let gone = both_right (nat_lt m w.members) (is_among w.crashed m) crashed in
       let untold = not_true (is_among w.service.detected m) (both_right (nat_lt m w.members && is_among w.crashed m) (not (is_among w.service.detected m)) a) in
-      on_test (Detect m) (is_in w.service.row m) (row_made w (detecting m w.service)) (done (with_service w (detecting m w.service))) (c.detects m member gone untold) (c.notes m member gone untold)) (λ a. c.stays (Detect m))
-  every_event (BeginMove from to) = on_refused (BeginMove from to) (move_refused w.members from to w.service) (row_made w (beginning (Some from) to w.service)) (λ e. (let j = join_as_move from to e in c.begins (BeginMove from to) (Some from) to j.0 (λ s z. (let same : from ≡ s = cc in subst (λ k. is_in w.service.row k ≡ true) same j.1))))
-  every_event (BeginJoin to) = on_refused (BeginJoin to) (join_refused w.members to w.service) (row_made w (beginning None to w.service)) (λ e. c.begins (BeginJoin to) None to e (λ s z. absurd cc))
-  every_event (BeginHandover from to) = on_refused (BeginHandover from to) (handover_refused from to w.service) (done (with_service w (handing_over from to w.service))) (c.hands_over from to)
+      on_test (Detect m) (is_in w.service.row m) (row_made w (detecting m w.service)) (done (with_service w (detecting m w.service))) (c.detects m member gone untold) (c.notes m member gone untold)) (λ a. c.stays (Detect m) refl)
+  every_event (BeginMove from to) = on_refused (BeginMove from to) (move_refused w.members from to w.service) (row_made w (beginning (Some from) to w.service)) refl (λ e. (let j = join_as_move from to e in c.begins (BeginMove from to) (Some from) to j.0 (λ s z. (let same : from ≡ s = cc in subst (λ k. is_in w.service.row k ≡ true) same j.1)) refl))
+  every_event (BeginJoin to) = on_refused (BeginJoin to) (join_refused w.members to w.service) (row_made w (beginning None to w.service)) refl (λ e. c.begins (BeginJoin to) None to e (λ s z. absurd cc) refl)
+  every_event (BeginHandover from to) = on_refused (BeginHandover from to) (handover_refused from to w.service) (done (with_service w (handing_over from to w.service))) refl (c.hands_over from to)
   every_event Advance = on_advance w.service.move refl
-  every_event Reopen = on_kept Reopen (reopen_refused w.partition w.members w.service) (row_made (with_reset w (w.service.row.version + 1)) (reopening w.partition w.members w.backups w.service)) c.reopens
+  every_event Reopen = on_kept Reopen (reopen_refused w.partition w.members w.service) (row_made (with_reset w (w.service.row.version + 1)) (reopening w.partition w.members w.backups w.service)) refl c.reopens

@@ -1,17 +1,18 @@
 -- Between whom messages are in flight, and which members rows list.
-use Rattle.std.specs.Prelude.{◌≡◌, ◌≢◌, ℕ, ◌<◌, ◌≤◌, List, Some, slice_get, Contains, All, AllPairs}
+use Rattle.std.specs.Prelude.{◌≡◌, ◌≢◌, ℕ, ◌<◌, ◌≤◌, List, Some, slice_get, Contains, All, IsTrue}
 use Rattle.partition_protocol.specs.Messages.{Message, NewRow, Sync, Effect, Bridge, Ack, Joined as JoinedMessage, Freeze, Frozen as FrozenMessage, Packet}
 use Rattle.partition_protocol.specs.Node.{Node}
 use Rattle.grid_base.specs.Objects.{Object}
 use Rattle.partition_protocol.specs.World.{World, start}
 use Rattle.partition_protocol.specs.Events.{Event, run}
+use Rattle.partition_table.specs.RowFacts.{has_distinct_members}
 use Rattle.partition_table.specs.declared.Row.{Row}
 use Rattle.partition_table.specs.declared.RowMember.{RowMember}
 
 -- a row of a partition with n members: it lists some of them, each once
 pub record IsRowOf (n : ℕ) (row : Row) : Type 0 where
-  pub below : All (λ (p : RowMember). p.member < n) row.members
-  pub apart : AllPairs (λ (p q : RowMember). p.member ≢ q.member) row.members
+  pub below : All (λ (r : RowMember). r.member < n) row.members
+  pub distinct : IsTrue (has_distinct_members row)
 
 -- a member's number is below n, and the service's end is n
 abbrev pub IsFromService : ℕ → ℕ → ℕ → Type 0

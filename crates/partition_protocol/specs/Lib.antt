@@ -21,3 +21,5 @@ pub mod Answers
 pub mod Ends
 pub mod InFlight
 pub mod CrashTraces
+pub mod RowLaws
+pub mod Taken

@@ -5,6 +5,7 @@ ghost use Rattle.partition_protocol.specs.Answers.{EveryAnswerIsSingle};
 ghost use Rattle.partition_protocol.specs.Bounds.{EveryRunIsWithin};
 ghost use Rattle.partition_protocol.specs.Ends.{EveryRunIsPlaced};
 ghost use Rattle.partition_protocol.specs.InFlight.{EveryEffectLeads, EveryNamedStateStays, EveryBridgeJoins};
+ghost use Rattle.partition_protocol.specs.RowLaws.{EveryKnownRowGoesOn, EveryLossIsTold, EveryRowIsLostByRule};
 
 /// After `n` events every version and every reset is at most `n + 1`, and every count at most `n`: of rows, of pairs,
 /// of acknowledgements, of answers and in messages.
@@ -29,4 +30,13 @@ pub fn every_message_stays_right<C, S>()
     ensures effects { (o : Object C S) → EveryEffectLeads o }
     ensures states { (o : Object C S) → EveryNamedStateStays o }
     ensures bridges { (o : Object C S) → EveryBridgeJoins o }
+{}
+
+/// A member never goes back to an earlier row. It answers a call that the partition is lost exactly where the row that it
+/// knows is lost. A row is lost exactly as the service is told of the crash of its last member that may lead, and stays
+/// the newest until it is reopened.
+pub fn every_row_goes_by_rule<C, S>()
+    ensures known { (o : Object C S) → EveryKnownRowGoesOn o }
+    ensures told { (o : Object C S) → EveryLossIsTold o }
+    ensures lost { (o : Object C S) → EveryRowIsLostByRule o }
 {}
