@@ -74,9 +74,13 @@ count_in m b v row from (Frozen u) = []
 abbrev pub counts_by : ℕ → ℕ → ℕ → Row → List Packet → List ℕ
 counts_by m b v row ps = flat_map (λ (x : Came). count_in m b v x.row x.from x.message) (as_they_came row ps)
 
+abbrev pub greater : ℕ → Option ℕ → Option ℕ
+greater c None = Some c
+greater c (Some d) = Some (max c d)
+
 abbrev pub greatest : List ℕ → Option ℕ
 greatest [] = None
-greatest (c ∷ cs) = elim (greatest cs) [ None ↦ Some c | Some d ↦ Some (max c d) ]
+greatest (c ∷ cs) = greater c (greatest cs)
 
 -- a freeze of version v came to its primary m
 abbrev pub is_freeze : ℕ → ℕ → Row → Message → Bool

@@ -6,6 +6,7 @@ ghost use Rattle.partition_protocol.specs.Bounds.{EveryRunIsWithin};
 ghost use Rattle.partition_protocol.specs.Ends.{EveryRunIsPlaced};
 ghost use Rattle.partition_protocol.specs.InFlight.{EveryEffectLeads, EveryNamedStateStays, EveryBridgeJoins};
 ghost use Rattle.partition_protocol.specs.RowLaws.{EveryKnownRowGoesOn, EveryLossIsTold, EveryRowIsLostByRule};
+ghost use Rattle.partition_protocol.specs.Taken.{EveryFactIsReadOff};
 
 /// After `n` events every version and every reset is at most `n + 1`, and every count at most `n`: of rows, of pairs,
 /// of acknowledgements, of answers and in messages.
@@ -39,4 +40,11 @@ pub fn every_row_goes_by_rule<C, S>()
     ensures known { (o : Object C S) → EveryKnownRowGoesOn o }
     ensures told { (o : Object C S) → EveryLossIsTold o }
     ensures lost { (o : Object C S) → EveryRowIsLostByRule o }
+{}
+
+/// What a member knows is what was handed over to it: its row is the newest of those in its messages, the first of
+/// several of one version; what a backup has acknowledged to it is the greatest count in an acknowledgement of that
+/// version that it took as the primary of it; and it is frozen where a freeze of that version came to it as its primary.
+pub fn every_fact_is_read_off<C, S>()
+    ensures { (o : Object C S) → EveryFactIsReadOff o }
 {}
