@@ -149,6 +149,26 @@ module _ {C State : Type 0} (o : Object C State) (w : World C) (made : List Shap
   pub state_after_event : IsLawful o → (p : Pair) → IsKnown w p → (e : Event C) → pair_state o (happens o w e).world p ≡ pair_state o w p
   state_after_event law p k e = stays o law w made inv p k.0 k.1 e
 
+-- one event, where the law of the object is given
+
+module _ {C State : Type 0} (o : Object C State) (law : IsLawful o) (w : World C) (made : List Shape) (inv : Invariant o w made) (event : Event C) where
+  -- the state of the pair is what it was
+  abbrev pub Same : Pair → Type 0
+  Same p = pair_state o (happens o w event).world p ≡ pair_state o w p
+
+  pub node_stays : (m : ℕ) (n : Node) → NodeAt w.nodes m n → Same n.pair
+  node_stays m n at = state_after_event o w made inv law n.pair (node_known o w made inv m n at) event
+
+  pub effect_stays : (v i : ℕ) → IsBase w.recorded.bases v → IsUpTo w.nodes v i → Same (record { version = v; count = i - 1 }) × Same (record { version = v; count = i })
+  effect_stays v i b up = (
+    state_after_event o w made inv law (record { version = v; count = i - 1 }) (fewer_known w v i (i - 1) (omega arith) b up) event,
+    state_after_event o w made inv law (record { version = v; count = i }) (inr b, up) event,
+  )
+
+  -- and so is that of each pair that a message in flight speaks of
+  pub packet_stays : (p : Packet) → In p w.packets → (pair : Pair) → In pair (pairs_of p.message) → Same pair
+  packet_stays p i pair j = state_after_event o w made inv law pair (said_known o w made inv p.from p.message pair (flies o w made inv p i) j) event
+
 pub state_after_run : {C State : Type 0} (o : Object C State) (law : IsLawful o) (w : World C) (more : List (Event C)) (p : Pair) → Good o w → IsKnown w p → pair_state o (run o w more) p ≡ pair_state o w p
 state_after_run o law w [] p g k = refl
 state_after_run o law w (e ∷ more) p g k =
