@@ -13,9 +13,9 @@ ghost use Rattle.partition_protocol.specs.Claims.{EveryRunIsSafe, EveryAckHolds,
 
 /// Whatever is lost, repeated or late, and whoever crashes: after every list of events in which no two calls have one
 /// name, the history by which the partition stands is that of one object used by one thread and emptied at each
-/// reopening. It has every answer that was given, and so has every member that may be promoted. What it has are calls
-/// that arrived, in order of arrival, each at most once. A member that was replaced as primary executes and answers
-/// nothing more.
+/// reopening. It has every answer that was given, and so has every eligible member of the newest row whose contents
+/// aren't from before the last reopening. What it has are calls that arrived, in order of arrival, each at most once.
+/// A live member that was replaced as primary executes and answers nothing until it adopts a newer row.
 ///
 /// Nothing is said of progress: a lost message stays lost until someone sends it again.
 pub fn every_run_is_safe<C, S>()
@@ -28,7 +28,8 @@ pub fn every_acknowledgement_holds<C, S>()
     ensures { (o : Object C S) → EveryAckHolds o }
 {}
 
-/// Nothing that was executed or answered is taken back, and its order stays. No member drops an answer that it holds.
+/// The log of what was executed and the list of what was answered only grow, at their ends, and no member drops an
+/// answer that it holds. So no call stands in a history before one that was answered before it arrived.
 pub fn every_run_extends<C, S>()
     ensures extends { (o : Object C S) → EveryRunExtends o }
     ensures answers { (o : Object C S) → EveryAnswerStays o }

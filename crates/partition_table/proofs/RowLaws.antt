@@ -4,7 +4,7 @@ use Rattle.std.specs.Prelude.{IsTrue}
 use Rattle.std.specs.List.{find}
 use Rattle.std.proofs.lemmas.Bool.{or_from, or_parts, cond_both}
 use Rattle.partition_table.specs.Rows.{Row, RowMember, has_number, number_of, is_among, is_in, is_empty, others, led_by, first_eligible, initial_row, without, with_joiner, handed, reopened, eligible_member}
-use Rattle.partition_table.specs.RowFacts.{are_distinct, has_distinct_members, begins_eligible}
+use Rattle.partition_table.specs.RowFacts.{are_distinct, HasDistinctMembers, begins_eligible}
 use Rattle.partition_table.proofs.Opening.{with_backups-members_from}
 use Rattle.partition_table.proofs.Distinct.{among-filter, among-others, distinct-filter, distinct-led, distinct-joined, distinct-members_from, numbers-begun_by, numbers-eligible}
 
@@ -51,19 +51,19 @@ distinct-led_by (Some r) rs once = distinct-led r rs once
 distinct-others : (m : ℕ) (rs : List RowMember) → are_distinct (map number_of rs) ≡ true → are_distinct (map number_of (others m rs)) ≡ true
 distinct-others m rs once = distinct-filter (λ (x : RowMember). not (has_number m x)) rs once
 
-pub distinct-without : (row : Row) (m : ℕ) → IsTrue (has_distinct_members row) → IsTrue (has_distinct_members (without row m))
+pub distinct-without : (row : Row) (m : ℕ) → HasDistinctMembers row → HasDistinctMembers (without row m)
 distinct-without row m once = let rs = others m row.members in distinct-led_by (first_eligible rs) rs (distinct-others m row.members once)
 
-pub distinct-with_joiner : (row : Row) (m : ℕ) → is_in row m ≡ false → IsTrue (has_distinct_members row) → IsTrue (has_distinct_members (with_joiner row m))
+pub distinct-with_joiner : (row : Row) (m : ℕ) → is_in row m ≡ false → HasDistinctMembers row → HasDistinctMembers (with_joiner row m)
 distinct-with_joiner row m out once = distinct-joined row.members (record { member = m; eligible = false }) once out
 
-pub distinct-handed : (row : Row) (from to : ℕ) → IsTrue (has_distinct_members row) → IsTrue (has_distinct_members (handed row from to))
+pub distinct-handed : (row : Row) (from to : ℕ) → HasDistinctMembers row → HasDistinctMembers (handed row from to)
 distinct-handed row from to once = distinct-led (eligible_member to) (others from row.members) (distinct-others from row.members once)
 
-pub distinct-reopened : (row : Row) (ms : List ℕ) → IsTrue (are_distinct ms) → IsTrue (has_distinct_members (reopened row ms))
+pub distinct-reopened : (row : Row) (ms : List ℕ) → IsTrue (are_distinct ms) → HasDistinctMembers (reopened row ms)
 distinct-reopened row ms once = rw numbers-begun_by once
 
-pub distinct-initial_row : (partition members backups : ℕ) → IsTrue (has_distinct_members (initial_row partition members backups))
+pub distinct-initial_row : (partition members backups : ℕ) → HasDistinctMembers (initial_row partition members backups)
 distinct-initial_row partition members backups =
     rw (numbers-eligible, with_backups-members_from members backups members partition)
     (distinct-members_from members (min members (backups + 1)) partition (omega arith))

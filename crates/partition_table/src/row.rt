@@ -1,5 +1,5 @@
 ghost use Rattle.std.specs.Prelude.{◌≡◌, ◌+◌, ◌<◌, ◌↔◌, [], false, IsTrue, IfOk};
-ghost use Rattle.partition_table.specs.RowFacts.{are_distinct, has_distinct_members, KeepsDistinct, begins_eligible};
+ghost use Rattle.partition_table.specs.RowFacts.{are_distinct, HasDistinctMembers, KeepsDistinct, begins_eligible};
 ghost use Rattle.partition_table.specs.Rows.{first_of, is_primary, is_backup, is_in, is_eligible, backups_of, first_live_eligible, initial_row, without, with_joiner, handed, with_eligible, reopened, next_row};
 
 use crate::members::{
@@ -31,7 +31,7 @@ impl Row {
         backups: u8,
     ) -> Result<Row, Memory>
         ensures row { IfOk result (λ row. row ≡ initial_row partition members backups) }
-        ensures distinct { IfOk result (λ row. IsTrue (has_distinct_members row)) }
+        ensures distinct { IfOk result HasDistinctMembers }
     {
         let members = opening(alloc, partition, members, backups)?;
         Ok(Row {
@@ -151,7 +151,7 @@ impl Row {
         ensures row { IfOk result (λ row. row ≡ with_joiner self.now member) }
         ensures version { IfOk result (λ row. row.version ≡ self.now.version + 1) }
         ensures lost { IfOk result (λ row. IsTrue row.lost ↔ (row.members ≡ [])) }
-        ensures distinct { IfOk result (λ row. is_in self.now member ≡ false → KeepsDistinct self.now row) }
+        ensures distinct { is_in self.now member ≡ false → IfOk result (KeepsDistinct self.now) }
     {
         Ok(self.next(joined(alloc, self.members.as_slice(), member)?))
     }
@@ -178,7 +178,7 @@ impl Row {
         ensures row { IfOk result (λ row. row ≡ reopened self.now members.now) }
         ensures version { IfOk result (λ row. row.version ≡ self.now.version + 1) }
         ensures reset { IfOk result (λ row. row.reset ≡ row.version) }
-        ensures distinct { IsTrue (are_distinct members.now) → IfOk result (λ row. IsTrue (has_distinct_members row)) }
+        ensures distinct { IsTrue (are_distinct members.now) → IfOk result HasDistinctMembers }
     {
         let version = self.version + 1;
         Ok(Row {
@@ -201,3 +201,6 @@ impl Row {
         }
     }
 }
+
+#[cfg(test)]
+mod tests;
