@@ -16,7 +16,7 @@ use Rattle.partition_protocol.specs.World.{World, start, is_live, bases_after, p
 use Rattle.partition_protocol.specs.Links.{taken_out, packets_from, with_packets, sending}
 use Rattle.partition_protocol.specs.Events.{Event, delivered, entry_of, executed_with, told_all, happens, run, with_reset}
 use Rattle.partition_protocol.specs.Claims.{IsLawful}
-use Rattle.partition_protocol.specs.InFlight.{IsEffect, EveryEffectLeads}
+use Rattle.partition_protocol.specs.NamedStates.{IsEffect, EveryEffectLeads}
 use Rattle.partition_protocol.proofs.Lists.{In, in_left, in_right, in_contains, contains_in, Every, every_append, every_in, every_from_in, get_set, set_get_same, on_cond, on_if}
 use Rattle.partition_protocol.proofs.Histories.{IsBase, Falling, base_same, base_below}
 use Rattle.partition_protocol.proofs.Invariant.{Shape, NodeAt, IsUpTo, PacketOk, NodeOk, Invariant}
@@ -42,15 +42,18 @@ IsFloor bs v c = (b : Base) → In b bs → b.version ≡ v → b.pair.count ≤
 abbrev pub AreEffects : {C State : Type 0} → Object C State → World C → ℕ → ℕ → Type 0
 AreEffects o w v c = (i : ℕ) (b : Base) → In b w.recorded.bases → b.version ≡ v → b.pair.count < i → i ≤ c → IsEffect o w v i
 
+-- calls lead to the pair, from the count with which its version began
 abbrev pub PairLed : {C State : Type 0} → Object C State → World C → ℕ → ℕ → Type 0
 PairLed o w v c = IsFloor w.recorded.bases v c × AreEffects o w v c
 
+-- they lead to a node's pair, and all that it was acknowledged is past what the version began with
 pub record NodeLed {C State : Type 0} (o : Object C State) (w : World C) (m : ℕ) (n : Node) : Type 0 where
   pub pair : PairLed o w n.pair.version n.pair.count
   pub acks : is_primary n.known m ≡ true → (a : Acknowledged) → In a n.acks → IsFloor w.recorded.bases n.known.version a.count
   pub opening : n.opening ≡ true → IsBase w.recorded.bases n.known.version × IsFloor w.recorded.bases n.known.version 0
   pub earlier : (e : Earlier) → is_primary n.known m ≡ true → n.earlier ≡ Some e → (a : Acknowledged) → In a e.acks → IsFloor w.recorded.bases e.version a.count
 
+-- and to what a message says
 abbrev pub MessageLed : {C State : Type 0} → Object C State → World C → Message → Type 0
 MessageLed o w (Sync row c) = PairLed o w row.version c
 MessageLed o w (Effect v i) = (1 ≤ i) × IsEffect o w v i

@@ -1,5 +1,5 @@
 -- What holds of the world after an event, by each thing that an event can do, with what is known as it does it.
-use Rattle.partition_protocol.specs.Taken.{handed_by}
+use Rattle.partition_protocol.specs.ReadOff.{handed_by}
 use Rattle.std.proofs.Common.{◌≡◌, ℕ, ◌+◌, ◌<◌, Bool, true, false, cond, not, ◌&&◌, ◌==◌, List, [], ◌∷◌, ◌++◌, Option, Some, None, nat_lt, slice_get, refl, sym, subst, ◌⊎◌, inl, inr}
 use Rattle.partition_table.specs.Rows.{is_among, is_in, is_primary, without, handed}
 use Rattle.partition_protocol.specs.Messages.{Message, NewRow, Sync, Effect, Bridge, Ack, Joined as JoinedMessage, Freeze, Frozen as FrozenMessage, Packet}
@@ -23,11 +23,6 @@ use Rattle.std.proofs.Common.{le_refl}
 
 pub place_in : (f t i : ℕ) (ps : List Packet) (q : Packet) → slice_get (link f t ps) i ≡ Some q → In q ps
 place_in f t i ps q e = (filter_in (is_on f t) ps q (get_in (link f t ps) i q e)).0
-
-pub place_ends : (f t i : ℕ) (ps : List Packet) (q : Packet) → slice_get (link f t ps) i ≡ Some q → (q.from ≡ f) × (q.to ≡ t)
-place_ends f t i ps q e =
-    let on = (filter_in (is_on f t) ps q (get_in (link f t ps) i q e)).1 in
-    (same_number q.from f (both_left (q.from == f) (q.to == t) on), same_number q.to t (both_right (q.from == f) (q.to == t) on))
 
 -- what has to be shown for each thing that an event can do
 pub record EventCases {C State : Type 0} (o : Object C State) (w : World C) (P : Event C → World C → Type 0) : Type 0 where

@@ -1,5 +1,5 @@
 -- What an event does, as an equation, where it is known whom it reaches.
-use Rattle.std.proofs.Common.{◌≡◌, ℕ, ◌≤◌, Bool, true, false, cond, not, ◌&&◌, ◌==◌, List, [], ◌∷◌, ◌++◌, length, Some, None, nat_lt, slice_get, refl, ap, ◌∙◌, ◌↔◌}
+use Rattle.std.proofs.Common.{◌≡◌, ℕ, ◌≤◌, Bool, true, false, cond, not, ◌==◌, List, [], ◌∷◌, ◌++◌, length, Some, slice_get, refl, ap, ◌∙◌}
 use Rattle.std.proofs.lemmas.Option.{slice_get_past}
 use Rattle.grid_base.specs.Objects.{Object}
 use Rattle.partition_table.specs.Rows.{is_primary}
@@ -9,9 +9,8 @@ use Rattle.partition_protocol.specs.Node.{Node}
 use Rattle.partition_protocol.specs.Execution.{reached, Reached, Executes, PartitionLost, WrongTarget, Migrating}
 use Rattle.partition_protocol.specs.World.{World, map_or, is_live}
 use Rattle.partition_protocol.specs.Links.{link, taken_out, with_packets}
-use Rattle.partition_protocol.specs.Events.{Event, Call, Deliver, Lose, Repeat, Resend, Happened, Refused, TookMessage, nothing, done, at_node, at_place, calling, delivered, service_takes, handed_over, executes, happens, run}
+use Rattle.partition_protocol.specs.Events.{Event, Call, Deliver, Lose, Repeat, Happened, Refused, TookMessage, nothing, done, at_node, at_place, calling, delivered, service_takes, handed_over, executes, happens, run}
 use Rattle.partition_protocol.proofs.Extends.{run_append}
-use Rattle.partition_protocol.proofs.RowFacts.{number_same}
 use Rattle.partition_protocol.proofs.LinkFacts.{packet}
 
 -- a run with one event more

@@ -6,6 +6,7 @@ use Rattle.partition_protocol.specs.Links.{is_on, link, taken_out, packets_from}
 use Rattle.partition_protocol.proofs.Histories.{filter_in}
 use Rattle.partition_protocol.proofs.RowFacts.{number_cases, number_same, number_other, same_number, both_left, both_right}
 use Rattle.partition_protocol.proofs.Events.{get_in}
+use Rattle.partition_protocol.proofs.Theorem.{map_get}
 
 abbrev pub packet : ℕ → ℕ → Message → Packet
 packet f t msg = record { from = f; to = t; message = msg }
@@ -42,14 +43,9 @@ pub link_said : (f t : ℕ) (ps : List Packet) → link f t ps ≡ map (packet f
 link_said f t [] = refl
 link_said f t (p ∷ ps) = link_said_at f t p ps (is_on f t p) refl (link_said f t ps)
 
-pub map_at : {X Y : Type 0} (g : X → Y) (xs : List X) (i : ℕ) (x : X) → slice_get xs i ≡ Some x → slice_get (map g xs) i ≡ Some (g x)
-map_at g [] i x e = absurd cc
-map_at g (y ∷ xs) zero x e = let same : y ≡ x = cc in ap (λ z. Some (g z)) same
-map_at g (y ∷ xs) (suc i) x e = map_at g xs i x e
-
 -- the packet of the message at a place
 pub packet_of : (f t i : ℕ) (ps : List Packet) (msg : Message) → slice_get (map said (link f t ps)) i ≡ Some msg → slice_get (link f t ps) i ≡ Some (packet f t msg)
-packet_of f t i ps msg e = ap (λ qs. slice_get qs i) (link_said f t ps) ∙ map_at (packet f t) (map said (link f t ps)) i msg e
+packet_of f t i ps msg e = ap (λ qs. slice_get qs i) (link_said f t ps) ∙ map_get (packet f t) (map said (link f t ps)) i msg e
 
 -- a message is taken out
 

@@ -1,17 +1,17 @@
 -- Rows list members, each once.
-use Rattle.std.proofs.Common.{◌≡◌, ◌≢◌, ℕ, zero, suc, ◌+◌, ◌%◌, ◌<◌, ◌≤◌, Bool, true, false, cond, not, ◌&&◌, List, [], ◌∷◌, ◌++◌, map, take, filter, length, Option, Some, None, refl, ap, sym, ◌∙◌, subst, ◌⊎◌, ⊎_elim, inl, inr, arith}
+use Rattle.std.proofs.Common.{◌≡◌, ℕ, zero, suc, ◌<◌, Bool, true, false, not, List, [], ◌∷◌, ◌++◌, map, take, filter, Option, Some, None, refl, ap, sym, subst, arith}
 use Rattle.std.specs.Prelude.{All}
 use Rattle.partition_table.specs.declared.Row.{Row}
 use Rattle.partition_table.specs.declared.RowMember.{RowMember}
-use Rattle.partition_table.specs.Rows.{number_of, has_number, is_in, is_among, numbers_of, members_from, with_backups, eligible_member, initial_row, first_eligible, others, led_by, without, with_joiner, handed, marked, with_eligible, begun_by, reopened}
-use Rattle.partition_table.specs.RowFacts.{are_distinct, has_distinct_members}
+use Rattle.partition_table.specs.Rows.{number_of, has_number, is_in, is_among, numbers_of, members_from, with_backups, initial_row, first_eligible, others, led_by, without, with_joiner, handed, with_eligible, reopened}
+use Rattle.partition_table.specs.RowFacts.{are_distinct}
 use Rattle.partition_table.proofs.Distinct.{distinct-members_from, numbers-begun_by, numbers-eligible}
-use Rattle.partition_table.proofs.RowLaws.{distinct-without, distinct-with_joiner, distinct-handed, distinct-reopened, distinct-initial_row}
-use Rattle.partition_protocol.specs.Ends.{IsRowOf}
+use Rattle.partition_table.proofs.RowLaws.{distinct-without, distinct-with_joiner, distinct-handed}
+use Rattle.partition_protocol.specs.WellFormed.{IsRowOf}
 use Rattle.partition_protocol.proofs.Lists.{In, Every, every_in, every_append, every_from_in, every_filter, on_if}
 use Rattle.partition_protocol.proofs.Histories.{filter_in}
 use Rattle.partition_protocol.proofs.RowFacts.{in_map, in_among, among_in, both, both_left, both_right, not_true, not_both, false_or_not}
-use Rattle.partition_protocol.proofs.NextRows.{find_in, members_from_below, take_in, with_backups_in}
+use Rattle.partition_protocol.proofs.NextRows.{find_in, members_from_below, take_in}
 use Rattle.partition_protocol.proofs.Joins.{marked_members}
 
 abbrev pub AreBelow : ℕ → List ℕ → Type 0

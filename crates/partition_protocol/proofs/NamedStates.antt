@@ -12,7 +12,7 @@ use Rattle.partition_protocol.specs.World.{World, start, pair_state}
 use Rattle.partition_protocol.specs.Links.{taken_out, with_packets}
 use Rattle.partition_protocol.specs.Events.{Event, delivered, happens, run}
 use Rattle.partition_protocol.specs.Claims.{IsLawful}
-use Rattle.partition_protocol.specs.InFlight.{pairs_of, IsNamed, EveryNamedStateStays, EveryBridgeJoins}
+use Rattle.partition_protocol.specs.NamedStates.{pairs_of, IsNamed, EveryNamedStateStays, EveryBridgeJoins}
 use Rattle.partition_protocol.proofs.Lists.{In, every_in, in_contains, get_set, on_if}
 use Rattle.partition_protocol.proofs.Histories.{IsBase, Falling, base_below}
 use Rattle.partition_protocol.proofs.Invariant.{Shape, NodeAt, IsUpTo, PacketOk, PairUp, Invariant}

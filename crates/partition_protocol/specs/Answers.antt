@@ -1,7 +1,7 @@
--- Each answer is released at most once.
+-- An answer is held by one member, once, until it is released, and it is released once.
 use Rattle.std.specs.Prelude.{◌≡◌, ◌≢◌, ℕ, List, map, Some, slice_get, Contains}
-use Rattle.partition_protocol.specs.Node.{Held, Node}
 use Rattle.grid_base.specs.Objects.{Object}
+use Rattle.partition_protocol.specs.Node.{Held, Node}
 use Rattle.partition_protocol.specs.World.{World, start}
 use Rattle.partition_protocol.specs.Events.{Event, run}
 use Rattle.partition_protocol.specs.Arrivals.{CallName, name, arrivals, NamedOnce}
@@ -22,7 +22,8 @@ pub record AreAnswersSingle {C : Type 0} (w : World C) : Type 0 where
   pub waiting : (m : ℕ) (node : Node) (g h : Held) → slice_get w.nodes m ≡ Some node → Contains node.held g → Contains w.released h
       → answered_call g ≢ answered_call h
 
--- for events in which no two calls have one name
+-- of any number of members and backups, where no two calls have one name
 abbrev pub EveryAnswerIsSingle : {C State : Type 0} → Object C State → Type 0
-EveryAnswerIsSingle {C} o = (partition members backups : ℕ) (events : List (Event C)) → NamedOnce (map name (arrivals events))
+EveryAnswerIsSingle {C} o =
+    (partition members backups : ℕ) (events : List (Event C)) → NamedOnce (map name (arrivals events))
     → AreAnswersSingle (run o (start partition members backups) events)

@@ -18,8 +18,8 @@ pub mod Examples
 pub mod Traces
 pub mod Bounds
 pub mod Answers
-pub mod Ends
-pub mod InFlight
+pub mod WellFormed
+pub mod NamedStates
 pub mod CrashTraces
-pub mod RowLaws
-pub mod Taken
+pub mod RowRules
+pub mod ReadOff

@@ -3,10 +3,10 @@
 ghost use Rattle.grid_base.specs.Objects.{Object};
 ghost use Rattle.partition_protocol.specs.Answers.{EveryAnswerIsSingle};
 ghost use Rattle.partition_protocol.specs.Bounds.{EveryRunIsWithin};
-ghost use Rattle.partition_protocol.specs.Ends.{EveryRunIsPlaced};
-ghost use Rattle.partition_protocol.specs.InFlight.{EveryEffectLeads, EveryNamedStateStays, EveryBridgeJoins};
-ghost use Rattle.partition_protocol.specs.RowLaws.{EveryKnownRowGoesOn, EveryLossIsTold, EveryRowIsLostByRule};
-ghost use Rattle.partition_protocol.specs.Taken.{EveryFactIsReadOff};
+ghost use Rattle.partition_protocol.specs.WellFormed.{EveryRunIsWellFormed};
+ghost use Rattle.partition_protocol.specs.NamedStates.{EveryEffectLeads, EveryNamedStateStays, EveryBridgeJoins};
+ghost use Rattle.partition_protocol.specs.RowRules.{EveryKnownRowGoesOn, EveryLossIsTold, EveryRowIsLostByRule};
+ghost use Rattle.partition_protocol.specs.ReadOff.{EveryFactIsReadOff};
 
 /// After `n` events every version and every reset is at most `n + 1`, and every count at most `n`: of rows, of pairs,
 /// of acknowledgements, of answers and in messages.
@@ -19,9 +19,10 @@ pub fn every_answer_is_single<C, S>()
     ensures { (o : Object C S) → EveryAnswerIsSingle o }
 {}
 
-/// Each message in flight is between two ends, as its kind has them, and each row lists members, each once.
-pub fn every_message_is_placed<C, S>()
-    ensures { (o : Object C S) → EveryRunIsPlaced o }
+/// There is a node for each member, each row lists members, each once, and each message in flight is between two ends, as
+/// its kind has them.
+pub fn every_run_is_well_formed<C, S>()
+    ensures { (o : Object C S) → EveryRunIsWellFormed o }
 {}
 
 /// What a message in flight says of contents stays so until it comes, whatever happens meanwhile: each Effect is that of

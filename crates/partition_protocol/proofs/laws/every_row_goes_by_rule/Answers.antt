@@ -1,5 +1,5 @@
 use Rattle.partition_protocol.proofs.laws.every_row_goes_by_rule.Goals as goal
-use Rattle.partition_protocol.proofs.RowLaws.{every_known_row_goes_on, every_loss_is_told, every_row_is_lost_by_rule}
+use Rattle.partition_protocol.proofs.RowRules.{every_known_row_goes_on, every_loss_is_told, every_row_is_lost_by_rule}
 
 pub returns-clause-known : goal.returns-clause-known
 returns-clause-known g c = λ o. every_known_row_goes_on o

@@ -1,8 +1,10 @@
 -- Messages are between two ends, and rows list members.
-use Rattle.std.proofs.Common.{◌≡◌, ◌≢◌, ℕ, zero, suc, ◌+◌, ◌<◌, ◌≤◌, Bool, true, false, cond, not, ◌&&◌, ◌||◌, ◌==◌, List, [], ◌∷◌, ◌++◌, map, Option, Some, None, nat_lt, slice_set, refl, sym, ◌∙◌, subst, ◌⊎◌, ⊎_elim, inl, inr, arith}
+use Rattle.partition_protocol.proofs.Walk.{walk}
+use Rattle.std.proofs.lemmas.List.{length-map, length-set}
+use Rattle.std.proofs.Common.{◌≡◌, ◌≢◌, ℕ, zero, suc, ◌+◌, ◌<◌, ◌≤◌, Bool, true, false, cond, not, ◌&&◌, ◌||◌, ◌==◌, List, [], ◌∷◌, ◌++◌, map, Option, Some, None, nat_lt, slice_set, refl, sym, ◌∙◌, subst, ◌⊎◌, ⊎_elim, inl, inr, arith, length}
 use Rattle.partition_table.specs.Rows.{number_of, is_first, is_primary, is_in, is_backup, is_eligible, numbers_of, backups_of, rest_of, initial_row, without, handed, is_among, with_backups, members_from}
 use Rattle.partition_protocol.specs.Messages.{Message, NewRow, Sync, Effect, Bridge, Ack, Joined as JoinedMessage, Freeze, Frozen as FrozenMessage, Sent, Packet}
-use Rattle.partition_protocol.specs.Node.{Node, settled, now_released}
+use Rattle.partition_protocol.specs.Node.{Node, settled, now_released, opening_node}
 use Rattle.partition_protocol.specs.Replica.{sent_again, taking}
 use Rattle.partition_protocol.specs.Execution.{executing, sent_on_executing}
 use Rattle.partition_protocol.specs.Service.{Service, Move, NoMove, Joining, Joined, Freezing, Drained, ServiceStep, numbers_below, undetected, telling, detecting, is_in_move, move_in_row, begun_move, is_idle, join_refused, handover_refused, beginning, handing_over, candidates, reopening, freezing_again, freeze_of, is_freezing, with_row, on_joined, joined_move, drained_move}
@@ -10,10 +12,10 @@ use Rattle.grid_base.specs.Objects.{Object}
 use Rattle.partition_protocol.specs.History.{Entry, Base, Opening}
 use Rattle.partition_protocol.specs.World.{World, is_live, bases_after, pair_state, start}
 use Rattle.partition_protocol.specs.Links.{taken_out, packets_from, with_packets}
-use Rattle.partition_protocol.specs.Events.{Event, told_all, delivered, service_takes, with_reset, happens, run}
+use Rattle.partition_protocol.specs.Events.{Event, told_all, delivered, service_takes, with_reset, happens, run, Reopen}
 use Rattle.partition_table.specs.declared.Row.{Row}
 use Rattle.partition_table.specs.declared.RowMember.{RowMember}
-use Rattle.partition_protocol.specs.Ends.{IsFromService, IsToService, IsBetweenMembers, IsMessageOf, IsPacketOf, IsPlaced, EveryRunIsPlaced}
+use Rattle.partition_protocol.specs.WellFormed.{IsFromService, IsToService, IsBetweenMembers, IsMessageOf, IsPacketOf, IsWellFormed, EveryRunIsWellFormed, IsRowOf}
 use Rattle.partition_protocol.proofs.Lists.{In, Every, every_append, every_in, get_set, in_cases, in_contains, on_if}
 use Rattle.partition_protocol.proofs.Histories.{filter_in}
 use Rattle.partition_protocol.proofs.Invariant.{NodeAt}
@@ -21,7 +23,7 @@ use Rattle.partition_protocol.proofs.RowFacts.{both_left, both_right, less, same
 use Rattle.partition_protocol.proofs.Adopt.{adopted_known}
 use Rattle.partition_protocol.proofs.Deliver.{packets_append}
 use Rattle.partition_protocol.proofs.Events.{taken_every}
-use Rattle.partition_protocol.proofs.Theorem.{opened_node}
+use Rattle.partition_protocol.proofs.Theorem.{opened_node, length-numbers_below}
 use Rattle.partition_protocol.proofs.Takings.{brought, every_taking}
 use Rattle.partition_protocol.proofs.Says.{IsBackupIn, IsAnswered, Says, SaysSent, taking_says, again_says}
 use Rattle.partition_protocol.proofs.EventCases.{EventCases, every_event, place_in}
@@ -377,14 +379,42 @@ placed_ends n from to (FrozenMessage v) h = to_service_ends n from to h
 pub packet_placed : (n : ℕ) (p : Packet) → PacketPlaced n p → IsPacketOf n p
 packet_placed n p h = let e = placed_ends n p.from p.to p.message h in record { from = e.0; to = e.1; apart = e.2; message = message_placed n p.from p.to p.message h }
 
-pub placed_by_elements : {C : Type 0} (w : World C) → Placed w → IsPlaced w
-placed_by_elements w b = record {
-  row = listing_row w.members w.service.row b.row;
-  standing = listing_row w.members w.recorded.standing b.standing;
-  known = λ m n at. listing_row w.members n.known (b.known m n at);
-  packets = λ p c. packet_placed w.members p (every_in (PacketPlaced w.members) w.packets p b.packets (in_contains p w.packets c));
-}
+-- what a world began with
 
-pub every_run_is_placed : {C State : Type 0} (o : Object C State) → EveryRunIsPlaced o
-every_run_is_placed o partition members backups events =
-    placed_by_elements (run o (start partition members backups) events) (run_placed o (start partition members backups) events (start_placed partition members backups))
+abbrev pub SameSize : {C : Type 0} → World C → Event C → World C → Type 0
+SameSize w e u = (u.partition ≡ w.partition) × (u.members ≡ w.members) × (u.backups ≡ w.backups) × (length u.nodes ≡ length w.nodes)
+
+pub same_size : {C State : Type 0} (o : Object C State) (w : World C) (e : Event C) → SameSize w e (happens o w e).world
+same_size o w = walk o w (SameSize w) (λ e ps. same) (λ e m. same) (λ e s st ps. same) (λ e s st ps. same) (λ e f t i q n j at l. (refl, refl, refl, length-set w.nodes q.to _)) (λ m conn number call now n at l p f. (refl, refl, refl, length-set w.nodes m _))
+  where
+    same : (w.partition ≡ w.partition) × (w.members ≡ w.members) × (w.backups ≡ w.backups) × (length w.nodes ≡ length w.nodes)
+    same = (refl, refl, refl, refl)
+
+pub run_size : {C State : Type 0} (o : Object C State) (w : World C) (es : List (Event C)) → (e : Event C) → SameSize w e (run o w es)
+run_size o w [] e = (refl, refl, refl, refl)
+run_size o w (d ∷ es) e =
+    let one = same_size o w d in
+    let rest = run_size o (happens o w d).world es d in
+    (rest.0 ∙ one.0, rest.1 ∙ one.1, rest.2 ∙ one.2, rest.3 ∙ one.3)
+
+pub well_formed : {C : Type 0} (partition members backups : ℕ) (w : World C) → (w.partition ≡ partition) × (w.members ≡ members) × (w.backups ≡ backups) × (length w.nodes ≡ members) → Placed w → IsWellFormed partition members backups w
+well_formed partition members backups w e b = record {
+  same_partition = e.0;
+  same_members = e.1;
+  same_backups = e.2;
+  nodes = e.3;
+  row = row w.service.row b.row;
+  standing = row w.recorded.standing b.standing;
+  known = λ m n at. row n.known (b.known m n at);
+  packets = λ p c. subst (λ n. IsPacketOf n p) e.1 (packet_placed w.members p (every_in (PacketPlaced w.members) w.packets p b.packets (in_contains p w.packets c)));
+}
+  where
+    row : (r : Row) → IsRowListing w.members r → IsRowOf members r
+    row r h = listing_row members r (subst (λ n. IsRowListing n r) e.1 h)
+
+pub every_run_is_well_formed : {C State : Type 0} (o : Object C State) → EveryRunIsWellFormed o
+every_run_is_well_formed o partition members backups events =
+    let opening = start partition members backups in
+    let size = run_size o opening events Reopen in
+    let nodes : length opening.nodes ≡ members = length-map (numbers_below members) (opening_node (initial_row partition members backups)) ∙ length-numbers_below members in
+    well_formed partition members backups (run o opening events) (size.0, size.1, size.2, size.3 ∙ nodes) (run_placed o opening events (start_placed partition members backups))

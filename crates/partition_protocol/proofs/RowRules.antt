@@ -1,30 +1,27 @@
 -- A member never goes back to an earlier row, and rows are lost by rule.
 use Rattle.partition_protocol.proofs.Listings.{members_from_listing}
 use Rattle.std.proofs.lemmas.Nat.{mod-mul-add}
-use Rattle.partition_protocol.proofs.Forward.{le_cases}
-use Rattle.std.proofs.Common.{◌≡◌, ◌≢◌, ℕ, zero, suc, ◌+◌, ◌%◌, ◌<◌, ◌≤◌, Bool, true, false, cond, not, ◌&&◌, ◌||◌, ◌==◌, List, [], ◌∷◌, ◌++◌, map, Option, Some, None, nat_lt, slice_get, slice_set, refl, ap, sym, ◌∙◌, subst, ◌⊎◌, ⊎_elim, inl, inr, arith, true≢false, mod-lt, ◌*◌, ◌/◌, ◌-◌}
+use Rattle.std.proofs.Common.{◌≡◌, ◌≢◌, ℕ, zero, suc, ◌+◌, ◌%◌, ◌<◌, ◌≤◌, Bool, true, false, cond, not, ◌&&◌, ◌==◌, List, [], ◌∷◌, Option, Some, None, nat_lt, slice_set, refl, ap, sym, ◌∙◌, subst, ◌⊎◌, ⊎_elim, inl, inr, arith, true≢false, mod-lt, ◌*◌, ◌/◌, ◌-◌}
 use Rattle.std.specs.Prelude.{◌↔◌}
-use Rattle.std.proofs.Math.Nat.{div-add-mod, mod-add-div'}
+use Rattle.std.proofs.Math.Nat.{mod-add-div'}
 use Rattle.grid_base.specs.Objects.{Object}
 use Rattle.partition_table.specs.declared.Row.{Row}
 use Rattle.partition_table.specs.declared.RowMember.{RowMember}
-use Rattle.partition_table.specs.Rows.{is_among, is_in, is_eligible, is_primary, numbers_of, others, first_eligible, led_by, is_empty, without, with_joiner, handed, with_eligible, members_from, with_backups, begun_by, reopened}
-use Rattle.partition_protocol.specs.Messages.{Packet}
+use Rattle.partition_table.specs.Rows.{is_among, is_in, is_eligible, is_primary, numbers_of, others, first_eligible, led_by, is_empty, without, members_from}
 use Rattle.partition_protocol.specs.Node.{Node, settled}
 use Rattle.partition_protocol.specs.Replica.{taking}
 use Rattle.partition_protocol.specs.Execution.{Reached, Executes, PartitionLost, WrongTarget, Migrating, executing, reached}
-use Rattle.partition_protocol.specs.Service.{Service, Move, NoMove, Joining, Joined, Freezing, Drained, ServiceStep, with_row, detecting, move_after_loss, beginning, handing_over, is_idle, join_refused, is_freezing, candidates, reopen_refused, reopening, joined_move, drained_move, on_joined, numbers_below}
-use Rattle.partition_protocol.specs.Took.{Stale, Joined as TookJoined, Drained as TookDrained}
-use Rattle.partition_protocol.specs.World.{World, start, is_live, map_or, pair_state, with_service}
-use Rattle.partition_protocol.specs.Links.{taken_out, with_packets}
-use Rattle.partition_protocol.specs.Events.{Event, Call, Detect, Reopen, Outcome, Refused, HeldAt, ReleasedAt, Happened, nothing, done, at_node, delivered, executes, calling, if_executes, row_made, unless_reopen_refused, with_reset, happens, run, detected, reopened_row}
-use Rattle.partition_protocol.specs.RowLaws.{EveryKnownRowGoesOn, EveryLossIsTold, IsUntold, IsLastToLead, LosesByRule, EveryRowIsLostByRule}
-use Rattle.partition_protocol.proofs.Lists.{In, in_cases, get_set, set_get_same, set_get_other, cases, on_cond, on_if, in_left, in_right, every_in}
+use Rattle.partition_protocol.specs.Service.{Move, Joined, Drained, ServiceStep, detecting, join_refused, is_freezing, candidates, reopening, on_joined}
+use Rattle.partition_protocol.specs.World.{World, start, pair_state}
+use Rattle.partition_protocol.specs.Events.{Event, Call, Detect, Reopen, Refused, HeldAt, ReleasedAt, Happened, executes, calling, if_executes, happens, run, detected, reopened_row}
+use Rattle.partition_protocol.specs.RowRules.{EveryKnownRowGoesOn, EveryLossIsTold, IsUntold, IsLastToLead, LosesByRule, EveryRowIsLostByRule}
+use Rattle.partition_protocol.proofs.Lists.{In, set_get_same, set_get_other, cases, on_cond, on_if, every_in}
 use Rattle.partition_protocol.proofs.Histories.{filter_in, in_filter}
-use Rattle.partition_protocol.proofs.Invariant.{Shape, shape, NodeAt, Invariant, MoveOk}
-use Rattle.partition_protocol.proofs.RowFacts.{both, both_left, both_right, not_true, not_false, not_both, less, is_less, same_number, number_same, number_cases, false_or_not, true_or_not, in_among, among_in, no_first, eligible_in}
+use Rattle.partition_protocol.proofs.Invariant.{Shape, NodeAt, Invariant, MoveOk}
+use Rattle.partition_protocol.proofs.RowFacts.{both_left, both_right, not_true, not_both, less, is_less, number_cases, false_or_not, no_first, eligible_in}
 use Rattle.partition_protocol.proofs.NextRows.{eligible_at, at_eligible, in_others, others_in, find_in, in_find, led_lost, empty_is, snoc_some, some_in, leads, f_primary}
 use Rattle.partition_protocol.proofs.Takings.{KeepsRow, taking_keeps}
+use Rattle.partition_protocol.proofs.EventFacts.{call_live}
 use Rattle.partition_protocol.proofs.EventCases.{EventCases, every_event}
 use Rattle.partition_protocol.proofs.Theorem.{grid_good}
 use Rattle.partition_protocol.proofs.Walk.{walk}
@@ -99,12 +96,9 @@ reached_lost m node v = (there, back)
     back : (node.known.lost ≡ true) × (node.known.version ≡ v) → reached m node ≡ PartitionLost v
     back h = rw h.0 (ap (λ z. PartitionLost z) h.1)
 
-pub at_live : {C : Type 0} (w : World C) (m : ℕ) (node : Node) (f : Node → Happened C) → is_live w m ≡ true → NodeAt w.nodes m node → at_node w m f ≡ f node
-at_live w m node f lives at = rw (lives, at) refl
-
 pub every_loss_is_told : {C State : Type 0} (o : Object C State) → EveryLossIsTold o
 every_loss_is_told o w m conn number call now node v lives at =
-    let answered : (happens o w (Call m conn number call now)).outcome ≡ (calling o w m conn number call now node).outcome = ap (λ (h : Happened _). h.outcome) (at_live w m node (calling o w m conn number call now) lives at) in
+    let answered : (happens o w (Call m conn number call now)).outcome ≡ (calling o w m conn number call now node).outcome = ap (λ (h : Happened _). h.outcome) (call_live o w m conn number call now node lives at) in
     let by_reached = refused_lost w (reached m node) (executes o w m conn number call now node) v (λ e. not_refused _ _ _ v e) in
     let by_row = reached_lost m node v in
     ((λ e. by_row.0 (by_reached.0 (sym answered ∙ e))), (λ h. answered ∙ by_reached.1 (by_row.1 h)))
@@ -141,9 +135,11 @@ is_untold w m = nat_lt m w.members && is_among w.crashed m && not (is_among w.se
 
 pub untold : {C : Type 0} (w : World C) (m : ℕ) → is_untold w m ≡ true → IsUntold w m
 untold w m e =
-    let crashed = both_left (nat_lt m w.members && is_among w.crashed m) (not (is_among w.service.detected m)) e in
-    (less m w.members (both_left (nat_lt m w.members) (is_among w.crashed m) crashed), both_right (nat_lt m w.members) (is_among w.crashed m) crashed,
-      not_true (is_among w.service.detected m) (both_right (nat_lt m w.members && is_among w.crashed m) (not (is_among w.service.detected m)) e))
+    let crashed = both_left (nat_lt m w.members && is_among w.crashed m) (not (is_among w.service.detected m)) e in (
+      less m w.members (both_left (nat_lt m w.members) (is_among w.crashed m) crashed),
+      both_right (nat_lt m w.members) (is_among w.crashed m) crashed,
+      not_true (is_among w.service.detected m) (both_right (nat_lt m w.members && is_among w.crashed m) (not (is_among w.service.detected m)) e),
+    )
 
 pub told_now : {C : Type 0} (w : World C) (m : ℕ) → IsUntold w m → is_untold w m ≡ true
 told_now w m h = rw (is_less m w.members h.0, h.1, h.2) refl

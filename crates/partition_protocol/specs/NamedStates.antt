@@ -1,4 +1,4 @@
--- What messages in flight name: states that stand whatever happens, and effects that lead from one to the next.
+-- What messages in flight say of contents: the states that they name stay, and an effect leads from one to the next.
 use Rattle.std.specs.Prelude.{◌≡◌, ℕ, ◌-◌, ◌≤◌, ◌⊎◌, true, List, [], ◌∷◌, ◌++◌, Some, slice_get, Contains}
 use Rattle.grid_base.specs.Objects.{Object}
 use Rattle.partition_table.specs.declared.Row.{Row}
@@ -11,7 +11,7 @@ use Rattle.partition_protocol.specs.Claims.{IsLawful}
 
 -- effects
 
--- one executed call leads from what version v has after i - 1 effects to what it has after i
+-- the i-th effect of version v is that of an executed call, which leads from what the version has after i - 1 effects to what it has after i
 pub record IsEffect {C State : Type 0} (o : Object C State) (w : World C) (v i : ℕ) : Type 0 where
   pub executed : Executed C
   pub logged : Contains w.recorded.log (Called executed)
@@ -20,11 +20,12 @@ pub record IsEffect {C State : Type 0} (o : Object C State) (w : World C) (v i :
   pub changes : o.changes (pair_state o w (record { version = v; count = i - 1 })) executed.call executed.now ≡ true
   pub state : pair_state o w (record { version = v; count = i }) ≡ o.after (pair_state o w (record { version = v; count = i - 1 })) executed.call executed.now
 
--- each Effect in flight is one
+-- each Effect in flight has such a call, and effects are numbered from 1
 abbrev pub EveryEffectLeads : {C State : Type 0} → Object C State → Type 0
-EveryEffectLeads {C} o = (partition members backups : ℕ) (events : List (Event C)) (p : Packet) (v i : ℕ) → 1 ≤ members → IsLawful o
-    → Contains (run o (start partition members backups) events).packets p → p.message ≡ Effect v i
-    → (1 ≤ i) × IsEffect o (run o (start partition members backups) events) v i
+EveryEffectLeads {C} o =
+    (partition members backups : ℕ) (events : List (Event C)) (p : Packet) (v i : ℕ) → 1 ≤ members → IsLawful o
+    → let w = run o (start partition members backups) events in
+    Contains w.packets p → p.message ≡ Effect v i → (1 ≤ i) × IsEffect o w v i
 
 -- states
 
@@ -39,7 +40,7 @@ pairs_of (Joined v b) = []
 pairs_of (Freeze v) = []
 pairs_of (Frozen v) = []
 
--- it is a member's pair, or one that a message in flight speaks of
+-- it is a member's own pair, or one that a message in flight speaks of
 abbrev pub IsNamed : {C : Type 0} → World C → Pair → Type 0
 IsNamed w pair =
     ((m : ℕ) × (node : Node) × (slice_get w.nodes m ≡ Some node) × (node.pair ≡ pair))
@@ -47,12 +48,16 @@ IsNamed w pair =
 
 -- a pair that is named keeps its state, whatever happens from then on
 abbrev pub EveryNamedStateStays : {C State : Type 0} → Object C State → Type 0
-EveryNamedStateStays {C} o = (partition members backups : ℕ) (events more : List (Event C)) (pair : Pair) → 1 ≤ members → IsLawful o
-    → IsNamed (run o (start partition members backups) events) pair
-    → pair_state o (run o (start partition members backups) (events ++ more)) pair ≡ pair_state o (run o (start partition members backups) events) pair
+EveryNamedStateStays {C} o =
+    (partition members backups : ℕ) (events more : List (Event C)) (pair : Pair) → 1 ≤ members → IsLawful o
+    → let w = run o (start partition members backups) events in
+    let next = run o (start partition members backups) (events ++ more) in
+    IsNamed w pair → pair_state o next pair ≡ pair_state o w pair
 
 -- the two pairs of a Bridge in flight name one state
 abbrev pub EveryBridgeJoins : {C State : Type 0} → Object C State → Type 0
-EveryBridgeJoins {C} o = (partition members backups : ℕ) (events : List (Event C)) (p : Packet) (row : Row) (e k : ℕ) → 1 ≤ members → IsLawful o
-    → Contains (run o (start partition members backups) events).packets p → p.message ≡ Bridge row e k
-    → pair_state o (run o (start partition members backups) events) (record { version = row.version; count = k }) ≡ pair_state o (run o (start partition members backups) events) (record { version = e; count = k })
+EveryBridgeJoins {C} o =
+    (partition members backups : ℕ) (events : List (Event C)) (p : Packet) (row : Row) (e k : ℕ) → 1 ≤ members → IsLawful o
+    → let w = run o (start partition members backups) events in
+    Contains w.packets p → p.message ≡ Bridge row e k
+    → pair_state o w (record { version = row.version; count = k }) ≡ pair_state o w (record { version = e; count = k })

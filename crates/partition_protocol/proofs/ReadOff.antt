@@ -1,23 +1,22 @@
 -- The facts of a node are those read off the messages that it took.
-use Rattle.partition_protocol.proofs.Adopt.{adopted_known}
-use Rattle.std.proofs.Common.{◌≡◌, ◌≢◌, ℕ, zero, suc, ◌+◌, ◌<◌, ◌≤◌, max, Bool, true, false, cond, not, ◌&&◌, ◌||◌, ◌==◌, List, [], ◌∷◌, ◌++◌, Option, Some, None, nat_lt, slice_get, slice_set, filter, flat_map, refl, ap, sym, ◌∙◌, subst, ◌⊎◌, ⊎_elim, inl, inr, arith, le_refl, le_trans, append-nil, append_assoc, true≢false}
+use Rattle.partition_protocol.proofs.Adopt.{adopted_known, and_false}
+use Rattle.std.proofs.Common.{◌≡◌, ◌≢◌, ℕ, ◌<◌, ◌≤◌, max, Bool, true, false, cond, ◌&&◌, ◌||◌, ◌==◌, List, [], ◌∷◌, ◌++◌, Option, Some, None, nat_lt, slice_get, slice_set, filter, flat_map, refl, ap, sym, ◌∙◌, subst, ◌⊎◌, inl, inr, arith, le_refl, le_trans, append-nil, append_assoc}
 use Rattle.std.specs.List.{list_any}
-use Rattle.std.proofs.lemmas.Bool.Decides.{nat_tests}
 use Rattle.grid_base.specs.Objects.{Object}
 use Rattle.partition_table.specs.declared.Row.{Row}
-use Rattle.partition_table.specs.Rows.{is_primary, is_backup, is_in, is_among, initial_row}
+use Rattle.partition_table.specs.Rows.{is_primary, is_backup, initial_row}
 use Rattle.partition_protocol.specs.Messages.{Message, NewRow, Sync, Effect, Bridge, Ack, Joined as JoinedMessage, Freeze, Frozen as FrozenMessage, Packet}
-use Rattle.partition_protocol.specs.Node.{Acknowledged, Node, acked, acked_by, or_opening, with_ack, settled, opening_node, no_pair}
+use Rattle.partition_protocol.specs.Node.{Acknowledged, Node, acked_by, or_opening, with_ack, settled, opening_node, no_pair}
 use Rattle.partition_protocol.specs.Adoption.{adopted_row, adopt_as_primary, adopt_as_other, begun, stays_primary, carried_answers}
-use Rattle.partition_protocol.specs.Replica.{is_newer, taking, with_pair}
+use Rattle.partition_protocol.specs.Replica.{is_newer, taking}
 use Rattle.partition_protocol.specs.Execution.{executing}
-use Rattle.partition_protocol.specs.World.{World, start, map_or, is_live, pair_state}
+use Rattle.partition_protocol.specs.World.{World, start, is_live, pair_state}
 use Rattle.partition_protocol.specs.Links.{link, taken_out, with_packets}
-use Rattle.partition_protocol.specs.Events.{Event, Call, Deliver, delivered, happens, run, Lose, Repeat, Resend, Crash, Detect, BeginHandover, Advance, Reopen}
-use Rattle.partition_protocol.specs.Taken.{handed_by, taken_by, row_in, newest, known_by, Came, as_they_came, is_to_primary, count_in, counts_by, greatest, is_freeze, is_frozen_by, IsReadOff, EveryFactIsReadOff, greater}
-use Rattle.partition_protocol.proofs.Lists.{In, cases, get_set, on_cond, on_if}
+use Rattle.partition_protocol.specs.Events.{Event, Deliver, delivered, happens, run, Lose, Repeat, Resend, Crash, Detect, BeginHandover, Advance, Reopen}
+use Rattle.partition_protocol.specs.ReadOff.{handed_by, taken_by, row_in, newest, known_by, Came, as_they_came, is_to_primary, count_in, counts_by, greatest, is_freeze, is_frozen_by, IsReadOff, EveryFactIsReadOff, greater}
+use Rattle.partition_protocol.proofs.Lists.{cases, get_set, on_cond, on_if}
 use Rattle.partition_protocol.proofs.Invariant.{NodeAt}
-use Rattle.partition_protocol.proofs.RowFacts.{both, both_left, both_right, not_true, not_both, less, not_less, is_less, is_not_less, same_number, number_same, number_other, false_or_not, number_cases}
+use Rattle.partition_protocol.proofs.RowFacts.{both, both_left, both_right, not_both, less, is_not_less, same_number, number_same, number_other, false_or_not, number_cases}
 use Rattle.partition_protocol.proofs.Takings.{brought, IsUnmoved, every_taking}
 use Rattle.partition_protocol.proofs.EventCases.{EventCases, every_event}
 use Rattle.partition_protocol.proofs.Theorem.{opened_node}
@@ -108,15 +107,11 @@ ack_other b m c (a ∷ acks) d = go (cases (a.member == m)) (ack_other b m c ack
 
 -- what a version heard before it began
 
-pub and_none : (a b : Bool) → b ≡ false → (a && b) ≡ false
-and_none true b e = e
-and_none false b e = refl
-
 pub not_its_primary : (m v : ℕ) (row : Row) → row.version ≢ v → is_to_primary m v row ≡ false
 not_its_primary m v row d = rw (number_other row.version v d) refl
 
 pub no_count : (m b v : ℕ) (row : Row) (from : ℕ) (msg : Message) → row.version ≢ v → count_in m b v row from msg ≡ []
-no_count m b v row from (Ack u c) d = rw (and_none (u == v) (is_to_primary m v row) (not_its_primary m v row d)) refl
+no_count m b v row from (Ack u c) d = rw (and_false (u == v) (is_to_primary m v row) (not_its_primary m v row d)) refl
 no_count m b v row from (NewRow r) d = refl
 no_count m b v row from (Sync r c) d = refl
 no_count m b v row from (Effect u i) d = refl
@@ -126,7 +121,7 @@ no_count m b v row from (Freeze u) d = refl
 no_count m b v row from (FrozenMessage u) d = refl
 
 pub no_freeze : (m v : ℕ) (row : Row) (msg : Message) → row.version ≢ v → is_freeze m v row msg ≡ false
-no_freeze m v row (Freeze u) d = and_none (u == v) (is_to_primary m v row) (not_its_primary m v row d)
+no_freeze m v row (Freeze u) d = and_false (u == v) (is_to_primary m v row) (not_its_primary m v row d)
 no_freeze m v row (NewRow r) d = refl
 no_freeze m v row (Sync r c) d = refl
 no_freeze m v row (Effect u i) d = refl
@@ -316,7 +311,7 @@ module _ (row : Row) (m : ℕ) (ps : List Packet) (n : Node) (h : Heard row m ps
       counted = rw (number_same v n.known.version (sym version), to_primary, number_same p.from p.from refl, backup) refl
 
       not_counted : (b : ℕ) → b ≢ p.from → count_in m b n.known.version n.known p.from (Ack v c) ≡ []
-      not_counted b d = rw (and_none ((v == n.known.version) && is_to_primary m n.known.version n.known) (p.from == b) (number_other p.from b (λ z. d (sym z)))) refl
+      not_counted b d = rw (and_false ((v == n.known.version) && is_to_primary m n.known.version n.known) (p.from == b) (number_other p.from b (λ z. d (sym z)))) refl
 
       from_it : acked_by p.from (with_ack p.from c n.acks) ≡ greatest (counts_by m p.from n.known.version row (ps ++ p ∷ []))
       from_it = ack_same p.from c n.acks ∙ ap (greater c) (h.counts p.from) ∙ sym (greatest_more (counts_by m p.from n.known.version row ps) c)
