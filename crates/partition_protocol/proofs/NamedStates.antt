@@ -12,7 +12,7 @@ use Rattle.partition_protocol.specs.World.{World, start, pair_state}
 use Rattle.partition_protocol.specs.Links.{taken_out, with_packets}
 use Rattle.partition_protocol.specs.Events.{Event, delivered, happens, run}
 use Rattle.partition_protocol.specs.Claims.{IsLawful}
-use Rattle.partition_protocol.specs.NamedStates.{pairs_of, IsNamed, EveryNamedStateStays, EveryBridgeJoins}
+use Rattle.partition_protocol.specs.NamedStates.{pairs_of, IsUpToPair, IsNamed, EveryNamedStateStays, EveryBridgeJoins}
 use Rattle.partition_protocol.proofs.Lists.{In, every_in, in_contains, get_set, on_if}
 use Rattle.partition_protocol.proofs.Histories.{IsBase, Falling, base_below}
 use Rattle.partition_protocol.proofs.Invariant.{Shape, NodeAt, IsUpTo, PacketOk, PairUp, Invariant}
@@ -72,9 +72,19 @@ module _ {C State : Type 0} (o : Object C State) (w : World C) (made : List Shap
   said_known from (Freeze v) pair h i = absurd i
   said_known from (FrozenMessage v) pair h i = absurd i
 
+  -- and so is what is up to it
+  pub part_known : (p q : Pair) → IsUpToPair p q → IsKnown w q → IsKnown w p
+  part_known p q h (inl e, up) =
+      let version : p.version ≡ 0 = h.0 ∙ ap (λ (z : Pair). z.version) e in
+      let none : q.count ≡ 0 = ap (λ (z : Pair). z.count) e in
+      let count : p.count ≡ 0 = omega (arith, h.1, none) in
+      subst (IsKnown w) (sym (pair_same p no_pair version count)) (no_pair_known w)
+  part_known p q h (inr b, up) = (inr (subst (IsBase w.recorded.bases) (sym h.0) b), λ m n at l e. le_trans h.1 (up m n at l (e ∙ h.0)))
+
   pub named_known : (pair : Pair) → IsNamed w pair → IsKnown w pair
-  named_known pair (inl (m, n, at, e)) = subst (IsKnown w) e (node_known m n at)
-  named_known pair (inr (p, c, k)) = said_known p.from p.message pair (flies p (in_contains p w.packets c)) (in_contains pair (pairs_of p.message) k)
+  named_known pair (inl (m, n, at, h)) = part_known pair n.pair h (node_known m n at)
+  named_known pair (inr (inl (p, named, c, k, h))) = part_known pair named h (said_known p.from p.message named (flies p (in_contains p w.packets c)) (in_contains named (pairs_of p.message) k))
+  named_known pair (inr (inr (b, c, h))) = part_known pair b.pair h (base_known b (in_contains b w.recorded.bases c))
 
   -- a base that stays
 

@@ -4,7 +4,7 @@ use Rattle.grid_base.specs.Objects.{Object}
 use Rattle.partition_table.specs.declared.Row.{Row}
 use Rattle.partition_protocol.specs.Messages.{Message, NewRow, Sync, Effect, Bridge, Ack, Joined, Freeze, Frozen, Packet}
 use Rattle.partition_protocol.specs.Node.{Pair, Node}
-use Rattle.partition_protocol.specs.History.{Executed, Called}
+use Rattle.partition_protocol.specs.History.{Executed, Called, Base}
 use Rattle.partition_protocol.specs.World.{World, start, pair_state}
 use Rattle.partition_protocol.specs.Events.{Event, run}
 use Rattle.partition_protocol.specs.Claims.{IsLawful}
@@ -40,11 +40,16 @@ pairs_of (Joined v b) = []
 pairs_of (Freeze v) = []
 pairs_of (Frozen v) = []
 
--- it is a member's own pair, or one that a message in flight speaks of
+-- of the same version, with no more effects
+abbrev pub IsUpToPair : Pair → Pair → Type 0
+IsUpToPair p q = (p.version ≡ q.version) × (p.count ≤ q.count)
+
+-- it is up to a member's own pair, up to one that a message in flight speaks of, or up to one with which a version began
 abbrev pub IsNamed : {C : Type 0} → World C → Pair → Type 0
 IsNamed w pair =
-    ((m : ℕ) × (node : Node) × (slice_get w.nodes m ≡ Some node) × (node.pair ≡ pair))
-    ⊎ ((p : Packet) × Contains w.packets p × Contains (pairs_of p.message) pair)
+    ((m : ℕ) × (node : Node) × (slice_get w.nodes m ≡ Some node) × IsUpToPair pair node.pair)
+    ⊎ ((p : Packet) × (named : Pair) × Contains w.packets p × Contains (pairs_of p.message) named × IsUpToPair pair named)
+    ⊎ ((b : Base) × Contains w.recorded.bases b × IsUpToPair pair b.pair)
 
 -- a pair that is named keeps its state, whatever happens from then on
 abbrev pub EveryNamedStateStays : {C State : Type 0} → Object C State → Type 0

@@ -14,7 +14,8 @@ pub fn every_count_is_bounded<C, S>()
     ensures { (o : Object C S) → EveryRunIsWithin o }
 {}
 
-/// An answer is held by the one member that executed its call until it is released, and it is released once.
+/// Where no two calls have one name, an answer is released at most once, and until then it is held by at most one member,
+/// there once.
 pub fn every_answer_is_single<C, S>()
     ensures { (o : Object C S) → EveryAnswerIsSingle o }
 {}
@@ -25,27 +26,29 @@ pub fn every_run_is_well_formed<C, S>()
     ensures { (o : Object C S) → EveryRunIsWellFormed o }
 {}
 
-/// What a message in flight says of contents stays so until it comes, whatever happens meanwhile: each Effect is that of
-/// one executed call, the states that a Sync, an Effect or a Bridge names keep what they are, and so does the state that a
-/// member's own pair names. A Bridge names one state by two pairs.
+/// For an object whose calls without an effect leave the state, what a message in flight says of contents stays so until
+/// it comes, whatever happens meanwhile. Each Effect is that of one executed call. The states that a Sync, an Effect or a
+/// Bridge names keep what they are, and so do those of a member's own pair and of the pairs with which versions began. A
+/// Bridge names one state by two pairs.
 pub fn every_message_stays_right<C, S>()
     ensures effects { (o : Object C S) → EveryEffectLeads o }
     ensures states { (o : Object C S) → EveryNamedStateStays o }
     ensures bridges { (o : Object C S) → EveryBridgeJoins o }
 {}
 
-/// A member never goes back to an earlier row. It answers a call that the partition is lost exactly where the row that it
-/// knows is lost. A row is lost exactly as the service is told of the crash of its last member that may lead, and stays
-/// the newest until it is reopened.
+/// A member never goes back to an earlier row. If it lives, it answers a call that the partition is lost exactly where the
+/// row that it knows is lost. A row is lost exactly as the service is told of the crash of its last member that may lead,
+/// and a lost row stays the newest until it is reopened.
 pub fn every_row_goes_by_rule<C, S>()
     ensures known { (o : Object C S) → EveryKnownRowGoesOn o }
     ensures told { (o : Object C S) → EveryLossIsTold o }
     ensures lost { (o : Object C S) → EveryRowIsLostByRule o }
 {}
 
-/// What a member knows is what was handed over to it: its row is the newest of those in its messages, the first of
-/// several of one version; what a backup has acknowledged to it is the greatest count in an acknowledgement of that
-/// version that it took as the primary of it; and it is frozen where a freeze of that version came to it as its primary.
+/// What a member knows is what was handed over to it. Its row is the newest of the initial one and those in its messages,
+/// the first of several of one version. What a backup has acknowledged to it is the greatest count in an acknowledgement
+/// of that version that it took as the primary of it; in the initial row it is at least 0. It is frozen where a freeze of
+/// that version came to it as its primary.
 pub fn every_fact_is_read_off<C, S>()
     ensures { (o : Object C S) → EveryFactIsReadOff o }
 {}
