@@ -1,25 +1,20 @@
 -- The world of the code goes on agreeing with that of the protocol.
-use Rattle.std.proofs.Common.{◌≡◌, ◌≢◌, ℕ, zero, suc, ◌+◌, ◌<◌, ◌≤◌, le_refl, le_trans, nat_lt, not, ◌&&◌, ◌==◌, if◌then◌else◌, Bool, true, false, cond, List, [], ◌∷◌, ◌++◌, map, length, drop, vec_len, Option, Some, None, slice_get, slice_set, Contains, refl, ap, sym, ◌∙◌, subst, ◌⊎◌, inl, inr, arith, eq-eqb, append-nil}
-use Rattle.std.specs.List.{filter_map}
+use Rattle.std.proofs.Common.{◌≡◌, ◌≢◌, ℕ, zero, suc, ◌+◌, ◌≤◌, le_refl, ◌==◌, if◌then◌else◌, Bool, true, false, cond, List, [], ◌∷◌, ◌++◌, map, vec_len, Option, Some, slice_get, slice_set, Contains, refl, ap, sym, ◌∙◌, subst, ◌⊎◌, inl, inr, arith, eq-eqb, append-nil}
 use Rattle.std.proofs.lemmas.List.Elements.{Contains-append_left, Contains-append_right, Contains-append_cases}
-use Rattle.std.proofs.Math.Seq.{drop-length}
 use Rattle.grid_base.specs.Objects.{Object}
 use Rattle.grid_base.specs.declared.names.CallId.{CallId}
 use Rattle.grid_base.specs.declared.calls.Change.{Change}
-use Rattle.partition_table.specs.Rows.{is_among}
-use Rattle.partition_protocol.specs.Node.{Node as ProtocolNode, Pair, Held, settled}
-use Rattle.partition_protocol.specs.Execution.{Reached, Executes, PartitionLost, WrongTarget, Migrating, reached, executing}
-use Rattle.partition_protocol.specs.History.{Executed, Entry as ProtocolEntry, Called}
-use Rattle.partition_protocol.specs.World.{World as Machine, map_or, is_live, pair_state, trail}
-use Rattle.partition_protocol.specs.Events.{Event, Call, Happened, Outcome, ReleasedAt, Refused, nothing, executes, if_executes, calling, happens}
+use Rattle.partition_protocol.specs.Node.{Node as ProtocolNode, Held, settled}
+use Rattle.partition_protocol.specs.Execution.{Executes, reached, executing}
+use Rattle.partition_protocol.specs.History.{Executed, Called}
+use Rattle.partition_protocol.specs.World.{World as Machine, map_or, pair_state}
+use Rattle.partition_protocol.specs.Events.{Event, Call, Happened, ReleasedAt, happens}
 use Rattle.partition_world.specs.declared.node.Node.{Node}
 use Rattle.partition_world.specs.declared.node.Released.{Released}
-use Rattle.partition_world.specs.declared.trail.Entry.{Entry}
 use Rattle.partition_world.specs.declared.world.World.{World}
 use Rattle.partition_world.specs.Nodes.{machine_node}
 use Rattle.partition_world.specs.Entries.{entry_of}
-use Rattle.partition_world.specs.Alone.{IsAlone}
-use Rattle.partition_world.specs.Answers.{held_answer, released_by, released_at}
+use Rattle.partition_world.specs.Answers.{released_by, released_at}
 use Rattle.partition_world.specs.Executions.{HasKept, HasExecuted}
 use Rattle.partition_world.specs.Worlds.{Setup, setup_of, waiting, CountsAtMost, IsReleased, Agrees}
 use Rattle.partition_world.proofs.Places.{get_map, map_set, set_itself, get_set, set_get_same, set_get_other, only_one, same_or_not, other_number}

@@ -1,5 +1,5 @@
 -- A world that stands for a list of events, and for one event more.
-use Rattle.std.proofs.Common.{◌≡◌, ℕ, ◌+◌, List, [], ◌∷◌, ◌++◌, length, length-append, refl, ap, sym, ◌∙◌, subst, arith}
+use Rattle.std.proofs.Common.{◌≡◌, ◌+◌, List, [], ◌∷◌, ◌++◌, length, length-append, refl, ap, sym, ◌∙◌, subst, arith}
 use Rattle.grid_base.specs.Objects.{Object}
 use Rattle.partition_protocol.specs.World.{World as Machine, start}
 use Rattle.partition_protocol.specs.Events.{Event, happens, run}

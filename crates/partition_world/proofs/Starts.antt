@@ -1,21 +1,21 @@
 -- A world in which nothing has happened.
-use Rattle.std.proofs.Common.{◌≡◌, ℕ, zero, suc, ◌+◌, ◌<◌, ◌≤◌, ◌==◌, ◌||◌, nat_eq, if◌then◌else◌, Bool, true, false, cond, List, [], ◌∷◌, ◌++◌, map, length, take, vec_len, Option, Some, None, slice_get, Contains, All, refl, ap, sym, ◌∙◌, subst, arith, add-one}
+use Rattle.std.proofs.Common.{◌≡◌, ℕ, zero, suc, ◌+◌, ◌==◌, ◌||◌, nat_eq, if◌then◌else◌, Bool, true, false, List, [], ◌∷◌, ◌++◌, map, take, vec_len, Option, Some, None, slice_get, Contains, All, refl, ap, sym, ◌∙◌, subst, arith, add-one}
 use Rattle.std.specs.List.{list_any}
 use Rattle.std.proofs.Math.Nat.{mod-one}
 use Rattle.grid_base.specs.Objects.{Object}
 use Rattle.partition_table.specs.declared.row.Row.{Row}
 use Rattle.partition_table.specs.Rows.{eligible_member, number_of, is_in, initial_row}
-use Rattle.partition_protocol.specs.Node.{Node as ProtocolNode, Pair, opening_node, opening_pair, no_pair}
+use Rattle.partition_protocol.specs.Node.{Node as ProtocolNode, Pair, opening_node, no_pair}
 use Rattle.partition_protocol.specs.Service.{numbers_below}
 use Rattle.partition_protocol.specs.History.{Entry, state_after}
-use Rattle.partition_protocol.specs.World.{World as Machine, map_or, start, pair_state, trail}
+use Rattle.partition_protocol.specs.World.{start, pair_state}
 use Rattle.partition_world.specs.declared.node.Node.{Node}
 use Rattle.partition_world.specs.declared.node.Released.{Released}
 use Rattle.partition_world.specs.declared.world.World.{World}
 use Rattle.partition_world.specs.Nodes.{machine_node}
 use Rattle.partition_world.specs.Entries.{entry_of}
 use Rattle.partition_world.specs.Alone.{IsAlone}
-use Rattle.partition_world.specs.Worlds.{waiting, IsReleased, CountsAtMost, Agrees, StandsFor}
+use Rattle.partition_world.specs.Worlds.{waiting, CountsAtMost, StandsFor}
 use Rattle.partition_world.proofs.Places.{all_at, get_map}
 use Rattle.partition_world.proofs.LoneHistory.{trail_alone}
 use Rattle.partition_world.proofs.Agreement.{map_append, none_either, released_of}

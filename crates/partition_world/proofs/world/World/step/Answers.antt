@@ -25,5 +25,5 @@ returns-clause-stands g c events stands =
     let old = c.args.self.now in
     let next = c.in_ok-happened.ensures in
     let agrees : Agrees o g.S.Shelf.state c.call.new.self (happens o (run_of o old events) (event_of c.args.event)).world =
-        agrees_with o g.S.Shelf.state c.call.new.self _ _ (next.agrees (run_of o old events) stands.agrees) (search rules) in
+    agrees_with o g.S.Shelf.state c.call.new.self _ _ (next.agrees (run_of o old events) stands.agrees) (search rules) in
     stands_next o g.S.Shelf.state old c.call.new.self events stands next.setup (event_of c.args.event) next.steps agrees (next.counts (length events) stands.counts)
