@@ -6,9 +6,3 @@ mod row;
 
 pub use members::{RowMember, RowMembers};
 pub use row::Row;
-
-/// The number of a member of the grid.
-pub type MemberId = u8;
-
-/// The number of a partition.
-pub type PartitionId = u16;

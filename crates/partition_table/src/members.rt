@@ -1,8 +1,8 @@
-ghost use Rattle.std.specs.Prelude.{◌≡◌, length, vec_len, map, ◌==◌, ◌∷◌, [], ◌++◌, false, IfOk};
+ghost use Rattle.std.specs.Prelude.{◌≡◌, ◌↔◌, length, vec_len, map, IsTrue, ◌∷◌, [], ◌++◌, false, IfOk};
 ghost use Rattle.partition_table.specs.Rows.{marked, others, first_eligible, eligible_member, members_from, with_backups, begun_by as members_begun_by};
 
-use crate::{MemberId, PartitionId};
-use std::alloc::{AllocError, Global};
+use grid_base::{MemberId, Memory, PartitionId};
+use std::alloc::Global;
 use std::iter;
 use std::marker::Model;
 
@@ -15,7 +15,7 @@ pub struct RowMember {
 }
 
 /// An owned list of the members of a row, the primary first.
-#[derive(Clone, Debug, Drop)]
+#[derive(Debug, Drop)]
 pub struct RowMembers {
     listed: Vec<RowMember>,
 }
@@ -32,6 +32,15 @@ impl Model for RowMembers {
 }
 
 impl RowMembers {
+    /// A copy of these members, at the cost of their number.
+    pub fn copied_from(alloc: Global, listed: &[RowMember]) -> Result<Self, Memory>
+        ensures { IfOk result (λ copy. copy ≡ listed.now) }
+    {
+        Ok(RowMembers {
+            listed: Vec::from_slice(alloc, listed)?,
+        })
+    }
+
     /// Takes the list over, in constant time and with no memory.
     pub fn from_vec(listed: Vec<RowMember>) -> Self
         ensures { result ≡ listed.items }
@@ -55,7 +64,7 @@ impl RowMembers {
 
     /// Whether there are none.
     pub fn is_empty(&self) -> bool
-        ensures { result ≡ (length self.now == 0) }
+        ensures { IsTrue result ↔ (self.now ≡ []) }
     {
         self.listed.is_empty()
     }
@@ -83,8 +92,9 @@ pub(crate) fn opening(
     partition: PartitionId,
     members: u8,
     backups: u8,
-) -> Result<RowMembers, AllocError>
-    ensures { IfOk result (λ all. all ≡ map eligible_member (with_backups backups (members_from members members partition))) }
+) -> Result<RowMembers, Memory>
+    ensures { let all = with_backups backups (members_from members members partition) in
+        IfOk result (λ opening. opening ≡ map eligible_member all) }
 {
     let count = members.min(backups.saturating_add(1));
     let mut opening = Vec::new(alloc);
@@ -115,7 +125,7 @@ pub(crate) fn led_by(
     leader: RowMember,
     members: &[RowMember],
     leaving: MemberId,
-) -> Result<RowMembers, AllocError>
+) -> Result<RowMembers, Memory>
     ensures { IfOk result (λ led. led ≡ leader ∷ others leader.member (others leaving members.now)) }
 {
     let led = iter::once(leader).chain(
@@ -133,7 +143,7 @@ pub(crate) fn joined(
     alloc: Global,
     members: &[RowMember],
     member: MemberId,
-) -> Result<RowMembers, AllocError>
+) -> Result<RowMembers, Memory>
     ensures { IfOk result (λ all. all ≡ members.now ++ record { member = member; eligible = false } ∷ []) }
 {
     let joiner = RowMember {
@@ -145,7 +155,7 @@ pub(crate) fn joined(
 }
 
 /// The first of these may lead, and the others not yet.
-pub(crate) fn begun_by(alloc: Global, members: &[MemberId]) -> Result<RowMembers, AllocError>
+pub(crate) fn begun_by(alloc: Global, members: &[MemberId]) -> Result<RowMembers, Memory>
     ensures { IfOk result (λ begun. begun ≡ members_begun_by members.now) }
 {
     match members {
@@ -154,11 +164,7 @@ pub(crate) fn begun_by(alloc: Global, members: &[MemberId]) -> Result<RowMembers
     }
 }
 
-fn begun_with(
-    alloc: Global,
-    leader: MemberId,
-    others: &[MemberId],
-) -> Result<RowMembers, AllocError>
+fn begun_with(alloc: Global, leader: MemberId, others: &[MemberId]) -> Result<RowMembers, Memory>
     ensures { IfOk result (λ begun. begun ≡ members_begun_by (leader ∷ others.now)) }
 {
     let leader = RowMember {

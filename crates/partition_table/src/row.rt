@@ -1,14 +1,15 @@
-ghost use Rattle.std.specs.Prelude.{◌≡◌, ◌+◌, ◌<◌, IfOk};
+ghost use Rattle.std.specs.Prelude.{◌≡◌, ◌+◌, ◌<◌, ◌↔◌, [], false, IsTrue, IfOk};
+ghost use Rattle.partition_table.specs.RowFacts.{are_distinct, HasDistinctMembers, KeepsDistinct, begins_eligible};
 ghost use Rattle.partition_table.specs.Rows.{first_of, is_primary, is_backup, is_in, is_eligible, backups_of, first_live_eligible, initial_row, without, with_joiner, handed, with_eligible, reopened, next_row};
 
 use crate::members::{
     RowMember, RowMembers, begun_by, first_eligible_but, joined, led_by, opening,
 };
-use crate::{MemberId, PartitionId};
-use std::alloc::{AllocError, Global};
+use grid_base::{MemberId, Memory, PartitionId};
+use std::alloc::Global;
 
 /// Who keeps a partition, in which version.
-#[derive(Clone, Debug, Drop)]
+#[derive(Debug, Drop)]
 pub struct Row {
     /// One more with each new row of the partition.
     pub version: u32,
@@ -22,14 +23,15 @@ pub struct Row {
 
 impl Row {
     /// The opening row of a partition: the member whose number is the partition's modulo `members`
-    /// leads, and the next ones are its backups. Allocates for its members alone.
+    /// leads, and up to `backups` of the next ones are its backups. Costs as many steps as members.
     pub fn initial(
         alloc: Global,
         partition: PartitionId,
         members: u8,
         backups: u8,
-    ) -> Result<Row, AllocError>
+    ) -> Result<Row, Memory>
         ensures row { IfOk result (λ row. row ≡ initial_row partition members backups) }
+        ensures distinct { IfOk result HasDistinctMembers }
     {
         let members = opening(alloc, partition, members, backups)?;
         Ok(Row {
@@ -40,13 +42,14 @@ impl Row {
         })
     }
 
+    /// The first member, or none where the row is lost. Takes no memory.
     pub fn primary(&self) -> Option<MemberId>
         ensures { result ≡ first_of self.now.members }
     {
         self.members.as_slice().first().map(|first| first.member)
     }
 
-    /// Takes no memory.
+    /// Whether the member is the first. Takes no memory.
     pub fn is_primary(&self, member: MemberId) -> bool
         ensures { result ≡ is_primary self.now member }
     {
@@ -56,6 +59,7 @@ impl Row {
         }
     }
 
+    /// Whether the member keeps the partition, in either role. Takes no memory.
     pub fn contains(&self, member: MemberId) -> bool
         ensures { result ≡ is_in self.now member }
     {
@@ -66,12 +70,14 @@ impl Row {
             .any(|listed| member == listed)
     }
 
+    /// Whether the member keeps the partition and isn't its primary. Takes no memory.
     pub fn is_backup(&self, member: MemberId) -> bool
         ensures { result ≡ is_backup self.now member }
     {
         !self.is_primary(member) && self.contains(member)
     }
 
+    /// Whether the member may lead the partition. Takes no memory.
     pub fn is_eligible(&self, member: MemberId) -> bool
         ensures { result ≡ is_eligible self.now member }
     {
@@ -81,6 +87,7 @@ impl Row {
             .any(|listed| listed.member == member && listed.eligible)
     }
 
+    /// The members after the primary, in order. Takes no memory.
     pub fn backups(&self) -> &[RowMember]
         ensures { result.now ≡ backups_of self.now }
     {
@@ -90,6 +97,7 @@ impl Row {
         }
     }
 
+    /// The first member that may lead and isn't among the detected ones. Takes no memory.
     pub fn first_live_eligible(&self, detected: &[MemberId]) -> Option<MemberId>
         ensures { result ≡ first_live_eligible self.now detected.now }
     {
@@ -100,17 +108,35 @@ impl Row {
             .map(|listed| listed.member)
     }
 
+    /// Lets a joiner lead from now on, in the same version. Takes no memory.
     pub fn mark_eligible(&mut self, member: MemberId)
         ensures { self.new ≡ with_eligible self.old member }
     {
         self.members.mark_eligible(member);
     }
 
+    /// The same row again, at the cost of its members' number.
+    pub fn copied(&self, alloc: Global) -> Result<Row, Memory>
+        ensures { IfOk result (λ copy. copy ≡ self.now) }
+    {
+        Ok(Row {
+            version: self.version,
+            reset: self.reset,
+            lost: self.lost,
+            members: RowMembers::copied_from(alloc, self.members.as_slice())?,
+        })
+    }
+
     /// Without that member: the first eligible of the others leads, and the row is lost if none is.
-    /// Allocates in one pass.
-    pub fn without(&self, alloc: Global, member: MemberId) -> Result<Row, AllocError>
+    /// Goes over the members twice.
+    pub fn without(&self, alloc: Global, member: MemberId) -> Result<Row, Memory>
         requires { self.now.version < u32.MAX }
         ensures row { IfOk result (λ row. row ≡ without self.now member) }
+        ensures version { IfOk result (λ row. row.version ≡ self.now.version + 1) }
+        ensures lost { IfOk result (λ row. IsTrue row.lost ↔ (row.members ≡ [])) }
+        ensures gone { IfOk result (λ row. is_in row member ≡ false) }
+        ensures led { IfOk result (λ row. row.lost ≡ false → IsTrue (begins_eligible row.members)) }
+        ensures distinct { IfOk result (KeepsDistinct self.now) }
     {
         let members = self.members.as_slice();
         match first_eligible_but(members, member) {
@@ -119,18 +145,24 @@ impl Row {
         }
     }
 
-    /// With that member last, as one that may not lead yet. Allocates in one pass.
-    pub fn with_joiner(&self, alloc: Global, member: MemberId) -> Result<Row, AllocError>
+    /// With that member last, as one that may not lead yet. Goes over the members once.
+    pub fn with_joiner(&self, alloc: Global, member: MemberId) -> Result<Row, Memory>
         requires { self.now.version < u32.MAX }
         ensures row { IfOk result (λ row. row ≡ with_joiner self.now member) }
+        ensures version { IfOk result (λ row. row.version ≡ self.now.version + 1) }
+        ensures lost { IfOk result (λ row. IsTrue row.lost ↔ (row.members ≡ [])) }
+        ensures distinct { is_in self.now member ≡ false → IfOk result (KeepsDistinct self.now) }
     {
         Ok(self.next(joined(alloc, self.members.as_slice(), member)?))
     }
 
-    /// Handed over: `from` leaves, and `to` leads. Allocates in one pass.
-    pub fn handed(&self, alloc: Global, from: MemberId, to: MemberId) -> Result<Row, AllocError>
+    /// Handed over: `from` leaves, and `to` leads. Goes over the members once.
+    pub fn handed(&self, alloc: Global, from: MemberId, to: MemberId) -> Result<Row, Memory>
         requires { self.now.version < u32.MAX }
         ensures row { IfOk result (λ row. row ≡ handed self.now from to) }
+        ensures version { IfOk result (λ row. row.version ≡ self.now.version + 1) }
+        ensures lost { IfOk result (λ row. IsTrue row.lost ↔ (row.members ≡ [])) }
+        ensures distinct { IfOk result (KeepsDistinct self.now) }
     {
         let leader = RowMember {
             member: to,
@@ -140,10 +172,13 @@ impl Row {
     }
 
     /// Reopened by these members: the row begins empty, and its first member alone may lead.
-    /// Allocates in one pass.
-    pub fn reopened(&self, alloc: Global, members: &[MemberId]) -> Result<Row, AllocError>
+    /// Goes over the members once.
+    pub fn reopened(&self, alloc: Global, members: &[MemberId]) -> Result<Row, Memory>
         requires { self.now.version < u32.MAX }
         ensures row { IfOk result (λ row. row ≡ reopened self.now members.now) }
+        ensures version { IfOk result (λ row. row.version ≡ self.now.version + 1) }
+        ensures reset { IfOk result (λ row. row.reset ≡ row.version) }
+        ensures distinct { IsTrue (are_distinct members.now) → IfOk result HasDistinctMembers }
     {
         let version = self.version + 1;
         Ok(Row {
@@ -166,3 +201,6 @@ impl Row {
         }
     }
 }
+
+#[cfg(test)]
+mod tests;
