@@ -15,7 +15,7 @@ use Rattle.partition_protocol.proofs.RowFacts.{less, not_less, is_less, is_not_l
 use Rattle.partition_protocol.proofs.Forward.{NodeForward, Forward, top_forward}
 use Rattle.partition_protocol.proofs.Steps.{set_forward, packets_kept, log_kept, pairs_kept, bases_kept, frame_step}
 use Rattle.partition_protocol.proofs.Contents.{HasKept, IsPair, content_step}
-use Rattle.partition_protocol.proofs.Moves.{quiet_step}
+use Rattle.partition_protocol.proofs.SameRow.{quiet_step}
 use Rattle.partition_protocol.proofs.Safe.{resets_history}
 use Rattle.partition_protocol.proofs.Release.{not_gone}
 use Rattle.partition_protocol.proofs.Awake

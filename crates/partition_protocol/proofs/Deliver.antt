@@ -17,7 +17,7 @@ use Rattle.partition_protocol.proofs.Histories.{IsBase}
 use Rattle.partition_protocol.proofs.Invariant.{Shape, shape, NodeAt, IsMember, IsUpTo, HasAcked, HasUpTo, HasJoined, PacketOk, NodeOk, Frame, Invariant}
 use Rattle.partition_protocol.proofs.RowFacts.{both_left, both_right, either, or_false_left, not_false, not_true, less, not_less, is_not_less, same_number}
 use Rattle.partition_protocol.proofs.Forward.{left_later}
-use Rattle.partition_protocol.proofs.Moves.{inv_packets, rise, put_aside, acks_with}
+use Rattle.partition_protocol.proofs.SameRow.{inv_packets, rise, put_aside, acks_with}
 use Rattle.partition_protocol.proofs.Release.{settle}
 use Rattle.partition_protocol.proofs.Adopt.{adopts, adopted_known}
 use Rattle.partition_protocol.proofs.Sends.{SentOk, sent_packets, adopting_ok, frozen_ok, empty_nil}
@@ -314,9 +314,9 @@ module _ {C State : Type 0} (o : Object C State) (w : World C) (made : List Shap
           joined : HasJoined (slice_set w.nodes m (settled acked_node)) n.known.version from
           joined y a = of_has y (ack_ok.1 y a)
 
-      pub drained_sent : (service : ℕ) → (f : Frame (record w { nodes = slice_set w.nodes m (settled acked_node); packets = ack_packet ∷ w.packets; released = w.released ++ now_released acked_node acked_node.held; recorded = record w.recorded { bases = w.recorded.bases } }) made)
+      pub frozen_sent : (service : ℕ) → (f : Frame (record w { nodes = slice_set w.nodes m (settled acked_node); packets = ack_packet ∷ w.packets; released = w.released ++ now_released acked_node acked_node.held; recorded = record w.recorded { bases = w.recorded.bases } }) made)
           → Every (SentOk (record w { nodes = slice_set w.nodes m (settled acked_node); packets = ack_packet ∷ w.packets; released = w.released ++ now_released acked_node acked_node.held; recorded = record w.recorded { bases = w.recorded.bases } }) made m) (frozen_note service acked_node (settled acked_node))
-      drained_sent service f =
+      frozen_sent service f =
           on_cond (λ ss. Every (SentOk (record w { nodes = slice_set w.nodes m (settled acked_node); packets = ack_packet ∷ w.packets; released = w.released ++ now_released acked_node acked_node.held; recorded = record w.recorded { bases = w.recorded.bases } }) made m) ss)
           (n.frozen && not (is_empty n.held) && is_empty (still_held acked_node n.held)) (to_one service (FrozenMessage n.known.version)) [] note (λ e. tt)
         where
@@ -334,7 +334,7 @@ module _ {C State : Type 0} (o : Object C State) (w : World C) (made : List Shap
           let ss : List Sent = joined_note service from n ++ frozen_note service acked_node (settled acked_node) in
           lands acked_node ss not_newer (drop_first acked_node ss w.recorded.bases ack_packet w.packets (finish acked_node ss w.recorded.bases (ack_packet ∷ w.packets) here_acked
           (λ f. every_append (SentOk (record w { nodes = slice_set w.nodes m (settled acked_node); packets = ack_packet ∷ w.packets; released = w.released ++ now_released acked_node acked_node.held; recorded = record w.recorded { bases = w.recorded.bases } }) made m)
-          (joined_note service from n) (frozen_note service acked_node (settled acked_node)) (joined_sent service f) (drained_sent service f))))
+          (joined_note service from n) (frozen_note service acked_node (settled acked_node)) (joined_sent service f) (frozen_sent service f))))
 
     pub lands_ack : (service from v c : ℕ) → PacketOk w.nodes w.recorded.bases made w.crashed from (Ack v c) → Lands (on_ack service m from v c n).node (on_ack service m from v c n).sent
     lands_ack service from v c g =

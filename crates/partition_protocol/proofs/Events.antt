@@ -18,12 +18,12 @@ use Rattle.partition_protocol.proofs.Lists.{In, Every, every_in, every_append, e
 use Rattle.partition_protocol.proofs.Histories.{IsBase, filter_in}
 use Rattle.partition_protocol.proofs.Invariant.{Shape, shape, NodeAt, IsUpTo, IsGone, PacketOk, MoveOk, Frame, Invariant}
 use Rattle.partition_protocol.proofs.RowFacts.{both_left, both_right, either, or_false_right, not_true, not_false, false_or_not, true_or_not, less, same_number, eligible_in, one_primary, first_among, first_primary}
-use Rattle.partition_protocol.proofs.Moves.{inv_packets}
+use Rattle.partition_protocol.proofs.SameRow.{inv_packets}
 use Rattle.partition_protocol.proofs.Sends.{SentOk, sent_packets, again_ok}
 use Rattle.partition_protocol.proofs.Deliver.{lands_taking, finish, packets_append}
 use Rattle.partition_protocol.proofs.Execute.{execute}
 use Rattle.partition_protocol.proofs.NewRow.{NextRow, packets_old, row_inv, reopen_inv}
-use Rattle.partition_protocol.proofs.Rows.{some_in, joiner_next, without_next, handed_next, reopened_next, members_from_below, with_backups_in}
+use Rattle.partition_protocol.proofs.NextRows.{some_in, joiner_next, without_next, handed_next, reopened_next, members_from_below, with_backups_in}
 use Rattle.partition_protocol.proofs.Joins.{join, same_row, standing_same, crash}
 
 abbrev pub Good : {C State : Type 0} → Object C State → World C → Type 0
@@ -198,12 +198,12 @@ module _ {C State : Type 0} (o : Object C State) (w : World C) (made : List Shap
             (told w (shape row ∷ made) row w.members (undetected w.members w.service.detected) (inl refl))),
       )
 
-  pub unless_kept_good : (r : Option ReopenRefused) (h : Happened C) → (r ≡ None → Good o h.world) → Good o (unless_reopen_refused w r h).world
-  unless_kept_good None h f = f refl
-  unless_kept_good (Some r) h f = (made, inv)
+  pub unless_reopen_good : (r : Option ReopenRefused) (h : Happened C) → (r ≡ None → Good o h.world) → Good o (unless_reopen_refused w r h).world
+  unless_reopen_good None h f = f refl
+  unless_reopen_good (Some r) h f = (made, inv)
 
   pub reopened_good : Good o (reopened_row w).world
-  reopened_good = unless_kept_good (reopen_refused w.partition w.members w.service) (row_made (with_reset w (w.service.row.version + 1)) (reopening w.partition w.members w.backups w.service)) go
+  reopened_good = unless_reopen_good (reopen_refused w.partition w.members w.service) (row_made (with_reset w (w.service.row.version + 1)) (reopening w.partition w.members w.backups w.service)) go
     where
       go : reopen_refused w.partition w.members w.service ≡ None → Good o (row_made (with_reset w (w.service.row.version + 1)) (reopening w.partition w.members w.backups w.service)).world
       go e = reopen_with (candidates w.partition w.members w.service.detected) lost some candidate_below
@@ -236,8 +236,8 @@ module _ {C State : Type 0} (o : Object C State) (w : World C) (made : List Shap
                 (join o w made inv m there (subst (λ u. PacketOk w.nodes w.recorded.bases made w.crashed m (JoinedMessage u m)) (sym same) (good m))),
           )
 
-  pub takes_drained : (from v : ℕ) → PacketOk w.nodes w.recorded.bases made w.crashed from (FrozenMessage v) → Good o (service_takes w (FrozenMessage v)).world
-  takes_drained from v good =
+  pub takes_frozen : (from v : ℕ) → PacketOk w.nodes w.recorded.bases made w.crashed from (FrozenMessage v) → Good o (service_takes w (FrozenMessage v)).world
+  takes_frozen from v good =
       on_cond (λ (s : ServiceStep). Good o (record w { service = s.service })) (is_freezing w.service.move && (w.service.row.version == v))
       (record { service = with_row w.service w.service.row (drained_move w.service.move); took = TookDrained }) (record { service = w.service; took = Stale })
       (λ e. (
@@ -265,20 +265,20 @@ module _ {C State : Type 0} (o : Object C State) (w : World C) (made : List Shap
   takes_good from (Ack v c) g = (made, inv)
   takes_good from (JoinedMessage v m) g = takes_joined v m (λ k. g)
   takes_good from (Freeze v) g = (made, inv)
-  takes_good from (FrozenMessage v) g = takes_drained from v g
+  takes_good from (FrozenMessage v) g = takes_frozen from v g
 
   -- at a node
 
   pub alive : (m : ℕ) → is_live w m ≡ true → is_among w.crashed m ≡ false
   alive m e = not_true (is_among w.crashed m) (both_right (nat_lt m w.members) (not (is_among w.crashed m)) e)
 
-  pub in_some_good : {X : Type 0} (x : Option X) (d : Happened C) (f : X → Happened C) → Good o d.world → ((k : X) → x ≡ Some k → Good o (f k).world) → Good o (map_or x d f).world
-  in_some_good None d f g h = g
-  in_some_good (Some k) d f g h = h k refl
+  pub map_or_good : {X : Type 0} (x : Option X) (d : Happened C) (f : X → Happened C) → Good o d.world → ((k : X) → x ≡ Some k → Good o (f k).world) → Good o (map_or x d f).world
+  map_or_good None d f g h = g
+  map_or_good (Some k) d f g h = h k refl
 
   pub at_node_good : (m : ℕ) (f : Node → Happened C) → ((n : Node) → NodeAt w.nodes m n → is_among w.crashed m ≡ false → Good o (f n).world) → Good o (at_node w m f).world
   at_node_good m f g = good_if o (is_live w m) (map_or (slice_get w.nodes m) (nothing w) f) (nothing w)
-      (λ e. in_some_good (slice_get w.nodes m) (nothing w) f (made, inv) (λ n at. g n at (alive m e))) (λ e. (made, inv))
+      (λ e. map_or_good (slice_get w.nodes m) (nothing w) f (made, inv) (λ n at. g n at (alive m e))) (λ e. (made, inv))
 
   pub delivered_good : (p : Packet) (n : Node) → NodeAt w.nodes p.to n → is_among w.crashed p.to ≡ false → PacketOk w.nodes w.recorded.bases made w.crashed p.from p.message → Good o (delivered w p n).world
   delivered_good p n at lives g = (made, lands_taking o w made p.to n at lives inv w.members p.from p.message g)
@@ -307,7 +307,7 @@ module _ {C State : Type 0} (o : Object C State) (w : World C) (made : List Shap
   Flies p = PacketOk w.nodes w.recorded.bases made w.crashed p.from p.message
 
   pub at_place_good : (f t i : ℕ) (g : Packet → Happened C) → ((p : Packet) → Flies p → Good o (g p).world) → Good o (at_place w f t i g).world
-  at_place_good f t i g h = in_some_good o w made inv (slice_get (link f t w.packets) i) (nothing w) g (made, inv)
+  at_place_good f t i g h = map_or_good o w made inv (slice_get (link f t w.packets) i) (nothing w) g (made, inv)
       (λ p e. h p (every_in Flies w.packets p inv.frame.packets (filter_in (is_on f t) w.packets p (get_in (link f t w.packets) i p e)).0))
 
   pub fewer : (f t i : ℕ) → Invariant o (with_packets w (taken_out f t i w.packets)) made
@@ -354,8 +354,8 @@ module _ {C State : Type 0} (o : Object C State) (w : World C) (made : List Shap
 
   -- a call
 
-  pub kept_out_good : (m : ℕ) (n : Node) (h : Happened C) → (is_primary n.known m ≡ true → n.frozen ≡ false → Good o h.world) → Good o (if_executes w (reached m n) h).world
-  kept_out_good m n h f =
+  pub if_executes_good : (m : ℕ) (n : Node) (h : Happened C) → (is_primary n.known m ≡ true → n.frozen ≡ false → Good o h.world) → Good o (if_executes w (reached m n) h).world
+  if_executes_good m n h f =
       on_cond (λ r. Good o (if_executes w r h).world) n.known.lost (PartitionLost n.known.version) (cond (not (is_primary n.known m)) (WrongTarget n.known.version) (cond n.frozen (Migrating n.known.version) Executes)) (λ e. (made, inv))
       (λ a. on_cond (λ r. Good o (if_executes w r h).world) (not (is_primary n.known m)) (WrongTarget n.known.version) (cond n.frozen (Migrating n.known.version) Executes) (λ e. (made, inv))
       (λ b. on_cond (λ r. Good o (if_executes w r h).world) n.frozen (Migrating n.known.version) Executes (λ e. (made, inv)) (λ c. f (not_false (is_primary n.known m) b) c)))
@@ -399,7 +399,7 @@ module _ {C State : Type 0} (o : Object C State) (w : World C) (made : List Shap
 
   pub calling_good : (m conn number : ℕ) (call : C) (now : ℕ) → Good o (at_node w m (calling o w m conn number call now)).world
   calling_good m conn number call now = at_node_good o w made inv m (calling o w m conn number call now)
-      (λ n at lives. kept_out_good m n (executes o w m conn number call now n) (λ leads thawed. executed_good m conn number call now n at lives leads thawed (o.changes (pair_state o w n.pair) call now)))
+      (λ n at lives. if_executes_good m n (executes o w m conn number call now n) (λ leads thawed. executed_good m conn number call now n at lives leads thawed (o.changes (pair_state o w n.pair) call now)))
 
   pub happens_good : (e : Event C) → Good o (happens o w e).world
   happens_good (Call m conn number call now) = calling_good m conn number call now

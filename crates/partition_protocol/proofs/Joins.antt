@@ -16,7 +16,7 @@ use Rattle.partition_protocol.proofs.Invariant.{Shape, shape, NodeAt, RowsOk, Pa
 use Rattle.partition_protocol.proofs.RowFacts.{in_map, not_both, none_among, false_or_not, is_not_less, either, either_right, or_true, same_number, number_same}
 use Rattle.partition_protocol.proofs.Forward.{Forward, forward_same, packet_forward, gone_forward, move_forward, standing_forward, le_cases}
 use Rattle.partition_protocol.proofs.Contents.{HasKept}
-use Rattle.partition_protocol.proofs.Rows.{eligible_at, at_eligible, is_in_member}
+use Rattle.partition_protocol.proofs.NextRows.{eligible_at, at_eligible, is_in_member}
 
 -- marks change no shape
 

@@ -50,10 +50,10 @@ in_map_back [] m i = absurd i
 in_map_back (p ∷ ps) m (inl e) = (p, inl refl, e)
 in_map_back (p ∷ ps) m (inr i) = let r = in_map_back ps m i in (r.0, inr r.1, r.2)
 
-pub head_or_backup : (ps : List RowMember) (m q : ℕ) → is_first (map number_of ps) m ≡ true → In q (map number_of ps) → (q ≡ m) ⊎ ((p : RowMember) × In p (rest_of ps) × (p.member ≡ q))
-head_or_backup [] m q e i = absurd i
-head_or_backup (p ∷ ps) m q e (inl s) = inl (sym s ∙ same_number p.member m e)
-head_or_backup (p ∷ ps) m q e (inr i) = inr (in_map_back ps q i)
+pub primary_or_backup : (ps : List RowMember) (m q : ℕ) → is_first (map number_of ps) m ≡ true → In q (map number_of ps) → (q ≡ m) ⊎ ((p : RowMember) × In p (rest_of ps) × (p.member ≡ q))
+primary_or_backup [] m q e i = absurd i
+primary_or_backup (p ∷ ps) m q e (inl s) = inl (sym s ∙ same_number p.member m e)
+primary_or_backup (p ∷ ps) m q e (inr i) = inr (in_map_back ps q i)
 
 -- an acknowledgement that counts was taken, or counts as taken at the start
 
@@ -74,14 +74,14 @@ or_opening_cases opening (Some d) c e = inl e
 or_opening_cases true None c e = inr (refl, cc)
 or_opening_cases false None c e = absurd cc
 
-pub in_map_members : (ps : List RowMember) (p : RowMember) → In p ps → In p.member (map number_of ps)
-in_map_members [] p i = absurd i
-in_map_members (x ∷ ps) p (inl s) = inl (ap number_of s)
-in_map_members (x ∷ ps) p (inr i) = inr (in_map_members ps p i)
+pub in_map_numbers : (ps : List RowMember) (p : RowMember) → In p ps → In p.member (map number_of ps)
+in_map_numbers [] p i = absurd i
+in_map_numbers (x ∷ ps) p (inl s) = inl (ap number_of s)
+in_map_numbers (x ∷ ps) p (inr i) = inr (in_map_numbers ps p i)
 
-pub head_in_places : (ps : List RowMember) (p : RowMember) → In p (rest_of ps) → In p.member (map number_of ps)
-head_in_places [] p i = absurd i
-head_in_places (x ∷ ps) p i = inr (in_map_members ps p i)
+pub first_in_members : (ps : List RowMember) (p : RowMember) → In p (rest_of ps) → In p.member (map number_of ps)
+first_in_members [] p i = absurd i
+first_in_members (x ∷ ps) p i = inr (in_map_numbers ps p i)
 
 pub has_less : (bases : List Base) (made : List Shape) (v c d b : ℕ) (x : Node) → d ≤ c → HasUpTo bases made v c b x → HasUpTo bases made v d b x
 has_less bases made v c d b x l (inl h) = inl (h.0, le_trans l h.1)
@@ -133,7 +133,7 @@ module _ {C State : Type 0} (o : Object C State) (w : World C) (made : List Shap
 
   -- every member of the known row has what was acknowledged by all
   pub has_released : is_released n g.seen ≡ true → (q : ℕ) (x : Node) → is_in n.known q ≡ true → NodeAt w.nodes q x → HasUpTo w.recorded.bases made n.known.version g.seen q x
-  has_released r q x i a = go (head_or_backup n.known.members m q leads (in_among (numbers_of n.known) q i))
+  has_released r q x i a = go (primary_or_backup n.known.members m q leads (in_among (numbers_of n.known) q i))
     where
       by_ack : (p : RowMember) → In p (backups_of n.known) → p.member ≡ q → (c : ℕ) × (acked n p.member ≡ Some c) × (g.seen ≤ c) → HasUpTo w.recorded.bases made n.known.version g.seen q x
       by_ack p j e c = by_case (or_opening_cases n.opening (acked_by p.member n.acks) c.0 c.1)

@@ -105,37 +105,40 @@ module _ {C State : Type 0} (o : Object C State) (w : World C) (made : List Shap
       by_history : w.recorded.standing.reset ≤ n.pair.version → Stands h (content w.recorded.openings w.recorded.log w.recorded.bases w.recorded.standing.reset n.pair) → Stands h (pair_history w n.pair)
       by_history k s = rw (is_not_less n.pair.version w.recorded.standing.reset k) at s
 
+  -- a live member that is done with the version that it knows is frozen and holds nothing
+  pub done_with : (m : ℕ) (n : Node) → is_live w m ≡ true → NodeAt w.nodes m n → IsGone w.nodes w.crashed n.known.version m → (n.frozen ≡ true) × (n.held ≡ [])
+  done_with m n live at (inl c) = absurd (not_both (is_among w.crashed m) c (not_true (is_among w.crashed m) (both_right (nat_lt m w.members) (not (is_among w.crashed m)) live)))
+  done_with m n live at (inr f) = of_node (f n at)
+    where
+      of_node : IsGoneAt n.known.version n → (n.frozen ≡ true) × (n.held ≡ [])
+      of_node (inl l) = absurd (omega (arith, l))
+      of_node (inr h) = (h.1, h.2)
+
   pub deposed : (m : ℕ) (n : Node) → is_live w m ≡ true → NodeAt w.nodes m n → is_primary n.known m ≡ true → is_primary w.service.row m ≡ false → (n.frozen ≡ true) × (n.held ≡ [])
   deposed m n live at p d =
       let known = (inv.frame.nodes m n at).known in
       let le = inv.frame.rows.newest_top (shape n.known) known in
       let not_same : n.known.version ≢ w.service.row.version =
       λ e. not_both (is_primary w.service.row m) (subst (λ (s : Shape). is_first s.members m ≡ true) (inv.frame.rows.one (shape n.known) (shape w.service.row) known inv.frame.rows.newest_in e) p) d in
-      go (inv.frame.gone (shape n.known) (shape w.service.row) m known inv.frame.rows.newest_in (omega (arith, le, not_same)) p d)
-    where
-      of_node : IsGoneAt n.known.version n → (n.frozen ≡ true) × (n.held ≡ [])
-      of_node (inl l) = absurd (omega (arith, l))
-      of_node (inr h) = (h.1, h.2)
+      done_with m n live at (inv.frame.gone (shape n.known) (shape w.service.row) m known inv.frame.rows.newest_in (omega (arith, le, not_same)) p d)
 
-      go : IsGone w.nodes w.crashed n.known.version m → (n.frozen ≡ true) × (n.held ≡ [])
-      go (inl c) = absurd (not_both (is_among w.crashed m) c (not_true (is_among w.crashed m) (both_right (nat_lt m w.members) (not (is_among w.crashed m)) live)))
-      go (inr f) = of_node (f n at)
+  -- between a version and a later reset a row was lost, of which it wasn't primary
+  pub outlived : (m : ℕ) (n : Node) → is_live w m ≡ true → NodeAt w.nodes m n → is_primary n.known m ≡ true → n.known.version < w.service.row.reset → (n.frozen ≡ true) × (n.held ≡ [])
+  outlived m n live at p l =
+      let known = (inv.frame.nodes m n at).known in
+      let lost = inv.frame.rows.lost_between (shape n.known) (shape w.service.row) known inv.frame.rows.newest_in l in
+      let none : is_first lost.0.members m ≡ false = no_first lost.0.members m lost.2 in
+      let not_same : n.known.version ≢ lost.0.version = λ e. not_both (is_first lost.0.members m) (subst (λ (s : Shape). is_first s.members m ≡ true) (inv.frame.rows.one (shape n.known) lost.0 known lost.1 e) p) none in
+      let le = lost.3 in
+      done_with m n live at (inv.frame.gone (shape n.known) lost.0 m known lost.1 (omega (arith, le, not_same)) p none)
 
   pub stopped : (m : ℕ) (n : Node) (b : Base) → is_live w m ≡ true → NodeAt w.nodes m n → is_primary n.known m ≡ true → Contains w.recorded.bases b → n.known.version < b.version → (n.frozen ≡ true) × (n.held ≡ [])
   stopped m n b live at p c l = by_base (every_in (BaseOk w.nodes made) w.recorded.bases b inv.frame.bases (in_contains b w.recorded.bases c))
     where
-      of_node : IsGoneAt n.known.version n → (n.frozen ≡ true) × (n.held ≡ [])
-      of_node (inl k) = absurd (omega (arith, k))
-      of_node (inr h) = (h.1, h.2)
-
-      go : IsGone w.nodes w.crashed n.known.version m → (n.frozen ≡ true) × (n.held ≡ [])
-      go (inl d) = absurd (not_both (is_among w.crashed m) d (not_true (is_among w.crashed m) (both_right (nat_lt m w.members) (not (is_among w.crashed m)) live)))
-      go (inr f) = of_node (f n at)
-
       by_base : BaseOk w.nodes made b → (n.frozen ≡ true) × (n.held ≡ [])
-      by_base k = go (inv.frame.gone (shape n.known) k.row m (inv.frame.nodes m n at).known k.made_row (omega (arith, l, k.version)) p
+      by_base k = done_with m n live at (inv.frame.gone (shape n.known) k.row m (inv.frame.nodes m n at).known k.made_row (omega (arith, l, k.version)) p
           (false_or_not (is_first k.row.members m) (λ e. let same = one_first k.row.members k.primary m k.heads e in
           let knows = k.knows n (subst (λ j. NodeAt w.nodes j n) (sym same) at) in absurd (omega (arith, knows, l)))))
 
   pub safe : IsSafe o w
-  safe = record { legal = legal; in_order = in_order; resets = resets; answered = answered; kept = kept; deposed = deposed; stopped = stopped }
+  safe = record { legal = legal; in_order = in_order; resets = resets; answered = answered; kept = kept; deposed = deposed; outlived = outlived; stopped = stopped }

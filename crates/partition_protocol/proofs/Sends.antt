@@ -13,7 +13,7 @@ use Rattle.partition_protocol.proofs.Histories.{IsBase}
 use Rattle.partition_protocol.proofs.Invariant.{Shape, shape, NodeAt, IsUpTo, HasUpTo, HasAcked, HasJoined, PacketOk, NodeOk, Frame}
 use Rattle.partition_protocol.proofs.RowFacts.{number_same, number_other, both_left, both_right, one_primary, among_in}
 use Rattle.partition_protocol.proofs.Forward.{left_later}
-use Rattle.partition_protocol.proofs.Release.{or_opening_cases, acked_by_in, head_in_places}
+use Rattle.partition_protocol.proofs.Release.{or_opening_cases, acked_by_in, first_in_members}
 
 abbrev pub SentOk : {C : Type 0} → World C → List Shape → ℕ → Sent → Type 0
 SentOk w made from s = PacketOk w.nodes w.recorded.bases made w.crashed from s.message
@@ -126,7 +126,7 @@ module _ {C : Type 0} (w : World C) (made : List Shape) (frame : Frame w made) (
       go (inr s) = of_has 0 ((frame.acks m n at).opening s.0 b i y a)
 
   pub backup_in : (p : RowMember) → In p (backups_of n.known) → is_in n.known p.member ≡ true
-  backup_in p i = among_in (numbers_of n.known) p.member (head_in_places n.known.members p i)
+  backup_in p i = among_in (numbers_of n.known) p.member (first_in_members n.known.members p i)
 
   pub joined_note_ok : (b c : ℕ) → is_in n.known b ≡ true → acked n b ≡ Some c → MessageOk (JoinedMessage n.known.version b)
   joined_note_ok b c i e = (began, (shape n.known, ok.known, refl, i), acked_joined b c i e)

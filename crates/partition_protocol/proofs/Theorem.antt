@@ -7,8 +7,8 @@ use Rattle.partition_protocol.specs.Service.{numbers_below}
 use Rattle.grid_base.specs.Objects.{Object}
 use Rattle.partition_protocol.specs.History.{begins_anew, Base}
 use Rattle.partition_protocol.specs.World.{World, start}
-use Rattle.partition_protocol.specs.Events.{Event, run}
-use Rattle.partition_protocol.specs.Claims.{EveryBeginningIsEmpty, EveryRunExtends, is_reset, IsSafe, EveryRunIsSafe, EveryStateStays, EveryBridgeStays}
+use Rattle.partition_protocol.specs.Events.{Event, happens, run}
+use Rattle.partition_protocol.specs.Claims.{EveryAnswerStays, EveryAckHolds, EveryBeginningIsEmpty, EveryRunExtends, is_reset, IsSafe, EveryRunIsSafe, EveryStateStays, EveryBridgeStays}
 use Rattle.partition_table.specs.declared.Row.{Row}
 use Rattle.partition_table.specs.declared.RowMember.{RowMember}
 use Rattle.partition_protocol.proofs.Lists.{In, on_if}
@@ -16,11 +16,13 @@ use Rattle.partition_protocol.proofs.Histories.{IsBase, good_nil, start_at}
 use Rattle.partition_protocol.proofs.Invariant.{PairUp, Shape, shape, NodeAt, RowsOk, HasUpTo, NodeOk, AcksOk, Frame, ContentOk}
 use Rattle.partition_protocol.proofs.RowFacts.{eligible_in, first_among, number_same}
 use Rattle.partition_protocol.proofs.Forward.{le_cases}
-use Rattle.partition_protocol.proofs.Rows.{members_from_below, with_backups_in, is_in_member}
+use Rattle.partition_protocol.proofs.NextRows.{members_from_below, with_backups_in, is_in_member}
 use Rattle.partition_protocol.proofs.Safe.{safe}
 use Rattle.partition_protocol.proofs.Extends.{run_longer}
+use Rattle.partition_protocol.proofs.Acknowledgements.{is_acknowledged}
+use Rattle.partition_protocol.proofs.HeldAnswers.{stays_held}
 use Rattle.partition_protocol.proofs.Faithful.{faithful}
-use Rattle.partition_protocol.proofs.Lists.{in_contains}
+use Rattle.partition_protocol.proofs.Lists.{in_contains, contains_in}
 use Rattle.partition_protocol.proofs.Contents.{IsPair}
 use Rattle.partition_protocol.proofs.States.{BeginsEmpty, run_empty, Bridged, stays, run_bridged}
 use Rattle.std.proofs.Common.{⊎_elim}
@@ -230,3 +232,14 @@ pub every_beginning_is_empty : {C State : Type 0} (o : Object C State) → Every
 every_beginning_is_empty o partition zero backups events b grid law c a = let one = grid in absurd (omega (arith, one))
 every_beginning_is_empty o partition (suc k) backups events b grid law c a =
     run_empty o law (start partition (suc k) backups) events (start_good o partition k backups) tt (not_anew o k partition backups) b (in_contains b (run o (start partition (suc k) backups) events).recorded.bases c) a
+
+pub every_answer_stays : {C State : Type 0} (o : Object C State) → EveryAnswerStays o
+every_answer_stays o partition members backups events event m node h one at c =
+    let w = run o (start partition members backups) events in
+    let g = grid_good o partition members backups events one in
+    ⊎_elim (λ i. inl (contains_in h (happens o w event).world.released i)) (λ s. inr (s.0, s.1, contains_in h s.0.held s.2))
+    (stays_held o w g.0 g.1 event m node h at (in_contains h node.held c))
+
+pub every_ack_holds : {C State : Type 0} (o : Object C State) → EveryAckHolds o
+every_ack_holds o partition members backups events one =
+    let g = grid_good o partition members backups events one in is_acknowledged (run o (start partition members backups) events) g.0 g.1.frame

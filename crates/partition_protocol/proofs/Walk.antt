@@ -46,9 +46,9 @@ module _ {C State : Type 0} (o : Object C State) (w : World C) (P : Event C → 
   walk_refused e None h f = f
   walk_refused e (Some r) h f = stays_so e
 
-  pub walk_kept : (e : Event C) (r : Option ReopenRefused) (h : Happened C) → P e h.world → P e (unless_reopen_refused w r h).world
-  walk_kept e None h f = f
-  walk_kept e (Some r) h f = stays_so e
+  pub walk_reopen : (e : Event C) (r : Option ReopenRefused) (h : Happened C) → P e h.world → P e (unless_reopen_refused w r h).world
+  walk_reopen e None h f = f
+  walk_reopen e (Some r) h f = stays_so e
 
   pub alive : (m : ℕ) → is_live w m ≡ true → is_among w.crashed m ≡ false
   alive m e = not_true (is_among w.crashed m) (both_right (nat_lt m w.members) (not (is_among w.crashed m)) e)
@@ -114,4 +114,4 @@ module _ {C State : Type 0} (o : Object C State) (w : World C) (P : Event C → 
   walk (BeginJoin to) = walk_refused (BeginJoin to) (join_refused w.members to w.service) (row_made w (beginning None to w.service)) (serves (BeginJoin to) _ _ _)
   walk (BeginHandover from to) = walk_refused (BeginHandover from to) (handover_refused from to w.service) (done (with_service w (handing_over from to w.service))) (serves (BeginHandover from to) _ _ _)
   walk Advance = walk_advance Advance (advance_of w.service)
-  walk Reopen = walk_kept Reopen (reopen_refused w.partition w.members w.service) (row_made (with_reset w (w.service.row.version + 1)) (reopening w.partition w.members w.backups w.service)) (reopens Reopen _ _ _)
+  walk Reopen = walk_reopen Reopen (reopen_refused w.partition w.members w.service) (row_made (with_reset w (w.service.row.version + 1)) (reopening w.partition w.members w.backups w.service)) (reopens Reopen _ _ _)

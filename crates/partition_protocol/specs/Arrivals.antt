@@ -15,9 +15,11 @@ pub record CallName : Type 0 where
   pub conn : ℕ
   pub number : ℕ
 
+-- the name of a call that arrived
 abbrev pub name : {C : Type 0} → Asked C → CallName
 name a = record { conn = a.conn; number = a.number }
 
+-- the call that an event brings, if it brings one
 abbrev pub asked_by : {C : Type 0} → Event C → List (Asked C)
 asked_by (Call m conn number call now) = record { conn = conn; number = number; now = now; call = call } ∷ []
 asked_by _ = []

@@ -37,6 +37,7 @@ recent_limit = 64
 abbrev pub is_covered : Node → Pair → Bool
 is_covered node p = nat_le (node.pair.count - p.count) (min recent_limit node.recent)
 
+-- all that the primary has
 abbrev pub whole_snapshot : Node → List Message
 whole_snapshot node = Sync node.known node.pair.count ∷ []
 

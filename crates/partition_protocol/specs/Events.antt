@@ -16,37 +16,46 @@ use Rattle.partition_protocol.specs.Links.{link, taken_out, with_packets, sendin
 pub data Event (C : Type 0) : Type 0 where
   -- a call reaches a member at a moment
   Call : (member conn number : ℕ) (call : C) (now : ℕ) → Event C
-  -- the message at a place of a link is handed over, is lost, or is sent once more
+  -- the message at that place of a link is handed over
   Deliver : (from to place : ℕ) → Event C
+  -- it is lost
   Lose : (from to place : ℕ) → Event C
+  -- it is in flight once more
   Repeat : (from to place : ℕ) → Event C
   -- a primary or the service sends again what may have been lost
   Resend : (end : ℕ) → Event C
-  -- a member stops, and never goes on
+  -- a member takes no further step. What it sent stays in flight
   Crash : (member : ℕ) → Event C
   -- the service is told that a member has crashed
   Detect : (member : ℕ) → Event C
-  -- a member is to take the place of another, is to join, or is to lead
+  -- a member is to take another's place in the row
   BeginMove : (from to : ℕ) → Event C
+  -- a member is to join the row
   BeginJoin : (to : ℕ) → Event C
+  -- a backup is to lead in place of the primary, which leaves the row
   BeginHandover : (from to : ℕ) → Event C
   -- the move under way takes its next step
   Advance : Event C
   -- the loss of a lost partition is accepted, and it goes on empty
   Reopen : Event C
 
+-- what became of an event
 pub data Outcome : Type 0 where
+  -- its condition was false
   NothingDone : Outcome
   Done : Outcome
-  -- a call was executed, and its answer waits or was given at once
+  -- the call was executed, and its answer waits for the backups
   HeldAt : (seen : ℕ) → Outcome
+  -- the call was executed, and its answer given at once
   ReleasedAt : (seen : ℕ) → Outcome
+  -- the call wasn't executed
   Refused : Reached → Outcome
   TookMessage : Took → Outcome
   RowMadeAt : (version : ℕ) → Outcome
   MoveIsRefused : MoveRefused → Outcome
   ReopenIsRefused : ReopenRefused → Outcome
 
+-- the partition after an event, and the outcome
 pub record Happened (C : Type 0) : Type 0 where
   pub world : World C
   pub outcome : Outcome
@@ -55,6 +64,7 @@ pub record Happened (C : Type 0) : Type 0 where
 abbrev pub nothing : {C : Type 0} → World C → Happened C
 nothing w = record { world = w; outcome = NothingDone }
 
+-- the event did what it says, and there is no more to tell
 abbrev pub done : {C : Type 0} → World C → Happened C
 done w = record { world = w; outcome = Done }
 
@@ -64,6 +74,7 @@ at_node w m f = if is_live w m then map_or (slice_get w.nodes m) (nothing w) f e
 
 -- calls
 
+-- what is recorded of a call: the version and the count that the node then has, and the reply in the state before
 abbrev pub entry_of : {C State : Type 0} → Object C State → State → ℕ → ℕ → C → ℕ → Pair → Executed C
 entry_of o s conn number call now at = record { conn = conn; number = number; version = at.version; seen = at.count; now = now; call = call; reply = o.reply s call now }
 
@@ -81,17 +92,20 @@ executes o w m conn number call now node =
     let changes = o.changes s call now in
     executed_with o w m conn number call now s changes (executing changes conn number node)
 
+-- a refusal changes nothing
 abbrev pub if_executes : {C : Type 0} → World C → Reached → Happened C → Happened C
 if_executes w Executes h = h
 if_executes w (PartitionLost v) h = record { world = w; outcome = Refused (PartitionLost v) }
 if_executes w (WrongTarget v) h = record { world = w; outcome = Refused (WrongTarget v) }
 if_executes w (Migrating v) h = record { world = w; outcome = Refused (Migrating v) }
 
+-- a call that reaches a live member
 abbrev pub calling : {C State : Type 0} → Object C State → World C → ℕ → ℕ → ℕ → C → ℕ → Node → Happened C
 calling o w m conn number call now node = if_executes w (reached m node) (executes o w m conn number call now node)
 
 -- messages
 
+-- a live member takes a message: it adopts, settles, and sends
 abbrev pub delivered : {C : Type 0} → World C → Packet → Node → Happened C
 delivered w p node =
     let s = taking w.members p.to p.from p.message node in
@@ -110,9 +124,11 @@ handed_over w p =
     else if is_live w p.to then at_node w p.to (delivered w p)
     else record { world = w; outcome = TookMessage Dropped }
 
+-- of the message at that place of a link, if there is one
 abbrev pub at_place : {C : Type 0} → World C → ℕ → ℕ → ℕ → (Packet → Happened C) → Happened C
 at_place w f t i g = map_or (slice_get (link f t w.packets) i) (nothing w) g
 
+-- the service always, and a member where it is primary
 abbrev pub resent : {C : Type 0} → World C → ℕ → Happened C
 resent w end =
     if end == w.members then done (sending w end (telling w.members w.service ++ freezing_again w.service))
@@ -124,9 +140,11 @@ resent w end =
 abbrev pub told_all : {C : Type 0} → World C → Service → World C
 told_all w s = sending (with_service w s) w.members (telling w.members s)
 
+-- the newest row is told
 abbrev pub row_made : {C : Type 0} → World C → Service → Happened C
 row_made w s = record { world = told_all w s; outcome = RowMadeAt s.row.version }
 
+-- a refusal changes nothing
 abbrev pub unless_move_refused : {C : Type 0} → World C → Option MoveRefused → Happened C → Happened C
 unless_move_refused w None h = h
 unless_move_refused w (Some r) h = record { world = w; outcome = MoveIsRefused r }
@@ -138,12 +156,14 @@ detected w m =
     then (if is_in w.service.row m then row_made w (detecting m w.service) else done (with_service w (detecting m w.service)))
     else nothing w
 
+-- a step of a move: a freeze is sent to the source, or a row ends the move
 abbrev pub advanced_by : {C : Type 0} → World C → AdvanceStep → Happened C
 advanced_by w Nothing = nothing w
 advanced_by w (Freezes from to) =
     done (sending (with_service w (with_row w.service w.service.row (Freezing from to))) w.members (record { to = from; message = Freeze w.service.row.version } ∷ []))
 advanced_by w (MakesRow row) = row_made w (with_row w.service row NoMove)
 
+-- the move under way takes its next step
 abbrev pub advanced : {C : Type 0} → World C → Happened C
 advanced w = advanced_by w (advance_of w.service)
 
@@ -157,10 +177,12 @@ with_reset w r =
       };
     }
 
+-- a refusal changes nothing
 abbrev pub unless_reopen_refused : {C : Type 0} → World C → Option ReopenRefused → Happened C → Happened C
 unless_reopen_refused w None h = h
 unless_reopen_refused w (Some r) h = record { world = w; outcome = ReopenIsRefused r }
 
+-- the reset is the version of the new row
 abbrev pub reopened_row : {C : Type 0} → World C → Happened C
 reopened_row w =
     unless_reopen_refused w (reopen_refused w.partition w.members w.service)

@@ -21,9 +21,11 @@ register = record {
   changes = λ s c now. not (c == 0) && not (c == s);
 }
 
+-- the partition after these events
 abbrev pub after : World ℕ → List (Event ℕ) → World ℕ
 after w es = run register w es
 
+-- the outcome of each event
 abbrev pub outcomes : World ℕ → List (Event ℕ) → List Outcome
 outcomes w [] = []
 outcomes w (e ∷ es) = let h = happens register w e in h.outcome ∷ outcomes h.world es
@@ -37,10 +39,12 @@ pub data Line : Type 0 where
   Replied : (number : ℕ) (reply : List ℕ) → Line
   Reopened : (version : ℕ) → Line
 
+-- an entry as it is printed
 abbrev pub line : Entry ℕ → Line
 line (Called x) = Replied x.number x.reply
 line (Reset r) = Reopened r
 
+-- the trail as it is printed
 abbrev pub printed : World ℕ → List Line
 printed w = map line (trail w)
 
@@ -67,6 +71,7 @@ a_lost_effect_is_sent_again = refl
 
 -- the primary crashes
 
+-- member 2 writes and reads, and crashes before its backup has the write
 abbrev pub unreplicated_write : List (Event ℕ)
 unreplicated_write = Call 2 0 0 7 0 ∷ Call 2 1 1 0 0 ∷ Crash 2 ∷ Detect 2 ∷ Deliver 3 0 0 ∷ Deliver 2 0 0 ∷ Call 0 2 2 0 0 ∷ []
 
@@ -76,6 +81,7 @@ a_write_that_no_backup_has_goes_with_its_primary = refl
 so_does_the_read_that_saw_it : printed (after (start 5 3 1) unreplicated_write) ≡ Replied 2 (0 ∷ []) ∷ []
 so_does_the_read_that_saw_it = refl
 
+-- member 2 crashes after its backup has the write, and the acknowledgement is lost
 abbrev pub replicated_write : List (Event ℕ)
 replicated_write = Call 2 0 0 7 0 ∷ Deliver 2 0 0 ∷ Lose 0 2 0 ∷ Crash 2 ∷ Detect 2 ∷ Deliver 3 0 0 ∷ Call 0 1 1 0 0 ∷ []
 
@@ -85,6 +91,7 @@ a_write_that_the_backup_has_is_read_after_its_promotion = refl
 it_stands_in_the_trail : printed (after (start 5 3 1) replicated_write) ≡ Replied 0 (0 ∷ []) ∷ Replied 1 (7 ∷ []) ∷ []
 it_stands_in_the_trail = refl
 
+-- of two backups, the one that is not promoted has two effects
 abbrev pub one_backup_ahead : List (Event ℕ)
 one_backup_ahead = Call 2 0 0 7 0 ∷ Call 2 0 1 8 0 ∷ Deliver 2 1 0 ∷ Deliver 2 1 0 ∷ Crash 2 ∷ Detect 2 ∷ Deliver 3 0 0 ∷ Deliver 0 1 0 ∷ []
 
@@ -96,6 +103,7 @@ what_only_it_had_is_gone = refl
 
 -- a backup crashes, and the primary goes on in a new row
 
+-- the write is acknowledged once and once more, and member 1, the other backup, crashes
 abbrev pub a_backup_is_lost : List (Event ℕ)
 a_backup_is_lost = Call 2 0 0 7 0 ∷ Deliver 2 0 0 ∷ Repeat 0 2 0 ∷ Deliver 0 2 0 ∷ Crash 1 ∷ Detect 1 ∷ Deliver 3 2 0 ∷ []
 
@@ -109,15 +117,19 @@ a_backup_that_was_heard_is_sent_a_bridge = refl
 
 -- a move from member 2 to member 1: the joiner is synced, the source freezes and drains, and the joiner leads
 
+-- up to the word that the joiner has the contents
 abbrev pub joining : List (Event ℕ)
 joining = BeginMove 2 1 ∷ Deliver 3 2 0 ∷ Deliver 3 0 0 ∷ Deliver 3 1 0 ∷ Deliver 2 0 0 ∷ Deliver 2 1 0 ∷ Deliver 0 2 0 ∷ Deliver 1 2 0 ∷ Deliver 2 3 0 ∷ []
 
+-- a write, the freeze, and a write that comes too late
 abbrev pub freezing : List (Event ℕ)
 freezing = Call 2 0 0 7 0 ∷ Advance ∷ Deliver 3 2 0 ∷ Call 2 0 1 8 0 ∷ []
 
+-- the first write reaches both backups and is acknowledged
 abbrev pub draining : List (Event ℕ)
 draining = Deliver 2 0 0 ∷ Deliver 2 1 0 ∷ Deliver 0 2 0 ∷ Deliver 1 2 0 ∷ Deliver 2 3 0 ∷ []
 
+-- the row in which the joiner leads reaches all
 abbrev pub leading : List (Event ℕ)
 leading = Advance ∷ Call 1 1 2 0 0 ∷ Deliver 3 1 0 ∷ Call 1 1 3 0 0 ∷ Deliver 3 0 0 ∷ Deliver 1 0 0 ∷ Deliver 0 1 0 ∷ Deliver 3 2 0 ∷ Call 2 0 4 9 0 ∷ []
 
@@ -138,6 +150,7 @@ it_reads_what_the_source_answered = refl
 
 -- a member crashes while the source is frozen
 
+-- the target crashes, and the source adopts the row without it
 abbrev pub thawing : List (Event ℕ)
 thawing = Crash 1 ∷ Detect 1 ∷ Deliver 3 2 0 ∷ Deliver 2 0 0 ∷ Deliver 2 0 0 ∷ Deliver 2 0 0 ∷ Deliver 0 2 0 ∷ Deliver 0 2 0 ∷ Deliver 0 2 0 ∷ []
 
@@ -159,6 +172,7 @@ where_both_crash_two_rows_are_made = refl
 
 -- a joiner is never promoted before it holds what was answered
 
+-- a write is answered, and member 1 is to join
 abbrev pub answered_write : List (Event ℕ)
 answered_write = Call 2 0 0 7 0 ∷ Deliver 2 0 0 ∷ Deliver 0 2 0 ∷ BeginJoin 1 ∷ []
 
@@ -200,6 +214,7 @@ one_that_is_not_there_or_while_a_move_is_under_way_does_not = refl
 
 -- a lost partition is reopened empty
 
+-- the only member with contents crashes, and the partition goes on with the other
 abbrev pub reopening : List (Event ℕ)
 reopening = Call 1 0 0 7 0 ∷ Crash 1 ∷ Detect 1 ∷ Reopen ∷ Call 0 1 1 0 0 ∷ Deliver 2 0 1 ∷ Call 0 1 2 0 0 ∷ []
 
@@ -220,6 +235,7 @@ abbrev pub writes : ℕ → ℕ → List (Event ℕ)
 writes zero k = []
 writes (suc n) k = Call 2 0 k (k + 1) 0 ∷ writes n (k + 1)
 
+-- so many effects are lost
 abbrev pub losses : ℕ → List (Event ℕ)
 losses zero = []
 losses (suc n) = Lose 2 0 0 ∷ losses n
@@ -236,14 +252,17 @@ with_one_more_the_contents_are_sent_whole = refl
 
 -- what is seen of a run: the outcomes, the calls that were answered and the calls of the trail, by number. A reset stands there as 0
 
+-- the three in one
 pub record Seen : Type 0 where
   pub outcomes : List Outcome
   pub answered : List ℕ
   pub trail : List ℕ
 
+-- a reset as 0
 abbrev pub number_or_reset : Entry ℕ → ℕ
 number_or_reset (Called x) = x.number
 number_or_reset (Reset r) = 0
 
+-- what is seen of a run
 abbrev pub seen : World ℕ → List (Event ℕ) → Seen
 seen w es = let u = after w es in record { outcomes = outcomes w es; answered = answered u; trail = map number_or_reset (trail u) }

@@ -34,13 +34,14 @@ abbrev pub is_in_pair : {C : Type 0} → Pair → Entry C → Bool
 is_in_pair p (Called x) = (x.version == p.version) && nat_le x.seen p.count
 is_in_pair p (Reset r) = false
 
+-- what of the log a pair counts, in order of execution
 abbrev pub entries_in : {C : Type 0} → Pair → List (Entry C) → List (Entry C)
 entries_in p log = filter (is_in_pair p) log
 
 -- the history at the reopening with that reset
 abbrev pub opening_at : {C : Type 0} → ℕ → List (Opening C) → List (Entry C)
 opening_at r [] = []
-opening_at r (o ∷ os) = if o.reset == r then o.entries else opening_at r os
+opening_at r (o ∷ openings) = if o.reset == r then o.entries else opening_at r openings
 
 -- since a reopening no member had contents to begin with, the first of them begins with none
 abbrev pub begins_anew : Base → Bool
@@ -49,10 +50,10 @@ begins_anew b = not (b.reset == 0) && (b.pair.version == 0) && (b.pair.count == 
 -- The history that a pair names: that with which its version began, and then what was executed in its version up to its count.
 -- A version that begins anew began with the history at the reopening, and any other with that of its base's pair. The newest base stands first
 abbrev pub history : {C : Type 0} → List (Opening C) → List (Entry C) → List Base → Pair → List (Entry C)
-history os log [] p = []
-history os log (b ∷ bs) p =
-    if b.version == p.version then (if begins_anew b then opening_at b.reset os else history os log bs b.pair) ++ entries_in p log
-    else history os log bs p
+history openings log [] p = []
+history openings log (b ∷ bases) p =
+    if b.version == p.version then (if begins_anew b then opening_at b.reset openings else history openings log bases b.pair) ++ entries_in p log
+    else history openings log bases p
 
 -- the state that a history leaves: a reset leaves the empty one
 abbrev pub state_after : {C State : Type 0} → Object C State → State → List (Entry C) → State

@@ -16,3 +16,4 @@ pub mod Sequences
 pub mod Claims
 pub mod Examples
 pub mod Traces
+pub mod CrashTraces

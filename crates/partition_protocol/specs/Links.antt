@@ -3,6 +3,7 @@ use Rattle.std.specs.Prelude.{ℕ, zero, suc, Bool, ◌&&◌, ◌==◌, if◌the
 use Rattle.partition_protocol.specs.Messages.{Sent, Packet}
 use Rattle.partition_protocol.specs.World.{World}
 
+-- from f and to t
 abbrev pub is_on : ℕ → ℕ → Packet → Bool
 is_on f t p = (p.from == f) && (p.to == t)
 
@@ -16,9 +17,11 @@ taken_out f t i [] = []
 taken_out f t zero (p ∷ ps) = if is_on f t p then ps else p ∷ taken_out f t zero ps
 taken_out f t (suc i) (p ∷ ps) = if is_on f t p then p ∷ taken_out f t i ps else p ∷ taken_out f t (suc i) ps
 
+-- what is sent, with its sender
 abbrev pub packets_from : ℕ → List Sent → List Packet
 packets_from f ss = map (λ (s : Sent). record { from = f; to = s.to; message = s.message }) ss
 
+-- other messages in flight
 abbrev pub with_packets : {C : Type 0} → World C → List Packet → World C
 with_packets w ps = record w { packets = ps }
 

@@ -3,6 +3,7 @@
 use Rattle.std.specs.Prelude.{ℕ}
 use Rattle.partition_table.specs.declared.Row.{Row}
 
+-- what is said. Rows go with the marks of their members as the sender knows them
 pub data Message : Type 0 where
   -- the service made this row
   NewRow : (row : Row) → Message

@@ -5,7 +5,7 @@ use Rattle.partition_table.specs.declared.RowMember.{RowMember}
 use Rattle.partition_table.specs.declared.Row.{Row}
 use Rattle.partition_table.specs.Rows.{is_in, backups_of}
 
--- a version and a count of effects executed in it: the name of a state
+-- a version, and a count of effects that goes on from version to version: the name of a state
 pub record Pair : Type 0 where
   pub version : ℕ
   pub count : ℕ
@@ -26,8 +26,9 @@ pub record Earlier : Type 0 where
   pub version : ℕ
   pub acks : List Acknowledged
 
+-- what a member knows
 pub record Node : Type 0 where
-  pub known : Row  -- the newest row that it has taken
+  pub known : Row  -- the newest row that it has taken; of one version, the one taken first
   pub pair : Pair  -- the name of its contents
   pub opening : Bool  -- it knows the initial row, in which each member has acknowledged 0 from the start
   pub acks : List Acknowledged  -- taken in the known version, as its primary
@@ -83,6 +84,7 @@ acked node b = or_opening node.opening (acked_by b node.acks)
 
 -- releases
 
+-- something was acknowledged, and it is no less than k
 abbrev pub is_at_least : ℕ → Option ℕ → Bool
 is_at_least k None = false
 is_at_least k (Some c) = nat_le k c

@@ -20,6 +20,7 @@ pub record Step : Type 0 where
 abbrev pub unanswered : Node → Took → Step
 unanswered node took = record { node = node; sent = []; took = took }
 
+-- one message to one end
 abbrev pub to_one : ℕ → Message → List Sent
 to_one to m = record { to = to; message = m } ∷ []
 
@@ -29,6 +30,7 @@ acknowledging node to took = record { node = node; sent = to_one to (Ack node.pa
 
 -- a row
 
+-- the row is past the known one
 abbrev pub is_newer : Row → Node → Bool
 is_newer row node = nat_lt node.known.version row.version
 
@@ -40,15 +42,19 @@ on_row m row node =
 
 -- A Sync and a Bridge carry a row too, which is adopted first where it is newer
 
+-- the node after it looked at the row
 abbrev pub after_row : ℕ → Row → Node → Node
 after_row m row node = if is_newer row node then adopted_row m row node else node
 
+-- and what it sent as it adopted it
 abbrev pub sent_by_row : ℕ → Row → Node → List Sent
 sent_by_row m row node = if is_newer row node then sent_on_adopting m (adopted_row m row node) else []
 
+-- more was sent before
 abbrev pub with_sent : List Sent → Step → Step
 with_sent more s = record { node = s.node; sent = more ++ s.sent; took = s.took }
 
+-- the node with other contents, by their name
 abbrev pub with_pair : Node → ℕ → ℕ → Node
 with_pair node v c = record node { pair = record { version = v; count = c } }
 

@@ -17,6 +17,7 @@ pub data Move : Type 0 where
   -- the source executes nothing more, and holds no answer
   Drained : (source target : ℕ) → Move
 
+-- what the service keeps: the members that it was told had crashed are the detected ones
 pub record Service : Type 0 where
   pub row : Row
   pub move : Move
@@ -35,6 +36,7 @@ undetected members detected = filter (λ m. not (is_among detected m)) (numbers_
 abbrev pub telling : ℕ → Service → List Sent
 telling members s = map (λ m. record { to = m; message = NewRow s.row }) (undetected members s.detected)
 
+-- the newest row and the move are now these
 abbrev pub with_row : Service → Row → Move → Service
 with_row s row move = record { row = row; move = move; detected = s.detected }
 
@@ -89,6 +91,7 @@ pub data MoveRefused : Type 0 where
   -- the target isn't eligible
   NotEligible : MoveRefused
 
+-- no move is under way
 abbrev pub is_idle : Move → Bool
 is_idle NoMove = true
 is_idle _ = false
@@ -143,11 +146,13 @@ advance_by row (Joined from to) = if is_primary row from then Freezes from to el
 advance_by row (Freezing s t) = Nothing
 advance_by row (Drained from to) = MakesRow (handed row from to)
 
+-- the next step of the move under way
 abbrev pub advance_of : Service → AdvanceStep
 advance_of s = advance_by s.row s.move
 
 -- a lost partition is reopened
 
+-- why a partition isn't reopened
 pub data ReopenRefused : Type 0 where
   NotLost : ReopenRefused
   -- every member is detected
@@ -176,6 +181,7 @@ joined_move m (Joined s t) = Joined s t
 joined_move m (Freezing s t) = Freezing s t
 joined_move m (Drained s t) = Drained s t
 
+-- the service after a message, and how it took it
 pub record ServiceStep : Type 0 where
   pub service : Service
   pub took : Took
@@ -187,6 +193,7 @@ on_joined v m s =
     then record { service = with_row s (with_eligible s.row m) (joined_move m s.move); took = TookJoined }
     else record { service = s; took = Stale }
 
+-- the source of a freezing move is drained
 abbrev pub drained_move : Move → Move
 drained_move NoMove = NoMove
 drained_move (Joining s t) = Joining s t
@@ -194,6 +201,7 @@ drained_move (Joined s t) = Joined s t
 drained_move (Freezing s t) = Drained s t
 drained_move (Drained s t) = Drained s t
 
+-- the source was told to freeze
 abbrev pub is_freezing : Move → Bool
 is_freezing (Freezing s t) = true
 is_freezing _ = false
@@ -207,6 +215,7 @@ on_frozen v s =
 
 -- sending again
 
+-- a freeze to the source of a freezing move
 abbrev pub freeze_of : Row → Move → List Sent
 freeze_of row NoMove = []
 freeze_of row (Joining s t) = []

@@ -1,5 +1,6 @@
 -- What became of a message that was handed over: one word for each way to take it.
 
+-- how a message was taken
 pub data Took : Type 0 where
   -- a newer row was adopted
   Adopted : Took

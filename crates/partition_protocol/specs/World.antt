@@ -10,6 +10,7 @@ use Rattle.partition_protocol.specs.Service.{Service, NoMove, numbers_below}
 use Rattle.partition_protocol.specs.History.{Entry, Base, history, state_after, opening_at}
 use Rattle.partition_protocol.specs.Recorded.{Recorded}
 
+-- a partition as a whole
 pub record World (C : Type 0) : Type 0 where
   pub partition : ℕ
   pub members : ℕ
@@ -47,6 +48,7 @@ is_live w m = nat_lt m w.members && not (is_among w.crashed m)
 
 -- histories
 
+-- the history that a pair names, by what is recorded
 abbrev pub pair_history : {C : Type 0} → World C → Pair → List (Entry C)
 pair_history w p = history w.recorded.openings w.recorded.log w.recorded.bases p
 
@@ -58,6 +60,7 @@ pair_state o w p = state_after o o.empty (pair_history w p)
 abbrev pub history_since : {C : Type 0} → World C → ℕ → Pair → List (Entry C)
 history_since w r p = if nat_lt p.version r then opening_at r w.recorded.openings else pair_history w p
 
+-- the history of that member, in rows with the standing reset
 abbrev pub trail_at : {C : Type 0} → World C → Option ℕ → List (Entry C)
 trail_at w None = []
 trail_at w (Some m) = map_or (slice_get w.nodes m) [] (λ (node : Node). history_since w w.recorded.standing.reset node.pair)
@@ -75,6 +78,7 @@ bases_after m before after bases =
     then record { version = after.known.version; reset = after.known.reset; pair = if is_before_reset after.known before then no_pair else before.pair } ∷ bases
     else bases
 
+-- the base is recorded
 abbrev pub with_base : {C : Type 0} → World C → ℕ → Node → Node → World C
 with_base w m before after = record w { recorded = record w.recorded { bases = bases_after m before after w.recorded.bases } }
 
@@ -82,6 +86,7 @@ with_base w m before after = record w { recorded = record w.recorded { bases = b
 abbrev pub with_node : {C : Type 0} → World C → ℕ → Node → World C
 with_node w m node = record w { nodes = slice_set w.nodes m (settled node); released = w.released ++ now_released node node.held }
 
+-- a call that was executed is recorded
 abbrev pub with_entry : {C : Type 0} → World C → Entry C → World C
 with_entry w x = record w { recorded = record w.recorded { log = w.recorded.log ++ x ∷ [] } }
 

@@ -11,7 +11,7 @@ use Rattle.partition_protocol.proofs.RowFacts.{in_any, in_map, is_eligible_at, b
 use Rattle.partition_protocol.proofs.Release.{in_map_back}
 use Rattle.partition_protocol.proofs.NewRow.{NextRow}
 
--- members by their places
+-- members by their numbers
 
 pub is_in_member : (row : Row) (q : ℕ) → is_in row q ≡ true → (p : RowMember) × In p row.members × (p.member ≡ q)
 is_in_member row q e = in_map_back row.members q (in_among (numbers_of row) q e)
@@ -136,8 +136,8 @@ module _ {C : Type 0} (w : World C) (made : List Shape) (ok : Frame w made) wher
     abbrev pub rest : List RowMember
     rest = others m row.members
 
-    pub led_place : (p : RowMember) → In p (without row m).members → In p row.members
-    led_place p i = (in_others m row.members p (led_in (first_eligible rest) rest p (λ x e. (find_in (λ (k : RowMember). k.eligible) rest x e).0) i)).0
+    pub leader : (p : RowMember) → In p (without row m).members → In p row.members
+    leader p i = (in_others m row.members p (led_in (first_eligible rest) rest p (λ x e. (find_in (λ (k : RowMember). k.eligible) rest x e).0) i)).0
 
     abbrev pub f : RowMember
     f = record { member = ok.standing.first; eligible = true }
@@ -169,10 +169,10 @@ module _ {C : Type 0} (w : World C) (made : List Shape) (ok : Frame w made) wher
       version = refl;
       reset = inl refl;
       lost = lost;
-      below = λ q e. below_kept (without row m) q led_place e;
+      below = λ q e. below_kept (without row m) q leader e;
       gone = gone;
       first = first;
-      eligible = λ q e. inl (still, refl, eligible_kept (without row m) q led_place e);
+      eligible = λ q e. inl (still, refl, eligible_kept (without row m) q leader e);
     }
       where
         lost : is_empty (without row m).members ≡ true → (numbers_of (without row m) ≡ []) × (row.lost ≡ false) × ((q : ℕ) → is_eligible row q ≡ true → is_among w.crashed q ≡ true)
