@@ -1,0 +1,3 @@
+pub mod FaultCounts
+pub mod Told
+mod Pieces
