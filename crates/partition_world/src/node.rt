@@ -50,7 +50,7 @@ impl Replica {
         ensures released { IfOk result (λ replica. replica.released.items ≡ []) }
     {
         Ok(Replica {
-            known: row.clone()?,
+            known: row.copied(alloc)?,
             version: if row.contains(member) { 1 } else { 0 },
             count: 0,
             released: VecDeque::new(alloc),
