@@ -1,0 +1,9 @@
+pub mod Effects
+pub mod Places
+pub mod LoneHistory
+pub mod LoneCalls
+pub mod Agreement
+pub mod Unchanged
+pub mod Starts
+pub mod Stands
+pub mod Given

@@ -1,0 +1,7 @@
+pub mod Alone
+pub mod Answers
+pub mod Entries
+pub mod Events
+pub mod Executions
+pub mod Nodes
+pub mod Worlds
