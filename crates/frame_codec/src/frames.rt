@@ -1,0 +1,62 @@
+ghost use Rattle.std.specs.Prelude.{◌≡◌, ◌≤◌, ◌++◌, length, OnOk, OnErr};
+ghost use Rattle.frame_codec.specs.Frames.{frame_bytes};
+
+use grid_base::{Bytes, Memory};
+
+/// How many bytes of a frame stand before its payload: four of the length, two of the flags.
+pub const HEADER_LENGTH: usize = 6;
+
+/// The greatest length of a frame, its header counted.
+pub const MAX_FRAME_LENGTH: usize = 1_048_576;
+
+/// The greatest length of a payload.
+pub const MAX_PAYLOAD: usize = MAX_FRAME_LENGTH - HEADER_LENGTH;
+
+/// One part of a message.
+#[derive(Debug, Drop)]
+pub struct Frame {
+    pub flags: u16,
+    pub payload: Bytes,
+}
+
+/// Appends the bytes of a frame, at the cost of their number. Want of memory appends nothing.
+pub fn write_frame(frame: &Frame, out: &mut Vec<u8>) -> Result<(), Memory>
+    requires { length frame.now.payload ≤ MAX_PAYLOAD }
+    ensures ok { OnOk result (out.new.items ≡ out.old.items ++ frame_bytes frame.now) }
+    ensures err { OnErr result (out.new.items ≡ out.old.items) }
+{
+    let length = HEADER_LENGTH + frame.payload.len();
+    out.reserve(length)?;
+    out.extend_from_slice(&(length as u32).to_le_bytes())
+        .unwrap();
+    out.extend_from_slice(&frame.flags.to_le_bytes()).unwrap();
+    out.extend_from_slice(frame.payload.as_slice()).unwrap();
+    Ok(())
+}
+
+#[cfg(test)]
+mod tests {
+    use super::*;
+    use crate::flags;
+    use std::test::Fail;
+
+    #[test]
+    fn writes_the_length_the_flags_and_the_payload(rt: HostRuntime) -> Result<(), Fail> {
+        let mut out = Vec::new(rt.alloc());
+        let name = Frame {
+            flags: 0,
+            payload: Bytes::copied_from(rt.alloc(), b"m")?,
+        };
+        write_frame(&name, &mut out)?;
+        let cluster = Frame {
+            flags: flags::FINAL,
+            payload: Bytes::copied_from(rt.alloc(), b"dev")?,
+        };
+        write_frame(&cluster, &mut out)?;
+        assert_eq!(rt;
+            out.as_slice(),
+            b"\x07\0\0\0\0\0m\x09\0\0\0\0\x20dev".as_slice()
+        );
+        Ok(())
+    }
+}

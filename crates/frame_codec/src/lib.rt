@@ -1,0 +1,7 @@
+//! Frames, the parts of a message on a connection, read from bytes and written as bytes.
+#![tactic(auto)]
+
+pub mod flags;
+mod frames;
+
+pub use frames::{Frame, HEADER_LENGTH, MAX_FRAME_LENGTH, MAX_PAYLOAD, write_frame};
