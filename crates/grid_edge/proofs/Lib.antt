@@ -1,3 +1,4 @@
 pub mod FaultCounts
 pub mod Told
 mod Pieces
+mod Streams

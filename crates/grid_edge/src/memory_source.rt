@@ -9,7 +9,7 @@ use crate::{ReadFault, Source};
 use std::marker::Model;
 
 /// Bytes in memory, with calls that are made to fail. Contracts see what is left, the most that one call
-/// gives, and the plan of its calls.
+/// gives, and the plan of its calls, whose numbers stop at the last value of a `u64`.
 #[derive(Debug, Drop)]
 pub struct MemorySource {
     unread: Unread,
@@ -30,6 +30,7 @@ impl Model for MemorySource {
 
 impl MemorySource {
     /// Gives these bytes, as many a call as fit, and fails at the calls with these numbers, counted from 0.
+    /// Takes no memory.
     pub fn new(bytes: Vec<u8>, fails: Vec<u64>) -> Self
         ensures { result ≡ record { left = bytes.items; most = usize.MAX; plan = plan_of fails.items } }
     {
@@ -94,7 +95,7 @@ impl Model for SteadySource {
 }
 
 impl SteadySource {
-    /// Gives these bytes, as many a call as fit.
+    /// Gives these bytes, as many a call as fit. Takes no memory.
     pub fn new(bytes: Vec<u8>) -> Self
         ensures { result ≡ bytes.items }
     {

@@ -1,5 +1,6 @@
 // The process's standard streams, which tell nothing of their bytes.
 ghost use Rattle.std.specs.Prelude.{◌≡◌, ◌≤◌, ◌<◌, ℕ, None, IfOk, length};
+ghost use Rattle.std.specs.Io.KnownBytes.{ReadConsumes, WriteAppends};
 
 use crate::count::next_count;
 use crate::{ReadFault, Sink, Source, WriteFault};
@@ -86,8 +87,10 @@ impl Sink for StdSink {
 }
 
 // Reads once, and again where the read was interrupted.
+#[tactic(auto, using(crate::proofs::Streams::Consumes_since))]
 fn read_again<R: Read>(reader: &mut R, into: &mut [u8]) -> Result<usize, ReadFault>
-    ensures { IfOk result (λ n. n ≤ length into.new) }
+    ensures within { IfOk result (λ n. n ≤ length into.new) }
+    ensures bytes { ReadConsumes (R.remaining reader.old) (R.remaining reader.new) result into.new }
 {
     for _ in 0..u64::MAX {
         match reader.read(into) {
@@ -100,9 +103,11 @@ fn read_again<R: Read>(reader: &mut R, into: &mut [u8]) -> Result<usize, ReadFau
 }
 
 // Writes once, and again where the write was interrupted. It fails where nothing of a piece was taken.
+#[tactic(auto, using(crate::proofs::Streams::Appends_since))]
 fn write_again<W: Write>(writer: &mut W, from: &[u8]) -> Result<usize, WriteFault>
     ensures within { IfOk result (λ n. n ≤ length from.now) }
     ensures progress { IfOk result (λ n. 0 < length from.now → 0 < n) }
+    ensures bytes { WriteAppends (W.contents writer.old) (W.contents writer.new) result from.now }
 {
     for _ in 0..u64::MAX {
         match writer.write(from) {

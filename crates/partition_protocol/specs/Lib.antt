@@ -16,4 +16,10 @@ pub mod Sequences
 pub mod Claims
 pub mod Examples
 pub mod Traces
+pub mod Bounds
+pub mod Answers
+pub mod WellFormed
+pub mod NamedStates
 pub mod CrashTraces
+pub mod RowRules
+pub mod ReadOff

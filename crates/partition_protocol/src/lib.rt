@@ -6,6 +6,8 @@
 //! The functions here compute nothing. Their contracts are what holds of every run, for any calls and any object.
 #![tactic(auto)]
 
+pub mod laws;
+
 ghost use Rattle.grid_base.specs.Objects.{Object};
 ghost use Rattle.partition_protocol.specs.Claims.{EveryRunIsSafe, EveryAckHolds, EveryRunExtends, EveryAnswerStays, EveryStateStays, EveryBridgeStays, EveryBeginningIsEmpty};
 

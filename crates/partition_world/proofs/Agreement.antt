@@ -1,27 +1,22 @@
 -- The world of the code goes on agreeing with that of the protocol.
-use Rattle.std.proofs.Common.{◌≡◌, ◌≢◌, ℕ, zero, suc, ◌+◌, ◌<◌, ◌≤◌, le_refl, le_trans, nat_lt, not, ◌&&◌, ◌==◌, if◌then◌else◌, Bool, true, false, cond, List, [], ◌∷◌, ◌++◌, map, length, drop, vec_len, Option, Some, None, slice_get, slice_set, Contains, refl, ap, sym, ◌∙◌, subst, ◌⊎◌, inl, inr, arith, eq-eqb, append-nil}
-use Rattle.std.specs.List.{filter_map}
+use Rattle.std.proofs.Common.{◌≡◌, ◌≢◌, ℕ, zero, suc, ◌==◌, if◌then◌else◌, Bool, true, false, cond, List, [], ◌∷◌, ◌++◌, map, vec_len, Option, Some, slice_get, slice_set, Contains, refl, ap, sym, ◌∙◌, subst, ◌⊎◌, inl, inr, arith, eq-eqb, append-nil}
 use Rattle.std.proofs.lemmas.List.Elements.{Contains-append_left, Contains-append_right, Contains-append_cases}
-use Rattle.std.proofs.Math.Seq.{drop-length}
 use Rattle.grid_base.specs.Objects.{Object}
 use Rattle.grid_base.specs.declared.names.CallId.{CallId}
 use Rattle.grid_base.specs.declared.calls.Change.{Change}
-use Rattle.partition_table.specs.Rows.{is_among}
-use Rattle.partition_protocol.specs.Node.{Node as ProtocolNode, Pair, Held, settled}
-use Rattle.partition_protocol.specs.Execution.{Reached, Executes, PartitionLost, WrongTarget, Migrating, reached, executing}
-use Rattle.partition_protocol.specs.History.{Executed, Entry as ProtocolEntry, Called}
-use Rattle.partition_protocol.specs.World.{World as Machine, map_or, is_live, pair_state, trail}
-use Rattle.partition_protocol.specs.Events.{Event, Call, Happened, Outcome, ReleasedAt, Refused, nothing, executes, if_executes, calling, happens}
+use Rattle.partition_protocol.specs.Node.{Node as ProtocolNode, Held, settled}
+use Rattle.partition_protocol.specs.Execution.{Executes, reached, executing}
+use Rattle.partition_protocol.specs.History.{Executed, Called}
+use Rattle.partition_protocol.specs.World.{World as Machine, map_or, pair_state}
+use Rattle.partition_protocol.specs.Events.{Event, Call, Happened, ReleasedAt, happens}
 use Rattle.partition_world.specs.declared.node.Node.{Node}
 use Rattle.partition_world.specs.declared.node.Released.{Released}
-use Rattle.partition_world.specs.declared.trail.Entry.{Entry}
 use Rattle.partition_world.specs.declared.world.World.{World}
 use Rattle.partition_world.specs.Nodes.{machine_node}
 use Rattle.partition_world.specs.Entries.{entry_of}
-use Rattle.partition_world.specs.Alone.{IsAlone}
-use Rattle.partition_world.specs.Answers.{held_answer, released_by, released_at}
+use Rattle.partition_world.specs.Answers.{released_by, released_at}
 use Rattle.partition_world.specs.Executions.{HasKept, HasExecuted}
-use Rattle.partition_world.specs.Worlds.{Setup, setup_of, waiting, CountsAtMost, IsReleased, Agrees}
+use Rattle.partition_world.specs.Worlds.{Setup, setup_of, waiting, IsReleased, Agrees}
 use Rattle.partition_world.proofs.Places.{get_map, map_set, set_itself, get_set, set_get_same, set_get_other, only_one, same_or_not, other_number}
 use Rattle.partition_world.proofs.LoneCalls as lone
 
@@ -92,16 +87,6 @@ module _ {S Env C State : Type 0} (o : Object C State) (state : S → State) (ol
   pub waits_kept : HasKept state old new member node → (q : ℕ) → waiting new q ≡ waiting old q
   waits_kept k = nothing_more old new member node k.next there k.nodes k.released
 
-  pub counts_set : (next : Node S) → new.nodes.items ≡ slice_set old.nodes.items member next → machine_node next ≡ machine_node node → (most : ℕ) → CountsAtMost old most → CountsAtMost new most
-  counts_set next nodes says most counts q x e = go (get_set old.nodes.items member q next x (ap (λ ns. slice_get ns q) (sym nodes) ∙ e))
-    where
-      go : ((q ≡ member) × (next ≡ x)) ⊎ ((q ≢ member) × (slice_get old.nodes.items q ≡ Some x)) → x.replica.count ≤ most
-      go (inl is) = subst (λ c. c ≤ most) (ap (λ (z : ProtocolNode). z.pair.count) (sym says) ∙ ap (λ (z : Node S). z.replica.count) is.1) (counts member node there)
-      go (inr is) = counts q x is.1
-
-  pub counts_kept : HasKept state old new member node → (most : ℕ) → CountsAtMost old most → CountsAtMost new most
-  counts_kept k = counts_set k.next k.nodes k.says
-
   module _ (change_of : State → C → ℕ → Option Change) (id : CallId) (call : C) (now seen : ℕ) (h : HasExecuted o change_of state old new member node id call now seen)
       (executes_it : reached member (machine_node node) ≡ Executes) where
     abbrev n : ProtocolNode
@@ -169,21 +154,6 @@ module _ {S Env C State : Type 0} (o : Object C State) (state : S → State) (ol
         waits q
         ∙ ap (λ rs. waiting old q ++ (if member == q then rs else [])) (sym (lone.released o w a.alone member id.conn id.number call now n there_too change_of))
         ∙ ap (λ (z : Happened C). waiting old q ++ (if member == q then released_by o change_of w z.world else [])) (sym happened)
-
-    pub counts : (k : ℕ) → CountsAtMost old k → CountsAtMost new (k + 1)
-    counts k most q x e = go (get_set old.nodes.items member q h.next x (ap (λ ns. slice_get ns q) (sym h.nodes) ∙ e))
-      where
-        one_more : (b : Bool) → (executing b id.conn id.number n).pair.count ≤ n.pair.count + 1
-        one_more true = le_refl (n.pair.count + 1)
-        one_more false = omega arith
-
-        go : ((q ≡ member) × (h.next ≡ x)) ⊎ ((q ≢ member) × (slice_get old.nodes.items q ≡ Some x)) → x.replica.count ≤ k + 1
-        go (inl is) =
-            let more : after.pair.count ≤ n.pair.count + 1 = one_more (o.changes s call now) in
-            let was : n.pair.count ≤ k = most member node there in
-            let said : x.replica.count ≡ after.pair.count = ap (λ (z : Node S). z.replica.count) (sym is.1) ∙ count in
-            omega (arith, more, was, said)
-        go (inr is) = let was = most q x is.1 in omega (arith, was)
 
     -- an answer that waits was released, and stands in the log
     was_released : (answer' : Released) → IsReleased w answer' → IsReleased then_so.world answer'

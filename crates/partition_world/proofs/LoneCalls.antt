@@ -1,7 +1,6 @@
 -- The one member of a partition executes a call: the call stands last in the log, and its answer is released.
-use Rattle.std.proofs.Common.{◌≡◌, ℕ, zero, suc, ◌+◌, ◌-◌, ◌≤◌, le_refl, le_trans, nat_lt, nat_le, not, ◌&&◌, ◌==◌, if◌then◌else◌, cond, Bool, true, false, List, [], ◌∷◌, ◌++◌, map, length, take, drop, reverse, filter, Option, Some, None, option_map, slice_get, slice_set, refl, ap, sym, ◌∙◌, subst, arith, eq-eqb, le-leb, append-nil, length-append}
-use Rattle.std.specs.List.{list_all, find, filter_map, cons_option, before_last, prefix_len, suffix_len}
-use Rattle.std.specs.Option.{option_and_then}
+use Rattle.std.proofs.Common.{◌≡◌, ℕ, ◌-◌, ◌≤◌, le_refl, le_trans, nat_lt, not, ◌&&◌, if◌then◌else◌, cond, Bool, true, false, List, [], ◌∷◌, ◌++◌, map, length, take, drop, filter, Option, Some, option_map, slice_get, slice_set, refl, ap, sym, ◌∙◌, subst, arith, eq-eqb, le-leb, append-nil, length-append}
+use Rattle.std.specs.List.{list_all, filter_map, cons_option, before_last, suffix_len}
 use Rattle.std.proofs.lemmas.List.{reverse-append}
 use Rattle.std.proofs.lemmas.List.Elements.{filter-append}
 use Rattle.std.proofs.Math.Seq.{drop-append_seam, take-append_seam}
@@ -13,15 +12,15 @@ use Rattle.partition_table.specs.declared.members.RowMember.{RowMember}
 use Rattle.partition_table.specs.Rows.{is_among, is_empty, backups_of}
 use Rattle.partition_protocol.specs.Messages.{Sent, Effect}
 use Rattle.partition_protocol.specs.Node.{Node, Pair, Held, acked, is_at_least, is_released, still_held, now_released, settled}
-use Rattle.partition_protocol.specs.Execution.{Reached, Executes, reached, executing, sent_on_executing}
-use Rattle.partition_protocol.specs.History.{Executed, Entry, Called, Reset, is_in_pair, entries_in, state_after}
+use Rattle.partition_protocol.specs.Execution.{Executes, reached, executing, sent_on_executing}
+use Rattle.partition_protocol.specs.History.{Executed, Entry, Called, is_in_pair, entries_in, state_after}
 use Rattle.partition_protocol.specs.World.{World, map_or, is_live, pair_history, pair_state, trail}
 use Rattle.partition_protocol.specs.Links.{packets_from}
 use Rattle.partition_protocol.specs.Events.{Event, Call, Happened, ReleasedAt, HeldAt, nothing, entry_of, executed_with, executes, if_executes, calling, happens}
 use Rattle.partition_world.specs.declared.node.Released.{Released}
 use Rattle.partition_world.specs.Alone.{IsAlone}
-use Rattle.partition_world.specs.Answers.{id_of, is_call, executed_in, newest_call, state_before, answer_of, held_answer, released_by}
-use Rattle.partition_world.proofs.LoneHistory.{state_append, history_alone, pair_alone, no_backups, trail_alone}
+use Rattle.partition_world.specs.Answers.{id_of, is_call, newest_call, state_before, answer_of, held_answer, released_by}
+use Rattle.partition_world.proofs.LoneHistory.{state_append, history_alone, no_backups, trail_alone}
 use Rattle.partition_world.proofs.Places.{only_one}
 
 -- a row without backups lets every answer go

@@ -1,11 +1,11 @@
 -- In a partition of one member that took calls alone, every history is the log.
-use Rattle.std.proofs.Common.{◌≡◌, ℕ, ◌≤◌, zero, suc, le_refl, List, [], ◌∷◌, ◌++◌, map, take, Some, slice_get, refl, ap, sym, ◌∙◌, subst}
+use Rattle.std.proofs.Common.{◌≡◌, ℕ, ◌≤◌, zero, suc, le_refl, List, [], ◌∷◌, ◌++◌, map, take, Some, slice_get, refl, ap, ◌∙◌}
 use Rattle.std.proofs.Math.Nat.{mod-one}
 use Rattle.grid_base.specs.Objects.{Object}
 use Rattle.partition_table.specs.declared.row.Row.{Row}
 use Rattle.partition_table.specs.Rows.{initial_row, first_of, eligible_member, backups_of}
 use Rattle.partition_protocol.specs.Node.{Node, Pair}
-use Rattle.partition_protocol.specs.History.{Executed, Entry, Called, Reset, Base, history, opening_at, state_after}
+use Rattle.partition_protocol.specs.History.{Executed, Entry, Called, Reset, history, state_after}
 use Rattle.partition_protocol.specs.World.{World, map_or, pair_history, history_since, trail_at, trail}
 use Rattle.partition_world.specs.Alone.{IsAlone}
 

@@ -1,10 +1,14 @@
 -- A world that stands for a list of events, and for one event more.
-use Rattle.std.proofs.Common.{◌≡◌, ℕ, ◌+◌, List, [], ◌∷◌, ◌++◌, length, length-append, refl, ap, sym, ◌∙◌, subst, arith}
+use Rattle.std.proofs.Common.{◌≡◌, ℕ, ◌≤◌, Some, slice_get, ◌+◌, List, [], ◌∷◌, ◌++◌, length, length-append, refl, ap, sym, ◌∙◌, subst, arith}
 use Rattle.grid_base.specs.Objects.{Object}
 use Rattle.partition_protocol.specs.World.{World as Machine, start}
 use Rattle.partition_protocol.specs.Events.{Event, happens, run}
+use Rattle.partition_protocol.proofs.Bounds.{every_run_is_within}
+use Rattle.partition_world.specs.declared.node.Node.{Node}
 use Rattle.partition_world.specs.declared.world.World.{World}
-use Rattle.partition_world.specs.Worlds.{Setup, setup_of, steps_of, CountsAtMost, Agrees, StandsFor, run_of}
+use Rattle.partition_world.specs.Nodes.{machine_node}
+use Rattle.partition_world.specs.Worlds.{Setup, setup_of, steps_of, Agrees, StandsFor, run_of}
+use Rattle.partition_world.proofs.Places.{get_map}
 
 pub run_append : {C State : Type 0} (o : Object C State) (w : Machine C) (es fs : List (Event C)) → run o w (es ++ fs) ≡ run o (run o w es) fs
 run_append o w [] fs = refl
@@ -18,17 +22,16 @@ module _ {S Env C State : Type 0} (o : Object C State) (state : S → State) (ol
   same_run = ap (λ (u : Setup). run o (start u.partition u.members u.backups) events) setup
 
   -- nothing happened
-  pub stands_on : steps_of new ≡ steps_of old → Agrees o state new (run_of o old events) → CountsAtMost new (length events) → StandsFor o state new events
-  stands_on steps agrees counts = record {
+  pub stands_on : steps_of new ≡ steps_of old → Agrees o state new (run_of o old events) → StandsFor o state new events
+  stands_on steps agrees = record {
     agrees = subst (λ (w : Machine C). Agrees o state new w) (sym same_run) agrees;
     steps = steps ∙ stands.steps;
-    counts = counts;
   }
 
   -- an event happened, and is counted
-  pub stands_next : (e : Event C) → steps_of new ≡ steps_of old → Agrees o state new (happens o (run_of o old events) e).world → CountsAtMost new (length events + 1)
+  pub stands_next : (e : Event C) → steps_of new ≡ steps_of old → Agrees o state new (happens o (run_of o old events) e).world
       → StandsFor o state (record new { steps = new.steps + 1 }) (events ++ e ∷ [])
-  stands_next e steps a counts = record {
+  stands_next e steps a = record {
     agrees =
         let here : Agrees o state (record new { steps = new.steps + 1 }) (happens o (run_of o old events) e).world = record {
           members = a.members;
@@ -42,8 +45,14 @@ module _ {S Env C State : Type 0} (o : Object C State) (state : S → State) (ol
         subst (λ (w : Machine C). Agrees o state (record new { steps = new.steps + 1 }) w)
         (sym (run_append o (start new.partition new.members new.backups) events (e ∷ []) ∙ ap (λ (w : Machine C). (happens o w e).world) same_run)) here;
     steps = more;
-    counts = subst (CountsAtMost new) (sym (length-append events (e ∷ []))) counts;
   }
     where
       more : new.steps + 1 ≡ length (events ++ e ∷ [])
       more = omega (arith, steps, stands.steps, length-append events (e ∷ []))
+
+-- a member counts no more effects than there were events
+pub counts_few : {S Env C State : Type 0} (o : Object C State) (state : S → State) (world : World S Env C) (events : List (Event C)) → StandsFor o state world events
+    → (member : ℕ) (node : Node S) → slice_get world.nodes.items member ≡ Some node → node.replica.count ≤ length events
+counts_few o state world events stands member node there =
+    ((every_run_is_within o world.partition world.members world.backups events).nodes member (machine_node node)
+    (ap (λ ns. slice_get ns member) (sym stands.agrees.nodes) ∙ get_map machine_node world.nodes.items member node there)).pair.count

@@ -1,22 +1,22 @@
 -- A world in which nothing has happened.
-use Rattle.std.proofs.Common.{◌≡◌, ℕ, zero, suc, ◌+◌, ◌<◌, ◌≤◌, ◌==◌, ◌||◌, nat_eq, if◌then◌else◌, Bool, true, false, cond, List, [], ◌∷◌, ◌++◌, map, length, take, vec_len, Option, Some, None, slice_get, Contains, All, refl, ap, sym, ◌∙◌, subst, arith, add-one}
+use Rattle.std.proofs.Common.{◌≡◌, ℕ, ◌+◌, ◌==◌, ◌||◌, nat_eq, if◌then◌else◌, true, [], ◌∷◌, ◌++◌, map, take, vec_len, Option, Some, None, slice_get, Contains, All, refl, ap, sym, ◌∙◌, subst, arith, add-one}
 use Rattle.std.specs.List.{list_any}
 use Rattle.std.proofs.Math.Nat.{mod-one}
 use Rattle.grid_base.specs.Objects.{Object}
 use Rattle.partition_table.specs.declared.row.Row.{Row}
 use Rattle.partition_table.specs.Rows.{eligible_member, number_of, is_in, initial_row}
-use Rattle.partition_protocol.specs.Node.{Node as ProtocolNode, Pair, opening_node, opening_pair, no_pair}
+use Rattle.partition_protocol.specs.Node.{Pair, opening_node, no_pair}
 use Rattle.partition_protocol.specs.Service.{numbers_below}
 use Rattle.partition_protocol.specs.History.{Entry, state_after}
-use Rattle.partition_protocol.specs.World.{World as Machine, map_or, start, pair_state, trail}
+use Rattle.partition_protocol.specs.World.{start, pair_state}
 use Rattle.partition_world.specs.declared.node.Node.{Node}
 use Rattle.partition_world.specs.declared.node.Released.{Released}
 use Rattle.partition_world.specs.declared.world.World.{World}
 use Rattle.partition_world.specs.Nodes.{machine_node}
 use Rattle.partition_world.specs.Entries.{entry_of}
 use Rattle.partition_world.specs.Alone.{IsAlone}
-use Rattle.partition_world.specs.Worlds.{waiting, IsReleased, CountsAtMost, Agrees, StandsFor}
-use Rattle.partition_world.proofs.Places.{all_at, get_map}
+use Rattle.partition_world.specs.Worlds.{waiting, StandsFor}
+use Rattle.partition_world.proofs.Places.{all_at}
 use Rattle.partition_world.proofs.LoneHistory.{trail_alone}
 use Rattle.partition_world.proofs.Agreement.{map_append, none_either, released_of}
 
@@ -42,19 +42,6 @@ start_alone partition backups = record {
 
 pub start_state : {C State : Type 0} (o : Object C State) (partition members backups : ℕ) (p : Pair) → pair_state o (start {C = C} partition members backups) p ≡ o.empty
 start_state {C = C} o partition members backups p = ap (state_after o o.empty) (none_either {X = Entry C} (1 == p.version))
-
-none_counted : (b : Bool) → (let p : Pair = if b then record { version = 1; count = 0 } else no_pair in p.count) ≡ 0
-none_counted true = refl
-none_counted false = refl
-
--- and no member counts an effect
-pub opening_counts : (partition members backups : ℕ) (ms : List ℕ) (k : ℕ) (node : ProtocolNode) → slice_get (map (opening_node (initial_row partition members backups)) ms) k ≡ Some node → node.pair.count ≡ 0
-opening_counts partition members backups [] k node at = absurd cc
-opening_counts partition members backups (m ∷ ms) zero node at =
-    let row = initial_row partition members backups in
-    let same : opening_node row m ≡ node = cc in
-    ap (λ (z : ProtocolNode). z.pair.count) (sym same) ∙ none_counted (is_in row m)
-opening_counts partition members backups (m ∷ ms) (suc k) node at = opening_counts partition members backups ms k node at
 
 -- one member more
 pub opening_more : (row : Row) (k : ℕ) → map (opening_node row) (numbers_below (k + 1)) ≡ map (opening_node row) (numbers_below k) ++ opening_node row k ∷ []
@@ -83,7 +70,6 @@ starts {S} {Env} {C} o state world one size nodes empty none entries steps = rec
     alone = alone;
   };
   steps = steps;
-  counts = counts;
 }
   where
     alone : IsAlone (start {C = C} world.partition world.members world.backups)
@@ -91,9 +77,3 @@ starts {S} {Env} {C} o state world one size nodes empty none entries steps = rec
 
     nobody : (answer : Released) → Contains [] answer → ⊥
     nobody answer (k, within, e) = absurd (omega arith)
-
-    counts : CountsAtMost world 0
-    counts member node at =
-        let none_yet = opening_counts world.partition world.members world.backups (numbers_below world.members) member (machine_node node)
-        (ap (λ nodes. slice_get nodes member) (sym nodes) ∙ get_map machine_node world.nodes.items member node at) in
-        omega (arith, none_yet)

@@ -1,5 +1,5 @@
 -- An event that changes nothing: a call to nobody, and a call that is refused.
-use Rattle.std.proofs.Common.{◌≡◌, ℕ, ◌+◌, nat_lt, not, ◌&&◌, ◌==◌, if◌then◌else◌, Bool, true, false, cond, List, [], ◌∷◌, ◌++◌, map, length, drop, Option, Some, slice_get, refl, ap, sym, ◌∙◌, subst, append-nil}
+use Rattle.std.proofs.Common.{◌≡◌, ℕ, nat_lt, not, ◌&&◌, if◌then◌else◌, Bool, true, false, [], ◌++◌, length, Option, Some, slice_get, refl, ap, sym, ◌∙◌, append-nil}
 use Rattle.std.specs.List.{filter_map}
 use Rattle.std.proofs.lemmas.List.{length-map}
 use Rattle.std.proofs.Math.Seq.{drop-length}
@@ -10,7 +10,6 @@ use Rattle.partition_protocol.specs.Execution.{Reached, reached}
 use Rattle.partition_protocol.specs.World.{World as Machine, map_or, is_live}
 use Rattle.partition_protocol.specs.Events.{Event, Call, Happened, Outcome, Refused, nothing, executes, if_executes, calling, happens}
 use Rattle.partition_world.specs.declared.node.Node.{Node}
-use Rattle.partition_world.specs.declared.node.Released.{Released}
 use Rattle.partition_world.specs.declared.world.World.{World}
 use Rattle.partition_world.specs.Nodes.{machine_node}
 use Rattle.partition_world.specs.Answers.{held_answer, is_at, released_by, released_at}

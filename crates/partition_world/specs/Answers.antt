@@ -1,5 +1,5 @@
 -- The answers that an event releases, each as the log has it.
-use Rattle.std.specs.Prelude.{ℕ, Bool, true, false, ◌==◌, if◌then◌else◌, List, [], Option, Some, None, option_map, length, drop, reverse}
+use Rattle.std.specs.Prelude.{ℕ, Bool, false, ◌==◌, if◌then◌else◌, List, [], Option, Some, None, option_map, length, drop, reverse}
 use Rattle.std.specs.List.{find, filter_map, before_last}
 use Rattle.std.specs.Option.{option_and_then}
 use Rattle.grid_base.specs.Objects.{Object}

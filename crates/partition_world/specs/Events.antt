@@ -1,5 +1,4 @@
 -- The events and outcomes of the code, as those of the protocol.
-use Rattle.std.specs.Prelude.{ℕ}
 use Rattle.partition_protocol.specs.Execution.{PartitionLost as IsLost, WrongTarget as IsElsewhere, Migrating as IsFrozen}
 use Rattle.partition_protocol.specs.Events.{Event as ProtocolEvent, Call as CallEvent, Outcome, NothingDone, HeldAt, ReleasedAt, Refused}
 use Rattle.partition_world.specs.declared.event.Event.{Event}

@@ -1,5 +1,5 @@
 -- The world of the code stands for the protocol's run of a list of events.
-use Rattle.std.specs.Prelude.{◌≡◌, ℕ, ◌≤◌, List, [], map, length, Some, slice_get, vec_len, Contains}
+use Rattle.std.specs.Prelude.{◌≡◌, ℕ, List, [], map, length, Some, slice_get, vec_len, Contains}
 use Rattle.grid_base.specs.Objects.{Object}
 use Rattle.partition_protocol.specs.History.{Executed, Called}
 use Rattle.partition_protocol.specs.World.{World as Machine, map_or, start, pair_state, trail}
@@ -31,10 +31,6 @@ trail_length world = length world.trail.entries.items
 abbrev pub waiting : {S Env C : Type 0} → World S Env C → ℕ → List Released
 waiting {S = S} world member = map_or (slice_get world.nodes.items member) [] (λ (node : Node S). node.replica.released.items)
 
--- no member counts more effects than n
-abbrev pub CountsAtMost : {S Env C : Type 0} → World S Env C → ℕ → Type 0
-CountsAtMost {S = S} world n = (member : ℕ) (node : Node S) → slice_get world.nodes.items member ≡ Some node → node.replica.count ≤ n
-
 -- The answer was released, and is that of a call in the log
 pub record IsReleased {C : Type 0} (w : Machine C) (answer : Released) : Type 0 where
   pub released : Contains w.released (record { conn = answer.id.conn; number = answer.id.number; seen = answer.seen })
@@ -63,4 +59,3 @@ run_of o world events = run o (start world.partition world.members world.backups
 pub record StandsFor {S Env C State : Type 0} (o : Object C State) (state : S → State) (world : World S Env C) (events : List (Event C)) : Type 0 where
   pub agrees : Agrees o state world (run_of o world events)
   pub steps : steps_of world ≡ length events
-  pub counts : CountsAtMost world (length events)

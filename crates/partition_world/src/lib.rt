@@ -10,4 +10,7 @@ mod world;
 pub use event::{CallOutcome, Event, Happened};
 pub use node::Released;
 pub use trail::Entry;
-pub use world::World;
+pub use world::{MOST_EVENTS, World, every_world_is_safe};
+
+#[cfg(test)]
+mod tests;

@@ -4,13 +4,15 @@ ghost use Rattle.partition_protocol.specs.Node.{opening_node};
 ghost use Rattle.partition_protocol.specs.Service.{numbers_below};
 ghost use Rattle.partition_protocol.specs.Execution.{reached, Executes};
 ghost use Rattle.partition_protocol.specs.World.{World as Machine, is_live, trail};
+ghost use Rattle.partition_protocol.specs.Arrivals.{NamedOnce, arrivals, name};
+ghost use Rattle.partition_protocol.specs.Claims.{IsSafe, IsFaithful};
 ghost use Rattle.partition_protocol.specs.Events.{Event as ProtocolEvent, Call as CallEvent, happens};
 ghost use Rattle.partition_world.specs.Nodes.{machine_node};
 ghost use Rattle.partition_world.specs.Entries.{entry_of};
 ghost use Rattle.partition_world.specs.Events.{event_of, happened_of, IsWithin};
 ghost use Rattle.partition_world.specs.Answers.{released_at};
 ghost use Rattle.partition_world.specs.Executions.{HasExecuted, HasKept};
-ghost use Rattle.partition_world.specs.Worlds.{Agrees, StandsFor, CountsAtMost, IsReleased, run_of, setup_of, steps_of, trail_length, waiting};
+ghost use Rattle.partition_world.specs.Worlds.{Agrees, StandsFor, IsReleased, run_of, setup_of, steps_of, trail_length, waiting};
 
 use crate::event::{CallOutcome, Event, Happened};
 use crate::node::{Called, Node, Reached, Released};
@@ -183,7 +185,7 @@ impl<S: Shelf> World<S> {
     where
         S::Call: Drop,
         requires limits { S.within_limits call }
-        requires counts { (n : ℕ) × (n + 1 < 2 ^ 32) × CountsAtMost self.old n }
+        requires fits { (node : Node S) → slice_get self.old.nodes.items member ≡ Some node → node.replica.count + 1 < 2 ^ 32 }
         requires agrees { (w : Machine S.Call) × Agrees (S.object env.now) S.state self.old w }
         ensures outcome { (w : Machine S.Call) → let o = S.object env.now in Agrees o S.state self.old w
             → IfOk result (λ happened. happened_of happened ≡ (happens o w (CallEvent member id.conn id.number call now)).outcome) }
@@ -192,10 +194,8 @@ impl<S: Shelf> World<S> {
         ensures waiting { (w : Machine S.Call) → let o = S.object env.now in Agrees o S.state self.old w
             → OnOk result ((other : ℕ) → waiting self.new other ≡ waiting self.old other
             ++ released_at o (S.change_of env.now) w (CallEvent member id.conn id.number call now) other) }
-        ensures counts { (n : ℕ) → CountsAtMost self.old n → OnOk result (CountsAtMost self.new (n + 1)) }
         ensures err { (w : Machine S.Call) → let o = S.object env.now in Agrees o S.state self.old w → OnErr result (Agrees o S.state self.new w) }
         ensures err_waiting { OnErr result ((other : ℕ) → waiting self.new other ≡ waiting self.old other) }
-        ensures err_counts { (n : ℕ) → CountsAtMost self.old n → OnErr result (CountsAtMost self.new n) }
         ensures setup { setup_of self.new ≡ setup_of self.old }
         ensures steps { steps_of self.new ≡ steps_of self.old }
     {
@@ -282,3 +282,11 @@ fn opening_nodes<S: Shelf>(alloc: Global, members: u8, row: &Row) -> Result<Vec<
     }
     Ok(nodes)
 }
+
+/// What the protocol claims of its every run holds of a world, where no two calls had one name: its
+/// history is that of one thread, it has every answer that was released, and it has calls that were
+/// made, in order, each at most once.
+pub fn every_world_is_safe<S: Shelf>(world: &World<S>)
+    ensures { (env : S.Env) (events : List (ProtocolEvent S.Call)) → let o = S.object env in StandsFor o S.state world.now events → NamedOnce (map name (arrivals events))
+        → IsSafe o (run_of o world.now events) × IsFaithful events (run_of o world.now events) }
+{}

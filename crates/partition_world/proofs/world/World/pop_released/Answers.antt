@@ -5,7 +5,7 @@ use Rattle.partition_world.specs.declared.node.Node.{Node}
 use Rattle.partition_world.specs.declared.world.World.{World}
 use Rattle.partition_world.specs.Worlds.{waiting, run_of}
 use Rattle.partition_world.proofs.Places.{stands_there}
-use Rattle.partition_world.proofs.Agreement.{agrees_set, counts_set}
+use Rattle.partition_world.proofs.Agreement.{agrees_set}
 use Rattle.partition_world.proofs.Stands.{stands_on}
 use Rattle.partition_world.proofs.Given.{given_first, waited, gave, gave_first, gave_nothing, others, fewer}
 use Rattle.partition_world.proofs.world.World.pop_released.Goals as goal
@@ -80,4 +80,3 @@ returns-clause-stands g c env events stands =
     let w = run_of o old events in
     stands_on o g.S.Shelf.state old new events stands refl refl
     (agrees_set o g.S.Shelf.state old new w c.args.member node stands.agrees there refl next nodes refl c.pop_released.ensures.node refl refl (fewer old new c.args.member node next there nodes c.pop_released.result c.pop_released.ensures.given))
-    (counts_set o g.S.Shelf.state old new w c.args.member node stands.agrees there refl next nodes c.pop_released.ensures.node (length events) stands.counts)

@@ -1,23 +1,24 @@
 -- One event more was run, or none.
-use Rattle.std.proofs.Common.{length, arith, rules}
+use Rattle.std.proofs.Common.{arith, rules}
 use Rattle.partition_protocol.specs.Events.{happens}
 use Rattle.partition_world.specs.Events.{event_of}
 use Rattle.partition_world.specs.Worlds.{Agrees, run_of}
 use Rattle.partition_world.proofs.Effects.{on_err}
-use Rattle.partition_world.proofs.Stands.{agrees_with, stands_on, stands_next}
+use Rattle.partition_world.proofs.Stands.{agrees_with, counts_few, stands_on, stands_next}
 use Rattle.partition_world.proofs.world.World.step.Goals as goal
 
-pub call-requires-clause-counts : goal.call-requires-clause-counts
-call-requires-clause-counts g c =
+pub call-requires-clause-fits : goal.call-requires-clause-fits
+call-requires-clause-fits g c node there =
     let stands = c.requires.stands.1 in
-    (length c.requires.stands.0, omega (arith, stands.steps, c.requires.room), stands.counts)
+    let few = counts_few (g.S.Shelf.object c.args.env.now) g.S.Shelf.state c.args.self.now c.requires.stands.0 stands _ node there in
+    omega (arith, few, stands.steps, c.requires.room)
 
 pub returns-in_err-happened-clause-err : goal.returns-in_err-happened-clause-err
 returns-in_err-happened-clause-err g c events stands =
     let o = g.S.Shelf.object c.args.env.now in
     let old = c.args.self.now in
     let same = c.in_err-happened.ensures in
-    on_err _ _ (stands_on o g.S.Shelf.state old c.call.new.self events stands same.setup same.steps (same.err (run_of o old events) stands.agrees) (same.err_counts (length events) stands.counts))
+    on_err _ _ (stands_on o g.S.Shelf.state old c.call.new.self events stands same.setup same.steps (same.err (run_of o old events) stands.agrees))
 
 pub returns-clause-stands : goal.returns-clause-stands
 returns-clause-stands g c events stands =
@@ -25,5 +26,5 @@ returns-clause-stands g c events stands =
     let old = c.args.self.now in
     let next = c.in_ok-happened.ensures in
     let agrees : Agrees o g.S.Shelf.state c.call.new.self (happens o (run_of o old events) (event_of c.args.event)).world =
-        agrees_with o g.S.Shelf.state c.call.new.self _ _ (next.agrees (run_of o old events) stands.agrees) (search rules) in
-    stands_next o g.S.Shelf.state old c.call.new.self events stands next.setup (event_of c.args.event) next.steps agrees (next.counts (length events) stands.counts)
+    agrees_with o g.S.Shelf.state c.call.new.self _ _ (next.agrees (run_of o old events) stands.agrees) (search rules) in
+    stands_next o g.S.Shelf.state old c.call.new.self events stands next.setup (event_of c.args.event) next.steps agrees

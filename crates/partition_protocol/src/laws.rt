@@ -1,0 +1,54 @@
+//! More laws of every run. As those of the crate's root they compute nothing: each contract is what holds of every run.
+
+ghost use Rattle.grid_base.specs.Objects.{Object};
+ghost use Rattle.partition_protocol.specs.Answers.{EveryAnswerIsSingle};
+ghost use Rattle.partition_protocol.specs.Bounds.{EveryRunIsWithin};
+ghost use Rattle.partition_protocol.specs.WellFormed.{EveryRunIsWellFormed};
+ghost use Rattle.partition_protocol.specs.NamedStates.{EveryEffectLeads, EveryNamedStateStays, EveryBridgeJoins};
+ghost use Rattle.partition_protocol.specs.RowRules.{EveryKnownRowGoesOn, EveryLossIsTold, EveryRowIsLostByRule};
+ghost use Rattle.partition_protocol.specs.ReadOff.{EveryFactIsReadOff};
+
+/// After `n` events every version and every reset is at most `n + 1`, and every count at most `n`: of rows, of pairs,
+/// of acknowledgements, of answers and in messages.
+pub fn every_count_is_bounded<C, S>()
+    ensures { (o : Object C S) → EveryRunIsWithin o }
+{}
+
+/// Where no two calls have one name, an answer is released at most once, and until then it is held by at most one member,
+/// there once.
+pub fn every_answer_is_single<C, S>()
+    ensures { (o : Object C S) → EveryAnswerIsSingle o }
+{}
+
+/// There is a node for each member, each row lists members, each once, and each message in flight is between two ends, as
+/// its kind has them.
+pub fn every_run_is_well_formed<C, S>()
+    ensures { (o : Object C S) → EveryRunIsWellFormed o }
+{}
+
+/// For an object whose calls without an effect leave the state, what a message in flight says of contents stays so until
+/// it comes, whatever happens meanwhile. Each Effect is that of one executed call. The states that a Sync, an Effect or a
+/// Bridge names keep what they are, and so do those of a member's own pair and of the pairs with which versions began. A
+/// Bridge names one state by two pairs.
+pub fn every_message_stays_right<C, S>()
+    ensures effects { (o : Object C S) → EveryEffectLeads o }
+    ensures states { (o : Object C S) → EveryNamedStateStays o }
+    ensures bridges { (o : Object C S) → EveryBridgeJoins o }
+{}
+
+/// A member never goes back to an earlier row. If it lives, it answers a call that the partition is lost exactly where the
+/// row that it knows is lost. A row is lost exactly as the service is told of the crash of its last member that may lead,
+/// and a lost row stays the newest until it is reopened.
+pub fn every_row_goes_by_rule<C, S>()
+    ensures known { (o : Object C S) → EveryKnownRowGoesOn o }
+    ensures told { (o : Object C S) → EveryLossIsTold o }
+    ensures lost { (o : Object C S) → EveryRowIsLostByRule o }
+{}
+
+/// What a member knows is what was handed over to it. Its row is the newest of the initial one and those in its messages,
+/// the first of several of one version. What a backup has acknowledged to it is the greatest count in an acknowledgement
+/// of that version that it took as the primary of it; in the initial row it is at least 0. It is frozen where a freeze of
+/// that version came to it as its primary.
+pub fn every_fact_is_read_off<C, S>()
+    ensures { (o : Object C S) → EveryFactIsReadOff o }
+{}
