@@ -371,3 +371,6 @@ impl Grid {
         Ok(())
     }
 }
+
+#[cfg(test)]
+mod tests;
