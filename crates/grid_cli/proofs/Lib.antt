@@ -43,3 +43,4 @@ pub mod ReplayLaws
 pub mod ReplaySteps
 pub mod ReplayEnds
 pub mod ReplayRuns
+pub mod CommandLaws

@@ -2,9 +2,10 @@
 use Rattle.std.proofs.Common.{◌≡◌, ℕ, ◌+◌, ◌≤◌, Bool, true, false, if◌then◌else◌, List, [], ◌∷◌, ◌++◌, length, Option, Some, None, refl, ap, sym, ◌∙◌, subst, arith, append-nil, append_assoc, length-append, take, drop}
 use Rattle.std.proofs.lemmas.List.{take-append-drop}
 use Rattle.partition_protocol.specs.Sequences.{IsFrontOf}
-use Rattle.std.specs.Prelude.{option_map, option_and_then}
+use Rattle.std.specs.Prelude.{option_map, option_and_then, codes}
 use Rattle.grid_base.specs.declared.names.CallId.{CallId}
 use Rattle.grid_cli.specs.Lines.{line_of}
+use Rattle.grid_cli.specs.Words.{are_same}
 use Rattle.grid_cli.specs.PartitionObjects.{partition_object}
 use Rattle.grid_cli.specs.Runs.{Run, begun, after_line}
 use Rattle.grid_cli.specs.Printing.{ok_text, refused_text, limit_text, line_text, end_text}
@@ -74,6 +75,27 @@ line_refused old new skips done written text added number follows none counted s
     at_refused r skips done written text follows.at (none r follows.stands) too_long texts
     ∙ ap (λ n. following written (refused n NotBuilt)) same
     ∙ ap (λ t. whole (written ++ t) (Refused number NotBuilt)) (sym shown)
+
+-- the one line that makes a grid
+abbrev members_in : Option Line → ℕ
+members_in (Some (GridLine members backups capacity)) = members
+members_in other = 0
+
+abbrev backups_in : Option Line → ℕ
+backups_in (Some (GridLine members backups capacity)) = backups
+backups_in other = 1
+
+pub the_grid_line : (text : List ℕ) (members backups capacity : ℕ) → line_of true text ≡ Some (GridLine members backups capacity)
+    → (members ≡ 1) × (backups ≡ 0) × (line_of true text ≡ Some (GridLine 1 0 10))
+the_grid_line text members backups capacity read = by_same (are_same text (codes "grid 1 0 10")) refl
+  where
+    by_same : (same : Bool) → are_same text (codes "grid 1 0 10") ≡ same → (members ≡ 1) × (backups ≡ 0) × (line_of true text ≡ Some (GridLine 1 0 10))
+    by_same true same =
+        let reads : line_of true text ≡ Some (GridLine 1 0 10) = rw (same, line_of) refl in
+        (ap members_in (sym read ∙ reads), ap backups_in (sym read ∙ reads), reads)
+    by_same false same =
+        let reads : line_of true text ≡ None = rw (same, line_of) refl in
+        absurd (cc (sym read ∙ reads))
 
 -- the first line
 pub first_goes : (grid : Grid) (skips : List CallId) (done : List (List ℕ)) (written text added : List ℕ) → HasRunNone skips done written

@@ -21,5 +21,6 @@ pub mod Grids
 pub mod Transcribing
 pub mod Pieces
 pub mod Replays
+pub mod Commands
 pub mod PrintedEntries
 pub mod WorldCalls

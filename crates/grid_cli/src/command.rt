@@ -1,0 +1,41 @@
+ghost use Rattle.std.specs.Prelude.{◌≡◌, ◌↔◌, ℕ, List, Some, false, true};
+ghost use Rattle.grid_edge.specs.Faults.{Rose};
+ghost use Rattle.grid_cli.specs.Statuses.{WritesText};
+ghost use Rattle.grid_cli.specs.Commands.{is_replay, PrintsHistories};
+
+use crate::replay::run_script;
+use crate::status::Status;
+use grid_edge::{Sink, Source};
+use std::alloc::Global;
+
+fn is_replay_command(words: &[String]) -> bool
+    ensures { result ≡ is_replay words.now }
+{
+    match words {
+        [word] => word.as_bytes() == b"replay".as_slice(),
+        _ => false,
+    }
+}
+
+/// Carries out the command that the words after the program's name give: `replay` reads a script from `script` and
+/// writes its transcript to `out`, as `docs/SCRIPTS.md` has them. Costs the script's length, and for each line
+/// what its call and its printed entries cost.
+pub fn replay_command<S: Source, K: Sink>(alloc: Global, words: &[String], script: &mut S, out: &mut K) -> Status
+    // Where the words are no command nothing is read and nothing is written.
+    ensures usage { (result ≡ Status.Usage) ↔ (is_replay words.now ≡ false) }
+    ensures unread { result ≡ Status.Usage → S.left script.new ≡ S.left script.old }
+    ensures unwritten { result ≡ Status.Usage → K.taken out.new ≡ K.taken out.old }
+    // A fault is told only where the source or the sink had one.
+    ensures read_fault { result ≡ Status.ReadFault → Rose (S.faults script.old) (S.faults script.new) }
+    ensures write_fault { result ≡ Status.WriteFault → Rose (K.faults out.old) (K.faults out.new) }
+    // What was written is the script's transcript, or as much of it as the status says.
+    ensures text { WritesText result (S.left script.old) (K.taken out.old) (K.taken out.new) }
+    // What is printed for each key is the history of one entry used by one thread, with every answered call in it once.
+    ensures headline { (bytes : List ℕ) → S.left script.old ≡ Some bytes → result ≡ Status.Done
+        → PrintsHistories bytes (K.taken out.old) (K.taken out.new) }
+{
+    if !is_replay_command(words) {
+        return Status::Usage;
+    }
+    run_script(alloc, script, out)
+}
