@@ -38,18 +38,23 @@ later_close skips too_long r (text ∷ texts) e = by_run (λ next. later_close s
   where
     Rest : Type 0
     Rest = (next : Run) → ended_in (later_lines partition_object skips too_long next texts) ≡ true → Closes skips next texts (later_lines partition_object skips too_long next texts)
+
     all : Transcript
     all = later_lines partition_object skips too_long r (text ∷ texts)
+
     by_end : Rest → (x : Line × Run) → ran partition_object skips r text ≡ Some x → (b : Bool) → is_end x.0 ≡ b → Closes skips r (text ∷ texts) all
     by_end go x runs true ends = (1, [], rw (runs, ends, later_lines, run_after) refl)
     by_end go x runs false ends =
         let shown : all ≡ following (line_text r x.1) (later_lines partition_object skips too_long x.1 texts) = rw (runs, ends, later_lines) refl in
         let rest = go x.1 (sym (ap ended_in shown) ∙ e) in
-        let after : run_after partition_object skips r (text ∷ take rest.0 texts) ≡ run_after partition_object skips x.1 (take rest.0 texts) = rw (runs, run_after) refl in
-        (suc rest.0, line_text r x.1 ++ rest.1,
+        let after : run_after partition_object skips r (text ∷ take rest.0 texts) ≡ run_after partition_object skips x.1 (take rest.0 texts) = rw (runs, run_after) refl in (
+          suc rest.0,
+          line_text r x.1 ++ rest.1,
           ap (λ (t : Transcript). t.text) shown ∙ ap (λ t. line_text r x.1 ++ t) rest.2
-          ∙ sym (append_assoc (line_text r x.1) rest.1 (end_text partition_object (run_after partition_object skips x.1 (take rest.0 texts))))
-          ∙ ap (λ next. (line_text r x.1 ++ rest.1) ++ end_text partition_object next) (sym after))
+              ∙ sym (append_assoc (line_text r x.1) rest.1 (end_text partition_object (run_after partition_object skips x.1 (take rest.0 texts))))
+              ∙ ap (λ next. (line_text r x.1 ++ rest.1) ++ end_text partition_object next) (sym after),
+        )
+
     by_run : Rest → (o : Option (Line × Run)) → ran partition_object skips r text ≡ o → Closes skips r (text ∷ texts) all
     by_run go None runs =
         let shown : all ≡ refused (r.lines + 1) NotBuilt = rw (runs, later_lines) refl in
@@ -68,15 +73,20 @@ lines_close skips too_long (text ∷ texts) e = by_line (line_of true text) refl
   where
     all : Transcript
     all = first_line partition_object skips too_long (text ∷ texts)
+
     is_refused : all ≡ refused 1 NotBuilt → ClosesAll skips (text ∷ texts) all
     is_refused shown = absurd (cc (sym (ap ended_in shown) ∙ e))
+
     of_grid : line_of true text ≡ Some (Grid 1 0 10) → ClosesAll skips (text ∷ texts) all
     of_grid read =
         let shown : all ≡ following (ok_text 1) (later_lines partition_object skips too_long (begun 1 0) texts) = rw (read, first_line) refl in
-        let rest = later_close skips too_long (begun 1 0) texts (sym (ap ended_in shown) ∙ e) in
-        (suc rest.0, ok_text 1 ++ rest.1,
+        let rest = later_close skips too_long (begun 1 0) texts (sym (ap ended_in shown) ∙ e) in (
+          suc rest.0,
+          ok_text 1 ++ rest.1,
           ap (λ (t : Transcript). t.text) shown ∙ ap (λ t. ok_text 1 ++ t) rest.2
-          ∙ sym (append_assoc (ok_text 1) rest.1 (end_text partition_object (run_after partition_object skips (begun 1 0) (take rest.0 texts)))))
+              ∙ sym (append_assoc (ok_text 1) rest.1 (end_text partition_object (run_after partition_object skips (begun 1 0) (take rest.0 texts)))),
+        )
+
     by_line : (o : Option Line) → line_of true text ≡ o → ClosesAll skips (text ∷ texts) all
     by_line None read = is_refused (rw (read, first_line) refl)
     by_line (Some (OpenConn conn member)) read = is_refused (rw (read, first_line) refl)
@@ -95,10 +105,14 @@ done_prints left before after writes script told =
     let skips : List CallId = w.0 in
     let text : List ℕ = w.1 in
     let is_whole : transcript partition_object skips script ≡ whole text Ended = w.3 in
-    let closes = lines_close skips (is_too_long script) (lines_of script) (ap ended_in is_whole) in
-    (skips, text, w.2, record {
-      lines = closes.0;
-      front = closes.1;
-      closes = sym (ap (λ (t : Transcript). t.text) is_whole) ∙ closes.2;
-      linearizable = run_is_linearizable skips (take closes.0 (lines_of script));
-    })
+    let closes = lines_close skips (is_too_long script) (lines_of script) (ap ended_in is_whole) in (
+      skips,
+      text,
+      w.2,
+      record {
+        lines = closes.0;
+        front = closes.1;
+        closes = sym (ap (λ (t : Transcript). t.text) is_whole) ∙ closes.2;
+        linearizable = run_is_linearizable skips (take closes.0 (lines_of script));
+      },
+    )

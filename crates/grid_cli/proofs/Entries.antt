@@ -64,7 +64,6 @@ pub record HasSet (old new : List StoredEntry) (name : ObjectName) (value : List
 -- ---- an entry is set in its place
 
 module _ (name : ObjectName) (es : List StoredEntry) (i : ℕ) (e d : StoredEntry) (first : position_or_len (is_named name) es ≡ i) (within : i < length es) (named : name_of e ≡ name) where
-
   at_name : partition_of (set es i e) name ≡ holding (Some e.value)
   at_name = ap entry_found (find-set (is_named name) es i e (sym first) within (ap (is_same name) named ∙ is_same_self name))
 
@@ -93,7 +92,6 @@ value_set name es place old value found is list fits =
 -- ---- an entry is added at the end
 
 module _ (name : ObjectName) (es : List StoredEntry) (e : StoredEntry) (none : find (is_named name) es ≡ None) (named : name_of e ≡ name) where
-
   added_at : (other : ObjectName) → find (is_named other) (es ++ e ∷ []) ≡ option_or (find (is_named other) es) (cond (is_same other name) (Some e) None)
   added_at other = find-append (is_named other) es (e ∷ []) ∙ ap (λ (n : ObjectName). option_or (find (is_named other) es) (cond (is_same other n) (Some e) None)) named
 

@@ -43,7 +43,6 @@ module _ (grid : Grid) (r : Run) (s : Stands grid r) (k : Connection) (request :
     (after : IsAfter grid new (r.lines + 1) request.partition request.id.conn world (waiting called k.member))
     (out : GivesOut called world k.member)
     (wrote : text ≡ call_text written (r.lines + 1) added (waiting called k.member)) where
-
   abbrev old : HasWorld grid.worlds.items r request.partition
   old = s.holds.worlds request.partition low
 

@@ -39,7 +39,7 @@ pub next_stands : (grid : Grid) (r : Run) → Stands grid r → Stands (after_qu
 next_stands grid r s = record {
   run = later [] End r (next_line r) s.run refl;
   holds = quiet_holds grid r grid.connections r.connections s.holds
-    (record { size = s.holds.table.size; connections = s.holds.table.connections; calls = s.holds.table.calls; counted = λ c o e. let k = s.holds.table.counted c o e in omega (arith, k) });
+      (record { size = s.holds.table.size; connections = s.holds.table.connections; calls = s.holds.table.calls; counted = λ c o e. let k = s.holds.table.counted c o e in omega (arith, k) });
 }
 
 -- A line that makes no call, and whose text is its outcome alone, has run.
@@ -52,7 +52,7 @@ quiet_line grid new r line t ks written text s not_end runs table made is = (
   (λ id there. absurd (in_contains id [] there)),
   runs,
   subst (λ g. Stands g (record r { lines = r.lines + 1; connections = ks })) (sym made)
-  (record { run = later [] line r (record r { lines = r.lines + 1; connections = ks }) s.run runs; holds = quiet_holds grid r t ks s.holds table }),
+      (record { run = later [] line r (record r { lines = r.lines + 1; connections = ks }) s.run runs; holds = quiet_holds grid r t ks s.holds table }),
   is ∙ ap (λ xs. written ++ xs) (sym (at_line ∙ text_without r (record r { lines = r.lines + 1; connections = ks }) (grid.lines + 1) refl (ap (λ n. n + 1) (sym s.holds.lines)))),
 )
   where
@@ -133,5 +133,5 @@ ended_line grid new r written text s made is = (
   refl,
   subst (λ g. Stands g (next_line r)) (sym made) (next_stands grid r s),
   is ∙ append_assoc written (ok_text (grid.lines + 1)) (flat_map (entry_text (next_line r).lines) (all_entries partition_object (next_line r)))
-  ∙ ap (λ n. written ++ (ok_text (n + 1) ++ flat_map (entry_text (next_line r).lines) (all_entries partition_object (next_line r)))) s.holds.lines,
+      ∙ ap (λ n. written ++ (ok_text (n + 1) ++ flat_map (entry_text (next_line r).lines) (all_entries partition_object (next_line r)))) s.holds.lines,
 )

@@ -22,13 +22,17 @@ pieces-append sep (x ∷ xs) ys = by_test (pieces-append sep xs ys) (x == sep)
   where
     p : (piece : List ℕ) × (rest : List (List ℕ)) × (pieces_at sep xs ≡ piece ∷ rest)
     p = first_piece sep xs
+
     q : (piece : List ℕ) × (rest : List (List ℕ)) × (pieces_at sep ys ≡ piece ∷ rest)
     q = first_piece sep ys
+
     ended : (ps : List (List ℕ)) → ps ≡ p.0 ∷ p.1 → [] ∷ (fronts ps ++ joined (last_piece ps) (pieces_at sep ys)) ≡ fronts ([] ∷ ps) ++ joined (last_piece ([] ∷ ps)) (pieces_at sep ys)
     ended ps e = let P : List (List ℕ) → Type 0 = λ zs. [] ∷ (fronts zs ++ joined (last_piece zs) (pieces_at sep ys)) ≡ fronts ([] ∷ zs) ++ joined (last_piece ([] ∷ zs)) (pieces_at sep ys) in subst P (sym e) refl
+
     going : (ps qs : List (List ℕ)) → ps ≡ p.0 ∷ p.1 → qs ≡ q.0 ∷ q.1
         → onto_first x (fronts ps ++ joined (last_piece ps) qs) ≡ fronts (onto_first x ps) ++ joined (last_piece (onto_first x ps)) qs
     going ps qs e f = rw (e, f) (onto_joined x p.0 p.1 q.0 q.1)
+
     by_test : pieces_at sep (xs ++ ys) ≡ fronts (pieces_at sep xs) ++ joined (last_piece (pieces_at sep xs)) (pieces_at sep ys) → (b : Bool) → cond b ([] ∷ pieces_at sep (xs ++ ys)) (onto_first x (pieces_at sep (xs ++ ys)))
         ≡ fronts (cond b ([] ∷ pieces_at sep xs) (onto_first x (pieces_at sep xs))) ++ joined (last_piece (cond b ([] ∷ pieces_at sep xs) (onto_first x (pieces_at sep xs)))) (pieces_at sep ys)
     by_test ih true = ap (λ zs. [] ∷ zs) ih ∙ ended (pieces_at sep xs) p.2
@@ -51,9 +55,11 @@ unfinished_is_one (x ∷ xs) = by_test (unfinished_is_one xs) (x == newline) ref
   where
     p : (piece : List ℕ) × (rest : List (List ℕ)) × (pieces_at newline xs ≡ piece ∷ rest)
     p = first_piece newline xs
+
     single : (x == newline) ≡ false → (piece : List ℕ) (rest : List (List ℕ)) → IsOnePiece (last_piece (piece ∷ rest)) → IsOnePiece (last_piece (onto_first x (piece ∷ rest)))
     single e piece [] h = ap (λ b. cond b ([] ∷ pieces_at newline piece) (onto_first x (pieces_at newline piece))) e ∙ ap (onto_first x) h
     single e piece (r ∷ rs) h = h
+
     by_test : IsOnePiece (unfinished xs) → (b : Bool) → (x == newline) ≡ b → IsOnePiece (last_piece (cond b ([] ∷ pieces_at newline xs) (onto_first x (pieces_at newline xs))))
     by_test ih true e = let P : List (List ℕ) → Type 0 = λ ps. IsOnePiece (last_piece ps) → IsOnePiece (last_piece ([] ∷ ps)) in subst P (sym p.2) (λ h. h) ih
     by_test ih false e = let P : List (List ℕ) → Type 0 = λ ps. IsOnePiece (last_piece ps) → IsOnePiece (last_piece (onto_first x ps)) in subst P (sym p.2) (single e p.0 p.1) ih
@@ -86,6 +92,7 @@ line_ends text ys k one before here = (ap fronts pieces ∙ rw q.2 refl, ap last
   where
     q : (piece : List ℕ) × (rest : List (List ℕ)) × (pieces_at newline (drop (k + 1) ys) ≡ piece ∷ rest)
     q = first_piece newline (drop (k + 1) ys)
+
     pieces : pieces_at newline (text ++ ys) ≡ (text ++ take k ys) ∷ pieces_at newline (drop (k + 1) ys)
     pieces = one-append text ys one ∙ ap (joined text) (cut newline ys k before here)
 

@@ -61,10 +61,9 @@ unless_same : (a b : CallId) → a ≢ b → is_same_call a b ≡ false
 unless_same a b different = false_or_not (is_same_call a b) (λ e. different (same_call a b e))
 
 module _ (r : Run) (skips : List CallId) (done : List (List ℕ)) (written text : List ℕ) (at : IsAt r skips done written)
-  (line : Line) (read : line_of false text ≡ Some line)
-  (k : List CallId) (of_line : AreOfLine r line k) (next : Run) (after : after_line partition_object k r line ≡ Some next)
-  (new : (b : Arrival) (id : CallId) → In b r.arrivals → call_at r line ≡ Some id → b.id ≢ id) where
-
+    (line : Line) (read : line_of false text ≡ Some line)
+    (k : List CallId) (of_line : AreOfLine r line k) (next : Run) (after : after_line partition_object k r line ≡ Some next)
+    (new : (b : Arrival) (id : CallId) → In b r.arrivals → call_at r line ≡ Some id → b.id ≢ id) where
   counts : Counts r next (arrival_of_line r line)
   counts = line_counts k r next line after
 
@@ -97,7 +96,7 @@ module _ (r : Run) (skips : List CallId) (done : List (List ℕ)) (written text 
   runs_alike : (s : List CallId) → AgreeOn next.arrivals s (k ++ skips) → after_line partition_object s r line ≡ Some next
   runs_alike s agree =
       skips_alike s k r line (λ id is. let a = call_arrived id is in
-        subst (λ x. is_skipped s x ≡ is_skipped (k ++ skips) x) a.2 (agree a.0 a.1) ∙ its_call id is)
+      subst (λ x. is_skipped s x ≡ is_skipped (k ++ skips) x) a.2 (agree a.0 a.1) ∙ its_call id is)
       ∙ after
 
   pub line_ran : (s : List CallId) → AgreeOn next.arrivals s (k ++ skips) → ran partition_object s r text ≡ Some (line, next)
@@ -107,14 +106,14 @@ module _ (r : Run) (skips : List CallId) (done : List (List ℕ)) (written text 
   pub at_next : is_end line ≡ false → IsAt next (k ++ skips) (done ++ text ∷ []) (written ++ line_text r next)
   at_next going = record {
     goes_on = λ s agree too_long texts.
-      ap (first_line partition_object s too_long) (append_assoc done (text ∷ []) texts)
-      ∙ at.goes_on s (agree_before s agree) too_long (text ∷ texts)
-      ∙ ap (following written) (later_ran s agree too_long texts)
-      ∙ following-following written (line_text r next) (later_lines partition_object s too_long next texts);
+        ap (first_line partition_object s too_long) (append_assoc done (text ∷ []) texts)
+        ∙ at.goes_on s (agree_before s agree) too_long (text ∷ texts)
+        ∙ ap (following written) (later_ran s agree too_long texts)
+        ∙ following-following written (line_text r next) (later_lines partition_object s too_long next texts);
     runs = λ s agree texts.
-      ap (run_of s) (append_assoc done (text ∷ []) texts)
-      ∙ at.runs s (agree_before s agree) (text ∷ texts)
-      ∙ run_ran s agree texts;
+        ap (run_of s) (append_assoc done (text ∷ []) texts)
+        ∙ at.runs s (agree_before s agree) (text ∷ texts)
+        ∙ run_ran s agree texts;
     skipped = λ id c. ⊎_elim (λ i. call_arrived id (of_line id (contains_in id k i))) (λ i. let a = at.skipped id (contains_in id skips i) in (a.0, arrived_stays a.0 a.1, a.2)) (in_cases id k skips (in_contains id (k ++ skips) c));
     count = counts.lines ∙ ap (λ n. n + 1) at.count ∙ sym (length-append done (text ∷ []));
   }
@@ -123,10 +122,11 @@ module _ (r : Run) (skips : List CallId) (done : List (List ℕ)) (written text 
           → later_lines partition_object s too_long r (text ∷ texts) ≡ following (line_text r next) (later_lines partition_object s too_long next texts)
       later_ran s agree too_long texts =
           ap (λ (o : Option (Line × Run)). elim o [
-            None ↦ refused (r.lines + 1) NotBuilt
-          | Some x ↦ if is_end x.0 then (record { text = end_text partition_object x.1; ending = Ended }) else following (line_text r x.1) (later_lines partition_object s too_long x.1 texts)
+            | None ↦ refused (r.lines + 1) NotBuilt
+            | Some x ↦ if is_end x.0 then (record { text = end_text partition_object x.1; ending = Ended }) else following (line_text r x.1) (later_lines partition_object s too_long x.1 texts)
           ]) (line_ran s agree)
           ∙ ap (λ b. if b then (record { text = end_text partition_object next; ending = Ended }) else following (line_text r next) (later_lines partition_object s too_long next texts)) going
+
       run_ran : (s : List CallId) → AgreeOn next.arrivals s (k ++ skips) → (texts : List (List ℕ)) → run_after partition_object s r (text ∷ texts) ≡ run_after partition_object s next texts
       run_ran s agree texts = ap (λ (o : Option (Line × Run)). elim o [ None ↦ r | Some x ↦ run_after partition_object s x.1 texts ]) (line_ran s agree)
 
@@ -152,8 +152,8 @@ at_refused r skips done written text at none too_long texts =
     refused_there : later_lines partition_object skips too_long r (text ∷ texts) ≡ refused (r.lines + 1) NotBuilt
     refused_there =
         ap (λ (o : Option (Line × Run)). elim o [
-          None ↦ refused (r.lines + 1) NotBuilt
-        | Some x ↦ if is_end x.0 then (record { text = end_text partition_object x.1; ending = Ended }) else following (line_text r x.1) (later_lines partition_object skips too_long x.1 texts)
+          | None ↦ refused (r.lines + 1) NotBuilt
+          | Some x ↦ if is_end x.0 then (record { text = end_text partition_object x.1; ending = Ended }) else following (line_text r x.1) (later_lines partition_object skips too_long x.1 texts)
         ]) none
 
 -- where the lines stop

@@ -23,13 +23,16 @@ first_lines front rest within = by_length (is_too_long (front ++ rest))
   where
     room : ℕ
     room = most_bytes - length front
+
     cut_off : take most_bytes (front ++ rest) ≡ front ++ take room rest
     cut_off = let is : length front + room ≡ most_bytes = omega arith in ap (λ n. take n (front ++ rest)) (sym is) ∙ take-append-add front rest room
+
     by_length : (long : Bool) → (texts : List (List ℕ)) × (cond long (whole_lines (take most_bytes (front ++ rest))) (whole_lines (front ++ rest) ++ last_line (unfinished (front ++ rest))) ≡ whole_lines front ++ texts)
     by_length true = (whole_lines (unfinished front ++ take room rest), ap whole_lines cut_off ∙ whole_lines-append front (take room rest))
-    by_length false =
-        (whole_lines (unfinished front ++ rest) ++ last_line (unfinished (front ++ rest)),
-          ap (λ ls. ls ++ last_line (unfinished (front ++ rest))) (whole_lines-append front rest) ∙ append_assoc (whole_lines front) (whole_lines (unfinished front ++ rest)) (last_line (unfinished (front ++ rest))))
+    by_length false = (
+      whole_lines (unfinished front ++ rest) ++ last_line (unfinished (front ++ rest)),
+      ap (λ ls. ls ++ last_line (unfinished (front ++ rest))) (whole_lines-append front rest) ∙ append_assoc (whole_lines front) (whole_lines (unfinished front ++ rest)) (last_line (unfinished (front ++ rest))),
+    )
 
 in_script : (skips : List CallId) (front rest : List ℕ) (P : Transcript → Type 0) → length front ≤ most_bytes → OfLines skips (whole_lines front) P → P (transcript partition_object skips (front ++ rest))
 in_script skips front rest P within h =

@@ -27,6 +27,7 @@ few_pieces sep (x ∷ xs) = by_test (x == sep) (few_pieces sep xs)
     longer : (p : List (List ℕ)) → length p ≤ length xs + 1 → length (onto_first x p) ≤ length (x ∷ xs) + 1
     longer [] h = omega arith
     longer (q ∷ qs) h = omega arith
+
     by_test : (b : Bool) → length (pieces_at sep xs) ≤ length xs + 1 → length (cond b ([] ∷ pieces_at sep xs) (onto_first x (pieces_at sep xs))) ≤ length (x ∷ xs) + 1
     by_test true h = omega arith
     by_test false h = longer (pieces_at sep xs) h

@@ -38,24 +38,30 @@ told_rest script read first now told left = prepend_known-some read now script (
 
 pub read_failed : (replay : Replay) (count : ℕ) (first now before after : Option (List ℕ)) → HasPlayed replay count first now before after → WritesText ReadFault first before after
 read_failed replay count first now before after played script told =
-    let rest = told_rest script played.read first now told played.left in
-    (played.skips, played.written, played.taken,
-      subst (λ bytes. Writes ReadFault played.skips bytes played.written) (sym rest.2) (text_so_far replay played.skips played.read rest.0 played.written played.has))
+    let rest = told_rest script played.read first now told played.left in (
+      played.skips,
+      played.written,
+      played.taken,
+      subst (λ bytes. Writes ReadFault played.skips bytes played.written) (sym rest.2) (text_so_far replay played.skips played.read rest.0 played.written played.has),
+    )
 
 no_more : (rest : List ℕ) (now : Option (List ℕ)) → now ≡ Some rest → IsAtEnd now → rest ≡ []
 no_more rest now is end = let P : Option (List ℕ) → Type 0 = IsAtEnd in subst P is end
 
 pub script_read : (replay : Replay) (count : ℕ) (first now before after last : Option (List ℕ)) (status : Status) → HasPlayed replay count first now before after → IsAtEnd now → count ≤ most_bytes
     → ((skips : List CallId) (read written : List ℕ) → HasRead replay skips read written
-      → (more : List CallId) × (added : List ℕ) × Concludes false status (more ++ skips) (whole_lines read ++ last_line (unfinished read)) (written ++ added) × (last ≡ append_known after added))
+    → (more : List CallId) × (added : List ℕ) × Concludes false status (more ++ skips) (whole_lines read ++ last_line (unfinished read)) (written ++ added) × (last ≡ append_known after added))
     → WritesText status first before last
 script_read replay count first now before after last status played end within ends script told =
     let rest = told_rest script played.read first now told played.left in
     let all : script ≡ played.read = rest.2 ∙ ap (λ bytes. played.read ++ bytes) (no_more rest.0 now rest.1 end) ∙ append-nil played.read in
-    let h = ends played.skips played.read played.written played.has in
-    (h.0 ++ played.skips, played.written ++ h.1, more_taken before after last played.written h.1 played.taken h.3,
+    let h = ends played.skips played.read played.written played.has in (
+      h.0 ++ played.skips,
+      played.written ++ h.1,
+      more_taken before after last played.written h.1 played.taken h.3,
       subst (λ bytes. Writes status (h.0 ++ played.skips) bytes (played.written ++ h.1)) (sym all)
-      (script_ended status (h.0 ++ played.skips) played.read (played.written ++ h.1) (omega (arith, played.size)) h.2))
+          (script_ended status (h.0 ++ played.skips) played.read (played.written ++ h.1) (omega (arith, played.size)) h.2),
+    )
 
 -- A front of the bytes that came is taken.
 front_of_front : (xs : List ℕ) (n m : ℕ) → m ≤ n → take m (take n xs) ≡ take m xs
@@ -75,24 +81,27 @@ rest_of_piece read buffer rest count m within =
 pub stopped_in_piece : (replay : Replay) (count : ℕ) (first now later before after last : Option (List ℕ)) (status : Status) (buffer : List ℕ) (n m : ℕ)
     → HasPlayed replay count first now before after → now ≡ prepend_known (take n buffer) later → m ≤ n → count + m ≤ most_bytes
     → ((skips : List CallId) (read written : List ℕ) → HasRead replay skips read written
-      → (more : List CallId) × (added : List ℕ) × StopsWithin status (more ++ skips) (whole_lines (read ++ take m buffer)) (written ++ added) × (last ≡ append_known after added))
+    → (more : List CallId) × (added : List ℕ) × StopsWithin status (more ++ skips) (whole_lines (read ++ take m buffer)) (written ++ added) × (last ≡ append_known after added))
     → WritesText status first before last
 stopped_in_piece replay count first now later before after last status buffer n m played came within room stops script told =
     let rest = told_rest script played.read first now told played.left in
     let more = prepend_known-some (take n buffer) later rest.0 (sym rest.1 ∙ came) in
     let all : script ≡ (played.read ++ take m buffer) ++ (drop m (take n buffer) ++ more.0) =
-        rest.2 ∙ ap (λ bytes. played.read ++ bytes) more.2 ∙ rest_of_piece played.read buffer more.0 n m within in
-    let h = stops played.skips played.read played.written played.has in
-    (h.0 ++ played.skips, played.written ++ h.1, more_taken before after last played.written h.1 played.taken h.3,
+    rest.2 ∙ ap (λ bytes. played.read ++ bytes) more.2 ∙ rest_of_piece played.read buffer more.0 n m within in
+    let h = stops played.skips played.read played.written played.has in (
+      h.0 ++ played.skips,
+      played.written ++ h.1,
+      more_taken before after last played.written h.1 played.taken h.3,
       subst (λ bytes. Writes status (h.0 ++ played.skips) bytes (played.written ++ h.1)) (sym all)
-      (stopped_within status (h.0 ++ played.skips) (played.read ++ take m buffer) (drop m (take n buffer) ++ more.0) (played.written ++ h.1)
-        (omega (arith, played.size, length-append played.read (take m buffer), length-take m buffer)) h.2))
+          (stopped_within status (h.0 ++ played.skips) (played.read ++ take m buffer) (drop m (take n buffer) ++ more.0) (played.written ++ h.1)
+          (omega (arith, played.size, length-append played.read (take m buffer), length-take m buffer)) h.2),
+    )
 
 -- The piece was taken whole, and the run goes on.
 pub played_on : (replay next : Replay) (count : ℕ) (first now later before after last : Option (List ℕ)) (buffer : List ℕ) (n : ℕ)
     → HasPlayed replay count first now before after → now ≡ prepend_known (take n buffer) later → n ≤ length buffer
     → ((skips : List CallId) (read written : List ℕ) → HasRead replay skips read written
-      → (more : List CallId) × (added : List ℕ) × HasRead next (more ++ skips) (read ++ take n buffer) (written ++ added) × (last ≡ append_known after added))
+    → (more : List CallId) × (added : List ℕ) × HasRead next (more ++ skips) (read ++ take n buffer) (written ++ added) × (last ≡ append_known after added))
     → HasPlayed next (count + n) first later before last
 played_on replay next count first now later before after last buffer n played came within goes =
     let h = goes played.skips played.read played.written played.has in
@@ -110,9 +119,9 @@ played_on replay next count first now later before after last buffer n played ca
 pub limit_was_passed : (replay next : Replay) (count : ℕ) (first now later before after mid last : Option (List ℕ)) (status : Status) (buffer : List ℕ) (n m : ℕ)
     → HasPlayed replay count first now before after → now ≡ prepend_known (take n buffer) later → n ≤ length buffer → count ≤ most_bytes → m ≡ most_bytes - count → m < n
     → ((skips : List CallId) (read written : List ℕ) → HasRead replay skips read written
-      → (more : List CallId) × (added : List ℕ) × HasRead next (more ++ skips) (read ++ take m buffer) (written ++ added) × (mid ≡ append_known after added))
+    → (more : List CallId) × (added : List ℕ) × HasRead next (more ++ skips) (read ++ take m buffer) (written ++ added) × (mid ≡ append_known after added))
     → ((skips : List CallId) (read written : List ℕ) → HasRead next skips read written
-      → (added : List ℕ) × Concludes true status skips (whole_lines read) (written ++ added) × (last ≡ append_known mid added))
+    → (added : List ℕ) × Concludes true status skips (whole_lines read) (written ++ added) × (last ≡ append_known mid added))
     → WritesText status first before last
 limit_was_passed replay next count first now later before after mid last status buffer n m played came within count_within room past goes ends script told =
     let rest = told_rest script played.read first now told played.left in
@@ -122,10 +131,13 @@ limit_was_passed replay next count first now later before after mid last status 
     let size : length front ≡ most_bytes = length-append played.read (take m buffer) ∙ omega (arith, played.size, length-take m buffer, room, past, within) in
     let cut : take most_bytes script ≡ front = ap (take most_bytes) all ∙ ap (λ k. take k (front ++ (drop m (take n buffer) ++ more.0))) (sym size) ∙ take-append_seam front (drop m (take n buffer) ++ more.0) in
     let h = goes played.skips played.read played.written played.has in
-    let e = ends (h.0 ++ played.skips) front (played.written ++ h.1) h.2 in
-    (h.0 ++ played.skips, (played.written ++ h.1) ++ e.0, more_taken before mid last (played.written ++ h.1) e.0 (more_taken before after mid played.written h.1 played.taken h.3) e.2,
+    let e = ends (h.0 ++ played.skips) front (played.written ++ h.1) h.2 in (
+      h.0 ++ played.skips,
+      (played.written ++ h.1) ++ e.0,
+      more_taken before mid last (played.written ++ h.1) e.0 (more_taken before after mid played.written h.1 played.taken h.3) e.2,
       limit_reached status (h.0 ++ played.skips) script front ((played.written ++ h.1) ++ e.0)
-        (omega (arith, played.size, ap length rest.2, ap length more.2, length-append played.read rest.0, length-append (take n buffer) more.0, length-take n buffer, room, past, within)) cut e.1)
+          (omega (arith, played.size, ap length rest.2, ap length more.2, length-append played.read rest.0, length-append (take n buffer) more.0, length-take n buffer, room, past, within)) cut e.1,
+    )
 
 -- no run ends for its words
 pub not_usage : (long : Bool) (status : Status) (skips : List CallId) (lines : List (List ℕ)) (written : List ℕ) → Concludes long status skips lines written → status ≢ Usage

@@ -54,9 +54,12 @@ pub taken_none : (replay : Replay) (before : Option (List ℕ)) (piece : List �
 taken_none replay before piece = record {
   front = [];
   is_front = refl;
-  reads = λ skips read written has. ([], [],
+  reads = λ skips read written has. (
+    [],
+    [],
     subst (λ bytes. HasRead replay skips bytes (written ++ [])) (sym (append-nil read)) (subst (λ text. HasRead replay skips read text) (sym (append-nil written)) has),
-    sym (append_known-nil before));
+    sym (append_known-nil before),
+  );
 }
 
 -- what the call for a line says
@@ -69,17 +72,19 @@ pub taken_more : (start now next : Replay) (before after later_on : Option (List
 taken_more start now next before after later_on piece rest left k has within here left_is reads = record {
   front = has.front ++ ended_line (take k rest);
   is_front =
-    append_assoc has.front (ended_line (take k rest)) left
-    ∙ ap (λ bytes. has.front ++ bytes) (append_assoc (take k rest) (newline ∷ []) left ∙ ap (λ bytes. take k rest ++ newline ∷ bytes) left_is ∙ line_and_rest rest k within here)
-    ∙ has.is_front;
+      append_assoc has.front (ended_line (take k rest)) left
+      ∙ ap (λ bytes. has.front ++ bytes) (append_assoc (take k rest) (newline ∷ []) left ∙ ap (λ bytes. take k rest ++ newline ∷ bytes) left_is ∙ line_and_rest rest k within here)
+      ∙ has.is_front;
   reads = λ skips read written h.
-    let first = has.reads skips read written h in
-    let second = reads (first.0 ++ skips) (read ++ has.front) (written ++ first.1) first.2 in
-    (second.0 ++ first.0, first.1 ++ second.1,
-      subst (λ s. HasRead next s (read ++ (has.front ++ ended_line (take k rest))) (written ++ (first.1 ++ second.1))) (sym (append_assoc second.0 first.0 skips))
-      (subst (λ bytes. HasRead next (second.0 ++ (first.0 ++ skips)) bytes (written ++ (first.1 ++ second.1))) (append_assoc read has.front (ended_line (take k rest)))
-      (subst (λ text. HasRead next (second.0 ++ (first.0 ++ skips)) ((read ++ has.front) ++ ended_line (take k rest)) text) (append_assoc written first.1 second.1) second.2)),
-      more_taken before after later_on first.1 second.1 first.3 second.3);
+      let first = has.reads skips read written h in
+      let second = reads (first.0 ++ skips) (read ++ has.front) (written ++ first.1) first.2 in (
+        second.0 ++ first.0,
+        first.1 ++ second.1,
+        subst (λ s. HasRead next s (read ++ (has.front ++ ended_line (take k rest))) (written ++ (first.1 ++ second.1))) (sym (append_assoc second.0 first.0 skips))
+            (subst (λ bytes. HasRead next (second.0 ++ (first.0 ++ skips)) bytes (written ++ (first.1 ++ second.1))) (append_assoc read has.front (ended_line (take k rest)))
+            (subst (λ text. HasRead next (second.0 ++ (first.0 ++ skips)) ((read ++ has.front) ++ ended_line (take k rest)) text) (append_assoc written first.1 second.1) second.2)),
+        more_taken before after later_on first.1 second.1 first.3 second.3,
+      );
 }
 
 -- the last bytes of the piece end no line
@@ -90,20 +95,22 @@ pub taken_end : (start now next : Replay) (before after : Option (List ℕ)) (pi
 taken_end start now next before after piece rest has none same left skips read written h =
     let first = has.reads skips read written h in
     let more = more_unfinished (read ++ has.front) rest (uncut newline rest none) in
-    let all : (read ++ has.front) ++ rest ≡ read ++ piece = append_assoc read has.front rest ∙ ap (λ bytes. read ++ bytes) has.is_front in
-    (first.0, first.1,
+    let all : (read ++ has.front) ++ rest ≡ read ++ piece = append_assoc read has.front rest ∙ ap (λ bytes. read ++ bytes) has.is_front in (
+      first.0,
+      first.1,
       subst (λ bytes. HasRead next (first.0 ++ skips) bytes (written ++ first.1)) all (record {
         follows = subst (λ g. Follows g (first.0 ++ skips) (whole_lines ((read ++ has.front) ++ rest)) (written ++ first.1)) (sym same)
-          (subst (λ ls. Follows now.transcriber.grid (first.0 ++ skips) ls (written ++ first.1)) (sym more.0) first.2.follows);
+            (subst (λ ls. Follows now.transcriber.grid (first.0 ++ skips) ls (written ++ first.1)) (sym more.0) first.2.follows);
         rest = left ∙ ap (λ bytes. bytes ++ rest) first.2.rest ∙ sym more.1;
       }),
-      first.3)
+      first.3,
+    )
 
 -- the run stopped within the piece
 pub taken_stops : (start now : Replay) (before after later_on : Option (List ℕ)) (piece rest : List ℕ) (k : ℕ) (status : Status) → HasTaken start now before after piece rest
     → k < length rest → Passes (is_byte newline) rest k
     → ((skips : List CallId) (read written : List ℕ) → HasRead now skips read written
-      → (more : List CallId) × (added : List ℕ) × StopsWithin status (more ++ skips) (whole_lines (read ++ ended_line (take k rest))) (written ++ added) × (later_on ≡ append_known after added))
+    → (more : List CallId) × (added : List ℕ) × StopsWithin status (more ++ skips) (whole_lines (read ++ ended_line (take k rest))) (written ++ added) × (later_on ≡ append_known after added))
     → (skips : List CallId) (read written : List ℕ) → HasRead start skips read written
     → (more : List CallId) × (added : List ℕ) × StopsWithin status (more ++ skips) (whole_lines (read ++ piece)) (written ++ added) × (later_on ≡ append_known before added)
 taken_stops start now before after later_on piece rest k status has within here stops skips read written h =
@@ -111,16 +118,18 @@ taken_stops start now before after later_on piece rest k status has within here 
     let second = stops (first.0 ++ skips) (read ++ has.front) (written ++ first.1) first.2 in
     let so_far : List ℕ = (read ++ has.front) ++ ended_line (take k rest) in
     let all : so_far ++ drop (k + 1) rest ≡ read ++ piece =
-        append_assoc (read ++ has.front) (ended_line (take k rest)) (drop (k + 1) rest)
-        ∙ ap (λ bytes. (read ++ has.front) ++ bytes) (append_assoc (take k rest) (newline ∷ []) (drop (k + 1) rest) ∙ line_and_rest rest k within here)
-        ∙ append_assoc read has.front rest ∙ ap (λ bytes. read ++ bytes) has.is_front in
-    let lines : whole_lines so_far ++ whole_lines (unfinished so_far ++ drop (k + 1) rest) ≡ whole_lines (read ++ piece) = sym (whole_lines-append so_far (drop (k + 1) rest)) ∙ ap whole_lines all in
-    (second.0 ++ first.0, first.1 ++ second.1,
+    append_assoc (read ++ has.front) (ended_line (take k rest)) (drop (k + 1) rest)
+    ∙ ap (λ bytes. (read ++ has.front) ++ bytes) (append_assoc (take k rest) (newline ∷ []) (drop (k + 1) rest) ∙ line_and_rest rest k within here)
+    ∙ append_assoc read has.front rest ∙ ap (λ bytes. read ++ bytes) has.is_front in
+    let lines : whole_lines so_far ++ whole_lines (unfinished so_far ++ drop (k + 1) rest) ≡ whole_lines (read ++ piece) = sym (whole_lines-append so_far (drop (k + 1) rest)) ∙ ap whole_lines all in (
+      second.0 ++ first.0,
+      first.1 ++ second.1,
       subst (λ s. StopsWithin status s (whole_lines (read ++ piece)) (written ++ (first.1 ++ second.1))) (sym (append_assoc second.0 first.0 skips))
-      (subst (λ text. StopsWithin status (second.0 ++ (first.0 ++ skips)) (whole_lines (read ++ piece)) text) (append_assoc written first.1 second.1)
-      (subst (λ ls. StopsWithin status (second.0 ++ (first.0 ++ skips)) ls ((written ++ first.1) ++ second.1)) lines
-      (stops_before status (second.0 ++ (first.0 ++ skips)) (whole_lines so_far) (whole_lines (unfinished so_far ++ drop (k + 1) rest)) ((written ++ first.1) ++ second.1) second.2))),
-      more_taken before after later_on first.1 second.1 first.3 second.3)
+          (subst (λ text. StopsWithin status (second.0 ++ (first.0 ++ skips)) (whole_lines (read ++ piece)) text) (append_assoc written first.1 second.1)
+          (subst (λ ls. StopsWithin status (second.0 ++ (first.0 ++ skips)) ls ((written ++ first.1) ++ second.1)) lines
+          (stops_before status (second.0 ++ (first.0 ++ skips)) (whole_lines so_far) (whole_lines (unfinished so_far ++ drop (k + 1) rest)) ((written ++ first.1) ++ second.1) second.2))),
+      more_taken before after later_on first.1 second.1 first.3 second.3,
+    )
 
 pub taken_without_memory : (start now : Replay) (before after : Option (List ℕ)) (piece rest : List ℕ) → HasTaken start now before after piece rest
     → Nowhere (Passes (is_byte newline) rest) 0 (length rest) → (skips : List CallId) (read written : List ℕ) → HasRead start skips read written
@@ -128,18 +137,24 @@ pub taken_without_memory : (start now : Replay) (before after : Option (List ℕ
 taken_without_memory start now before after piece rest has none skips read written h =
     let first = has.reads skips read written h in
     let more = more_unfinished (read ++ has.front) rest (uncut newline rest none) in
-    let all : (read ++ has.front) ++ rest ≡ read ++ piece = append_assoc read has.front rest ∙ ap (λ bytes. read ++ bytes) has.is_front in
-    (first.0, first.1,
+    let all : (read ++ has.front) ++ rest ≡ read ++ piece = append_assoc read has.front rest ∙ ap (λ bytes. read ++ bytes) has.is_front in (
+      first.0,
+      first.1,
       subst (λ ls. StopsWithin Memory (first.0 ++ skips) ls (written ++ first.1)) (sym more.0 ∙ ap whole_lines all)
-      (subst (λ text. StopsWithin Memory (first.0 ++ skips) (whole_lines (read ++ has.front)) text) (append-nil (written ++ first.1))
-      (stops_for_memory now.transcriber.grid (first.0 ++ skips) (whole_lines (read ++ has.front)) (written ++ first.1) first.2.follows)),
-      first.3)
+          (subst (λ text. StopsWithin Memory (first.0 ++ skips) (whole_lines (read ++ has.front)) text) (append-nil (written ++ first.1))
+          (stops_for_memory now.transcriber.grid (first.0 ++ skips) (whole_lines (read ++ has.front)) (written ++ first.1) first.2.follows)),
+      first.3,
+    )
 
 -- there is room for what is left
 pub room_left : (start now : Replay) (before after : Option (List ℕ)) (piece rest : List ℕ) (k limit : ℕ) → HasTaken start now before after piece rest → k < length rest
     → (skips : List CallId) × (read written : List ℕ) × HasRead start skips read written × (length read + length piece ≤ limit)
     → (skips : List CallId) × (read written : List ℕ) × HasRead now skips read written × (length read < limit)
 room_left start now before after piece rest k limit has within given =
-    let first = has.reads given.0 given.1 given.2 given.3 in
-    (first.0 ++ given.0, given.1 ++ has.front, given.2 ++ first.1, first.2,
-      omega (arith, given.4, length-append given.1 has.front, length-append has.front rest, ap length has.is_front))
+    let first = has.reads given.0 given.1 given.2 given.3 in (
+      first.0 ++ given.0,
+      given.1 ++ has.front,
+      given.2 ++ first.1,
+      first.2,
+      omega (arith, given.4, length-append given.1 has.front, length-append has.front rest, ap length has.is_front),
+    )

@@ -33,6 +33,7 @@ run_ok r skips done written at =
   where
     start : RunOk partition_object (begun 1 0)
     start = begun_ok partition_object 1 0 (omega arith)
+
     of_lines : (lines : List (List ℕ)) → RunOk partition_object (run_of skips lines)
     of_lines [] = start
     of_lines (first ∷ texts) = run_after_ok partition_object skips (begun 1 0) texts start
@@ -42,28 +43,31 @@ abbrev pub HasRunLine : Grid → Grid → Line → List ℕ → Type 0
 HasRunLine old new line added = (r : Run) → Stands old r → (skips : List CallId) × (next : Run) × AreOfLine r line skips × (after_line partition_object skips r line ≡ Some next) × Stands new next × (added ≡ text_at r line next)
 
 module _ (old new : Grid) (skips : List CallId) (done : List (List ℕ)) (written text added : List ℕ) (follows : HasRun old skips done written)
-  (line : Line) (read : line_of false text ≡ Some line) (has : HasRunLine old new line added) where
-
+    (line : Line) (read : line_of false text ≡ Some line) (has : HasRunLine old new line added) where
   pub line_goes : is_end line ≡ false → RanAs Goes (Some new) skips done text written added
   line_goes going =
       let r : Run = follows.run in
       let h = has r follows.stands in
-      let shown : added ≡ line_text r h.1 = h.5 ∙ ap (λ b. if b then end_text partition_object h.1 else line_text r h.1) going in
-      (h.0, record {
-        run = h.1;
-        stands = h.4;
-        at = subst (λ t. IsAt h.1 (h.0 ++ skips) (done ++ text ∷ []) (written ++ t)) (sym shown)
-          (at_next r skips done written text follows.at line read h.0 h.2 h.1 h.3 (λ b id i c. call_is_new r (run_ok r skips done written follows.at) b i id line c) going);
-      })
+      let shown : added ≡ line_text r h.1 = h.5 ∙ ap (λ b. if b then end_text partition_object h.1 else line_text r h.1) going in (
+        h.0,
+        record {
+          run = h.1;
+          stands = h.4;
+          at = subst (λ t. IsAt h.1 (h.0 ++ skips) (done ++ text ∷ []) (written ++ t)) (sym shown)
+              (at_next r skips done written text follows.at line read h.0 h.2 h.1 h.3 (λ b id i c. call_is_new r (run_ok r skips done written follows.at) b i id line c) going);
+        },
+      )
 
   pub line_ends : is_end line ≡ true → RanAs IsEnded (Some new) skips done text written added
   line_ends ending =
       let r : Run = follows.run in
       let h = has r follows.stands in
-      let shown : added ≡ end_text partition_object h.1 = h.5 ∙ ap (λ b. if b then end_text partition_object h.1 else line_text r h.1) ending in
-      (h.0, λ too_long texts.
-        at_end r skips done written text follows.at line read h.0 h.2 h.1 h.3 (λ b id i c. call_is_new r (run_ok r skips done written follows.at) b i id line c) ending too_long texts
-        ∙ ap (λ t. whole (written ++ t) Ended) (sym shown))
+      let shown : added ≡ end_text partition_object h.1 = h.5 ∙ ap (λ b. if b then end_text partition_object h.1 else line_text r h.1) ending in (
+        h.0,
+        λ too_long texts.
+            at_end r skips done written text follows.at line read h.0 h.2 h.1 h.3 (λ b id i c. call_is_new r (run_ok r skips done written follows.at) b i id line c) ending too_long texts
+            ∙ ap (λ t. whole (written ++ t) Ended) (sym shown),
+      )
 
 -- a line that isn't run
 pub line_refused : (old : Grid) (new : Option Grid) (skips : List CallId) (done : List (List ℕ)) (written text added : List ℕ) (number : ℕ) → HasRun old skips done written
@@ -100,16 +104,18 @@ the_grid_line text members backups capacity read = by_same (are_same text (codes
 -- the first line
 pub first_goes : (grid : Grid) (skips : List CallId) (done : List (List ℕ)) (written text added : List ℕ) → HasRunNone skips done written
     → line_of true text ≡ Some (GridLine 1 0 10) → Stands grid (begun 1 0) → added ≡ ok_text 1 → RanAs Goes (Some grid) skips done text written added
-first_goes grid skips done written text added follows read stands shown =
-    ([], record {
-      run = begun 1 0;
-      stands = stands;
-      at =
+first_goes grid skips done written text added follows read stands shown = (
+  [],
+  record {
+    run = begun 1 0;
+    stands = stands;
+    at =
         let P : List CallId → List (List ℕ) → List ℕ → Type 0 = λ s d t. IsAt (begun 1 0) s (d ++ text ∷ []) t in
         subst (λ s. P s done (written ++ added)) (sym follows.no_skips)
         (subst (λ d. P [] d (written ++ added)) (sym follows.no_lines)
         (subst (λ t. P [] [] t) (sym (ap (λ t. t ++ added) follows.no_text ∙ shown)) (at_first text read)));
-    })
+  },
+)
 
 pub first_refused : (new : Option Grid) (skips : List CallId) (done : List (List ℕ)) (written text added : List ℕ) → HasRunNone skips done written
     → line_of true text ≡ None → added ≡ refused_text 1 (why_text NotBuilt) → RanAs (IsRefused 1) new skips done text written added
@@ -128,11 +134,12 @@ front_of_following text rest t is = (rest.text, sym (ap (λ (u : Transcript). u.
 
 -- a front of a front
 front_taken : (written added text : List ℕ) (n : ℕ) → IsFrontOf (written ++ added) text → IsFrontOf (written ++ take n added) text
-front_taken written added text n front =
-    (drop n added ++ front.0,
-      append_assoc written (take n added) (drop n added ++ front.0)
+front_taken written added text n front = (
+  drop n added ++ front.0,
+  append_assoc written (take n added) (drop n added ++ front.0)
       ∙ ap (λ x. written ++ x) (sym (append_assoc (take n added) (drop n added) front.0) ∙ ap (λ x. x ++ front.0) (take-append-drop n added))
-      ∙ sym (append_assoc written added front.0) ∙ front.1)
+      ∙ sym (append_assoc written added front.0) ∙ front.1,
+)
 
 pub stops_unwritten : (grid : Option Grid) (skips : List CallId) (done : List (List ℕ)) (written text : List ℕ) → Follows grid skips done written
     → Continues skips done text (λ t. IsFrontOf written t.text)
@@ -151,11 +158,13 @@ stops_in_text Goes None skips done written text added n h = absurd (not_begun _ 
   where
     not_begun : (m k : ℕ) → m ≡ k + 1 → m ≡ 0 → ⊥
     not_begun m k a b = omega arith
-stops_in_text Goes (Some grid) skips done written text added n h =
-    (h.0, λ too_long texts.
+stops_in_text Goes (Some grid) skips done written text added n h = (
+  h.0,
+  λ too_long texts.
       front_taken written added _ n
       (front_of_following (written ++ added) (later_lines partition_object (h.0 ++ skips) too_long h.1.run texts) _
-        (sym (ap (first_line partition_object (h.0 ++ skips) too_long) (append_assoc done (text ∷ []) texts)) ∙ h.1.at.goes_on (h.0 ++ skips) (λ a c. refl) too_long texts)))
+      (sym (ap (first_line partition_object (h.0 ++ skips) too_long) (append_assoc done (text ∷ []) texts)) ∙ h.1.at.goes_on (h.0 ++ skips) (λ a c. refl) too_long texts)),
+)
 stops_in_text IsEnded grid skips done written text added n h = (h.0, λ too_long texts. front_taken written added _ n (front_of_whole (written ++ added) Ended _ (h.1 too_long texts)))
 stops_in_text (IsRefused line) grid skips done written text added n h = ([], λ too_long texts. front_taken written added _ n (front_of_whole (written ++ added) (Refused line NotBuilt) _ (h too_long texts)))
 

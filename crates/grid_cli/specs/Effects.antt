@@ -86,8 +86,8 @@ effect_at bytes = do
   key ← sized_at map.1
   value ← after_byte present key.1 >>= sized_at
   if are_same value.1 rest_of_record && nat_le (length value.0) MAX_PAYLOAD
-    then Some (record { map = map.0; key = key.0 }, value.0)
-    else None
+      then Some (record { map = map.0; key = key.0 }, value.0)
+      else None
 
 -- what the code's readers give, without where it lies in memory
 

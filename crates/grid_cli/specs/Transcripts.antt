@@ -68,10 +68,10 @@ abbrev pub later_lines : {State : Type 0} → Object Request State → List Call
 later_lines o skips too_long r [] = stopped too_long r.lines
 later_lines o skips too_long r (text ∷ texts) =
     elim (ran o skips r text) [
-      None ↦ refused (r.lines + 1) NotBuilt
-    | Some x ↦
-        if is_end x.0 then (record { text = end_text o x.1; ending = Ended })
-        else following (line_text r x.1) (later_lines o skips too_long x.1 texts)
+      | None ↦ refused (r.lines + 1) NotBuilt
+      | Some x ↦
+          if is_end x.0 then (record { text = end_text o x.1; ending = Ended })
+          else following (line_text r x.1) (later_lines o skips too_long x.1 texts)
     ]
 
 -- The first line is the grid's.
@@ -79,8 +79,8 @@ abbrev pub first_line : {State : Type 0} → Object Request State → List CallI
 first_line o skips too_long [] = stopped too_long 0
 first_line o skips too_long (text ∷ texts) =
     elim (line_of true text) [
-      Some (Grid members backups capacity) ↦ following (ok_text 1) (later_lines o skips too_long (begun members backups) texts)
-    | _ ↦ refused 1 NotBuilt
+      | Some (Grid members backups capacity) ↦ following (ok_text 1) (later_lines o skips too_long (begun members backups) texts)
+      | _ ↦ refused 1 NotBuilt
     ]
 
 -- the transcript of a script, where the calls of skips found no memory

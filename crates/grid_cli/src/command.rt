@@ -20,7 +20,12 @@ fn is_replay_command(words: &[String]) -> bool
 /// Carries out the command that the words after the program's name give: `replay` reads a script from `script` and
 /// writes its transcript to `out`, as `docs/SCRIPTS.md` has them. Costs the script's length, and for each line
 /// what its call and its printed entries cost.
-pub fn replay_command<S: Source, K: Sink>(alloc: Global, words: &[String], script: &mut S, out: &mut K) -> Status
+pub fn replay_command<S: Source, K: Sink>(
+    alloc: Global,
+    words: &[String],
+    script: &mut S,
+    out: &mut K,
+) -> Status
     // Where the words are no command nothing is read and nothing is written.
     ensures usage { (result ≡ Status.Usage) ↔ (is_replay words.now ≡ false) }
     ensures unread { result ≡ Status.Usage → S.left script.new ≡ S.left script.old }

@@ -71,7 +71,10 @@ fn refusal_of(happened: Happened) -> Option<Refusal>
         Happened::Called(CallOutcome::PartitionLost { version }) => {
             Some(Refusal { code: 7, version })
         }
-        Happened::Called(CallOutcome::WrongTarget { version }) => Some(Refusal { code: 8, version }),
+        Happened::Called(CallOutcome::WrongTarget { version }) => Some(Refusal {
+            code: 8,
+            version,
+        }),
         Happened::Called(CallOutcome::Migrating { version }) => Some(Refusal { code: 9, version }),
     }
 }

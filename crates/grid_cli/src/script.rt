@@ -18,9 +18,15 @@ pub enum Line {
         capacity: u32,
     },
     /// A client connects to a member.
-    OpenConn { conn: u32, member: MemberId },
+    OpenConn {
+        conn: u32,
+        member: MemberId,
+    },
     /// Bytes arrive on a connection.
-    Arrive { conn: u32, bytes: Bytes },
+    Arrive {
+        conn: u32,
+        bytes: Bytes,
+    },
     End,
 }
 
@@ -97,8 +103,12 @@ fn read_later(alloc: Global, text: &[u8]) -> Result<Option<Line>, Memory>
 {
     match words_of(text) {
         Words::One(word) if word == b"end".as_slice() => Ok(Some(Line::End)),
-        Words::Three(word, conn, member) if word == b"open".as_slice() => Ok(read_open(conn, member)),
-        Words::Three(word, conn, hex) if word == b"bytes".as_slice() => read_bytes(alloc, conn, hex),
+        Words::Three(word, conn, member) if word == b"open".as_slice() => Ok(read_open(
+            conn, member,
+        )),
+        Words::Three(word, conn, hex) if word == b"bytes".as_slice() => read_bytes(
+            alloc, conn, hex,
+        ),
         _ => Ok(None),
     }
 }

@@ -161,17 +161,15 @@ fn effect_of(
     let GridCall::Map(map_call) = &call.call;
     match map_call {
         MapCall::Put {
-            name, key, value, ..
+            name,
+            key,
+            value,
+            ..
         } => {
             if is_value(old, value) {
                 return Ok(None);
             }
-            Ok(Some(write_set(
-                alloc,
-                name.as_slice(),
-                key.as_slice(),
-                value.as_slice(),
-            )?))
+            Ok(Some(write_set(alloc, name.as_slice(), key.as_slice(), value.as_slice())?))
         }
         MapCall::Get { .. } => Ok(None),
     }

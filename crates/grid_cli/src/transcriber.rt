@@ -34,9 +34,13 @@ fn begin(alloc: Global, text: &[u8], out: &mut Vec<u8>) -> Result<Option<Grid>, 
         (λ grid. (line_of true text.now ≡ Some (Line.Grid 1 0 10)) × Stands grid (begun 1 0) × (out.new.items ≡ out.old.items ++ ok_text 1))) }
 {
     match read_line(alloc, text, true)? {
-        Some(Line::Grid {
-            members, backups, ..
-        }) => {
+        Some(
+            Line::Grid {
+                members,
+                backups,
+                ..
+            },
+        ) => {
             let grid = Grid::new(alloc, members, backups)?;
             push_ok(out, 1)?;
             Ok(Some(grid))
@@ -46,12 +50,7 @@ fn begin(alloc: Global, text: &[u8], out: &mut Vec<u8>) -> Result<Option<Grid>, 
 }
 
 /// Runs a line after the first.
-fn go_on(
-    alloc: Global,
-    grid: &mut Grid,
-    text: &[u8],
-    out: &mut Vec<u8>,
-) -> Result<Ran, Memory>
+fn go_on(alloc: Global, grid: &mut Grid, text: &[u8], out: &mut Vec<u8>) -> Result<Ran, Memory>
     requires room { lines_run grid.old + 1 < 2 ^ 32 - 1 }
     requires empty { out.old.items ≡ [] }
     requires stands { (r : Run) × Stands grid.old r }

@@ -24,7 +24,7 @@ stop_at_limit-requires g c =
     let h = c.in-Ok-take.ensures.goes p.skips p.read p.written p.has in
     record {
       room = has_room c.take.new.self (h.0 ++ p.skips) (p.read ++ take c.min.result c.read.new.into) (p.written ++ h.1) h.2
-        (omega (arith, p.size, length-append p.read (take c.min.result c.read.new.into), length-take c.min.result c.read.new.into, c.min.ensures, c.pieces.invariant.1));
+          (omega (arith, p.size, length-append p.read (take c.min.result c.read.new.into), length-take c.min.result c.read.new.into, c.min.ensures, c.pieces.invariant.1));
     }
 
 pub returns-then-count-room-clause-text : goal.returns-then-count-room-clause-text

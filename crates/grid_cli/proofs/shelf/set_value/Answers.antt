@@ -16,9 +16,9 @@ returns-in-Some-clause-ok c =
 pub returns-in_ok-push-in-None-clause-list : goal.returns-in_ok-push-in-None-clause-list
 returns-in_ok-push-in-None-clause-list c =
     rw (c.in_ok-push-in-None.ensures.items, c.in_ok-copied_from-in-None.ensures, c.in_ok-copied_from-in-None-2.ensures, c.in_ok-value.ensures)
-        (value_added (set_by c.args.set).0 c.args.entries.now.items c.args.set.value.now (search rules) c.requires.list c.requires.fits).list
+    (value_added (set_by c.args.set).0 c.args.entries.now.items c.args.set.value.now (search rules) c.requires.list c.requires.fits).list
 
 pub returns-in_ok-push-in-None-clause-ok : goal.returns-in_ok-push-in-None-clause-ok
 returns-in_ok-push-in-None-clause-ok c =
     rw (c.in_ok-push-in-None.ensures.items, c.in_ok-copied_from-in-None.ensures, c.in_ok-copied_from-in-None-2.ensures, c.in_ok-value.ensures)
-        (value_added (set_by c.args.set).0 c.args.entries.now.items c.args.set.value.now (search rules) c.requires.list c.requires.fits).partition
+    (value_added (set_by c.args.set).0 c.args.entries.now.items c.args.set.value.now (search rules) c.requires.list c.requires.fits).partition

@@ -11,5 +11,5 @@ returns-then-next-from c =
     let next : ℕ = c.loop-digit.value * 10 + (get_or word i 0 - 48) in
     let inside : i < length word = omega arith in
     let read : fold (λ n d. n * 10 + (d - 48)) next (drop (suc i) word) ≡ decimal_value word =
-        sym (ap (fold (λ n d. n * 10 + (d - 48)) c.loop-digit.value) (drop-cons word i 0 inside)) ∙ c.loop-digit.invariant.1 in
+    sym (ap (fold (λ n d. n * 10 + (d - 48)) c.loop-digit.value) (drop-cons word i 0 inside)) ∙ c.loop-digit.invariant.1 in
     sym (at_limit _ _ (omega (arith, fold_grows next (drop (suc i) word), read, c.from.ensures, c.from-in-loop-digit.ensures, c.saturating_sub.ensures)))

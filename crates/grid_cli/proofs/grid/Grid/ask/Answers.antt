@@ -24,8 +24,7 @@ call-requires-clause-room c =
 pub call-requires-clause-stands : goal.call-requires-clause-stands
 call-requires-clause-stands c =
     let world = c.index_mut-world.result.now in
-    let read = c.index_mut-world.ensures.value ∙ ap (λ (g : Grid). get_or g.worlds.items c.from.result world) c.next_line.ensures.grid in
-    (
+    let read = c.index_mut-world.ensures.value ∙ ap (λ (g : Grid). get_or g.worlds.items c.from.result world) c.next_line.ensures.grid in (
       events_at c.args.request.partition c.requires.stands.0.events,
       (world_is c.args.self.now c.requires.stands.0 c.requires.stands.1 c.args.request.partition c.from.result c.requires.placed c.from.ensures world read).stands,
     )
@@ -42,15 +41,15 @@ returns c = λ r k s there named of_member.
     let did = c.in_ok-call.ensures (events_at partition r.events) (world_is grid r s partition c.from.result c.requires.placed c.from.ensures old read).stands in
     on_ok_all c.give_out.result c.give_out.ensures.text c.give_out.ensures.table c.give_out.ensures.world
     (λ text table out. asked_grid grid r s k c.args.request there named c.requires.placed _ old c.call.new.world c.give_out.new.world line c.args.member did.0 c.args.out.now.items c.give_out.new.out.items
-        (world_there grid r s partition c.from.result c.requires.placed c.from.ensures old read)
-        (at_line ∙ ap (λ n. n + 1) s.holds.lines)
-        of_member
-        (record {
-          lines = refl;
-          table = table ∙ ap (λ (t : Table). with_answers t line answers) c.in_ok-arrive.ensures.ok ∙ ap (λ (g : Grid). with_answers (with_arrival g.connections c.args.request.id.conn line) line answers) c.next_line.ensures.grid;
-          worlds = λ i. set (c.next_line.ensures.grid i).worlds.items (c.from.ensures i) c.give_out.new.world;
-        })
-        out
-        did.2
-        (text ∙ ap (λ (xs : List ℕ). xs ++ texts_of (map (message_of line) answers)) did.1
-        ∙ ap (λ (xs : List ℕ). (xs ++ did.0) ++ texts_of (map (message_of line) answers)) (c.in_ok-next_line.ensures.text ∙ ap (λ n. c.args.out.now.items ++ ok_text n) (sym at_line))))
+    (world_there grid r s partition c.from.result c.requires.placed c.from.ensures old read)
+    (at_line ∙ ap (λ n. n + 1) s.holds.lines)
+    of_member
+    (record {
+      lines = refl;
+      table = table ∙ ap (λ (t : Table). with_answers t line answers) c.in_ok-arrive.ensures.ok ∙ ap (λ (g : Grid). with_answers (with_arrival g.connections c.args.request.id.conn line) line answers) c.next_line.ensures.grid;
+      worlds = λ i. set (c.next_line.ensures.grid i).worlds.items (c.from.ensures i) c.give_out.new.world;
+    })
+    out
+    did.2
+    (text ∙ ap (λ (xs : List ℕ). xs ++ texts_of (map (message_of line) answers)) did.1
+    ∙ ap (λ (xs : List ℕ). (xs ++ did.0) ++ texts_of (map (message_of line) answers)) (c.in_ok-next_line.ensures.text ∙ ap (λ n. c.args.out.now.items ++ ok_text n) (sym at_line))))

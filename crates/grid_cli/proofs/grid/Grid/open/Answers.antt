@@ -8,4 +8,4 @@ pub returns-clause-ran : goal.returns-clause-ran
 returns-clause-ran c =
     let closed : opened_at c.args.self.now.connections c.args.conn ≡ None = search rules in
     λ r s. opened_line c.args.self.now c.next_line.new.self r c.args.conn c.args.member c.args.out.now.items c.next_line.new.out.items s c.requires.read.0 closed
-        (c.next_line.ensures.grid ∙ ap (λ (t : Table). after_quiet c.args.self.now t) c.open.ensures) c.in_ok-next_line.ensures.text
+    (c.next_line.ensures.grid ∙ ap (λ (t : Table). after_quiet c.args.self.now t) c.open.ensures) c.in_ok-next_line.ensures.text

@@ -21,9 +21,9 @@ loop-place-preserved c = λ r s.
     let entry = c.trail_at-entry.result.now in
     let is = indexed_world grid.worlds.items r c.args.partition c.from.result world (s.holds.worlds c.args.partition c.requires.placed) c.from.ensures c.index-world.ensures in
     let there : slice_get (trail (world_at partition_object r c.args.partition)) c.loop-place.place ≡ Some (Called (executed_as entry)) =
-        ap (λ w. slice_get (trail w) c.loop-place.place) (sym (run_is world r c.args.partition is)) ∙ c.trail_at-entry.ensures tt (events_at c.args.partition r.events) is.stands in
+    ap (λ w. slice_get (trail w) c.loop-place.place) (sym (run_is world r c.args.partition is)) ∙ c.trail_at-entry.ensures tt (events_at c.args.partition r.events) is.stands in
     text_more r s.run c.args.partition grid.lines c.loop-place.place (trail (world_at partition_object r c.args.partition)) entry c.lines_of.result c.args.out.now.items c.loop-place.out.items c.push_entry.new.out.items
-        there s.holds.lines (c.lines_of.ensures ∙ s.holds.table.calls entry.id) (c.loop-place.invariant r s) c.in_ok-push_entry.ensures
+    there s.holds.lines (c.lines_of.ensures ∙ s.holds.table.calls entry.id) (c.loop-place.invariant r s) c.in_ok-push_entry.ensures
 
 pub returns : goal.returns
 returns c = λ r s.

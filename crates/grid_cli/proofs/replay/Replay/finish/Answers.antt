@@ -32,18 +32,22 @@ returns-in-Ok-clause-concludes g c = λ skips read written has.
     let t = c.in-Ok.ensures.goes skips (whole_lines read) written has.follows in
     let e = c.refuse_end-in-Ok.ensures.concludes (t.0 ++ skips) (whole_lines read ++ text ∷ []) (written ++ t.1) t.2 in
     let is : text ≡ unfinished read = c.as_slice-last.ensures.value ∙ has.rest in
-    let last : text ∷ [] ≡ last_line (unfinished read) = sym (last_line_is text (sym c.is_empty.ensures ∙ c.if-is_empty.false)) ∙ ap last_line is in
-    (t.0, t.1 ++ e.0,
+    let last : text ∷ [] ≡ last_line (unfinished read) = sym (last_line_is text (sym c.is_empty.ensures ∙ c.if-is_empty.false)) ∙ ap last_line is in (
+      t.0,
+      t.1 ++ e.0,
       subst (λ w. Concludes false c.refuse_end-in-Ok.result (t.0 ++ skips) (whole_lines read ++ last_line (unfinished read)) w) (append_assoc written t.1 e.0)
-      (subst (λ ls. Concludes false c.refuse_end-in-Ok.result (t.0 ++ skips) (whole_lines read ++ ls) ((written ++ t.1) ++ e.0)) last e.1),
-      more_taken (g.K.Sink.taken c.args.out.now) _ _ t.1 e.0 t.3 e.2)
+          (subst (λ ls. Concludes false c.refuse_end-in-Ok.result (t.0 ++ skips) (whole_lines read ++ ls) ((written ++ t.1) ++ e.0)) last e.1),
+      more_taken (g.K.Sink.taken c.args.out.now) _ _ t.1 e.0 t.3 e.2,
+    )
 
 pub returns-in-Err-clause-concludes : goal.returns-in-Err-clause-concludes
 returns-in-Err-clause-concludes g c = λ skips read written has.
     let text : List ℕ = c.as_slice-last.result.now in
     let t = c.in-Err.ensures.stops skips (whole_lines read) written has.follows in
     let is : text ≡ unfinished read = c.as_slice-last.ensures.value ∙ has.rest in
-    let last : text ∷ [] ≡ last_line (unfinished read) = sym (last_line_is text (sym c.is_empty.ensures ∙ c.if-is_empty.false)) ∙ ap last_line is in
-    (t.0, t.1,
+    let last : text ∷ [] ≡ last_line (unfinished read) = sym (last_line_is text (sym c.is_empty.ensures ∙ c.if-is_empty.false)) ∙ ap last_line is in (
+      t.0,
+      t.1,
       subst (λ ls. Concludes false c.in-Err.status (t.0 ++ skips) (whole_lines read ++ ls) (written ++ t.1)) last (stopped_at_last c.in-Err.status (t.0 ++ skips) (whole_lines read) text (written ++ t.1) t.2),
-      t.3)
+      t.3,
+    )

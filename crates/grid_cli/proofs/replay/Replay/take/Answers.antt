@@ -35,8 +35,9 @@ lines-smaller g c = rw (rest_whole c.lines.rest.now (c.in-Some.at + 1)) (omega (
 pub lines-preserved : goal.lines-preserved
 lines-preserved g c = (
   taken_more c.args.self.now c.lines.self c.complete.new.self (g.K.Sink.taken c.args.out.now) (g.K.Sink.taken c.lines.out) (g.K.Sink.taken c.complete.new.out) c.args.piece.now c.lines.rest.now _ c.in-Some.at
-  c.lines.invariant.0 c.in-Some.ensures.0.high c.in-Some.ensures.1 (rest_whole c.lines.rest.now (c.in-Some.at + 1)) c.in-Ok.ensures.goes,
-  omega (arith, c.lines.invariant.1, c.complete.ensures.never_falls))
+      c.lines.invariant.0 c.in-Some.ensures.0.high c.in-Some.ensures.1 (rest_whole c.lines.rest.now (c.in-Some.at + 1)) c.in-Ok.ensures.goes,
+  omega (arith, c.lines.invariant.1, c.complete.ensures.never_falls),
+)
 
 pub returns-in_default-extend_from_slice-clause-stops : goal.returns-in_default-extend_from_slice-clause-stops
 returns-in_default-extend_from_slice-clause-stops g c =

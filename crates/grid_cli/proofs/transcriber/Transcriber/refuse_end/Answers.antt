@@ -14,17 +14,19 @@ returns-in_default-clause-concludes g c = λ skips done written follows.
 pub returns-in_default-write_all-clause-concludes : goal.returns-in_default-write_all-clause-concludes
 returns-in_default-write_all-clause-concludes g c = λ skips done written follows.
     let text : List ℕ = c.push_refused.new.out.items in
-    let n = c.in_default-write_all.ensures.err in
-    (take n.0 text,
+    let n = c.in_default-write_all.ensures.err in (
+      take n.0 text,
       front_written written text (Refused c.lines-line.result NoEnd) _ n.0
-        (end_refused c.args.self.now.grid skips done written text c.lines-line.result follows c.lines-line.ensures
+          (end_refused c.args.self.now.grid skips done written text c.lines-line.result follows c.lines-line.ensures
           (c.in-Ok.ensures ∙ ap (λ xs. xs ++ refused_text c.lines-line.result (why_text NoEnd)) c.clear.ensures.items)),
-      n.2 ∙ ap (λ t. append_known (g.K.Sink.taken c.args.out.now) (take n.0 t)) c.as_slice.ensures.value)
+      n.2 ∙ ap (λ t. append_known (g.K.Sink.taken c.args.out.now) (take n.0 t)) c.as_slice.ensures.value,
+    )
 
 pub returns-clause-concludes : goal.returns-clause-concludes
 returns-clause-concludes g c = λ skips done written follows.
-    let text : List ℕ = c.push_refused.new.out.items in
-    (text,
+    let text : List ℕ = c.push_refused.new.out.items in (
+      text,
       end_refused c.args.self.now.grid skips done written text c.lines-line.result follows c.lines-line.ensures
-        (c.in-Ok.ensures ∙ ap (λ xs. xs ++ refused_text c.lines-line.result (why_text NoEnd)) c.clear.ensures.items),
-      c.in-Ok-write_all.ensures.ok ∙ ap (append_known (g.K.Sink.taken c.args.out.now)) c.as_slice.ensures.value)
+          (c.in-Ok.ensures ∙ ap (λ xs. xs ++ refused_text c.lines-line.result (why_text NoEnd)) c.clear.ensures.items),
+      c.in-Ok-write_all.ensures.ok ∙ ap (append_known (g.K.Sink.taken c.args.out.now)) c.as_slice.ensures.value,
+    )
