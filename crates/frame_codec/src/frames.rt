@@ -19,6 +19,13 @@ pub struct Frame {
     pub payload: Bytes,
 }
 
+/// A frame, and the place of its first byte in its stream.
+#[derive(Debug, Drop)]
+pub struct PlacedFrame {
+    pub at: u64,
+    pub frame: Frame,
+}
+
 /// Appends the bytes of a frame, at the cost of their number. Want of memory appends nothing.
 pub fn write_frame(frame: &Frame, out: &mut Vec<u8>) -> Result<(), Memory>
     requires { length frame.now.payload ≤ MAX_PAYLOAD }

@@ -3,5 +3,7 @@
 
 pub mod flags;
 mod frames;
+mod malformed;
 
-pub use frames::{Frame, HEADER_LENGTH, MAX_FRAME_LENGTH, MAX_PAYLOAD, write_frame};
+pub use frames::{Frame, HEADER_LENGTH, MAX_FRAME_LENGTH, MAX_PAYLOAD, PlacedFrame, write_frame};
+pub use malformed::{Malformed, Why};
