@@ -1,2 +1,3 @@
+pub mod Flags
 pub mod Frames
 pub mod Reading

@@ -1,4 +1,5 @@
 ghost use Rattle.std.specs.Prelude.{◌≡◌, ◌≤◌, ◌++◌, length, OnOk, OnErr};
+ghost use Rattle.frame_codec.specs.Flags.{has_flag, without_flag};
 ghost use Rattle.frame_codec.specs.Frames.{frame_bytes};
 
 use grid_base::{Bytes, Memory};
@@ -17,6 +18,22 @@ pub const MAX_PAYLOAD: usize = MAX_FRAME_LENGTH - HEADER_LENGTH;
 pub struct Frame {
     pub flags: u16,
     pub payload: Bytes,
+}
+
+impl Frame {
+    /// Whether the frame has a flag, one bit of `flags`.
+    pub fn has(&self, flag: u16) -> bool
+        ensures { result ≡ has_flag flag self.now }
+    {
+        self.flags & flag != 0
+    }
+
+    /// Takes a flag away, if the frame has it.
+    pub fn clear(&mut self, flag: u16)
+        ensures { self.new ≡ without_flag flag self.old }
+    {
+        self.flags &= !flag;
+    }
 }
 
 /// A frame, and the place of its first byte in its stream.

@@ -1,0 +1,6 @@
+//! Messages, read from the bytes of a connection in any pieces and written as bytes.
+#![tactic(auto)]
+
+mod message;
+
+pub use message::{Frames, Message};
