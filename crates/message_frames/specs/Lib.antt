@@ -1,2 +1,3 @@
 pub mod Assembly
+pub mod MessageReaders
 pub mod Messages

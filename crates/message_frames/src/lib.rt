@@ -2,5 +2,7 @@
 #![tactic(auto)]
 
 mod message;
+mod reader;
 
 pub use message::{Frames, Message};
+pub use reader::{FedMessages, MessageReader};

@@ -1,0 +1,35 @@
+-- What a reader of messages stands for: all bytes of its connection so far, however they were cut.
+use Rattle.std.specs.Prelude.{◌≡◌, ℕ, Bool, List, drop, length, min, Option, Some, None}
+use Rattle.frame_codec.specs.Reading.{reading}
+use Rattle.frame_codec.specs.declared.malformed.Malformed.{Malformed}
+use Rattle.message_frames.specs.Assembly.{Assembly, assembled, nothing_yet}
+use Rattle.message_frames.specs.Messages.{prefix_of, shortest_start, fault_of}
+
+pub data Hearing : Type 0 where
+  -- Without a fault so far: how many bytes of the prefix have come, and the messages in progress.
+  Live : (prefix : Bool) (begun : ℕ) (assembly : Assembly) → Hearing
+  -- after the first fault
+  Failed : (fault : Malformed) → Hearing
+
+-- the bytes after the prefix, whose first has the prefix's length as its place
+abbrev pub after_prefix : Bool → List ℕ → List ℕ
+after_prefix prefix text = drop (length (prefix_of prefix)) text
+
+-- what a text comes to in which no fault shows
+abbrev pub live : Bool → List ℕ → Hearing
+live prefix text =
+    let at = length (prefix_of prefix) in
+    let rest = after_prefix prefix text in
+    Live prefix (min at (length text)) (assembled (shortest_start prefix) (reading at rest).frames nothing_yet).after
+
+-- a reader after a text
+unfoldable pub standing : Bool → List ℕ → Hearing
+standing prefix text = elim (fault_of prefix text) [ None ↦ live prefix text | Some fault ↦ Failed fault ]
+
+abbrev pub StandsFor : Hearing → Bool → List ℕ → Type 0
+StandsFor reader prefix text = reader ≡ standing prefix text
+
+-- the fault shown so far
+abbrev pub shown_fault : Hearing → Option Malformed
+shown_fault (Live prefix begun assembly) = None
+shown_fault (Failed fault) = Some fault
