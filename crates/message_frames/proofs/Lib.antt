@@ -1,1 +1,5 @@
 pub mod Composition
+pub mod Chains
+pub mod Sizes
+pub mod Steps
+pub mod Pieces

@@ -1,2 +1,4 @@
 pub mod Assembly
 pub mod Messages
+pub mod Grammar
+pub mod Merging
