@@ -1,2 +1,6 @@
 pub mod Composition
 pub mod Shown
+pub mod Chains
+pub mod Sizes
+pub mod Steps
+pub mod Pieces

@@ -1,3 +1,5 @@
 pub mod Assembly
 pub mod MessageReaders
 pub mod Messages
+pub mod Grammar
+pub mod Merging
