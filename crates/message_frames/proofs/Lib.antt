@@ -4,3 +4,4 @@ pub mod Chains
 pub mod Sizes
 pub mod Steps
 pub mod Pieces
+pub mod Places

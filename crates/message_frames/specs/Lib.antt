@@ -3,3 +3,5 @@ pub mod MessageReaders
 pub mod Messages
 pub mod Grammar
 pub mod Merging
+pub mod Tallies
+pub mod Turns
