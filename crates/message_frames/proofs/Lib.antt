@@ -5,3 +5,8 @@ pub mod Sizes
 pub mod Steps
 pub mod Pieces
 pub mod Places
+pub mod ListsOfChains
+pub mod SoundChains
+pub mod TurnSteps
+pub mod FragmentSteps
+pub mod TurnForms

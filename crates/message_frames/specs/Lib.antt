@@ -5,3 +5,4 @@ pub mod Grammar
 pub mod Merging
 pub mod Tallies
 pub mod Turns
+pub mod Lists

@@ -1,0 +1,83 @@
+-- The frames of open messages, which are in numbered lists: with the control they are the state of a connection.
+use Rattle.std.specs.Prelude.{◌≡◌, ℕ, suc, ◌<◌, ◌≤◌, true, false, List, [], ◌∷◌, ◌++◌, map, slice_index_or, slice_set}
+use Rattle.frame_codec.specs.Flags.{without_flag}
+use Rattle.frame_codec.specs.declared.frames.Frame.{Frame}
+use Rattle.frame_codec.specs.declared.flags.TheConstants.{FINAL}
+use Rattle.message_frames.specs.Assembly.{Assembly, Chain, Place, Between, InMessage, InFragment, Step, Faulty, Goes, Gives}
+use Rattle.message_frames.specs.Tallies.{tally_of}
+use Rattle.message_frames.specs.Turns.{Turned, is_known}
+use Rattle.message_frames.specs.declared.control.OpenChain.{OpenChain}
+use Rattle.message_frames.specs.declared.control.Spot.{Spot}
+use Rattle.message_frames.specs.declared.control.Spot.TheVariants.{Free, OfMessage, OfFragment}
+use Rattle.message_frames.specs.declared.control.Control.{Control}
+use Rattle.message_frames.specs.declared.control.Ending.{Ending}
+use Rattle.message_frames.specs.declared.control.Ending.TheVariants.{GoesOn, EndsFragment, EndsMessage}
+use Rattle.message_frames.specs.declared.control.Turn.{Turn}
+use Rattle.message_frames.specs.declared.control.Turn.TheVariants.{Fails, Heads, Joins}
+
+-- the frames of a list; none past the last
+abbrev pub list_at : List (List Frame) → ℕ → List Frame
+list_at lists k = slice_index_or lists k []
+
+-- the state that control and lists are
+
+abbrev pub chain_of : List (List Frame) → OpenChain → Chain
+chain_of lists chain = record { id = chain.id; frames = list_at lists chain.list }
+
+abbrev pub place_of : List (List Frame) → Spot → Place
+place_of lists Free = Between
+place_of lists (OfMessage begun) = InMessage begun.at (list_at lists begun.list)
+place_of lists (OfFragment id last) = InFragment id last
+
+abbrev pub assembly_of : Control → List (List Frame) → Assembly
+assembly_of c lists = record { place = place_of lists c.spot; chains = map (chain_of lists) c.chains.items; complete = c.complete }
+
+-- Control knows what the lists have, and no list is another's.
+
+-- The chains have different ids, and lists in rising order from one number up to another.
+abbrev pub AreSound : ℕ → List OpenChain → ℕ → List (List Frame) → Type 0
+AreSound from [] end lists = from ≤ end
+AreSound from (chain ∷ chains) end lists =
+    (from ≤ chain.list) × (is_known chain.id chains ≡ false) × (chain.tally ≡ tally_of (list_at lists chain.list)) × AreSound (suc chain.list) chains end lists
+
+-- A message in progress has the last list.
+abbrev pub chains_end : Spot → ℕ → ℕ
+chains_end Free lists = lists
+chains_end (OfMessage begun) lists = begun.list
+chains_end (OfFragment id last) lists = lists
+
+abbrev pub IsSoundSpot : Spot → Control → List (List Frame) → Type 0
+IsSoundSpot Free c lists = Unit {0}
+IsSoundSpot (OfMessage begun) c lists = (begun.list < c.lists) × (begun.tally ≡ tally_of (list_at lists begun.list))
+IsSoundSpot (OfFragment id last) c lists = is_known id c.chains.items ≡ true
+
+pub record IsSound (c : Control) (lists : List (List Frame)) : Type 0 where
+  pub chains : AreSound 0 c.chains.items (chains_end c.spot c.lists) lists
+  pub spot : IsSoundSpot c.spot c lists
+  pub unused : (k : ℕ) → c.lists ≤ k → list_at lists k ≡ []
+
+-- what a turn does to the lists
+
+abbrev pub ended : Ending → List (List Frame) → ℕ → Frame → List (List Frame)
+ended GoesOn lists list frame = slice_set lists list (list_at lists list ++ frame ∷ [])
+ended EndsFragment lists list frame = slice_set lists list (list_at lists list ++ without_flag FINAL frame ∷ [])
+ended EndsMessage lists list frame = slice_set lists list []
+
+abbrev pub lists_after : Turn → List (List Frame) → Frame → List (List Frame)
+lists_after (Fails fault) lists frame = lists
+lists_after Heads lists frame = lists
+lists_after (Joins list count ending) lists frame = ended ending lists list frame
+
+-- a turn as a step of the state
+abbrev pub ending_step : Ending → List Frame → Assembly → Step
+ending_step GoesOn all next = Goes next
+ending_step EndsFragment all next = Goes next
+ending_step EndsMessage all next = Gives (record { frames = all }) next
+
+abbrev pub turn_step : Turn → List (List Frame) → Frame → Assembly → Step
+turn_step (Fails fault) lists frame next = Faulty fault
+turn_step Heads lists frame next = Goes next
+turn_step (Joins list count ending) lists frame next = ending_step ending (list_at lists list ++ frame ∷ []) next
+
+abbrev pub step_of : Turned → List (List Frame) → Frame → Step
+step_of t lists frame = turn_step t.turn lists frame (assembly_of t.after (lists_after t.turn lists frame))
