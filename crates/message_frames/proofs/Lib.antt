@@ -10,3 +10,4 @@ pub mod SoundChains
 pub mod TurnSteps
 pub mod FragmentSteps
 pub mod TurnForms
+pub mod SoundTurns

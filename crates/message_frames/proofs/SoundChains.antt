@@ -11,7 +11,7 @@ use Rattle.message_frames.specs.declared.control.OpenChain.{OpenChain}
 use Rattle.message_frames.specs.declared.tally.Tally.{Tally}
 use Rattle.message_frames.proofs.ListsOfChains.{IsWithin, named_within, bounds, from_less, to_more, sound_with}
 
-is_known-with_tally : (i id : ℕ) (tally : Tally) (chains : List OpenChain) → is_known i (with_tally id tally chains) ≡ is_known i chains
+pub is_known-with_tally : (i id : ℕ) (tally : Tally) (chains : List OpenChain) → is_known i (with_tally id tally chains) ≡ is_known i chains
 is_known-with_tally i id tally [] = refl
 is_known-with_tally i id tally (chain ∷ chains) = go (cases_Bool (is_named id chain)) (is_known-with_tally i id tally chains)
   where
