@@ -3,3 +3,7 @@ pub mod Chains
 pub mod Sizes
 pub mod Steps
 pub mod Pieces
+pub mod ChainSets
+pub mod Weights
+pub mod Soundness
+pub mod Bounds
