@@ -7,3 +7,7 @@ pub mod ChainSets
 pub mod Weights
 pub mod Soundness
 pub mod Bounds
+pub mod Prefixes
+pub mod Staying
+pub mod Places
+pub mod Bounded

@@ -2,3 +2,4 @@ pub mod Assembly
 pub mod Messages
 pub mod Grammar
 pub mod Merging
+pub mod Laws
