@@ -11,3 +11,6 @@ pub mod Prefixes
 pub mod Staying
 pub mod Places
 pub mod Bounded
+pub mod Scanning
+pub mod NextPiece
+pub mod NoPiece

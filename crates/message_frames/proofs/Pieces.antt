@@ -40,7 +40,7 @@ others_follow x y ys ends = go (cases_Bool (is_final x))
     go (inl final) = absurd (false≢true (rw final at ends))
     go (inr goes) = (goes, rw goes at ends)
 
-one_more_fits : (acc : List Frame) (x : Frame) (more : List Frame) → fits (acc ++ x ∷ more) ≡ true → fits (acc ++ x ∷ []) ≡ true
+pub one_more_fits : (acc : List Frame) (x : Frame) (more : List Frame) → fits (acc ++ x ∷ more) ≡ true → fits (acc ++ x ∷ []) ≡ true
 one_more_fits acc x more e = front_fits (acc ++ x ∷ []) more (rw append_assoc e)
 
 -- the rest of an unfragmented message
@@ -117,14 +117,14 @@ between_with chains complete = record { place = Between; chains = chains; comple
 abbrev pub given : Piece → List Chain → List Message
 given piece chains = if completes piece then record { frames = gathered piece chains } ∷ [] else []
 
-opened_is_open : (header : Frame) (chains : List Chain) → header_may_come header chains ≡ true → is_open (chain_id header) (opened header chains) ≡ true
+pub opened_is_open : (header : Frame) (chains : List Chain) → header_may_come header chains ≡ true → is_open (chain_id header) (opened header chains) ≡ true
 opened_is_open header chains may = go (cases_Bool (begins_chain header))
   where
     go : (begins_chain header ≡ true) ⊎ (begins_chain header ≡ false) → is_open (chain_id header) (opened header chains) ≡ true
     go (inl begins) = rw begins (open_when_opened (chain_id header) [] chains)
     go (inr continues) = rw continues (rw continues at may)
 
-frames_when_opened : (header : Frame) (chains : List Chain) → header_may_come header chains ≡ true → frames_of (chain_id header) (opened header chains) ≡ frames_of (chain_id header) chains
+pub frames_when_opened : (header : Frame) (chains : List Chain) → header_may_come header chains ≡ true → frames_of (chain_id header) (opened header chains) ≡ frames_of (chain_id header) chains
 frames_when_opened header chains may = go (cases_Bool (begins_chain header))
   where
     go : (begins_chain header ≡ true) ⊎ (begins_chain header ≡ false) → frames_of (chain_id header) (opened header chains) ≡ frames_of (chain_id header) chains
