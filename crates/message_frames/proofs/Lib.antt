@@ -14,3 +14,4 @@ pub mod Bounded
 pub mod Scanning
 pub mod NextPiece
 pub mod NoPiece
+pub mod Streams
