@@ -15,3 +15,4 @@ pub mod Scanning
 pub mod NextPiece
 pub mod NoPiece
 pub mod Streams
+pub mod HeardPieces

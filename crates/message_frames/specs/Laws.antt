@@ -41,6 +41,12 @@ pub record IsHeardAs (prefix : Bool) (text : List ℕ) (pieces : List Piece) (re
   pub messages : messages_of prefix text ≡ messages_in pieces
   pub complete : NoPieceBegins (shortest_start prefix) pieces rest
 
+-- Of pieces and a rest that no further one begins exactly the messages of the pieces are heard.
+abbrev pub exactly_the_pieces_are_heard : Type 0
+exactly_the_pieces_are_heard =
+    (prefix : Bool) (pieces : List Piece) (rest : List ℕ) → IsStream (shortest_start prefix) pieces → IsBytes rest → NoPieceBegins (shortest_start prefix) pieces rest →
+    messages_of prefix (stream_of prefix pieces ++ rest) ≡ messages_in pieces
+
 -- What is heard of a text is in the grammar. Of a text without the prefix nothing is heard.
 abbrev pub what_is_heard_is_in_the_grammar : Type 0
 what_is_heard_is_in_the_grammar =
