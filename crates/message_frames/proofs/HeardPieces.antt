@@ -51,7 +51,7 @@ spelled_pieces [] = refl
 spelled_pieces (piece ∷ pieces) =
     ap (λ bs. piece_bytes piece ++ bs) (spelled_pieces pieces) ∙ sym (flat_map-append frame_bytes (piece_frames piece) (frames_in pieces))
 
-nothing_begins : BeginsWithNoFrame []
+pub nothing_begins : BeginsWithNoFrame []
 nothing_begins frame e = absurd (let clash : Partial ≡ Whole frame = e in cc)
 
 -- rules of one more piece

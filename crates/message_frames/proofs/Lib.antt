@@ -16,3 +16,4 @@ pub mod NextPiece
 pub mod NoPiece
 pub mod Streams
 pub mod HeardPieces
+pub mod SoFar

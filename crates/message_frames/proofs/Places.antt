@@ -47,7 +47,7 @@ pub record Measured (text : List ℕ) (r : Reading) : Type 0 where
   pub bytes : lengths r.frames + length r.rest ≡ length text
   pub short : r.fault ≡ None → length r.rest ≤ MAX_FRAME_LENGTH
 
-abbrev after_front : ℕ → ℕ → List ℕ → Front → Reading
+abbrev pub after_front : ℕ → ℕ → List ℕ → Front → Reading
 after_front bound at text f =
     elim f [
       | Partial ↦ record { frames = []; fault = None; rest = text }
