@@ -1,3 +1,7 @@
+pub mod Feeding
 pub mod Flags
+pub mod FrameReaders
 pub mod Frames
+pub mod Laws
+pub mod Marks
 pub mod Reading
