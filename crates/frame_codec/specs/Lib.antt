@@ -3,5 +3,6 @@ pub mod Flags
 pub mod FrameReaders
 pub mod Frames
 pub mod Laws
+pub mod Layout
 pub mod Marks
 pub mod Reading

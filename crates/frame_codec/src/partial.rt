@@ -22,13 +22,14 @@ pub(crate) struct PartialFrame {
 }
 
 impl Model for PartialFrame {
-    ghost use Rattle.std.specs.Prelude.{◌≡◌, ℕ, ◌<◌, ◌≤◌, List, [], ◌++◌, take};
+    ghost use Rattle.std.specs.Prelude.{ℕ, List};
+    ghost use Rattle.frame_codec.specs.Layout.{IsLaidOut, laid_out};
 
     ghost Value = { List ℕ };
 
-    ghost view = { λ f. take f.count f.header ++ f.payload.items };
+    ghost view = { λ f. laid_out f.header f.count f.payload.items };
 
-    ghost invariant = { λ f. (f.count ≤ 6) × (f.count < 6 → f.payload.items ≡ []) };
+    ghost invariant = { λ f. IsLaidOut f.header f.count f.payload.items };
 }
 
 impl PartialFrame {
@@ -46,7 +47,8 @@ impl PartialFrame {
     pub fn len(&self) -> usize
         ensures { result ≡ length self.now }
     {
-        self.count + self.payload.as_slice().len()
+        let header = &self.header[..self.count];
+        header.len() + self.payload.as_slice().len()
     }
 
     /// The length of the whole frame, as the first bytes state it.
