@@ -1,5 +1,5 @@
 //! Small copies of a reader's state, to go back by.
-ghost use Rattle.std.specs.Prelude.{◌≡◌, ◌+◌, ◌<◌, ◌≤◌};
+ghost use Rattle.std.specs.Prelude.{◌≡◌, ◌+◌, ◌<◌, ◌≤◌, length};
 ghost use Rattle.frame_codec.specs.Reading.{stated_length};
 ghost use Rattle.frame_codec.specs.FrameReaders.{HasRoom};
 ghost use Rattle.frame_codec.specs.declared.frames.TheConstants.{HEADER_LENGTH};
@@ -14,6 +14,7 @@ pub struct PartialMark {
     pub(crate) count: usize,
     /// How many bytes of the payload were there.
     pub(crate) payload: usize,
+    ghost room: { length header ≡ HEADER_LENGTH },
     ghost within: { count ≤ HEADER_LENGTH },
     ghost header_first: { count < HEADER_LENGTH → payload ≡ 0 },
 }
