@@ -98,3 +98,21 @@ fault_has_four at text fault faulty = by_case (front (reading at text).rest) ref
         absurd (cc (clear, faulty))
     by_case (Wrong why) e = (front-take (reading at text).rest why e).1
     by_case (Whole frame) e = absurd ((reading_ends at text).no_frame frame e)
+
+-- Without a fault the bytes in progress are a part of a frame.
+pub partial_without_fault : (at : ℕ) (text : List ℕ) → (standing at text).fault ≡ None → front (standing at text).bytes ≡ Partial
+partial_without_fault at text sound = rest_is ∙ by_case (front (reading at text).rest) refl
+  where
+    clear : (reading at text).fault ≡ None
+    clear = ap (λ (s : InProgress). s.fault) (sym (standing-is at text)) ∙ sound
+    rest_is : front (standing at text).bytes ≡ front (reading at text).rest
+    rest_is =
+        ap (λ (s : InProgress). front s.bytes) (standing-is at text)
+        ∙ ap (λ (f : Option Malformed). front (kept f (reading at text).rest)) clear
+    by_case : (f : Front) → front (reading at text).rest ≡ f → front (reading at text).rest ≡ Partial
+    by_case Partial e = e
+    by_case (Wrong why) e =
+        let faulty : (reading at text).fault ≡ Some (record { at = at + (length text - length (reading at text).rest); why = why }) =
+            (reading_ends at text).fault ∙ ap (shown (at + (length text - length (reading at text).rest))) e in
+        absurd (cc (clear, faulty))
+    by_case (Whole frame) e = absurd ((reading_ends at text).no_frame frame e)

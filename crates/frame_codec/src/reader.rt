@@ -1,9 +1,9 @@
 ghost use Rattle.std.specs.Prelude.{◌≡◌, ℕ, ◌+◌, ◌^◌, ◌<◌, ◌≤◌, List, [], ◌++◌, length, None, IfOk, OnOk, OnErr};
 ghost use Rattle.frame_codec.specs.FrameReaders.{next_place, in_progress, StandsFor, frames_of, fault_of};
 ghost use Rattle.frame_codec.specs.Feeding.{Takes, TakesSome};
-ghost use Rattle.frame_codec.specs.Marks.{IsMarkOf, IsFedSince};
+ghost use Rattle.frame_codec.specs.Marks.{IsMarkOf, IsFedSince, first_frame};
 
-use crate::frames::{HEADER_LENGTH, MAX_FRAME_LENGTH, PlacedFrame};
+use crate::frames::{Frame, HEADER_LENGTH, MAX_FRAME_LENGTH, PlacedFrame};
 use crate::malformed::{Malformed, Why};
 use crate::marks::FrameMark;
 use crate::partial::{LENGTH_BYTES, PartialFrame};
@@ -111,9 +111,7 @@ impl FrameReader {
     pub fn put_back(&mut self, mark: FrameMark, fed: FedFrames)
         ensures { (at : ℕ) (text piece : List ℕ) → IsFedSince mark self.old fed.frames.items at text piece → StandsFor self.new at text }
     {
-        let first = fed.frames.into_iter().next();
-        self.partial
-            .put_back(mark.partial, first.map(|placed| placed.frame));
+        self.partial.put_back(mark.partial, first_of(fed.frames));
         self.at = mark.at;
     }
 
@@ -171,4 +169,12 @@ impl FrameReader {
         frames.push_reserved(PlacedFrame { at, frame });
         Ok(wanted)
     }
+}
+
+/// The first of the frames, if there is one. The others are dropped.
+fn first_of(frames: Vec<PlacedFrame>) -> Option<Frame>
+    ensures { result ≡ first_frame frames.items }
+{
+    let first = frames.into_iter().next()?;
+    Some(first.frame)
 }
