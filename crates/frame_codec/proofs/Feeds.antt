@@ -1,5 +1,5 @@
 -- A reader that takes more bytes.
-use Rattle.std.proofs.Common.{◌≡◌, ℕ, zero, suc, ◌+◌, ◌-◌, ◌<◌, ◌≤◌, Option, List, [], ◌∷◌, ◌++◌, length, take, drop, None, Some, refl, sym, ◌∙◌, ap, arith, length-append, subst}
+use Rattle.std.proofs.Common.{◌≡◌, ℕ, zero, suc, ◌+◌, ◌-◌, ◌<◌, ◌≤◌, Option, is_some, true, List, [], ◌∷◌, ◌++◌, length, take, drop, None, Some, refl, sym, ◌∙◌, ap, arith, length-append, subst}
 use Rattle.std.proofs.lemmas.List.{take_all, take-append-le, append-nil, append_assoc, take-append-drop}
 use Rattle.std.proofs.Math.Seq.{take-add}
 use Rattle.frame_codec.specs.Reading.{Reading, reading}
@@ -101,3 +101,12 @@ takes_all old given now all piece n fault some faulty = λ earlier at text h.
         stands = sym (after.stands ∙ here);
         given = before.given ∙ sym (append-nil (frames_of at (text ++ take n piece))) ∙ sym after.frames_are
     })
+
+-- Where all of the piece was taken, or a fault has shown, the whole piece adds no more.
+pub takes_all_faulty : (old : InProgress) (given : List PlacedFrame) (now : InProgress) (all : List PlacedFrame) (piece : List ℕ) (n : ℕ) →
+    Takes old given now all piece n → is_some now.fault ≡ true → Takes old given now all piece (length piece)
+takes_all_faulty old given now all piece n some faulty = by_case now.fault refl
+  where
+    by_case : (fault : Option Malformed) → now.fault ≡ fault → Takes old given now all piece (length piece)
+    by_case None e = absurd (cc (faulty, ap (λ (f : Option Malformed). is_some f) e))
+    by_case (Some fault) e = takes_all old given now all piece n fault some e
