@@ -110,3 +110,15 @@ takes_all_faulty old given now all piece n some faulty = by_case now.fault refl
     by_case : (fault : Option Malformed) → now.fault ≡ fault → Takes old given now all piece (length piece)
     by_case None e = absurd (cc (faulty, ap (λ (f : Option Malformed). is_some f) e))
     by_case (Some fault) e = takes_all old given now all piece n fault some e
+
+-- From the start of a feed all that is given is new.
+pub from_none : (old : InProgress) (given : List PlacedFrame) (now : InProgress) (all : List PlacedFrame) (piece : List ℕ) (n : ℕ) → given ≡ [] →
+    Takes old given now all piece n → (at : ℕ) (text : List ℕ) → StandsFor old at text → HasGiven (frames_of at text) now all at (text ++ take n piece)
+from_none old given now all piece n none some at text h =
+    some (frames_of at text) at text (record { stands = h; given = ap (λ (fs : List PlacedFrame). frames_of at text ++ fs) none ∙ append-nil (frames_of at text) })
+
+pub from_none_all : (old : InProgress) (given : List PlacedFrame) (now : InProgress) (all : List PlacedFrame) (piece : List ℕ) → given ≡ [] →
+    Takes old given now all piece (length piece) → (at : ℕ) (text : List ℕ) → StandsFor old at text → HasGiven (frames_of at text) now all at (text ++ piece)
+from_none_all old given now all piece none some at text h =
+    subst (λ (xs : List ℕ). HasGiven (frames_of at text) now all at (text ++ xs)) (take_all (length piece) piece (omega arith))
+    (from_none old given now all piece (length piece) none some at text h)
