@@ -1,10 +1,10 @@
 -- What is left of a text after its whole frames.
 use Rattle.std.proofs.Common.{◌≡◌, ◌≢◌, ℕ, zero, suc, ◌+◌, ◌-◌, ◌<◌, ◌≤◌, Option, List, [], ◌∷◌, ◌++◌, length, take, drop, None, Some, refl, sym, ◌∙◌, ap, arith}
-use Rattle.std.proofs.lemmas.List.{length-drop, length-take-le, take-take, take-append-le}
+use Rattle.std.proofs.lemmas.List.{length-drop, length-take, length-take-le, take-take, take-append-le}
 use Rattle.std.specs.Int.{w32, from_le_bytes}
 use Rattle.frame_codec.specs.Frames.{frame_length}
 use Rattle.frame_codec.specs.Reading.{Front, Partial, Whole, Wrong, front, stated_length, frame_of, Reading, with_frame, reading}
-use Rattle.frame_codec.specs.FrameReaders.{InProgress, in_progress, shown, kept, standing}
+use Rattle.frame_codec.specs.FrameReaders.{InProgress, in_progress, shown, kept, next_place, standing}
 use Rattle.frame_codec.specs.declared.frames.Frame.{Frame}
 use Rattle.frame_codec.specs.declared.malformed.Malformed.{Malformed}
 use Rattle.frame_codec.specs.declared.malformed.Why.{Why}
@@ -116,3 +116,13 @@ partial_without_fault at text sound = rest_is ∙ by_case (front (reading at tex
             (reading_ends at text).fault ∙ ap (shown (at + (length text - length (reading at text).rest))) e in
         absurd (cc (clear, faulty))
     by_case (Whole frame) e = absurd ((reading_ends at text).no_frame frame e)
+
+kept_within : (fault : Option Malformed) (rest : List ℕ) → length (kept fault rest) ≤ length rest
+kept_within None rest = omega arith
+kept_within (Some fault) rest = omega (arith, length-take 4 rest)
+
+-- A reader has no more bytes than its stream.
+pub next_place_within : (at : ℕ) (text : List ℕ) → next_place (standing at text) ≤ at + length text
+next_place_within at text =
+    let r = reading at text in
+    rw standing-is (omega (arith, kept_within r.fault r.rest, rest_within at text))

@@ -3,7 +3,7 @@ use Rattle.std.specs.Prelude.{◌≡◌, ◌≢◌, ℕ, ◌+◌, ◌-◌, ◌^�
 use Rattle.std.specs.List.{flat_map}
 use Rattle.frame_codec.specs.Frames.{frame_bytes, frame_length}
 use Rattle.frame_codec.specs.Reading.{Reading, Front, Whole, front, reading}
-use Rattle.frame_codec.specs.FrameReaders.{shown, fault_of}
+use Rattle.frame_codec.specs.FrameReaders.{shown, fault_of, next_place, standing}
 use Rattle.frame_codec.specs.declared.frames.Frame.{Frame}
 use Rattle.frame_codec.specs.declared.frames.PlacedFrame.{PlacedFrame}
 use Rattle.frame_codec.specs.declared.frames.TheConstants.{MAX_PAYLOAD}
@@ -39,14 +39,14 @@ written_frames_are_read =
     ≡ record { frames = placed at frames; fault = shown (at + length (spelled frames)) (front rest); rest = rest }
 
 -- A text is the spellings of the frames that are read of it, and a rest.
-pub record IsSpelledByReading (at : ℕ) (text : List ℕ) : Type 0 where
-  pub whole : text ≡ spelled (unplaced (reading at text).frames) ++ (reading at text).rest
-  pub places : (reading at text).frames ≡ placed at (unplaced (reading at text).frames)
-  pub limits : All IsWithinLimits (unplaced (reading at text).frames)
-  pub rest : BeginsWithNoFrame (reading at text).rest
+pub record IsSpelledBy (at : ℕ) (text : List ℕ) (r : Reading) : Type 0 where
+  pub whole : text ≡ spelled (unplaced r.frames) ++ r.rest
+  pub places : r.frames ≡ placed at (unplaced r.frames)
+  pub limits : All IsWithinLimits (unplaced r.frames)
+  pub rest_is_none : BeginsWithNoFrame r.rest
 
 abbrev pub read_frames_are_spelled : Type 0
-read_frames_are_spelled = (at : ℕ) (text : List ℕ) → IsBytes text → IsSpelledByReading at text
+read_frames_are_spelled = (at : ℕ) (text : List ℕ) → IsBytes text → IsSpelledBy at text (reading at text)
 
 -- No spelling of a frame begins another's, but its own.
 abbrev pub no_frame_begins_another : Type 0
@@ -68,3 +68,7 @@ abbrev pub a_fault_ends_reading : Type 0
 a_fault_ends_reading =
     (at : ℕ) (text more : List ℕ) (fault : Malformed) → fault_of at text ≡ Some fault →
     reading at (text ++ more) ≡ record (reading at text) { rest = (reading at text).rest ++ more }
+
+-- The next byte of a reader is no later than the next of its stream.
+abbrev pub a_reader_is_within_its_stream : Type 0
+a_reader_is_within_its_stream = (at : ℕ) (text : List ℕ) → next_place (standing at text) ≤ at + length text
