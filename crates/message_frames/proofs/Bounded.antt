@@ -1,13 +1,13 @@
 -- A text without a fault is bounded.
-use Rattle.std.proofs.Common.{◌≡◌, ℕ, ◌+◌, ◌-◌, ◌*◌, ◌≤◌, Bool, true, false, List, [], ◌∷◌, ◌++◌, length, drop, Option, Some, None, refl, sym, ◌∙◌, ap, arith, length-append, length-drop, append-nil}
-use Rattle.frame_codec.specs.Reading.{Reading, reading}
+use Rattle.std.proofs.Common.{◌≡◌, ℕ, ◌+◌, ◌≤◌, Bool, true, false, List, [], length, Option, Some, None, refl, sym, ◌∙◌, ap, arith, length-append, length-drop, append-nil}
+use Rattle.frame_codec.specs.Reading.{reading}
 use Rattle.frame_codec.specs.declared.malformed.Malformed.{Malformed}
 use Rattle.frame_codec.specs.declared.frames.TheConstants.{MAX_FRAME_LENGTH}
 use Rattle.message_frames.specs.Assembly.{nothing_yet, assembled}
 use Rattle.message_frames.specs.Messages.{prefix_of, shortest_start, heard, heard_of_frames, or_else, fault_of, Heard}
 use Rattle.message_frames.specs.Laws.{texts_without_fault_are_bounded, longest_text}
-use Rattle.message_frames.proofs.Bounds.{lengths, lengths_bound, heaviest}
-use Rattle.message_frames.proofs.Places.{Measured, reading_measured}
+use Rattle.message_frames.proofs.Bounds.{lengths_bound, heaviest}
+use Rattle.message_frames.proofs.Places.{reading_measured}
 use Rattle.message_frames.proofs.Prefixes.{Begins, Differs, Shorter, Follows, begins, behind, heard_behind, heard_of_other}
 
 neither : (first second : Option Malformed) → or_else first second ≡ None → (first ≡ None) × (second ≡ None)

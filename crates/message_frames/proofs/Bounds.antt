@@ -1,17 +1,14 @@
 -- Frames without a fault weigh no more than the state after them, and no state weighs more than a number.
-use Rattle.std.proofs.Common.{◌≡◌, ℕ, ◌+◌, ◌*◌, ◌<◌, ◌≤◌, Bool, true, false, List, [], ◌∷◌, ◌++◌, length, sum_by, Option, Some, None, refl, sym, ◌∙◌, ap, subst, ◌⊎◌, inl, inr, arith}
-use Rattle.std.proofs.lemmas.Bool.{cond_both}
-use Rattle.std.proofs.lemmas.List.Sums.{sum_by-cons, sum_by_push}
+use Rattle.std.proofs.Common.{◌≡◌, ℕ, ◌+◌, ◌*◌, ◌≤◌, List, [], ◌∷◌, length, sum_by, None, sym, arith}
+use Rattle.std.proofs.lemmas.List.Sums.{sum_by-cons}
 use Rattle.frame_codec.specs.Frames.{frame_length}
-use Rattle.frame_codec.specs.declared.frames.Frame.{Frame}
 use Rattle.frame_codec.specs.declared.frames.PlacedFrame.{PlacedFrame}
-use Rattle.frame_codec.specs.declared.malformed.Malformed.{Malformed}
-use Rattle.message_frames.specs.Assembly.{most_chains, most_messages, Chain, Place, Between, InMessage, InFragment, Assembly, Assembled, Step, Faulty, Goes, Gives, nothing_yet, in_message, at_header, stepped, step, assembled, is_unfragmented}
+use Rattle.message_frames.specs.Assembly.{most_chains, most_messages, Chain, Place, Between, InMessage, InFragment, Assembly, Step, Faulty, Goes, Gives, nothing_yet, step, assembled}
 use Rattle.message_frames.proofs.Composition.{after_step}
 use Rattle.message_frames.proofs.ChainSets.{EachFits}
 use Rattle.message_frames.proofs.Sizes.{fits_is}
 use Rattle.message_frames.proofs.Soundness.{IsSound, IsPlaceSound, Leads, StepLeads, step_leads, nothing_is_sound}
-use Rattle.message_frames.proofs.Weights.{weight, most_weight, header_length, fragments_weight, chains_weight, chain_weight, place_weight, fits_weight}
+use Rattle.message_frames.proofs.Weights.{weight, most_weight, chains_weight, chain_weight, place_weight, fits_weight}
 
 -- the lengths of frames together
 abbrev pub lengths : List PlacedFrame → ℕ

@@ -1,14 +1,11 @@
 -- The open chains as a set: each id once, each chain within the limits, and what their frames weigh.
-use Rattle.std.proofs.Common.{◌≡◌, ℕ, ◌+◌, ◌*◌, ◌≤◌, Bool, true, false, cond, not, eqb, List, [], ◌∷◌, ◌++◌, map, filter, length, sum_by, refl, sym, ◌∙◌, ap, ◌⊎◌, inl, inr, arith, length-append, ◌||◌}
-use Rattle.std.specs.List.{list_any}
-use Rattle.std.proofs.lemmas.Bool.{false≢true, both_ways, cases_Bool, or_parts, or_from, eqb-true, eqb-false, ne_eqb}
+use Rattle.std.proofs.Common.{◌≡◌, ℕ, true, false, eqb, List, [], ◌∷◌, ◌++◌, refl, sym, ◌∙◌, ap, ◌⊎◌, inl, inr, ◌||◌}
+use Rattle.std.proofs.lemmas.Bool.{cases_Bool, or_parts, or_from, eqb-true, eqb-false, ne_eqb}
 use Rattle.std.proofs.lemmas.List.Folds.{list_any-append}
-use Rattle.std.proofs.lemmas.List.Sums.{sum_by-append, sum_by-cons}
-use Rattle.frame_codec.specs.Frames.{frame_length}
 use Rattle.frame_codec.specs.declared.frames.Frame.{Frame}
-use Rattle.message_frames.specs.Assembly.{Chain, has_id, is_open, frames_of, with_frames, without}
+use Rattle.message_frames.specs.Assembly.{Chain, has_id, is_open, with_frames, without}
 use Rattle.message_frames.specs.Merging.{fits}
-use Rattle.message_frames.proofs.Chains.{chain_of, same_id}
+use Rattle.message_frames.proofs.Chains.{chain_of}
 
 -- each id once
 

@@ -1,11 +1,11 @@
 -- Whether frames begin with a piece that a connection takes, and that no message comes of frames that don't.
-use Rattle.std.proofs.Common.{◌≡◌, ℕ, ◌+◌, ◌≤◌, Bool, true, false, not, ◌&&◌, if◌then◌else◌, List, [], ◌∷◌, ◌++◌, length, Option, Some, None, refl, sym, ◌∙◌, ap, subst, ◌⊎◌, inl, inr, append_assoc, append-nil}
-use Rattle.std.proofs.lemmas.Bool.{cases_Bool, and_parts, and_from, false≢true, true≢false, both_ways, not-true, not_from_false}
+use Rattle.std.proofs.Common.{◌≡◌, ℕ, Bool, true, false, if◌then◌else◌, List, [], ◌∷◌, ◌++◌, refl, ap, subst, ◌⊎◌, inl, inr}
+use Rattle.std.proofs.lemmas.Bool.{and_parts, and_from, false≢true, not-true, not_from_false}
 use Rattle.frame_codec.specs.declared.frames.Frame.{Frame}
-use Rattle.message_frames.specs.Assembly.{Chain, is_unfragmented, is_header, is_open, begins_chain, ends_chain, chain_id, frames_of}
+use Rattle.message_frames.specs.Assembly.{Chain, is_unfragmented, is_header, ends_chain, chain_id, frames_of}
 use Rattle.message_frames.specs.Grammar.{Piece, Unfragmented, Fragment, is_piece, piece_frames, ends_at_final}
-use Rattle.message_frames.specs.Merging.{fits, may_complete, may_come, may_follow}
-use Rattle.message_frames.proofs.Scanning.{Scan, scan}
+use Rattle.message_frames.specs.Merging.{fits, may_complete, may_come}
+use Rattle.message_frames.proofs.Scanning.{Scan}
 use Rattle.message_frames.proofs.Steps.{header_may_come}
 
 -- The list begins with a piece that may come next.

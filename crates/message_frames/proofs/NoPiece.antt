@@ -1,6 +1,6 @@
 -- Frames that begin with no piece that a connection takes complete no message.
-use Rattle.std.proofs.Common.{◌≡◌, ℕ, ◌+◌, ◌≤◌, Bool, true, false, not, ◌&&◌, if◌then◌else◌, List, [], ◌∷◌, ◌++◌, length, eqb, nat_lt, Option, Some, None, refl, sym, ◌∙◌, ap, subst, ◌⊎◌, inl, inr, arith}
-use Rattle.std.proofs.lemmas.Bool.{cases_Bool, and_parts, and_from, false≢true, true≢false, both_ways, not-true, not_from_false}
+use Rattle.std.proofs.Common.{◌≡◌, ℕ, ◌≤◌, Bool, true, false, ◌&&◌, if◌then◌else◌, List, [], ◌∷◌, ◌++◌, length, eqb, nat_lt, Some, None, refl, sym, ◌∙◌, ap, subst, ◌⊎◌, inl, inr, arith}
+use Rattle.std.proofs.lemmas.Bool.{cases_Bool, and_parts, and_from, false≢true, both_ways}
 use Rattle.std.proofs.lemmas.Bool.Decides.{nat_tests}
 use Rattle.frame_codec.specs.Laws.{unplaced}
 use Rattle.frame_codec.specs.declared.frames.Frame.{Frame}
@@ -8,8 +8,7 @@ use Rattle.frame_codec.specs.declared.frames.PlacedFrame.{PlacedFrame}
 use Rattle.frame_codec.specs.declared.malformed.Malformed.{Malformed}
 use Rattle.frame_codec.specs.declared.malformed.Why.{Why}
 use Rattle.frame_codec.specs.declared.malformed.Why.TheVariants.{ShortStart, Spent, BadFragment, OpenFragments}
-use Rattle.message_frames.specs.declared.message.Message.{Message}
-use Rattle.message_frames.specs.Assembly.{most_chains, most_messages, Chain, Assembly, Assembled, Between, InMessage, InFragment, Step, Faulty, Goes, Gives, assembled, completed, first_payload, in_message, in_fragment, at_header, size_fault, is_unfragmented, is_header, is_final, is_open, begins_chain, ends_chain, chain_id, frames_of, with_frames, without}
+use Rattle.message_frames.specs.Assembly.{most_chains, most_messages, Chain, Assembly, Assembled, Between, InMessage, InFragment, Step, Faulty, assembled, completed, first_payload, in_message, in_fragment, at_header, size_fault, is_unfragmented, is_header, is_final, is_open, begins_chain, ends_chain, chain_id, frames_of, with_frames, without}
 use Rattle.message_frames.specs.Merging.{fits, may_complete, opened}
 use Rattle.message_frames.proofs.Composition.{after_step}
 use Rattle.message_frames.proofs.Chains.{frames_of_changed, open_when_changed}
@@ -17,7 +16,7 @@ use Rattle.message_frames.proofs.NextPiece.{TakesNext, Next, next_from, takes_fr
 use Rattle.message_frames.proofs.Pieces.{between_with, opened_is_open, frames_when_opened}
 use Rattle.message_frames.proofs.Scanning.{Scan, scan, scan_one, scan_more}
 use Rattle.message_frames.proofs.Sizes.{size_cases}
-use Rattle.message_frames.proofs.Steps.{header_may_come, header_goes, begins_message, begins_fragment, message_ends, message_goes, fragment_goes, fragment_ends, chain_ends}
+use Rattle.message_frames.proofs.Steps.{header_may_come, header_goes, begins_message, begins_fragment, message_ends, message_goes, fragment_goes, chain_ends}
 
 -- whether there is such a piece
 

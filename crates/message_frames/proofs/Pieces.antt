@@ -1,12 +1,11 @@
 -- A piece that a connection takes is assembled as merging says, without a fault.
-use Rattle.std.proofs.Common.{◌≡◌, ℕ, ◌+◌, Bool, true, false, not, ◌&&◌, if◌then◌else◌, List, [], ◌∷◌, ◌++◌, map, length, Option, Some, None, refl, sym, ◌∙◌, ap, subst, ◌⊎◌, inl, inr, append_assoc}
+use Rattle.std.proofs.Common.{◌≡◌, ℕ, ◌+◌, true, false, not, ◌&&◌, if◌then◌else◌, List, [], ◌∷◌, ◌++◌, None, refl, sym, ◌∙◌, ap, subst, ◌⊎◌, inl, inr, append_assoc}
 use Rattle.std.proofs.lemmas.Bool.{cases_Bool, and_parts, not-true, false≢true, true≢false}
 use Rattle.frame_codec.specs.Laws.{unplaced}
 use Rattle.frame_codec.specs.declared.frames.Frame.{Frame}
 use Rattle.frame_codec.specs.declared.frames.PlacedFrame.{PlacedFrame}
-use Rattle.frame_codec.specs.declared.flags.TheConstants.{FINAL}
 use Rattle.message_frames.specs.declared.message.Message.{Message}
-use Rattle.message_frames.specs.Assembly.{Chain, Assembly, Assembled, Between, InMessage, InFragment, Step, Faulty, Goes, Gives, assembled, step, in_message, in_fragment, size_fault, is_unfragmented, is_header, is_final, is_open, begins_chain, ends_chain, chain_id, frames_of, with_frames, without}
+use Rattle.message_frames.specs.Assembly.{Chain, Assembly, Assembled, Between, InMessage, InFragment, Step, assembled, step, is_unfragmented, is_header, is_final, is_open, begins_chain, ends_chain, chain_id, frames_of, with_frames, without}
 use Rattle.message_frames.specs.Grammar.{Piece, Unfragmented, Fragment, is_piece, ends_at_final, piece_frames}
 use Rattle.message_frames.specs.Merging.{fits, may_complete, unfinished, opened, completes, gathered, chains_after, complete_after, may_come}
 use Rattle.message_frames.proofs.Composition.{after_step}

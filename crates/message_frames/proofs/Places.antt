@@ -1,14 +1,12 @@
 -- The bytes of a text are those of its frames and of the rest, and the rest is short unless it shows a fault.
-use Rattle.std.proofs.Common.{◌≡◌, ℕ, zero, suc, ◌+◌, ◌-◌, ◌*◌, ◌<◌, ◌≤◌, Bool, true, false, List, [], ◌∷◌, ◌++◌, length, take, drop, nat_lt, if◌then◌else◌, Option, Some, None, refl, sym, ◌∙◌, ap, ◌⊎◌, inl, inr, arith, length-append, length-take, length-drop}
-use Rattle.std.proofs.lemmas.Bool.{cases_Bool, cond_both, ltb-true, ltb-false}
+use Rattle.std.proofs.Common.{◌≡◌, ℕ, zero, suc, ◌+◌, ◌≤◌, List, [], length, take, drop, nat_lt, if◌then◌else◌, Some, None, arith, length-take, length-drop}
+use Rattle.std.proofs.lemmas.Bool.{cond_both, ltb-true, ltb-false}
 use Rattle.std.specs.Int.{w16, from_le_bytes}
 use Rattle.std.proofs.lemmas.List.Sums.{sum_by-cons}
 use Rattle.frame_codec.specs.Frames.{frame_length}
-use Rattle.frame_codec.specs.Reading.{Front, Partial, Whole, Wrong, front, frame_of, stated_length, Reading, with_frame, reading_within, reading}
-use Rattle.frame_codec.specs.declared.frames.Frame.{Frame}
+use Rattle.frame_codec.specs.Reading.{Front, Partial, Whole, Wrong, front, stated_length, Reading, with_frame, reading_within, reading}
 use Rattle.frame_codec.specs.declared.frames.PlacedFrame.{PlacedFrame}
 use Rattle.frame_codec.specs.declared.frames.TheConstants.{HEADER_LENGTH, MAX_FRAME_LENGTH}
-use Rattle.frame_codec.specs.declared.malformed.Why.{Why}
 use Rattle.frame_codec.specs.declared.malformed.Why.TheVariants.{TooShort, TooLong}
 use Rattle.message_frames.proofs.Bounds.{lengths}
 

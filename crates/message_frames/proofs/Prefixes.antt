@@ -1,10 +1,9 @@
 -- A stream's prefix: a text differs from it, or is a front of it, or goes on behind it.
-use Rattle.std.proofs.Common.{◌≡◌, ℕ, ◌+◌, ◌<◌, ◌≤◌, Bool, true, false, List, [], ◌∷◌, ◌++◌, length, drop, Option, Some, None, refl, sym, ◌∙◌, ap, ◌⊎◌, inl, inr, arith, eqb}
+use Rattle.std.proofs.Common.{◌≡◌, ℕ, ◌+◌, Bool, true, false, List, [], ◌∷◌, ◌++◌, length, drop, Some, None, refl, sym, ◌∙◌, ap, ◌⊎◌, inl, inr, eqb}
 use Rattle.std.proofs.lemmas.Bool.{cases_Bool, eq-eqb, eqb-true, true≢false}
-use Rattle.frame_codec.specs.Reading.{Reading, reading}
-use Rattle.frame_codec.specs.declared.malformed.Malformed.{Malformed}
+use Rattle.frame_codec.specs.Reading.{reading}
 use Rattle.frame_codec.specs.declared.malformed.Why.TheVariants.{Prefix}
-use Rattle.message_frames.specs.Messages.{prefix_of, shortest_start, differing, Heard, heard, heard_of_frames}
+use Rattle.message_frames.specs.Messages.{prefix_of, shortest_start, differing, heard, heard_of_frames}
 
 -- how a text begins, against a prefix
 pub data Begins (at : ℕ) (prefix text : List ℕ) : Type 0 where

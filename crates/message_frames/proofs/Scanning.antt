@@ -1,12 +1,11 @@
 -- Frames up to the first final one, within the limits: whether they stand at the front of a list.
-use Rattle.std.proofs.Common.{◌≡◌, ℕ, ◌+◌, ◌≤◌, Bool, true, false, not, ◌&&◌, if◌then◌else◌, List, [], ◌∷◌, ◌++◌, length, Option, Some, None, refl, sym, ◌∙◌, ap, subst, ◌⊎◌, inl, inr, append_assoc, append-nil}
-use Rattle.std.proofs.lemmas.Bool.{cases_Bool, and_parts, and_from, false≢true, true≢false, both_ways}
+use Rattle.std.proofs.Common.{◌≡◌, Bool, true, false, ◌&&◌, List, [], ◌∷◌, ◌++◌, refl, ap, subst, ◌⊎◌, inl, inr, append_assoc}
+use Rattle.std.proofs.lemmas.Bool.{cases_Bool, and_parts, and_from, false≢true, both_ways}
 use Rattle.frame_codec.specs.declared.frames.Frame.{Frame}
 use Rattle.message_frames.specs.Assembly.{is_final}
-use Rattle.message_frames.specs.Grammar.{is_empty, ends_at_final}
+use Rattle.message_frames.specs.Grammar.{ends_at_final}
 use Rattle.message_frames.specs.Merging.{fits}
-use Rattle.message_frames.proofs.Sizes.{front_fits}
-use Rattle.message_frames.proofs.Pieces.{last_is_final, others_follow, one_more_fits}
+use Rattle.message_frames.proofs.Pieces.{last_is_final, others_follow}
 
 -- The list begins with frames up to the first final one. With the frames before them they fit, and pass the test.
 pub record Scan (test : List Frame → Bool) (before frames : List Frame) : Type 0 where

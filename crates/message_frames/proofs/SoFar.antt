@@ -1,25 +1,26 @@
 -- A stream that breaks off in the midst of a piece.
-use Rattle.std.proofs.Common.{◌≡◌, ◌≢◌, ℕ, zero, suc, ◌+◌, ◌-◌, ◌<◌, ◌≤◌, Bool, true, false, List, [], ◌∷◌, ◌++◌, length, drop, flat_map, All, Option, Some, None, refl, sym, ◌∙◌, ap, subst, ◌⊎◌, inl, inr, arith, append_assoc, append-nil, length-append}
-use Rattle.std.proofs.lemmas.Bool.{cases_Bool, and_parts, false≢true, both_ways, not-true}
+use Rattle.std.proofs.Common.{◌≡◌, ℕ, ◌+◌, Bool, true, false, List, [], ◌∷◌, ◌++◌, length, flat_map, All, Option, Some, None, refl, sym, ◌∙◌, ap, subst, arith, append_assoc, append-nil, length-append}
+use Rattle.std.proofs.lemmas.Bool.{and_parts, false≢true, both_ways, not-true}
 use Rattle.std.proofs.lemmas.List.Concat.{flat_map-append}
-use Rattle.std.proofs.lemmas.List.Elements.{All-nil, All-cons, All-head, All-append}
+use Rattle.std.proofs.lemmas.List.Elements.{All-head, All-append}
 use Rattle.frame_codec.specs.Frames.{frame_bytes, frame_length}
 use Rattle.frame_codec.specs.FrameReaders.{shown}
-use Rattle.frame_codec.specs.Laws as frame_laws
 use Rattle.frame_codec.specs.Laws.{IsWithinLimits, BeginsWithNoFrame, placed, unplaced, spelled}
-use Rattle.frame_codec.specs.Reading.{Reading, Front, Whole, Partial, Wrong, front, reading, reading_within, with_frame}
+use Rattle.frame_codec.specs.Reading.{Reading, Whole, front, reading}
 use Rattle.frame_codec.specs.declared.frames.Frame.{Frame}
-use Rattle.frame_codec.specs.declared.frames.PlacedFrame.{PlacedFrame}
 use Rattle.frame_codec.specs.declared.malformed.Malformed.{Malformed}
-use Rattle.message_frames.specs.Assembly.{is_unfragmented, is_final, Assembled, assembled, nothing_yet}
-use Rattle.message_frames.specs.Grammar.{Piece, Unfragmented, Fragment, is_piece, is_empty, ends_at_final, piece_frames, piece_bytes, stream_of}
+use Rattle.frame_codec.proofs.Fronts.{front-append_same_whole}
+use Rattle.frame_codec.proofs.Spelling.{front-frame_bytes, length-frame_bytes}
+use Rattle.message_frames.specs.Assembly.{is_unfragmented, assembled, nothing_yet}
+use Rattle.message_frames.specs.Grammar.{Piece, Unfragmented, Fragment, is_piece, ends_at_final, piece_frames, piece_bytes, stream_of}
 use Rattle.message_frames.specs.Messages.{prefix_of, shortest_start, Heard, heard, messages_of, fault_of}
 use Rattle.message_frames.specs.Laws.{IsStream, messages_in, a_stream_is_heard_so_far, a_fault_is_outside_the_grammar}
 use Rattle.message_frames.specs.Merging.{may_come}
-use Rattle.message_frames.proofs.HeardPieces.{nothing_begins, all_front, all_back, AreFrames, frames_within, spelled_pieces, last_of_stream, stream_front, grammar_heard}
+use Rattle.message_frames.proofs.HeardPieces.{all_front, all_back, AreFrames, frames_within, spelled_pieces, last_of_stream, stream_front, grammar_heard}
+use Rattle.message_frames.proofs.FrameLaws.{read}
 use Rattle.message_frames.proofs.NextPiece.{TakesNext}
 use Rattle.message_frames.proofs.Pieces.{last_is_final, others_follow}
-use Rattle.message_frames.proofs.Places.{FrontFits, front_fits_text, after_front}
+use Rattle.message_frames.proofs.Places.{FrontFits, front_fits_text}
 use Rattle.message_frames.proofs.Staying.{faults_stay}
 use Rattle.message_frames.proofs.Streams.{frames_in, state_after, messages_of_pieces, unplaced-placed, placed-append, place_behind}
 use Rattle.message_frames.proofs.Prefixes.{behind, heard_behind}
@@ -103,114 +104,94 @@ broken [] [] byte more e = absurd (cc)
 broken [] (b ∷ begun) byte more e = absurd (cc)
 broken (frame ∷ frames) begun byte more e = broken_at frame frames begun byte more (cut begun (byte ∷ more) (frame_bytes frame) (spelled frames) e) (λ rest f. broken frames rest byte more f)
 
--- a part of a frame's bytes begins with no frame
+-- A part of a frame's bytes begins with no frame.
+part_begins_none : (frame : Frame) (part : List ℕ) (next : ℕ) (left : List ℕ) → IsWithinLimits frame → frame_bytes frame ≡ part ++ next ∷ left → BeginsWithNoFrame part
+part_begins_none frame part next left limits e other whole =
+    let is_frame : front (frame_bytes frame) ≡ Whole frame = ap front (sym (append-nil (frame_bytes frame))) ∙ front-frame_bytes frame [] limits in
+    let is_other : front (frame_bytes frame) ≡ Whole other = ap front e ∙ front-append_same_whole part (next ∷ left) other whole in
+    let same : frame ≡ other = cc in
+    absurd (omega (arith, (subst (FrontFits part) whole (front_fits_text part)).0, ap frame_length same, length-frame_bytes frame, ap length e, length-append part (next ∷ left)))
 
-first_read : (at : ℕ) (text : List ℕ) (frame : Frame) → front text ≡ Whole frame → (later : List PlacedFrame) × ((reading at text).frames ≡ record { at = at; frame = frame } ∷ later)
-unfolding reading
-first_read at [] frame e = absurd (let clash : Partial ≡ Whole frame = e in cc)
-first_read at (b ∷ text) frame e = (
-  (reading_within (length text) (at + frame_length frame) (drop (frame_length frame) (b ∷ text))).frames,
-  ap (λ f. (after_front (length text) at (b ∷ text) f).frames) e,
-)
+stream_of_more : (prefix : Bool) (pieces : List Piece) (piece : Piece) (begun more : List ℕ) → begun ++ more ≡ piece_bytes piece →
+    (stream_of prefix pieces ++ begun) ++ more ≡ stream_of prefix (pieces ++ piece ∷ [])
+stream_of_more prefix pieces piece begun more e =
+    append_assoc (stream_of prefix pieces) begun more
+    ∙ ap (λ bs. stream_of prefix pieces ++ bs) (e ∙ sym (append-nil (piece_bytes piece)))
+    ∙ append_assoc (prefix_of prefix) (flat_map piece_bytes pieces) (flat_map piece_bytes (piece ∷ []))
+    ∙ ap (λ bs. prefix_of prefix ++ bs) (sym (flat_map-append piece_bytes pieces (piece ∷ [])))
 
-bytes_long : (frame : Frame) → length (frame_bytes frame) ≡ frame_length frame
-bytes_long frame = omega arith
+no_fault_so_far : (prefix : Bool) (pieces : List Piece) (piece : Piece) (begun more : List ℕ) → IsStream (shortest_start prefix) (pieces ++ piece ∷ []) →
+    begun ++ more ≡ piece_bytes piece → fault_of prefix (stream_of prefix pieces ++ begun) ≡ None
+no_fault_so_far prefix pieces piece begun more s e = go (fault_of prefix (stream_of prefix pieces ++ begun)) refl
+  where
+    text : List ℕ
+    text = stream_of prefix pieces ++ begun
 
-module _ (stays : (text more : List ℕ) (frame : Frame) → front text ≡ Whole frame → front (text ++ more) ≡ Whole frame)
-    (read : frame_laws.written_frames_are_read) (on : frame_laws.reading_goes_on) (ends : frame_laws.a_fault_ends_reading) where
-  front_is_itself : (frame other : Frame) → IsWithinLimits frame → front (frame_bytes frame) ≡ Whole other → frame ≡ other
-  front_is_itself frame other limits e =
-      let exact = read 0 (frame ∷ []) [] (All-cons IsWithinLimits frame [] limits (All-nil IsWithinLimits)) nothing_begins in
-      let first = first_read 0 (frame_bytes frame) other e in
-      let same : record { at = 0; frame = frame } ∷ [] ≡ record { at = 0; frame = other } ∷ first.0 =
-      ap (λ (r : Reading). r.frames) (sym exact) ∙ ap (λ bs. (reading 0 bs).frames) (append-nil (spelled (frame ∷ [])) ∙ append-nil (frame_bytes frame)) ∙ first.1 in
-      ap (λ (x : PlacedFrame). x.frame) (let heads : record { at = 0; frame = frame } ≡ record { at = 0; frame = other } = cc in heads)
+    go : (fault : Option Malformed) → fault_of prefix (stream_of prefix pieces ++ begun) ≡ fault → fault_of prefix (stream_of prefix pieces ++ begun) ≡ None
+    go None f = f
+    go (Some fault) f =
+        let whole = ap (heard prefix) (stream_of_more prefix pieces piece begun more e) ∙ grammar_heard prefix (pieces ++ piece ∷ []) s in
+        let clash : Some fault ≡ None = sym f ∙ ap (λ (h : Heard). h.fault) (sym (faults_stay prefix text more fault f) ∙ whole) in absurd (cc)
 
-  part_begins_none : (frame : Frame) (part : List ℕ) (next : ℕ) (left : List ℕ) → IsWithinLimits frame → frame_bytes frame ≡ part ++ next ∷ left → BeginsWithNoFrame part
-  part_begins_none frame part next left limits e other whole =
-      let same : frame ≡ other = front_is_itself frame other limits (ap front e ∙ stays part (next ∷ left) other whole) in
-      absurd (omega (arith, (subst (FrontFits part) whole (front_fits_text part)).0, ap frame_length same, bytes_long frame, ap length e, length-append part (next ∷ left)))
+messages_so_far : (prefix : Bool) (pieces : List Piece) (piece : Piece) (begun : List ℕ) → IsStream (shortest_start prefix) (pieces ++ piece ∷ []) →
+    Broken (piece_frames piece) begun → messages_of prefix (stream_of prefix pieces ++ begun) ≡ messages_in pieces
+messages_so_far prefix pieces piece begun s b =
+    ap (messages_of prefix) (append_assoc (prefix_of prefix) (flat_map piece_bytes pieces) begun)
+    ∙ ap (λ (h : Heard). h.messages) (heard_behind prefix (flat_map piece_bytes pieces ++ begun))
+    ∙ ap (λ bs. (assembled shortest (reading n bs).frames nothing_yet).messages) bytes_are
+    ∙ ap (λ (r : Reading). (assembled shortest r.frames nothing_yet).messages) exact
+    ∙ ap (λ fs. (assembled shortest fs nothing_yet).messages) (placed-append n (frames_in pieces) b.whole)
+    ∙ messages_of_pieces shortest n pieces (placed (place_behind n (frames_in pieces)) b.whole) (stream_front shortest pieces (piece ∷ []) s).rules none
+  where
+    shortest : ℕ
+    shortest = shortest_start prefix
 
-  stream_of_more : (prefix : Bool) (pieces : List Piece) (piece : Piece) (begun more : List ℕ) → begun ++ more ≡ piece_bytes piece →
-      (stream_of prefix pieces ++ begun) ++ more ≡ stream_of prefix (pieces ++ piece ∷ [])
-  stream_of_more prefix pieces piece begun more e =
-      append_assoc (stream_of prefix pieces) begun more
-      ∙ ap (λ bs. stream_of prefix pieces ++ bs) (e ∙ sym (append-nil (piece_bytes piece)))
-      ∙ append_assoc (prefix_of prefix) (flat_map piece_bytes pieces) (flat_map piece_bytes (piece ∷ []))
-      ∙ ap (λ bs. prefix_of prefix ++ bs) (sym (flat_map-append piece_bytes pieces (piece ∷ [])))
+    n : ℕ
+    n = behind prefix
 
-  no_fault_so_far : (prefix : Bool) (pieces : List Piece) (piece : Piece) (begun more : List ℕ) → IsStream (shortest_start prefix) (pieces ++ piece ∷ []) →
-      begun ++ more ≡ piece_bytes piece → fault_of prefix (stream_of prefix pieces ++ begun) ≡ None
-  no_fault_so_far prefix pieces piece begun more s e = go (fault_of prefix (stream_of prefix pieces ++ begun)) refl
-    where
-      text : List ℕ
-      text = stream_of prefix pieces ++ begun
+    last : AreFrames piece × ((is_piece piece ≡ true) × (may_come (shortest_start prefix) (state_after [] 0 pieces).chains (state_after [] 0 pieces).complete piece ≡ true))
+    last = last_of_stream shortest pieces piece s
 
-      go : (fault : Option Malformed) → fault_of prefix (stream_of prefix pieces ++ begun) ≡ fault → fault_of prefix (stream_of prefix pieces ++ begun) ≡ None
-      go None f = f
-      go (Some fault) f =
-          let whole = ap (heard prefix) (stream_of_more prefix pieces piece begun more e) ∙ grammar_heard read on prefix (pieces ++ piece ∷ []) s in
-          let clash : Some fault ≡ None = sym f ∙ ap (λ (h : Heard). h.fault) (sym (faults_stay on ends prefix text more fault f) ∙ whole) in absurd (cc)
+    limits : All IsWithinLimits (b.whole ++ b.frame ∷ b.later)
+    limits = subst (All IsWithinLimits) b.frames_are last.0
 
-  messages_so_far : (prefix : Bool) (pieces : List Piece) (piece : Piece) (begun : List ℕ) → IsStream (shortest_start prefix) (pieces ++ piece ∷ []) →
-      Broken (piece_frames piece) begun → messages_of prefix (stream_of prefix pieces ++ begun) ≡ messages_in pieces
-  messages_so_far prefix pieces piece begun s b =
-      ap (messages_of prefix) (append_assoc (prefix_of prefix) (flat_map piece_bytes pieces) begun)
-      ∙ ap (λ (h : Heard). h.messages) (heard_behind prefix (flat_map piece_bytes pieces ++ begun))
-      ∙ ap (λ bs. (assembled shortest (reading n bs).frames nothing_yet).messages) bytes_are
-      ∙ ap (λ (r : Reading). (assembled shortest r.frames nothing_yet).messages) exact
-      ∙ ap (λ fs. (assembled shortest fs nothing_yet).messages) (placed-append n (frames_in pieces) b.whole)
-      ∙ messages_of_pieces shortest n pieces (placed (place_behind n (frames_in pieces)) b.whole) (stream_front shortest pieces (piece ∷ []) s).rules none
-    where
-      shortest : ℕ
-      shortest = shortest_start prefix
+    all : All IsWithinLimits (frames_in pieces ++ b.whole)
+    all = All-append IsWithinLimits (frames_in pieces) b.whole (frames_within pieces (stream_front shortest pieces (piece ∷ []) s).frames) (all_front IsWithinLimits b.whole (b.frame ∷ b.later) limits)
 
-      n : ℕ
-      n = behind prefix
+    bytes_are : flat_map piece_bytes pieces ++ begun ≡ spelled (frames_in pieces ++ b.whole) ++ b.part
+    bytes_are =
+        ap (λ bs. bs ++ begun) (spelled_pieces pieces)
+        ∙ ap (λ bs. spelled (frames_in pieces) ++ bs) b.begun_is
+        ∙ sym (append_assoc (spelled (frames_in pieces)) (spelled b.whole) b.part)
+        ∙ ap (λ bs. bs ++ b.part) (sym (flat_map-append frame_bytes (frames_in pieces) b.whole))
 
-      last : AreFrames piece × ((is_piece piece ≡ true) × (may_come (shortest_start prefix) (state_after [] 0 pieces).chains (state_after [] 0 pieces).complete piece ≡ true))
-      last = last_of_stream shortest pieces piece s
+    part_none : BeginsWithNoFrame b.part
+    part_none = part_begins_none b.frame b.part b.next b.left (All-head IsWithinLimits b.frame b.later (all_back IsWithinLimits b.whole (b.frame ∷ b.later) limits)) b.frame_is
 
-      limits : All IsWithinLimits (b.whole ++ b.frame ∷ b.later)
-      limits = subst (All IsWithinLimits) b.frames_are last.0
+    exact : reading n (spelled (frames_in pieces ++ b.whole) ++ b.part)
+        ≡ record { frames = placed n (frames_in pieces ++ b.whole); fault = shown (n + length (spelled (frames_in pieces ++ b.whole))) (front b.part); rest = b.part }
+    exact = read n (frames_in pieces ++ b.whole) b.part all part_none
 
-      all : All IsWithinLimits (frames_in pieces ++ b.whole)
-      all = All-append IsWithinLimits (frames_in pieces) b.whole (frames_within pieces (stream_front shortest pieces (piece ∷ []) s).frames) (all_front IsWithinLimits b.whole (b.frame ∷ b.later) limits)
+    none : TakesNext (shortest_start prefix) (state_after [] 0 pieces).chains (state_after [] 0 pieces).complete (unplaced (placed (place_behind (behind prefix) (frames_in pieces)) b.whole)) → ⊥
+    none t =
+        let front = sym (unplaced-placed (place_behind n (frames_in pieces)) b.whole) ∙ t.front in
+        let whole : piece_frames piece ≡ piece_frames t.piece ++ (t.more ++ b.frame ∷ b.later) =
+        b.frames_are ∙ ap (λ fs. fs ++ b.frame ∷ b.later) front ∙ append_assoc (piece_frames t.piece) t.more (b.frame ∷ b.later) in
+        let nothing = no_piece_begins_another t.piece piece (t.more ++ b.frame ∷ b.later) t.form last.1.0 whole in
+        absurd (omega (arith, ap length nothing, length-append t.more (b.frame ∷ b.later)))
 
-      bytes_are : flat_map piece_bytes pieces ++ begun ≡ spelled (frames_in pieces ++ b.whole) ++ b.part
-      bytes_are =
-          ap (λ bs. bs ++ begun) (spelled_pieces pieces)
-          ∙ ap (λ bs. spelled (frames_in pieces) ++ bs) b.begun_is
-          ∙ sym (append_assoc (spelled (frames_in pieces)) (spelled b.whole) b.part)
-          ∙ ap (λ bs. bs ++ b.part) (sym (flat_map-append frame_bytes (frames_in pieces) b.whole))
+pub so_far_heard : a_stream_is_heard_so_far
+so_far_heard prefix pieces piece begun [] s e some = absurd (some refl)
+so_far_heard prefix pieces piece begun (byte ∷ more) s e some =
+    ap (λ ms. record { messages = ms; fault = fault_of prefix (stream_of prefix pieces ++ begun) }) (messages_so_far prefix pieces piece begun s (broken (piece_frames piece) begun byte more e))
+    ∙ ap (λ f. record { messages = messages_in pieces; fault = f }) (no_fault_so_far prefix pieces piece begun (byte ∷ more) s e)
 
-      part_none : BeginsWithNoFrame b.part
-      part_none = part_begins_none b.frame b.part b.next b.left (All-head IsWithinLimits b.frame b.later (all_back IsWithinLimits b.whole (b.frame ∷ b.later) limits)) b.frame_is
-
-      exact : reading n (spelled (frames_in pieces ++ b.whole) ++ b.part)
-          ≡ record { frames = placed n (frames_in pieces ++ b.whole); fault = shown (n + length (spelled (frames_in pieces ++ b.whole))) (front b.part); rest = b.part }
-      exact = read n (frames_in pieces ++ b.whole) b.part all part_none
-
-      none : TakesNext (shortest_start prefix) (state_after [] 0 pieces).chains (state_after [] 0 pieces).complete (unplaced (placed (place_behind (behind prefix) (frames_in pieces)) b.whole)) → ⊥
-      none t =
-          let front = sym (unplaced-placed (place_behind n (frames_in pieces)) b.whole) ∙ t.front in
-          let whole : piece_frames piece ≡ piece_frames t.piece ++ (t.more ++ b.frame ∷ b.later) =
-          b.frames_are ∙ ap (λ fs. fs ++ b.frame ∷ b.later) front ∙ append_assoc (piece_frames t.piece) t.more (b.frame ∷ b.later) in
-          let nothing = no_piece_begins_another t.piece piece (t.more ++ b.frame ∷ b.later) t.form last.1.0 whole in
-          absurd (omega (arith, ap length nothing, length-append t.more (b.frame ∷ b.later)))
-
-  pub so_far_heard : a_stream_is_heard_so_far
-  so_far_heard prefix pieces piece begun [] s e some = absurd (some refl)
-  so_far_heard prefix pieces piece begun (byte ∷ more) s e some =
-      ap (λ ms. record { messages = ms; fault = fault_of prefix (stream_of prefix pieces ++ begun) }) (messages_so_far prefix pieces piece begun s (broken (piece_frames piece) begun byte more e))
-      ∙ ap (λ f. record { messages = messages_in pieces; fault = f }) (no_fault_so_far prefix pieces piece begun (byte ∷ more) s e)
-
-  pub fault_outside : a_fault_is_outside_the_grammar
-  fault_outside prefix text more pieces some s e = go (fault_of prefix text) refl
-    where
-      go : (fault : Option Malformed) → fault_of prefix text ≡ fault → ⊥
-      go None f = some f
-      go (Some fault) f =
-          let clash : Some fault ≡ None =
-          sym f ∙ ap (λ (h : Heard). h.fault) (sym (faults_stay on ends prefix text more fault f) ∙ ap (heard prefix) e ∙ grammar_heard read on prefix pieces s) in
-          absurd (cc)
+pub fault_outside : a_fault_is_outside_the_grammar
+fault_outside prefix text more pieces some s e = go (fault_of prefix text) refl
+  where
+    go : (fault : Option Malformed) → fault_of prefix text ≡ fault → ⊥
+    go None f = some f
+    go (Some fault) f =
+        let clash : Some fault ≡ None =
+        sym f ∙ ap (λ (h : Heard). h.fault) (sym (faults_stay prefix text more fault f) ∙ ap (heard prefix) e ∙ grammar_heard prefix pieces s) in
+        absurd (cc)

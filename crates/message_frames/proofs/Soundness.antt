@@ -1,21 +1,21 @@
 -- The state between two frames keeps the limits, and each frame that shows no fault adds its length to what the state weighs.
-use Rattle.std.proofs.Common.{◌≡◌, ℕ, ◌+◌, ◌*◌, ◌<◌, ◌≤◌, Bool, true, false, cond, not, eqb, List, [], ◌∷◌, ◌++◌, map, filter, length, sum_by, Option, Some, None, refl, sym, ◌∙◌, ap, subst, ◌⊎◌, inl, inr, arith, length-append, nat_lt, if◌then◌else◌}
-use Rattle.std.proofs.lemmas.Bool.{cases_Bool, cond_both, not-true, not-false, eqb-false, eqb-true, and_parts, and_from}
+use Rattle.std.proofs.Common.{◌≡◌, ℕ, ◌+◌, ◌≤◌, Bool, true, false, not, eqb, List, [], ◌∷◌, ◌++◌, length, sum_by, Some, None, ◌∙◌, ap, ◌⊎◌, inl, inr, arith, length-append, nat_lt, if◌then◌else◌}
+use Rattle.std.proofs.lemmas.Bool.{cases_Bool, cond_both, not-false, eqb-false, eqb-true, and_parts}
 use Rattle.std.proofs.lemmas.List.{length-map}
-use Rattle.std.proofs.lemmas.List.Sums.{sum_by-append, sum_by-cons, sum_by_push}
+use Rattle.std.proofs.lemmas.List.Sums.{sum_by_push}
 use Rattle.frame_codec.specs.Flags.{without_flag}
 use Rattle.frame_codec.specs.Frames.{frame_length}
 use Rattle.frame_codec.specs.declared.frames.Frame.{Frame}
 use Rattle.frame_codec.specs.declared.frames.PlacedFrame.{PlacedFrame}
 use Rattle.frame_codec.specs.declared.flags.TheConstants.{FINAL}
 use Rattle.frame_codec.specs.declared.malformed.Why.{Why}
-use Rattle.message_frames.specs.Assembly.{most_chains, most_messages, Chain, Place, Between, InMessage, InFragment, Assembly, Step, Faulty, Goes, Gives, faulty, nothing_yet, size_fault, completed, first_payload, in_message, in_fragment, at_header, between, stepped, step, is_unfragmented, is_final, is_header, begins_chain, ends_chain, chain_id, has_id, is_open, frames_of, with_frames, without}
+use Rattle.message_frames.specs.Assembly.{most_chains, most_messages, Chain, Place, Between, InMessage, InFragment, Assembly, Step, Faulty, Goes, Gives, nothing_yet, size_fault, completed, first_payload, in_message, in_fragment, at_header, stepped, step, is_unfragmented, is_final, is_header, begins_chain, ends_chain, chain_id, has_id, is_open, frames_of, with_frames, without}
 use Rattle.message_frames.specs.Merging.{fits}
 use Rattle.message_frames.proofs.Chains.{chain_of, open_when_changed, open_when_opened}
 use Rattle.message_frames.proofs.ChainSets.{IsDistinct, distinct_changed, distinct_without, distinct_opened, EachFits, fits_changed, fits_without_chain, fits_opened}
-use Rattle.message_frames.proofs.Sizes.{Fits, fits_is, is_fits, size_cases}
-use Rattle.message_frames.proofs.Steps.{message_ends, message_goes, fragment_goes, fragment_ends, chain_ends, begins_message, begins_fragment}
-use Rattle.message_frames.proofs.Weights.{weight, most_weight, header_length, fragments_weight, chains_weight, chain_weight, push_weight, fits_weight, changed_weight, taken_weight}
+use Rattle.message_frames.proofs.Sizes.{fits_is, is_fits, size_cases}
+use Rattle.message_frames.proofs.Steps.{message_ends, message_goes, fragment_goes, fragment_ends, chain_ends}
+use Rattle.message_frames.proofs.Weights.{weight, most_weight, header_length, chain_weight, push_weight, fits_weight, changed_weight, taken_weight}
 
 abbrev pub IsPlaceSound : List Chain → Place → Type 0
 IsPlaceSound chains Between = Unit {0}

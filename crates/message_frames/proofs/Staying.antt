@@ -1,14 +1,14 @@
 -- What more bytes leave of what was heard before them.
-use Rattle.std.proofs.Common.{◌≡◌, ℕ, ◌+◌, ◌-◌, length, Bool, List, [], ◌∷◌, ◌++◌, Option, Some, None, refl, sym, ◌∙◌, ap, append_assoc, append-nil}
-use Rattle.frame_codec.specs.Laws as frame_laws
+use Rattle.std.proofs.Common.{◌≡◌, ℕ, ◌+◌, ◌-◌, length, Bool, List, [], ◌++◌, Option, Some, None, refl, sym, ◌∙◌, ap, append_assoc, append-nil}
 use Rattle.frame_codec.specs.Laws.{read_on}
 use Rattle.frame_codec.specs.Reading.{Reading, reading}
 use Rattle.frame_codec.specs.declared.malformed.Malformed.{Malformed}
 use Rattle.message_frames.specs.declared.message.Message.{Message}
 use Rattle.message_frames.specs.Assembly.{Assembled, nothing_yet, assembled}
-use Rattle.message_frames.specs.Messages.{prefix_of, shortest_start, Heard, heard, heard_of_frames, or_else, messages_of, fault_of}
+use Rattle.message_frames.specs.Messages.{prefix_of, shortest_start, Heard, heard, heard_of_frames, or_else, messages_of}
 use Rattle.message_frames.specs.Laws.{a_fault_stays, messages_stay}
 use Rattle.message_frames.proofs.Composition.{goes_on, stays_failed}
+use Rattle.message_frames.proofs.FrameLaws.{on, ends}
 use Rattle.message_frames.proofs.Prefixes.{Begins, Differs, Shorter, Follows, begins, behind, heard_behind, heard_of_other, heard_of_less}
 
 abbrev pub heard_at : ℕ → ℕ → List ℕ → Heard
@@ -47,27 +47,26 @@ read_on_grows shortest r later sound = go a.fault refl
         ap (λ (w : Assembled). record { messages = w.messages; fault = or_else w.fault later.fault }) (stays_failed shortest r.frames later.frames nothing_yet fault e)
         ∙ ap (λ f. record { messages = a.messages; fault = f }) (ap (λ f. or_else f later.fault) e ∙ sym (ap (λ f. or_else f r.fault) e)))
 
-module _ (on : frame_laws.reading_goes_on) (ends : frame_laws.a_fault_ends_reading) where
-  grows_at : (shortest at : ℕ) (bytes more : List ℕ) → Grows (heard_at shortest at bytes) (heard_at shortest at (bytes ++ more))
-  grows_at shortest at bytes more = go (reading at bytes).fault refl
-    where
-      go : (fault : Option Malformed) → (reading at bytes).fault ≡ fault → Grows (heard_at shortest at bytes) (heard_at shortest at (bytes ++ more))
-      go None e = rw (on at bytes more e) (read_on_grows shortest (reading at bytes) (reading (at + (length bytes - length (reading at bytes).rest)) ((reading at bytes).rest ++ more)) e)
-      go (Some fault) e = same_grows _ _ (ap (heard_of_frames shortest) (ends at bytes more fault e))
+grows_at : (shortest at : ℕ) (bytes more : List ℕ) → Grows (heard_at shortest at bytes) (heard_at shortest at (bytes ++ more))
+grows_at shortest at bytes more = go (reading at bytes).fault refl
+  where
+    go : (fault : Option Malformed) → (reading at bytes).fault ≡ fault → Grows (heard_at shortest at bytes) (heard_at shortest at (bytes ++ more))
+    go None e = rw (on at bytes more e) (read_on_grows shortest (reading at bytes) (reading (at + (length bytes - length (reading at bytes).rest)) ((reading at bytes).rest ++ more)) e)
+    go (Some fault) e = same_grows _ _ (ap (heard_of_frames shortest) (ends at bytes more fault e))
 
-  grows : (prefix : Bool) (text more : List ℕ) → Grows (heard prefix text) (heard prefix (text ++ more))
-  grows prefix text more = go (begins 0 (prefix_of prefix) text)
-    where
-      go : Begins 0 (prefix_of prefix) text → Grows (heard prefix text) (heard prefix (text ++ more))
-      go (Differs place differs apart) =
-          same_grows _ _ (heard_of_other prefix (text ++ more) place (differs more) ∙ sym (heard_of_other prefix text place (rw append-nil at (differs []))))
-      go (Shorter agrees short apart) =
-          rw (heard_of_less prefix text agrees short) (record { messages = (messages_of prefix (text ++ more), refl); failed = λ fault some. absurd (cc) })
-      go (Follows bytes e) =
-          rw (e, append_assoc, heard_behind prefix bytes, heard_behind prefix (bytes ++ more)) (grows_at (shortest_start prefix) (behind prefix) bytes more)
+grows : (prefix : Bool) (text more : List ℕ) → Grows (heard prefix text) (heard prefix (text ++ more))
+grows prefix text more = go (begins 0 (prefix_of prefix) text)
+  where
+    go : Begins 0 (prefix_of prefix) text → Grows (heard prefix text) (heard prefix (text ++ more))
+    go (Differs place differs apart) =
+        same_grows _ _ (heard_of_other prefix (text ++ more) place (differs more) ∙ sym (heard_of_other prefix text place (rw append-nil at (differs []))))
+    go (Shorter agrees short apart) =
+        rw (heard_of_less prefix text agrees short) (record { messages = (messages_of prefix (text ++ more), refl); failed = λ fault some. absurd (cc) })
+    go (Follows bytes e) =
+        rw (e, append_assoc, heard_behind prefix bytes, heard_behind prefix (bytes ++ more)) (grows_at (shortest_start prefix) (behind prefix) bytes more)
 
-  pub faults_stay : a_fault_stays
-  faults_stay prefix text more fault e = (grows prefix text more).failed fault e
+pub faults_stay : a_fault_stays
+faults_stay prefix text more fault e = (grows prefix text more).failed fault e
 
-  pub heard_messages_stay : messages_stay
-  heard_messages_stay prefix text more = (grows prefix text more).messages
+pub heard_messages_stay : messages_stay
+heard_messages_stay prefix text more = (grows prefix text more).messages

@@ -1,15 +1,13 @@
 -- Pieces one after the other, and frames split into the pieces that a connection takes of them and the rest.
-use Rattle.std.proofs.Common.{◌≡◌, ℕ, zero, suc, ◌+◌, ◌<◌, ◌≤◌, Bool, true, false, ◌&&◌, List, [], ◌∷◌, ◌++◌, length, flat_map, Option, Some, None, refl, sym, ◌∙◌, ap, subst, ◌⊎◌, inl, inr, arith, append_assoc, append-nil, length-append}
+use Rattle.std.proofs.Common.{◌≡◌, ℕ, zero, suc, ◌+◌, ◌<◌, ◌≤◌, true, false, List, [], ◌∷◌, ◌++◌, length, flat_map, None, refl, sym, ◌∙◌, ap, subst, ◌⊎◌, inl, inr, arith, append_assoc, append-nil, length-append}
 use Rattle.std.proofs.lemmas.Bool.{cases_Bool, and_parts, and_from, false≢true}
-use Rattle.std.proofs.lemmas.List.Concat.{flat_map-append}
 use Rattle.frame_codec.specs.Frames.{frame_length}
-use Rattle.frame_codec.specs.Laws.{placed, unplaced, spelled}
+use Rattle.frame_codec.specs.Laws.{placed, unplaced}
 use Rattle.frame_codec.specs.declared.frames.Frame.{Frame}
 use Rattle.frame_codec.specs.declared.frames.PlacedFrame.{PlacedFrame}
-use Rattle.message_frames.specs.declared.message.Message.{Message}
-use Rattle.message_frames.specs.Assembly.{most_chains, most_messages, Chain, Assembly, Assembled, assembled, nothing_yet}
-use Rattle.message_frames.specs.Grammar.{Piece, Unfragmented, Fragment, is_piece, piece_frames, piece_bytes}
-use Rattle.message_frames.specs.Merging.{merged, keeps_rules, may_come, chains_after, complete_after, completes, gathered}
+use Rattle.message_frames.specs.Assembly.{Chain, Assembly, Assembled, assembled, nothing_yet}
+use Rattle.message_frames.specs.Grammar.{Piece, Unfragmented, Fragment, is_piece, piece_frames}
+use Rattle.message_frames.specs.Merging.{merged, keeps_rules, chains_after, complete_after, completes}
 use Rattle.message_frames.proofs.Bounds.{assembled_sound}
 use Rattle.message_frames.proofs.Composition.{goes_on}
 use Rattle.message_frames.proofs.NextPiece.{TakesNext, takes_none}

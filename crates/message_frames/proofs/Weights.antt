@@ -1,14 +1,14 @@
 -- What the frames that came so far weigh at most, by what stands of them between two frames.
-use Rattle.std.proofs.Common.{◌≡◌, ℕ, ◌+◌, ◌*◌, ◌≤◌, Bool, true, false, cond, not, eqb, List, [], ◌∷◌, ◌++◌, map, filter, length, sum_by, refl, sym, ◌∙◌, ap, ◌⊎◌, inl, inr, arith, length-append}
-use Rattle.std.proofs.lemmas.Bool.{false≢true, both_ways, cases_Bool, or_parts, eqb-true}
-use Rattle.std.proofs.lemmas.List.Sums.{sum_by-append, sum_by-cons, sum_by_push}
+use Rattle.std.proofs.Common.{◌≡◌, ℕ, ◌+◌, ◌*◌, ◌≤◌, true, false, List, [], ◌∷◌, ◌++◌, length, sum_by, refl, sym, ◌∙◌, ap, ◌⊎◌, inl, inr, arith, length-append}
+use Rattle.std.proofs.lemmas.Bool.{false≢true, cases_Bool, or_parts, eqb-true}
+use Rattle.std.proofs.lemmas.List.Sums.{sum_by-cons, sum_by_push}
 use Rattle.frame_codec.specs.Frames.{frame_length}
 use Rattle.frame_codec.specs.declared.frames.Frame.{Frame}
 use Rattle.message_frames.specs.Assembly.{Chain, Place, Between, InMessage, InFragment, Assembly, has_id, is_open, frames_of, with_frames, without}
 use Rattle.message_frames.specs.Merging.{fits}
-use Rattle.message_frames.proofs.Chains.{chain_of, same_id}
+use Rattle.message_frames.proofs.Chains.{chain_of}
 use Rattle.message_frames.proofs.ChainSets.{IsDistinct}
-use Rattle.message_frames.proofs.Sizes.{Fits, fits_is}
+use Rattle.message_frames.proofs.Sizes.{fits_is}
 
 -- the length of a fragment's header, a frame of eight bytes
 abbrev pub header_length : ℕ

@@ -1,5 +1,5 @@
 -- What holds of the bytes of a connection and of the messages that are heard of them.
-use Rattle.std.specs.Prelude.{◌≡◌, ◌≢◌, ℕ, ◌+◌, ◌*◌, ◌≤◌, ◌⊎◌, Bool, List, [], ◌∷◌, ◌++◌, length, All, IsTrue, Some, None}
+use Rattle.std.specs.Prelude.{◌≡◌, ◌≢◌, ℕ, ◌+◌, ◌*◌, ◌≤◌, Bool, List, [], ◌∷◌, ◌++◌, length, All, IsTrue, Some, None}
 use Rattle.frame_codec.specs.Laws.{IsBytes, IsWithinLimits}
 use Rattle.frame_codec.specs.declared.frames.TheConstants.{MAX_FRAME_LENGTH}
 use Rattle.frame_codec.specs.declared.malformed.Malformed.{Malformed}

@@ -3,3 +3,4 @@ pub mod Messages
 pub mod Grammar
 pub mod Merging
 pub mod Laws
+pub mod Writing
