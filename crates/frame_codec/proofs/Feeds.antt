@@ -25,20 +25,20 @@ goes_on at text more sound =
     let clear : r.fault ≡ None = ap (λ (s : InProgress). s.fault) (sym (standing-is at text)) ∙ sound in
     let place : ℕ = at + (length text - length r.rest) in
     let here : standing at text ≡ record { at = at + (length text - length r.rest); bytes = r.rest; fault = None } =
-        standing-is at text ∙ ap (λ (f : Option Malformed). let x : InProgress = record { at = at + (length text - length r.rest); bytes = kept f r.rest; fault = f } in x) clear in
+    standing-is at text ∙ ap (λ (f : Option Malformed). let x : InProgress = record { at = at + (length text - length r.rest); bytes = kept f r.rest; fault = f } in x) clear in
     let next = reading (at + (length text - length r.rest)) (r.rest ++ more) in
     let joined : reading at (text ++ more) ≡ read_on r next =
-        reading-append at text more ∙ ap (λ (f : Option Malformed). goes_on_by f r at (length text) more) clear in
+    reading-append at text more ∙ ap (λ (f : Option Malformed). goes_on_by f r at (length text) more) clear in
     let same : at + (length (text ++ more) - length next.rest) ≡ at + (length text - length r.rest) + (length (r.rest ++ more) - length next.rest) =
-        omega (arith, length-append text more, length-append r.rest more, rest_within at text, rest_within (at + (length text - length r.rest)) (r.rest ++ more)) in
+    omega (arith, length-append text more, length-append r.rest more, rest_within at text, rest_within (at + (length text - length r.rest)) (r.rest ++ more)) in
     rw here
     (record {
-        stands =
-            standing-is at (text ++ more)
-            ∙ ap (standing_of at (length (text ++ more))) joined
-            ∙ ap (λ (p : ℕ). let x : InProgress = record { at = p; bytes = kept next.fault next.rest; fault = next.fault } in x) same
-            ∙ sym (standing-is (at + (length text - length r.rest)) (r.rest ++ more));
-        frames_are = ap (λ (x : Reading). x.frames) joined
+      stands =
+          standing-is at (text ++ more)
+          ∙ ap (standing_of at (length (text ++ more))) joined
+          ∙ ap (λ (p : ℕ). let x : InProgress = record { at = p; bytes = kept next.fault next.rest; fault = next.fault } in x) same
+          ∙ sym (standing-is (at + (length text - length r.rest)) (r.rest ++ more));
+      frames_are = ap (λ (x : Reading). x.frames) joined;
     })
 
 -- After a fault nothing changes.
@@ -47,20 +47,20 @@ goes_nowhere at text more fault faulty =
     let r = reading at text in
     let shown : r.fault ≡ Some fault = ap (λ (s : InProgress). s.fault) (sym (standing-is at text)) ∙ faulty in
     let stays : reading at (text ++ more) ≡ record r { rest = r.rest ++ more } =
-        reading-append at text more ∙ ap (λ (f : Option Malformed). goes_on_by f r at (length text) more) shown in
+    reading-append at text more ∙ ap (λ (f : Option Malformed). goes_on_by f r at (length text) more) shown in
     let same : at + (length (text ++ more) - length (r.rest ++ more)) ≡ at + (length text - length r.rest) =
-        omega (arith, length-append text more, length-append r.rest more, rest_within at text) in
+    omega (arith, length-append text more, length-append r.rest more, rest_within at text) in
     let four : take 4 (r.rest ++ more) ≡ take 4 r.rest = take-append-le 4 r.rest more (fault_has_four at text fault shown) in
     let keeps : kept r.fault (r.rest ++ more) ≡ kept r.fault r.rest =
-        ap (λ (f : Option Malformed). kept f (r.rest ++ more)) shown ∙ four ∙ ap (λ (f : Option Malformed). kept f r.rest) (sym shown) in
+    ap (λ (f : Option Malformed). kept f (r.rest ++ more)) shown ∙ four ∙ ap (λ (f : Option Malformed). kept f r.rest) (sym shown) in
     record {
-        stands =
-            standing-is at (text ++ more)
-            ∙ ap (standing_of at (length (text ++ more))) stays
-            ∙ ap (λ (p : ℕ). let x : InProgress = record { at = p; bytes = kept r.fault (r.rest ++ more); fault = r.fault } in x) same
-            ∙ ap (λ (xs : List ℕ). let x : InProgress = record { at = at + (length text - length r.rest); bytes = xs; fault = r.fault } in x) keeps
-            ∙ sym (standing-is at text);
-        frames_are = ap (λ (x : Reading). x.frames) stays ∙ sym (append-nil r.frames)
+      stands =
+          standing-is at (text ++ more)
+          ∙ ap (standing_of at (length (text ++ more))) stays
+          ∙ ap (λ (p : ℕ). let x : InProgress = record { at = p; bytes = kept r.fault (r.rest ++ more); fault = r.fault } in x) same
+          ∙ ap (λ (xs : List ℕ). let x : InProgress = record { at = at + (length text - length r.rest); bytes = xs; fault = r.fault } in x) keeps
+          ∙ sym (standing-is at text);
+      frames_are = ap (λ (x : Reading). x.frames) stays ∙ sym (append-nil r.frames);
     }
 
 -- A reader without a fault took so many bytes of a piece, and gave these frames.
@@ -71,12 +71,12 @@ takes old given now more piece n sound stands frames = λ earlier at text h.
     let on = goes_on at text (take n piece) (ap (λ (s : InProgress). s.fault) here ∙ sound) in
     let s = standing at text in
     record {
-        stands = sym (on.stands ∙ ap (λ (s : InProgress). standing s.at (s.bytes ++ take n piece)) here ∙ stands);
-        given =
-            sym (append_assoc earlier given more)
-            ∙ ap (λ (fs : List PlacedFrame). fs ++ more) h.given
-            ∙ ap (λ (fs : List PlacedFrame). frames_of at text ++ fs) (sym (ap (λ (s : InProgress). frames_of s.at (s.bytes ++ take n piece)) here ∙ frames))
-            ∙ sym on.frames_are
+      stands = sym (on.stands ∙ ap (λ (s : InProgress). standing s.at (s.bytes ++ take n piece)) here ∙ stands);
+      given =
+          sym (append_assoc earlier given more)
+          ∙ ap (λ (fs : List PlacedFrame). fs ++ more) h.given
+          ∙ ap (λ (fs : List PlacedFrame). frames_of at text ++ fs) (sym (ap (λ (s : InProgress). frames_of s.at (s.bytes ++ take n piece)) here ∙ frames))
+          ∙ sym on.frames_are;
     }
 
 -- One part after another.
@@ -84,7 +84,7 @@ pub takes_more : (old : InProgress) (given : List PlacedFrame) (mid : InProgress
     Takes old given mid between piece n → Takes mid between now all (drop n piece) m → Takes old given now all piece (n + m)
 takes_more old given mid between now all piece n m first then_ = λ earlier at text h.
     let joined : (text ++ take n piece) ++ take m (drop n piece) ≡ text ++ take (n + m) piece =
-        append_assoc text (take n piece) (take m (drop n piece)) ∙ ap (λ (xs : List ℕ). text ++ xs) (sym (take-add n m piece)) in
+    append_assoc text (take n piece) (take m (drop n piece)) ∙ ap (λ (xs : List ℕ). text ++ xs) (sym (take-add n m piece)) in
     subst (λ (xs : List ℕ). HasGiven earlier now all at xs) joined (then_ earlier at (text ++ take n piece) (first earlier at text h))
 
 -- After a fault the rest of the piece adds nothing.
@@ -95,11 +95,11 @@ takes_all old given now all piece n fault some faulty = λ earlier at text h.
     let here : standing at (text ++ take n piece) ≡ now = sym before.stands in
     let after = goes_nowhere at (text ++ take n piece) (drop n piece) fault (ap (λ (s : InProgress). s.fault) here ∙ faulty) in
     let joined : (text ++ take n piece) ++ drop n piece ≡ text ++ take (length piece) piece =
-        append_assoc text (take n piece) (drop n piece) ∙ ap (λ (xs : List ℕ). text ++ xs) (take-append-drop n piece ∙ sym (take_all (length piece) piece (omega arith))) in
+    append_assoc text (take n piece) (drop n piece) ∙ ap (λ (xs : List ℕ). text ++ xs) (take-append-drop n piece ∙ sym (take_all (length piece) piece (omega arith))) in
     subst (λ (xs : List ℕ). HasGiven earlier now all at xs) joined
     (record {
-        stands = sym (after.stands ∙ here);
-        given = before.given ∙ sym (append-nil (frames_of at (text ++ take n piece))) ∙ sym after.frames_are
+      stands = sym (after.stands ∙ here);
+      given = before.given ∙ sym (append-nil (frames_of at (text ++ take n piece))) ∙ sym after.frames_are;
     })
 
 -- Where all of the piece was taken, or a fault has shown, the whole piece adds no more.

@@ -15,7 +15,6 @@ less a b h = grind (arith, nat_tests)
 not_less : (a b : ℕ) → b ≤ a → nat_lt a b ≡ false
 not_less a b h = grind (arith, nat_tests)
 
-
 pub data FrontCase (text : List ℕ) : Type 0 where
   -- the length isn't there
   early : (few : length text < 4) (is : front text ≡ Partial) → FrontCase text
@@ -47,8 +46,10 @@ front_cases text = ⊎_elim (λ h. early h (front_early text h)) there (cases_lt
     full : 4 ≤ length text → 6 ≤ stated_length text → stated_length text ≤ 1048576 → FrontCase text
     full h a b =
         ⊎_elim (λ o. begun h a b o (front_begun text h a b o)) (λ f. whole h a b f (front_whole text h a b f)) (cases_lt (length text) (stated_length text))
+
     limited : 4 ≤ length text → 6 ≤ stated_length text → FrontCase text
     limited h a = ⊎_elim (λ s. too_long h s (front_too_long text h s)) (λ b. full h a b) (cases_lt 1048576 (stated_length text))
+
     there : 4 ≤ length text → FrontCase text
     there h = ⊎_elim (λ s. too_short h s (front_too_short text h s)) (λ a. limited h a) (cases_lt (stated_length text) 6)
 
@@ -59,8 +60,12 @@ stated_length-append text more there = ap (from_le_bytes w32) (take-append-le 4 
 
 pub frame_of-append : (text more : List ℕ) → 6 ≤ length text → stated_length text ≤ length text → frame_of (text ++ more) ≡ frame_of text
 frame_of-append text more header full =
-    rw (stated_length-append text more (omega arith), take-append-le (stated_length text) text more full, drop-append-le 4 text more (omega arith),
-        take-append-le 2 (drop 4 text) more (omega (arith, length-drop 4 text))) refl
+    rw (
+      stated_length-append text more (omega arith),
+      take-append-le (stated_length text) text more full,
+      drop-append-le 4 text more (omega arith),
+      take-append-le 2 (drop 4 text) more (omega (arith, length-drop 4 text)),
+    ) refl
 
 -- A whole frame stays what it is.
 pub front-append_whole : (text more : List ℕ) → 6 ≤ stated_length text → stated_length text ≤ 1048576 → stated_length text ≤ length text →

@@ -24,6 +24,7 @@ mark_payload mark bytes h = ⊎_elim early_ late (cases_lt mark.count 6)
   where
     early_ : mark.count < 6 → mark.payload ≡ length bytes - 6
     early_ lt = omega (arith, h.length, mark.header_first lt)
+
     late : 6 ≤ mark.count → mark.payload ≡ length bytes - 6
     late le = omega (arith, h.length, mark.within)
 
@@ -33,6 +34,7 @@ counted mark more = ⊎_elim early_ late (cases_lt mark.count 6)
   where
     early_ : mark.count < 6 → 4 ≤ mark.count
     early_ lt = omega (arith, mark.header_first lt)
+
     late : 6 ≤ mark.count → 4 ≤ mark.count
     late le = omega arith
 
@@ -41,7 +43,7 @@ pub mark_has_room : (mark : PartialMark) (bytes : List ℕ) → IsPartialMarkOf 
 mark_has_room mark bytes h room = λ more.
     let there = counted mark more in
     let same : stated_length mark.header ≡ stated_length bytes =
-        ap (from_le_bytes w32) (sym (take-take 4 mark.count mark.header there) ∙ ap (take 4) h.header ∙ take-take 4 6 bytes (omega arith)) in
+    ap (from_le_bytes w32) (sym (take-take 4 mark.count mark.header there) ∙ ap (take 4) h.header ∙ take-take 4 6 bytes (omega arith)) in
     let long : 4 < length bytes = omega (arith, h.length) in
     let limits = room long in
     (omega (arith, same, limits.0), omega (arith, same, limits.1), omega (arith, same, limits.2, h.length))
@@ -51,14 +53,14 @@ pub bytes_at_have_room : (mark : PartialMark) (payload : List ℕ) → HasRoom (
 bytes_at_have_room mark payload room = λ more.
     let header = take mark.count mark.header in
     let n : length (bytes_at mark payload) ≡ mark.count + length (take mark.payload payload) =
-        omega (arith, length-append header (take mark.payload payload), length-take-le mark.count mark.header (omega (arith, mark.room, mark.within))) in
+    omega (arith, length-append header (take mark.payload payload), length-take-le mark.count mark.header (omega (arith, mark.room, mark.within))) in
     let m : length (take mark.payload payload) ≤ mark.payload = omega (arith, length-take mark.payload payload) in
     let long : 4 < mark.count + mark.payload = omega arith in
     let there = counted mark long in
     let same : stated_length (bytes_at mark payload) ≡ stated_length mark.header =
-        ap (from_le_bytes w32)
-        (take-append-le 4 header (take mark.payload payload) (omega (arith, length-take-le mark.count mark.header (omega (arith, mark.room, mark.within))))
-         ∙ take-take 4 mark.count mark.header there) in
+    ap (from_le_bytes w32)
+    (take-append-le 4 header (take mark.payload payload) (omega (arith, length-take-le mark.count mark.header (omega (arith, mark.room, mark.within))))
+    ∙ take-take 4 mark.count mark.header there) in
     let limits = room long in
     (omega (arith, same, limits.0), omega (arith, same, limits.1), omega (arith, same, limits.2))
 
@@ -70,6 +72,7 @@ front_payload bytes later n is front = ⊎_elim short long (cases_lt (length byt
     short lt =
         let z : n ≡ 0 = omega arith in
         rw z (sym (drop_all 6 bytes (omega arith)))
+
     long : 6 ≤ length bytes → take n (drop 6 later) ≡ drop 6 bytes
     long le =
         let sum : 6 + n ≡ length bytes = omega arith in
@@ -111,6 +114,7 @@ payload_stays at bytes more n is partial = by_case (reading_cases at (bytes ++ m
         ap (λ (r : Reading). payload_since (first_frame r.frames) (standing at (bytes ++ more)).bytes) read
         ∙ ap (λ (s : InProgress). drop 6 s.bytes) (standing-is at (bytes ++ more))
         ∙ ap (λ (r : Reading). drop 6 (kept r.fault r.rest)) read
+
     by_case : ReadingCase at (bytes ++ more) →
         take n (payload_since (first_frame (frames_of at (bytes ++ more))) (standing at (bytes ++ more)).bytes) ≡ drop 6 bytes
     by_case (nothing partial' read) = ap (take n) (kept_as None read) ∙ front_payload bytes (bytes ++ more) n is (λ le. take_at bytes more (length bytes) refl)
@@ -122,9 +126,9 @@ payload_stays at bytes more n is partial = by_case (reading_cases at (bytes ++ m
         ap (λ (r : Reading). take n (payload_since (first_frame r.frames) (standing at (bytes ++ more)).bytes)) read
         ∙ front_payload bytes (take (stated_length (bytes ++ more)) (bytes ++ more)) n is
         (λ le.
-            let there : 4 ≤ length bytes = omega arith in
-            take-take (length bytes) (stated_length (bytes ++ more)) (bytes ++ more) (omega (arith, stated_length-append bytes more there, (room_left bytes partial there).2))
-            ∙ take_at bytes more (length bytes) refl)
+        let there : 4 ≤ length bytes = omega arith in
+        take-take (length bytes) (stated_length (bytes ++ more)) (bytes ++ more) (omega (arith, stated_length-append bytes more there, (room_left bytes partial there).2))
+        ∙ take_at bytes more (length bytes) refl)
 
 -- Whatever was fed since the mark, the payload then is where the mark looks for it.
 payload_at : (mark : FrameMark) (reader : InProgress) (frames : List PlacedFrame) (at : ℕ) (text piece : List ℕ) → IsFedSince mark reader frames at text piece →
@@ -133,6 +137,7 @@ payload_at mark reader frames at text piece h = by_case (standing at text).fault
   where
     n : mark.partial.payload ≡ length (standing at text).bytes - 6
     n = mark_payload mark.partial (standing at text).bytes h.marked.1
+
     by_case : (fault : Option Malformed) → (standing at text).fault ≡ fault →
         take mark.partial.payload (payload_since (first_frame frames) reader.bytes) ≡ drop 6 (standing at text).bytes
     by_case None sound =
@@ -158,9 +163,9 @@ pub back : (mark : FrameMark) (reader : InProgress) (frames : List PlacedFrame) 
 back mark reader frames at text piece h =
     let s = standing at text in
     let bytes : bytes_at mark.partial (payload_since (first_frame frames) reader.bytes) ≡ s.bytes =
-        ap (λ (xs : List ℕ). xs ++ take mark.partial.payload (payload_since (first_frame frames) reader.bytes)) h.marked.1.header
-        ∙ ap (λ (xs : List ℕ). take 6 s.bytes ++ xs) (payload_at mark reader frames at text piece h)
-        ∙ take-append-drop 6 s.bytes in
+    ap (λ (xs : List ℕ). xs ++ take mark.partial.payload (payload_since (first_frame frames) reader.bytes)) h.marked.1.header
+    ∙ ap (λ (xs : List ℕ). take 6 s.bytes ++ xs) (payload_at mark reader frames at text piece h)
+    ∙ take-append-drop 6 s.bytes in
     ap (λ (p : ℕ). in_progress p (bytes_at mark.partial (payload_since (first_frame frames) reader.bytes))) h.marked.0
     ∙ ap (in_progress s.at) bytes
     ∙ sym (standing_shown at text)

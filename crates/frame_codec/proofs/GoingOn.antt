@@ -54,6 +54,7 @@ append_by at text more shorter = by_case (reading_cases at text)
   where
     read : (f : Front) → front (text ++ more) ≡ f → reading at (text ++ more) ≡ read_by f at (text ++ more) reading
     read f is = reading-step at (text ++ more) ∙ ap (λ (f : Front). read_by f at (text ++ more) reading) is
+
     by_case : ReadingCase at text → reading at (text ++ more) ≡ goes_on_by (reading at text).fault (reading at text) at (length text) more
     by_case (nothing partial is) =
         let place : at ≡ at + (length text - length text) = omega arith in

@@ -14,6 +14,7 @@ drop-laid_out header count payload h = ⊎_elim early late (cases_lt count 6)
     early lt =
         let e : payload ≡ [] = h.header_first lt in
         rw (e, append-nil) (drop_all 6 (take count header) (omega (arith, length-take-le count header (omega (arith, h.room, h.within)))))
+
     late : 6 ≤ count → drop 6 (laid_out header count payload) ≡ payload
     late le = drop_at (take count header) payload 6 (omega (arith, h.room, h.within, length-take-le count header (omega (arith, h.room, h.within))))
 
@@ -24,6 +25,7 @@ take-laid_out header count payload h = ⊎_elim early late (cases_lt count 6)
     early lt =
         let e : payload ≡ [] = h.header_first lt in
         rw (e, append-nil) (take_all 6 (take count header) (omega (arith, length-take-le count header (omega (arith, h.room, h.within)))))
+
     late : 6 ≤ count → take 6 (laid_out header count payload) ≡ take count header
     late le = take_at (take count header) payload 6 (omega (arith, h.room, h.within, length-take-le count header (omega (arith, h.room, h.within))))
 
@@ -38,6 +40,7 @@ take_4-laid_out header count payload h long = ⊎_elim early late (cases_lt coun
     early lt =
         let e : length payload ≡ 0 = ap length (h.header_first (omega arith)) in
         absurd (omega (arith, e, length-laid_out header count payload h))
+
     late : 4 ≤ count → take 4 (laid_out header count payload) ≡ take 4 header
     late le =
         take-append-le 4 (take count header) payload (omega (arith, length-take-le count header (omega (arith, h.room, h.within))))
@@ -58,6 +61,7 @@ laid_out-append header count payload bytes n k h few =
     early lt =
         let e : payload ≡ [] = h.header_first lt in
         rw (e, append-nil, append_assoc, take-append-drop n bytes) refl
+
     late : 6 ≤ count → (take count header ++ take n bytes) ++ (payload ++ drop n bytes) ≡ (take count header ++ payload) ++ bytes
     late le =
         let z : n ≡ 0 = omega (arith, few) in

@@ -36,7 +36,7 @@ alike begins at text next other is e =
 -- It's enough that they agree after the first frame.
 alike_after : (at : ℕ) (text : List ℕ) (next other : ℕ → List ℕ → Reading) →
     (6 ≤ frame_length (frame_of text) → frame_length (frame_of text) ≤ length text →
-        next (at + frame_length (frame_of text)) (drop (frame_length (frame_of text)) text) ≡ other (at + frame_length (frame_of text)) (drop (frame_length (frame_of text)) text)) →
+    next (at + frame_length (frame_of text)) (drop (frame_length (frame_of text)) text) ≡ other (at + frame_length (frame_of text)) (drop (frame_length (frame_of text)) text)) →
     read_by (front text) at text next ≡ read_by (front text) at text other
 alike_after at text next other after = by_case (front_cases text)
   where
@@ -59,8 +59,8 @@ enough (suc m) zero at (b ∷ text) h k = absurd (omega arith)
 enough (suc m) (suc n) at text h k =
     alike_after at text (reading_within m) (reading_within n)
     (λ least full.
-        enough m n (at + frame_length (frame_of text)) (drop (frame_length (frame_of text)) text)
-        (omega (arith, length-drop (frame_length (frame_of text)) text)) (omega (arith, length-drop (frame_length (frame_of text)) text)))
+    enough m n (at + frame_length (frame_of text)) (drop (frame_length (frame_of text)) text)
+    (omega (arith, length-drop (frame_length (frame_of text)) text)) (omega (arith, length-drop (frame_length (frame_of text)) text)))
 
 -- A reading is a step and the reading of what is left.
 pub reading-step : (at : ℕ) (text : List ℕ) → reading at text ≡ read_by (front text) at text reading
@@ -69,8 +69,8 @@ reading-step at [] = refl
 reading-step at (b ∷ text) =
     alike_after at (b ∷ text) (reading_within (length text)) reading
     (λ least full.
-        enough (length text) _ (at + frame_length (frame_of (b ∷ text))) (drop (frame_length (frame_of (b ∷ text))) (b ∷ text))
-        (omega (arith, length-drop (frame_length (frame_of (b ∷ text))) (b ∷ text))) (omega arith))
+    enough (length text) _ (at + frame_length (frame_of (b ∷ text))) (drop (frame_length (frame_of (b ∷ text))) (b ∷ text))
+    (omega (arith, length-drop (frame_length (frame_of (b ∷ text))) (b ∷ text))) (omega arith))
 
 -- what a text is read as, case by case
 pub data ReadingCase (at : ℕ) (text : List ℕ) : Type 0 where
@@ -84,6 +84,7 @@ reading_cases at text = by_case (front_cases text)
   where
     read : (f : Front) → front text ≡ f → reading at text ≡ read_by f at text reading
     read f is = reading-step at text ∙ ap (λ (f : Front). read_by f at text reading) is
+
     by_case : FrontCase text → ReadingCase at text
     by_case (early few is) = nothing is (read Partial is)
     by_case (too_short there under is) = ended TooShort is (read (Wrong TooShort) is)

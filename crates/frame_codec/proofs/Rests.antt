@@ -33,8 +33,8 @@ ends_by at text shorter = by_case (reading_cases at text)
         let place : at ≡ at + (length text - length text) = omega arith in
         rw is
         (record {
-            fault = ap (λ (p : ℕ). shown p (Wrong why)) place ∙ ap (shown (at + (length text - length text))) (sym wrong);
-            no_frame = λ frame same. cc (wrong, same)
+          fault = ap (λ (p : ℕ). shown p (Wrong why)) place ∙ ap (shown (at + (length text - length text))) (sym wrong);
+          no_frame = λ frame same. cc (wrong, same);
         })
     by_case (begins least full one is) =
         let f = frame_of text in
@@ -56,6 +56,7 @@ front-take text why wrong = by_case (front_cases text)
   where
     stated : stated_length (take 4 text) ≡ stated_length text
     stated = ap (from_le_bytes w32) (take-take 4 4 text (omega arith))
+
     by_case : FrontCase text → (front (take 4 text) ≡ Wrong why) × (4 ≤ length text)
     by_case (early few is) = absurd (cc)
     by_case (too_short there under is) =
@@ -105,15 +106,17 @@ partial_without_fault at text sound = rest_is ∙ by_case (front (reading at tex
   where
     clear : (reading at text).fault ≡ None
     clear = ap (λ (s : InProgress). s.fault) (sym (standing-is at text)) ∙ sound
+
     rest_is : front (standing at text).bytes ≡ front (reading at text).rest
     rest_is =
         ap (λ (s : InProgress). front s.bytes) (standing-is at text)
         ∙ ap (λ (f : Option Malformed). front (kept f (reading at text).rest)) clear
+
     by_case : (f : Front) → front (reading at text).rest ≡ f → front (reading at text).rest ≡ Partial
     by_case Partial e = e
     by_case (Wrong why) e =
         let faulty : (reading at text).fault ≡ Some (record { at = at + (length text - length (reading at text).rest); why = why }) =
-            (reading_ends at text).fault ∙ ap (shown (at + (length text - length (reading at text).rest))) e in
+        (reading_ends at text).fault ∙ ap (shown (at + (length text - length (reading at text).rest))) e in
         absurd (cc (clear, faulty))
     by_case (Whole frame) e = absurd ((reading_ends at text).no_frame frame e)
 

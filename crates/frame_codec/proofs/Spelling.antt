@@ -30,8 +30,8 @@ frame_of-frame_bytes frame more limits =
     let text = frame_bytes frame ++ more in
     let flags : from_le_bytes w16 (take 2 (drop 4 text)) ≡ frame.flags = from_le_bytes-to_le_bytes_2 frame.flags limits.0 in
     let payload : drop 6 (take (stated_length text) text) ≡ frame.payload =
-        ap (λ (n : ℕ). drop 6 (take n text)) (stated_length-frame_bytes frame more limits)
-        ∙ ap (drop 6) (take_at (frame_bytes frame) more (frame_length frame) (length-frame_bytes frame)) in
+    ap (λ (n : ℕ). drop 6 (take n text)) (stated_length-frame_bytes frame more limits)
+    ∙ ap (drop 6) (take_at (frame_bytes frame) more (frame_length frame) (length-frame_bytes frame)) in
     ap (λ (n : ℕ). let x : Frame = record { flags = n; payload = drop 6 (take (stated_length text) text) } in x) flags
     ∙ ap (λ (xs : List ℕ). let x : Frame = record { flags = frame.flags; payload = xs } in x) payload
 
@@ -65,7 +65,7 @@ written_read at [] rest limits none =
     rest_read at rest none ∙ ap (λ (p : ℕ). let x : Reading = record { frames = []; fault = shown p (front rest); rest = rest } in x) place
 written_read at (frame ∷ frames) rest limits none =
     let place : at + frame_length frame + length (spelled frames) ≡ at + length (frame_bytes frame ++ spelled frames) =
-        omega (arith, length-append (frame_bytes frame) (spelled frames), length-frame_bytes frame) in
+    omega (arith, length-append (frame_bytes frame) (spelled frames), length-frame_bytes frame) in
     let one : Frame = frame in
     ap (reading at) (append_assoc (frame_bytes frame) (spelled frames) rest)
     ∙ frame_read at frame (spelled frames ++ rest) (All-head IsWithinLimits frame frames limits)
@@ -85,10 +85,10 @@ header_spelled text bytes least full =
     let flags : length (take 2 (drop 4 text)) ≡ 2 = length-take-le 2 (drop 4 text) (omega (arith, length-drop 4 text)) in
     let payload = drop 6 (take (stated_length text) text) in
     let a : to_le_bytes w32 (frame_length (frame_of text)) ≡ take 4 text =
-        le_bytes_4 (take 4 text) (frame_length (frame_of text)) header (byte_at (take 4 text) (All-take (λ byte. byte < 256) 4 text bytes)) (frame_length-frame_of text least full) in
+    le_bytes_4 (take 4 text) (frame_length (frame_of text)) header (byte_at (take 4 text) (All-take (λ byte. byte < 256) 4 text bytes)) (frame_length-frame_of text least full) in
     let b : to_le_bytes w16 (frame_of text).flags ≡ take 2 (drop 4 text) =
-        le_bytes_2 (take 2 (drop 4 text)) (frame_of text).flags flags
-        (byte_at (take 2 (drop 4 text)) (All-take (λ byte. byte < 256) 2 (drop 4 text) (All-drop (λ byte. byte < 256) 4 text bytes))) refl in
+    le_bytes_2 (take 2 (drop 4 text)) (frame_of text).flags flags
+    (byte_at (take 2 (drop 4 text)) (All-take (λ byte. byte < 256) 2 (drop 4 text) (All-drop (λ byte. byte < 256) 4 text bytes))) refl in
     ap (λ (xs : List ℕ). (xs ++ to_le_bytes w16 (frame_of text).flags) ++ payload) a
     ∙ ap (λ (xs : List ℕ). (take 4 text ++ xs) ++ payload) b
     ∙ ap (λ (xs : List ℕ). xs ++ payload) (sym (take-add 4 2 text))
@@ -120,14 +120,14 @@ spelled_with_frame at text r bytes one s =
     let same : n ≡ stated_length text = frame_length-frame_of text limits.0 limits.2 in
     let front_is : frame_bytes f ≡ take n text = header_spelled text bytes limits.0 limits.2 ∙ ap (λ (m : ℕ). take m text) (sym same) in
     record {
-        whole =
-            sym (take-append-drop n text)
-            ∙ ap (λ (xs : List ℕ). xs ++ drop n text) (sym front_is)
-            ∙ ap (λ (xs : List ℕ). frame_bytes f ++ xs) s.whole
-            ∙ sym (append_assoc (frame_bytes f) (spelled (unplaced r.frames)) r.rest);
-        places = ap (λ (fs : List PlacedFrame). record { at = at; frame = f } ∷ fs) s.places;
-        limits = All-cons IsWithinLimits f (unplaced r.frames) (flags_fit text bytes, omega (arith, same, limits.1)) s.limits;
-        rest_is_none = s.rest_is_none
+      whole =
+          sym (take-append-drop n text)
+          ∙ ap (λ (xs : List ℕ). xs ++ drop n text) (sym front_is)
+          ∙ ap (λ (xs : List ℕ). frame_bytes f ++ xs) s.whole
+          ∙ sym (append_assoc (frame_bytes f) (spelled (unplaced r.frames)) r.rest);
+      places = ap (λ (fs : List PlacedFrame). record { at = at; frame = f } ∷ fs) s.places;
+      limits = All-cons IsWithinLimits f (unplaced r.frames) (flags_fit text bytes, omega (arith, same, limits.1)) s.limits;
+      rest_is_none = s.rest_is_none;
     }
 
 spelled_by : (at : ℕ) (text : List ℕ) → IsBytes text → ((to : ℕ) (later : List ℕ) → length later < length text → IsBytes later → IsSpelledBy to later (reading to later)) →
@@ -142,7 +142,7 @@ spelled_by at text bytes shorter = by_case (reading_cases at text)
         let less : length (drop n text) < length text = omega (arith, length-drop n text) in
         rw is
         (spelled_with_frame at text (reading (at + n) (drop n text)) bytes one
-            (shorter (at + n) (drop n text) less (All-drop (λ byte. byte < 256) n text bytes)))
+        (shorter (at + n) (drop n text) less (All-drop (λ byte. byte < 256) n text bytes)))
 
 spelled_within : (bound at : ℕ) (text : List ℕ) → length text ≤ bound → IsBytes text → IsSpelledBy at text (reading at text)
 spelled_within zero at text few bytes = spelled_by at text bytes (λ to later less all. absurd (omega arith))

@@ -29,25 +29,27 @@ standing-is at text = refl
 pub read_nothing : (at : ℕ) (bytes : List ℕ) → front bytes ≡ Partial → (standing at bytes ≡ in_progress at bytes) × (frames_of at bytes ≡ [])
 read_nothing at bytes partial =
     let is : reading at bytes ≡ record { frames = []; fault = None; rest = bytes } = reading-step at bytes ∙ ap (λ (f : Front). read_by f at bytes reading) partial in
-    let place : at + (length bytes - length bytes) ≡ at = omega arith in
-    ( standing-is at bytes
-      ∙ ap (standing_of at (length bytes)) is
-      ∙ ap (λ (p : ℕ). let x : InProgress = record { at = p; bytes = bytes; fault = None } in x) place
-      ∙ ap (λ (f : Front). let x : InProgress = record { at = at; bytes = bytes; fault = shown at f } in x) (sym partial)
-    , ap (λ (r : Reading). r.frames) is )
+    let place : at + (length bytes - length bytes) ≡ at = omega arith in (
+      standing-is at bytes
+          ∙ ap (standing_of at (length bytes)) is
+          ∙ ap (λ (p : ℕ). let x : InProgress = record { at = p; bytes = bytes; fault = None } in x) place
+          ∙ ap (λ (f : Front). let x : InProgress = record { at = at; bytes = bytes; fault = shown at f } in x) (sym partial),
+      ap (λ (r : Reading). r.frames) is,
+    )
 
 -- a fault at the fourth byte
 pub read_wrong : (at : ℕ) (bytes : List ℕ) (why : Why) → front bytes ≡ Wrong why → length bytes ≡ 4 → (standing at bytes ≡ in_progress at bytes) × (frames_of at bytes ≡ [])
 read_wrong at bytes why wrong four =
     let fault : Option Malformed = Some (record { at = at; why = why }) in
     let is : reading at bytes ≡ record { frames = []; fault = fault; rest = bytes } = reading-step at bytes ∙ ap (λ (f : Front). read_by f at bytes reading) wrong in
-    let place : at + (length bytes - length bytes) ≡ at = omega arith in
-    ( standing-is at bytes
-      ∙ ap (standing_of at (length bytes)) is
-      ∙ ap (λ (p : ℕ). let x : InProgress = record { at = p; bytes = take 4 bytes; fault = fault } in x) place
-      ∙ ap (λ (xs : List ℕ). let x : InProgress = record { at = at; bytes = xs; fault = fault } in x) (take_all 4 bytes (omega arith))
-      ∙ ap (λ (f : Front). let x : InProgress = record { at = at; bytes = bytes; fault = shown at f } in x) (sym wrong)
-    , ap (λ (r : Reading). r.frames) is )
+    let place : at + (length bytes - length bytes) ≡ at = omega arith in (
+      standing-is at bytes
+          ∙ ap (standing_of at (length bytes)) is
+          ∙ ap (λ (p : ℕ). let x : InProgress = record { at = p; bytes = take 4 bytes; fault = fault } in x) place
+          ∙ ap (λ (xs : List ℕ). let x : InProgress = record { at = at; bytes = xs; fault = fault } in x) (take_all 4 bytes (omega arith))
+          ∙ ap (λ (f : Front). let x : InProgress = record { at = at; bytes = bytes; fault = shown at f } in x) (sym wrong),
+      ap (λ (r : Reading). r.frames) is,
+    )
 
 exactly_four : (n : ℕ) → 4 ≤ n → (4 < n → ⊥) → n ≡ 4
 exactly_four n least none = ⊎_elim (λ (more : 4 < n). absurd (none more)) (λ most. omega arith) (cases_lt 4 n)
@@ -69,10 +71,11 @@ read_whole at bytes least most exact =
     let n = frame_length (frame_of bytes) in
     let same : n ≡ length bytes = frame_length-frame_of bytes least (omega arith) ∙ sym exact in
     let is : reading at bytes ≡ with_frame at (frame_of bytes) (reading (at + n) (drop n bytes)) =
-        reading-step at bytes ∙ ap (λ (f : Front). read_by f at bytes reading) (front_whole bytes (omega arith) least most (omega arith)) in
+    reading-step at bytes ∙ ap (λ (f : Front). read_by f at bytes reading) (front_whole bytes (omega arith) least most (omega arith)) in
     let none : reading (at + n) (drop n bytes) ≡ record { frames = []; fault = None; rest = [] } =
-        ap (reading (at + n)) (drop_all n bytes (omega arith)) ∙ reading-step (at + n) [] in
+    ap (reading (at + n)) (drop_all n bytes (omega arith)) ∙ reading-step (at + n) [] in
     let all : reading at bytes ≡ record { frames = record { at = at; frame = frame_of bytes } ∷ []; fault = None; rest = [] } =
-        is ∙ ap (with_frame at (frame_of bytes)) none in
-    ( standing-is at bytes ∙ ap (standing_of at (length bytes)) all ∙ ap (λ (p : ℕ). in_progress (at + p) []) (let z : length bytes - 0 ≡ length bytes = omega arith in z)
-    , ap (λ (r : Reading). r.frames) all )
+    is ∙ ap (with_frame at (frame_of bytes)) none in (
+      standing-is at bytes ∙ ap (standing_of at (length bytes)) all ∙ ap (λ (p : ℕ). in_progress (at + p) []) (let z : length bytes - 0 ≡ length bytes = omega arith in z),
+      ap (λ (r : Reading). r.frames) all,
+    )

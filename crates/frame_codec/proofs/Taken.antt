@@ -30,8 +30,8 @@ took_part old given at bytes piece new n is sound grown room =
     let read = read_unfinished at new room in
     subst (λ (fs : List PlacedFrame). Takes old given (in_progress at new) fs piece n) (append-nil given)
     (takes old given (in_progress at new) [] piece n sound
-        (ap (λ (p : ℕ). standing p (old.bytes ++ take n piece)) place ∙ ap (standing at) was ∙ read.0)
-        (ap (λ (p : ℕ). frames_of p (old.bytes ++ take n piece)) place ∙ ap (frames_of at) was ∙ read.1))
+    (ap (λ (p : ℕ). standing p (old.bytes ++ take n piece)) place ∙ ap (standing at) was ∙ read.0)
+    (ap (λ (p : ℕ). frames_of p (old.bytes ++ take n piece)) place ∙ ap (frames_of at) was ∙ read.1))
 
 -- It took the rest of a frame, and gave it.
 pub took_whole : (old : InProgress) (given : List PlacedFrame) (at : ℕ) (bytes piece new : List ℕ) (n : ℕ) → in_progress at bytes ≡ old → old.fault ≡ None →
@@ -52,8 +52,8 @@ pub still_unfinished : (bytes more new : List ℕ) → new ≡ bytes ++ more →
 still_unfinished bytes more new grown there least most few =
     subst IsUnfinished (sym grown)
     (λ long.
-        let same = stated_length-append bytes more there in
-        (omega (arith, same), omega (arith, same), omega (arith, same, length-append bytes more)))
+    let same = stated_length-append bytes more there in
+    (omega (arith, same), omega (arith, same), omega (arith, same, length-append bytes more)))
 
 -- with all bytes
 pub now_whole : (bytes more new : List ℕ) → new ≡ bytes ++ more → 4 ≤ length bytes → 6 ≤ stated_length bytes → stated_length bytes ≤ 1048576 →
@@ -61,4 +61,4 @@ pub now_whole : (bytes more new : List ℕ) → new ≡ bytes ++ more → 4 ≤ 
 now_whole bytes more new grown there least most all =
     subst (λ (xs : List ℕ). (6 ≤ stated_length xs) × (stated_length xs ≤ 1048576) × (length xs ≡ stated_length xs)) (sym grown)
     (let same = stated_length-append bytes more there in
-     (omega (arith, same), omega (arith, same), omega (arith, same, length-append bytes more)))
+    (omega (arith, same), omega (arith, same), omega (arith, same, length-append bytes more)))

@@ -26,5 +26,4 @@ pub fn reading_goes_on()
 /// The place of a reader's next byte is at most that of its stream's, so a bound on the stream's bytes bounds it.
 pub fn a_reader_is_within_its_stream()
     ensures { laws.a_reader_is_within_its_stream }
-{
-}
+{}

@@ -78,6 +78,9 @@ impl FrameReader {
         ensures fault { IfOk result (λ fed. (at : ℕ) (text : List ℕ) → StandsFor self.old at text →
             fed.fault ≡ fault_of at (text ++ piece.now)) }
         ensures err { OnErr result (self.new ≡ self.old) }
+
+        // The stream goes on by the piece's bytes at most.
+        ensures places { next_place self.new ≤ next_place self.old + length piece.now }
     {
         let mark = self.mark();
         let mut frames = Vec::new(alloc);
@@ -178,3 +181,6 @@ fn first_of(frames: Vec<PlacedFrame>) -> Option<Frame>
     let first = frames.into_iter().next()?;
     Some(first.frame)
 }
+
+#[cfg(test)]
+mod tests;

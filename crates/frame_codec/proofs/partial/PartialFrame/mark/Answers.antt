@@ -8,6 +8,6 @@ returns c =
     let f = c.self.inside in
     let n : length c.as_slice.result.now ≡ length f.payload.items = ap length c.as_slice.ensures.value in
     record {
-        header = sym (take-laid_out f.header f.count f.payload.items c.self.invariant) ∙ ap (take 6) c.self.view_is;
-        length = omega (arith, n, length-laid_out f.header f.count f.payload.items c.self.invariant, ap length c.self.view_is)
+      header = sym (take-laid_out f.header f.count f.payload.items c.self.invariant) ∙ ap (take 6) c.self.view_is;
+      length = omega (arith, n, length-laid_out f.header f.count f.payload.items c.self.invariant, ap length c.self.view_is);
     }

@@ -9,10 +9,10 @@ pub returns : goal.returns
 returns c =
     let f = c.self.inside in
     let payload : c.match-first.self-inside.payload.items ≡ payload_since c.args.first c.args.self.now =
-        elim c.match-first.branch [
-          | in-Some w ↦ rw (w.self-inside-is, w.in-Some.is) w.into_vec.ensures
-          | in_default w ↦
-              rw (w.self-inside-is, w.in_default.is)
-              (sym (drop-laid_out f.header f.count f.payload.items c.self.invariant) ∙ ap (drop 6) c.self.view_is)
-        ] in
+    elim c.match-first.branch [
+      | in-Some w ↦ rw (w.self-inside-is, w.in-Some.is) w.into_vec.ensures
+      | in_default w ↦
+          rw (w.self-inside-is, w.in_default.is)
+          (sym (drop-laid_out f.header f.count f.payload.items c.self.invariant) ∙ ap (drop 6) c.self.view_is)
+    ] in
     ap (λ (xs : List ℕ). take c.args.mark.count c.args.mark.header ++ xs) (c.truncate.ensures.items ∙ ap (take c.args.mark.payload) payload)

@@ -17,11 +17,12 @@ returns-in_err-taken-clause-err c =
     let piece = c.args.piece.now in
     let n = c.loop-taken.taken in
     let same = c.in_err-taken.ensures.err in
-    rw p.1
-    ( n
-    , c.loop-taken.invariant.within
-    , subst (λ (s : InProgress). Takes old given s c.take_some.new.frames.items piece n) (sym same.0)
-      (subst (λ (fs : List PlacedFrame). Takes old given c.loop-taken.self fs piece n) (sym same.1) c.loop-taken.invariant.takes) )
+    rw p.1 (
+      n,
+      c.loop-taken.invariant.within,
+      subst (λ (s : InProgress). Takes old given s c.take_some.new.frames.items piece n) (sym same.0)
+          (subst (λ (fs : List PlacedFrame). Takes old given c.loop-taken.self fs piece n) (sym same.1) c.loop-taken.invariant.takes),
+    )
 
 pub loop-taken-preserved : goal.loop-taken-preserved
 loop-taken-preserved c =
@@ -31,12 +32,12 @@ loop-taken-preserved c =
     let rest : take (length piece - n) (drop n piece) ≡ drop n piece = take_rest piece n in
     let count : m ≤ length (take (length piece - n) (drop n piece)) = c.in_ok-taken.ensures.count.1 in
     record {
-        within = omega (arith, count, ap length rest, length-drop n piece, c.loop-taken.invariant.within);
-        place = omega (arith, c.in_ok-taken.ensures.place, c.loop-taken.invariant.place);
-        takes =
-            takes_more c.args.self.now c.args.frames.now.items c.loop-taken.self c.loop-taken.frames.items c.take_some.new.self c.take_some.new.frames.items piece n m
-            c.loop-taken.invariant.takes
-            (subst (λ (xs : List ℕ). Takes c.loop-taken.self c.loop-taken.frames.items c.take_some.new.self c.take_some.new.frames.items xs m) rest c.in_ok-taken.ensures.ok)
+      within = omega (arith, count, ap length rest, length-drop n piece, c.loop-taken.invariant.within);
+      place = omega (arith, c.in_ok-taken.ensures.place, c.loop-taken.invariant.place);
+      takes =
+          takes_more c.args.self.now c.args.frames.now.items c.loop-taken.self c.loop-taken.frames.items c.take_some.new.self c.take_some.new.frames.items piece n m
+          c.loop-taken.invariant.takes
+          (subst (λ (xs : List ℕ). Takes c.loop-taken.self c.loop-taken.frames.items c.take_some.new.self c.take_some.new.frames.items xs m) rest c.in_ok-taken.ensures.ok);
     }
 
 pub returns-else-is_none-clause-ok : goal.returns-else-is_none-clause-ok

@@ -6,9 +6,9 @@ use Rattle.frame_codec.proofs.reader.FrameReader.take_all.Given as goal
 
 abbrev pub invariant-loop-taken : goal.invariant-loop-taken
 invariant-loop-taken l = record {
-    within : l.taken ≤ length l.piece;
-    place : next_place l.self ≡ next_place l.initial.self + l.taken;
-    takes : Takes l.initial.self l.initial.frames.items l.self l.frames.items l.piece l.taken
+  within : l.taken ≤ length l.piece;
+  place : next_place l.self ≡ next_place l.initial.self + l.taken;
+  takes : Takes l.initial.self l.initial.frames.items l.self l.frames.items l.piece l.taken;
 }
 
 abbrev pub decreases-loop-taken : goal.decreases-loop-taken

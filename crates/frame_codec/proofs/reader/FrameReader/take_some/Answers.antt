@@ -15,7 +15,7 @@ returns-then-have-lt-LENGTH_BYTES-clause-ok c =
     let bytes = c.args.bytes.now in
     let grown = c.in_ok-append.ensures.ok in
     let few : length c.append.new.self ≤ 4 =
-        omega (arith, ap length grown, length-append f.partial (take c.min-taken.result bytes), length-take c.min-taken.result bytes, c.min-taken.ensures, c.len-have.ensures) in
+    omega (arith, ap length grown, length-append f.partial (take c.min-taken.result bytes), length-take c.min-taken.result bytes, c.min-taken.ensures, c.len-have.ensures) in
     took_part c.args.self.now c.args.frames.now.items f.at f.partial bytes c.append.new.self c.min-taken.result c.self.view_is c.requires.sound grown
     (λ long. absurd (omega arith))
 
@@ -47,11 +47,11 @@ returns-clause-ok c =
     let done = now_whole f.partial (take n bytes) new grown there limits.0 limits.1 all in
     let place : f.at + length new ≡ f.at + (c.len-have.result + n) = omega (arith, done.2, ap length grown, length-append f.partial (take n bytes), taken, c.len-have.ensures) in
     let state : in_progress (f.at + length new) [] ≡ in_progress (f.at + (c.len-have.result + n)) c.take_frame-frame.new.self =
-        ap (λ (p : ℕ). in_progress p []) place ∙ ap (in_progress (f.at + (c.len-have.result + n))) (sym c.take_frame-frame.ensures.none_left) in
+    ap (λ (p : ℕ). in_progress p []) place ∙ ap (in_progress (f.at + (c.len-have.result + n))) (sym c.take_frame-frame.ensures.none_left) in
     let given : c.args.frames.now.items ++ record { at = f.at; frame = frame_of new } ∷ [] ≡ c.push_reserved.new.self.items =
-        ap (λ (fs : List PlacedFrame). fs ++ record { at = f.at; frame = frame_of new } ∷ []) (sym c.reserve.ensures.items)
-        ∙ ap (λ (frame : Frame). c.reserve.new.self.items ++ record { at = f.at; frame = frame } ∷ []) (sym c.take_frame-frame.ensures.frame)
-        ∙ sym c.push_reserved.ensures.items in
+    ap (λ (fs : List PlacedFrame). fs ++ record { at = f.at; frame = frame_of new } ∷ []) (sym c.reserve.ensures.items)
+    ∙ ap (λ (frame : Frame). c.reserve.new.self.items ++ record { at = f.at; frame = frame } ∷ []) (sym c.take_frame-frame.ensures.frame)
+    ∙ sym c.push_reserved.ensures.items in
     let took = took_whole c.args.self.now c.args.frames.now.items f.at f.partial bytes new n c.self.view_is c.requires.sound grown done.0 done.1 done.2 in
     subst (λ (s : InProgress). Takes c.args.self.now c.args.frames.now.items s c.push_reserved.new.self.items bytes n) state
     (subst (λ (fs : List PlacedFrame). Takes c.args.self.now c.args.frames.now.items (in_progress (f.at + length new) []) fs bytes n) given took)
