@@ -49,12 +49,23 @@ pub fn write_frame(frame: &Frame, out: &mut Vec<u8>) -> Result<(), Memory>
     ensures ok { OnOk result (out.new.items ≡ out.old.items ++ frame_bytes frame.now) }
     ensures err { OnErr result (out.new.items ≡ out.old.items) }
 {
-    let length = HEADER_LENGTH + frame.payload.len();
+    write_payload(frame.flags, frame.payload.as_slice(), out)
+}
+
+/// Appends the bytes of the frame with these flags and this payload, which need not lie in a `Frame`. Costs and fails as
+/// `write_frame`.
+pub fn write_payload(flags: u16, payload: &[u8], out: &mut Vec<u8>) -> Result<(), Memory>
+    requires { length payload.now ≤ MAX_PAYLOAD }
+    ensures ok { OnOk result (out.new.items
+        ≡ out.old.items ++ frame_bytes (record { flags = flags; payload = payload.now })) }
+    ensures err { OnErr result (out.new.items ≡ out.old.items) }
+{
+    let length = HEADER_LENGTH + payload.len();
     out.reserve(length)?;
     out.extend_from_slice(&(length as u32).to_le_bytes())
         .unwrap();
-    out.extend_from_slice(&frame.flags.to_le_bytes()).unwrap();
-    out.extend_from_slice(frame.payload.as_slice()).unwrap();
+    out.extend_from_slice(&flags.to_le_bytes()).unwrap();
+    out.extend_from_slice(payload).unwrap();
     Ok(())
 }
 

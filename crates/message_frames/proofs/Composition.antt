@@ -1,5 +1,5 @@
 -- Frames in two parts: the second part goes on where the first one left off.
-use Rattle.std.proofs.Common.{◌≡◌, ℕ, List, [], ◌∷◌, ◌++◌, Option, Some, None, refl, ◌∙◌, ap}
+use Rattle.std.proofs.Common.{◌≡◌, ℕ, List, [], ◌∷◌, ◌++◌, Some, None, refl, ◌∙◌, ap}
 use Rattle.frame_codec.specs.declared.frames.PlacedFrame.{PlacedFrame}
 use Rattle.frame_codec.specs.declared.malformed.Malformed.{Malformed}
 use Rattle.message_frames.specs.declared.message.Message.{Message}

@@ -1,79 +1,76 @@
--- Where the chain of an id is among the open ones.
-use Rattle.std.proofs.Common.{◌≡◌, ℕ, zero, suc, ◌+◌, ◌<◌, ◌≤◌, Bool, true, false, cond, ltb, eqb, List, [], ◌∷◌, ◌++◌, length, get_or, set, take, drop, refl, sym, ◌∙◌, ap, ◌⊎◌, inl, inr, Option, Some, None, arith}
-use Rattle.std.specs.Prelude.{position, remove, IfSome, IfNone, not}
-use Rattle.std.specs.List.{position_or_len}
-use Rattle.std.proofs.lemmas.Bool.{false≢true, cases_Bool}
-use Rattle.std.proofs.lemmas.Bool.Decides.{nat_tests}
-use Rattle.std.proofs.lemmas.List.Quantifiers.{position-Some}
-use Rattle.message_frames.specs.Turns.{IsAt, Turned, is_named, chain_named, with_tally, without_chain, fails_at, fragment_turn, turned_at, turned}
-use Rattle.message_frames.specs.declared.control.OpenChain.{OpenChain}
-use Rattle.message_frames.specs.declared.control.Control.{Control}
-use Rattle.message_frames.specs.declared.control.Spot.TheVariants.{OfFragment}
+-- The bytes of a text are those of its frames and of the rest, and the rest is short unless it shows a fault.
+use Rattle.std.proofs.Common.{◌≡◌, ℕ, zero, suc, ◌+◌, ◌≤◌, List, [], length, take, drop, nat_lt, if◌then◌else◌, Some, None, arith, length-take, length-drop}
+use Rattle.std.proofs.lemmas.Bool.{cond_both, ltb-true, ltb-false}
+use Rattle.std.specs.Int.{w16, from_le_bytes}
+use Rattle.std.proofs.lemmas.List.Sums.{sum_by-cons}
+use Rattle.frame_codec.specs.Frames.{frame_length}
+use Rattle.frame_codec.specs.Reading.{Front, Partial, Whole, Wrong, front, stated_length, Reading, with_frame, reading_within, reading}
 use Rattle.frame_codec.specs.declared.frames.PlacedFrame.{PlacedFrame}
-use Rattle.frame_codec.specs.declared.malformed.Why.TheVariants.{BadFragment}
-use Rattle.message_frames.specs.declared.tally.Tally.{Tally}
+use Rattle.frame_codec.specs.declared.frames.TheConstants.{HEADER_LENGTH, MAX_FRAME_LENGTH}
+use Rattle.frame_codec.specs.declared.malformed.Why.TheVariants.{TooShort, TooLong}
+use Rattle.message_frames.proofs.Bounds.{lengths}
 
--- the chain after one of another id
-after_another : (id : ℕ) (chain : OpenChain) (chains : List OpenChain) (i : ℕ) → is_named id chain ≡ false → IsAt id chains i → IsAt id (chain ∷ chains) (suc i)
-after_another id chain chains i other found = record {
-  within = let within : i < length chains = found.within in omega arith;
-  named = λ default. rw other (found.named default);
-  changed = λ tally named is. rw other (ap (λ cs. chain ∷ cs) (found.changed tally named (rw other at is)));
-  removed = rw other (ap (λ cs. chain ∷ cs) (found.removed));
-}
+-- what a text's front says of its length
+abbrev pub FrontFits : List ℕ → Front → Type 0
+FrontFits text Partial = length text ≤ MAX_FRAME_LENGTH
+FrontFits text (Whole frame) = (frame_length frame ≤ length text) × (HEADER_LENGTH ≤ frame_length frame)
+FrontFits text (Wrong why) = Unit {0}
 
-changed_first : (id : ℕ) (chain : OpenChain) (chains : List OpenChain) → is_named id chain ≡ true → (tally : Tally) (named : OpenChain) → chain_named id (chain ∷ chains) ≡ Some named →
-    set (chain ∷ chains) zero (record named { tally = tally }) ≡ with_tally id tally (chain ∷ chains)
-changed_first id chain chains this tally named is =
-    let same : chain ≡ named = cc (rw this at is) in
-    rw this (ap (λ (c : OpenChain). record c { tally = tally } ∷ chains) (sym same))
+-- the front of a text that states that length
+abbrev front_stating : List ℕ → ℕ → Front
+front_stating text stated =
+    if nat_lt (length text) 4 then Partial
+    else if nat_lt stated HEADER_LENGTH then Wrong TooShort
+    else if nat_lt MAX_FRAME_LENGTH stated then Wrong TooLong
+    else if nat_lt (length text) stated then Partial
+    else Whole (record { flags = from_le_bytes w16 (take 2 (drop 4 text)); payload = drop HEADER_LENGTH (take stated text) })
 
-pub place_of_first : (id : ℕ) (chains : List OpenChain) (i : ℕ) → i < length chains →
-    ((d : OpenChain) → is_named id (get_or chains i d) ≡ true) → ((k : ℕ) (d : OpenChain) → k < i → is_named id (get_or chains k d) ≡ false) → IsAt id chains i
-place_of_first id [] i within here before = absurd (omega arith)
-place_of_first id (chain ∷ chains) zero within here before =
-    let this : is_named id chain ≡ true = here chain in
+front_fits_stated : (text : List ℕ) (stated : ℕ) → FrontFits text (front_stating text stated)
+front_fits_stated text stated =
+    cond_both (nat_lt (length text) 4) _ _ (FrontFits text) (λ few. let n = ltb-true (length text) 4 few in omega (arith, n))
+    (λ enough. cond_both (nat_lt stated HEADER_LENGTH) _ _ (FrontFits text) (λ short. tt)
+    (λ header. cond_both (nat_lt MAX_FRAME_LENGTH stated) _ _ (FrontFits text) (λ long. tt)
+    (λ limit. cond_both (nat_lt (length text) stated) _ _ (FrontFits text)
+    (λ part. let n = ltb-true (length text) stated part in let m = ltb-false MAX_FRAME_LENGTH stated limit in omega (arith, n, m))
+    (λ whole. sized (ltb-false stated HEADER_LENGTH header) (ltb-false (length text) stated whole)))))
+  where
+    sized : HEADER_LENGTH ≤ stated → stated ≤ length text → (HEADER_LENGTH + length (drop HEADER_LENGTH (take stated text)) ≤ length text) × (HEADER_LENGTH ≤ HEADER_LENGTH + length (drop HEADER_LENGTH (take stated text)))
+    sized h w = (omega (arith, length-drop HEADER_LENGTH (take stated text), length-take stated text), omega arith)
+
+pub front_fits_text : (text : List ℕ) → FrontFits text (front text)
+front_fits_text text = front_fits_stated text (stated_length text)
+
+-- The frames that are read of a text and the rest are all its bytes. Without a fault the rest is shorter than a frame may be.
+pub record Measured (text : List ℕ) (r : Reading) : Type 0 where
+  pub bytes : lengths r.frames + length r.rest ≡ length text
+  pub short : r.fault ≡ None → length r.rest ≤ MAX_FRAME_LENGTH
+
+abbrev pub after_front : ℕ → ℕ → List ℕ → Front → Reading
+after_front bound at text f =
+    elim f [
+      | Partial ↦ record { frames = []; fault = None; rest = text }
+      | Wrong why ↦ record { frames = []; fault = Some (record { at = at; why = why }); rest = text }
+      | Whole frame ↦ with_frame at frame (reading_within bound (at + frame_length frame) (drop (frame_length frame) text))
+    ]
+
+by_front : (bound at : ℕ) (text : List ℕ) → length text ≤ suc bound → (f : Front) → FrontFits text f →
+    ((later : List ℕ) (at_later : ℕ) → length later ≤ bound → Measured later (reading_within bound at_later later)) →
+    Measured text (after_front bound at text f)
+by_front bound at text fits Partial front_fits later = record { bytes = omega arith; short = λ none. front_fits }
+by_front bound at text fits (Wrong why) front_fits later = record { bytes = omega arith; short = λ none. absurd (cc) }
+by_front bound at text fits (Whole frame) front_fits later =
+    let rest = drop (frame_length frame) text in
+    let r = reading_within bound (at + frame_length frame) rest in
+    let m = later rest (at + frame_length frame) (omega (arith, fits, front_fits.0, front_fits.1, length-drop (frame_length frame) text)) in
     record {
-      within = within;
-      named = λ default. rw this refl;
-      changed = changed_first id chain chains this;
-      removed = rw this refl;
+      bytes = omega (arith, front_fits.0, m.bytes, length-drop (frame_length frame) text, sum_by-cons (λ (x : PlacedFrame). frame_length x.frame) (record { at = at; frame = frame }) r.frames);
+      short = m.short;
     }
-place_of_first id (chain ∷ chains) (suc i) within here before =
-    let other : is_named id chain ≡ false = before zero chain (omega arith) in
-    after_another id chain chains i other (place_of_first id chains i (omega arith) here (λ k d less. before (suc k) d (omega arith)))
 
-pub place_found : (id : ℕ) (chains : List OpenChain) (i : ℕ) → position (is_named id) chains ≡ Some i → IsAt id chains i
-place_found id [] i is = absurd (cc is)
-place_found id (chain ∷ chains) i is =
-    place_of_first id (chain ∷ chains) i (position-Some (is_named id) (chain ∷ chains) i chain is).0
-      (λ d. (position-Some (is_named id) (chain ∷ chains) i d is).1)
-      (λ k d less. (position-Some (is_named id) (chain ∷ chains) i d is).2 k less)
+within_measured : (bound at : ℕ) (text : List ℕ) → length text ≤ bound → Measured text (reading_within bound at text)
+within_measured zero at text fits = record { bytes = omega arith; short = λ none. omega (arith, fits) }
+within_measured (suc bound) at text fits = by_front bound at text fits (front text) (front_fits_text text) (λ later at_later less. within_measured bound at_later later less)
 
-none_below : (n m : ℕ) → None ≡ cond (ltb n m) (Some n) None → m ≤ n
-none_below n m is = go (cases_Bool (ltb n m))
-  where
-    go : (ltb n m ≡ true) ⊎ (ltb n m ≡ false) → m ≤ n
-    go (inl less) = absurd (cc (rw less at is))
-    go (inr not_less) = grind (arith, nat_tests)
-
-none_in : (id : ℕ) (chains : List OpenChain) → length chains ≤ position_or_len (is_named id) chains → chain_named id chains ≡ None
-none_in id [] all = refl
-none_in id (chain ∷ chains) all = go (cases_Bool (is_named id chain)) (none_in id chains)
-  where
-    go : (is_named id chain ≡ true) ⊎ (is_named id chain ≡ false) → (length chains ≤ position_or_len (is_named id) chains → chain_named id chains ≡ None) → chain_named id (chain ∷ chains) ≡ None
-    go (inl here) later = absurd (let none = rw here at all in omega arith)
-    go (inr other) later = rw other (later (let more = rw other at all in omega arith))
-
-pub none_found : (id : ℕ) (chains : List OpenChain) → None ≡ position (is_named id) chains → chain_named id chains ≡ None
-none_found id chains is = none_in id chains (none_below (position_or_len (is_named id) chains) (length chains) is)
-
--- the turn of a fragment's frame
-
-pub of_fragment_turned : (shortest id : ℕ) (last : Bool) (new : PlacedFrame) (c : Control) (chain : OpenChain) → c.spot ≡ OfFragment id last →
-    chain_named id c.chains.items ≡ Some chain → turned shortest new c ≡ fragment_turn shortest id last new c chain
-of_fragment_turned shortest id last new c chain spot named = ap (λ s. turned_at shortest s new c) spot ∙ rw (named, turned_at) refl
-
-pub of_no_chain_turned : (shortest id : ℕ) (last : Bool) (new : PlacedFrame) (c : Control) → c.spot ≡ OfFragment id last →
-    chain_named id c.chains.items ≡ None → turned shortest new c ≡ fails_at new BadFragment c
-of_no_chain_turned shortest id last new c spot none = ap (λ s. turned_at shortest s new c) spot ∙ rw (none, turned_at) refl
+pub reading_measured : (at : ℕ) (text : List ℕ) → Measured text (reading at text)
+unfolding reading
+reading_measured at text = within_measured (length text) at text (omega arith)

@@ -1,6 +1,6 @@
 -- The limits of a message: a front of frames that fit fits too, and frames show a fault of size where they don't fit.
-use Rattle.std.proofs.Common.{◌≡◌, ℕ, ◌+◌, ◌≤◌, Bool, true, false, List, [], ◌∷◌, ◌++◌, length, sum_by, Option, Some, None, refl, sym, ◌∙◌, ap, ◌⊎◌, inl, inr, arith, length-append, nat_lt}
-use Rattle.std.proofs.lemmas.Bool.{cases_Bool, and_parts, and_from, and_cases, leb-true, le-leb, lt-leb, le-ltb, lt-ltb, ltb-true, ltb-false}
+use Rattle.std.proofs.Common.{◌≡◌, ◌≤◌, true, false, List, ◌++◌, length, sum_by, Some, None, refl, ◌⊎◌, inl, inr, arith, length-append, nat_lt}
+use Rattle.std.proofs.lemmas.Bool.{cases_Bool, and_parts, and_from, leb-true, le-leb, le-ltb}
 use Rattle.std.proofs.lemmas.Bool.Decides.{nat_tests}
 use Rattle.std.proofs.lemmas.List.Sums.{sum_by-append}
 use Rattle.frame_codec.specs.Frames.{frame_length}

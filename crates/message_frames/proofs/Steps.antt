@@ -1,12 +1,12 @@
 -- What one frame does, where the tests of its step are known.
-use Rattle.std.proofs.Common.{◌≡◌, ℕ, ◌+◌, ◌≤◌, Bool, true, false, not, List, [], ◌∷◌, ◌++◌, length, Option, Some, None, refl, sym, ◌∙◌, ap, ◌⊎◌, inl, inr, arith, eqb, nat_lt}
+use Rattle.std.proofs.Common.{◌≡◌, ℕ, ◌+◌, Bool, true, false, List, [], ◌∷◌, ◌++◌, length, None, refl, ◌⊎◌, inl, inr, arith, eqb, nat_lt}
 use Rattle.std.proofs.lemmas.Bool.{cases_Bool, and_parts, not-true}
 use Rattle.std.proofs.lemmas.Bool.Decides.{nat_tests}
 use Rattle.frame_codec.specs.Flags.{without_flag}
 use Rattle.frame_codec.specs.declared.frames.Frame.{Frame}
 use Rattle.frame_codec.specs.declared.frames.PlacedFrame.{PlacedFrame}
 use Rattle.frame_codec.specs.declared.flags.TheConstants.{FINAL}
-use Rattle.message_frames.specs.Assembly.{most_messages, most_chains, Chain, Assembly, Between, InMessage, InFragment, Step, Faulty, Goes, Gives, size_fault, first_payload, completed, in_message, in_fragment, at_header, between, is_unfragmented, is_final, is_header, begins_chain, ends_chain, chain_id, is_open, frames_of, with_frames, without}
+use Rattle.message_frames.specs.Assembly.{most_messages, most_chains, Chain, Assembly, Between, InMessage, InFragment, Goes, Gives, size_fault, first_payload, completed, in_message, in_fragment, at_header, between, is_unfragmented, is_final, is_header, begins_chain, ends_chain, chain_id, is_open, frames_of, with_frames, without}
 use Rattle.message_frames.specs.Merging.{may_complete, may_follow, opened}
 use Rattle.message_frames.specs.Grammar.{Fragment}
 

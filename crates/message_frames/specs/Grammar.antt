@@ -1,6 +1,6 @@
 -- The grammar of a connection's bytes: a stream is its prefix, followed by pieces one after the other.
 use Rattle.std.specs.Prelude.{ℕ, Bool, true, false, not, ◌&&◌, if◌then◌else◌, List, [], ◌∷◌, ◌++◌, flat_map}
-use Rattle.frame_codec.specs.Frames.{frame_bytes}
+use Rattle.frame_codec.specs.Laws.{spelled}
 use Rattle.frame_codec.specs.declared.frames.Frame.{Frame}
 use Rattle.message_frames.specs.Assembly.{is_unfragmented, is_final, is_header}
 use Rattle.message_frames.specs.Messages.{prefix_of}
@@ -35,7 +35,7 @@ piece_frames (Unfragmented frames) = frames
 piece_frames (Fragment header frames) = header ∷ frames
 
 abbrev pub piece_bytes : Piece → List ℕ
-piece_bytes piece = flat_map frame_bytes (piece_frames piece)
+piece_bytes piece = spelled (piece_frames piece)
 
 abbrev pub stream_of : Bool → List Piece → List ℕ
 stream_of prefix pieces = prefix_of prefix ++ flat_map piece_bytes pieces

@@ -6,3 +6,5 @@ pub mod Merging
 pub mod Tallies
 pub mod Turns
 pub mod Lists
+pub mod Laws
+pub mod Writing

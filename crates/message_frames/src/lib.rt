@@ -2,6 +2,7 @@
 #![tactic(auto)]
 
 mod control;
+pub mod laws;
 mod message;
 mod reader;
 mod tally;
