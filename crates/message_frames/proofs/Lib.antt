@@ -26,3 +26,4 @@ pub mod NoPiece
 pub mod Streams
 pub mod HeardPieces
 pub mod SoFar
+pub mod Rooms

@@ -1,5 +1,6 @@
 -- The frames of open messages, which are in numbered lists: with the control they are the state of a connection.
-use Rattle.std.specs.Prelude.{◌≡◌, ℕ, suc, ◌<◌, ◌≤◌, true, false, List, [], ◌∷◌, ◌++◌, map, slice_index_or, slice_set}
+use Rattle.std.specs.Prelude.{◌≡◌, ℕ, suc, ◌<◌, ◌≤◌, true, false, List, [], ◌∷◌, ◌++◌, length, map, slice_index_or, slice_set, vec_capacity}
+use Rattle.std.specs.Global.{Vec}
 use Rattle.frame_codec.specs.Flags.{without_flag}
 use Rattle.frame_codec.specs.declared.frames.Frame.{Frame}
 use Rattle.frame_codec.specs.declared.flags.TheConstants.{FINAL}
@@ -81,3 +82,17 @@ turn_step (Joins list count ending) lists frame next = ending_step ending (list_
 
 abbrev pub step_of : Turned → List (List Frame) → Frame → Step
 step_of t lists frame = turn_step t.turn lists frame (assembly_of t.after (lists_after t.turn lists frame))
+
+-- lists in memory
+
+abbrev pub frames_in : List (Vec Frame) → List (List Frame)
+frames_in lists = map (λ list. list.items) lists
+
+abbrev pub rooms_in : List (Vec Frame) → List ℕ
+rooms_in lists = map vec_capacity lists
+
+-- Lists that got room, and empty lists behind them: what they have stays.
+pub record GetRoom (old new : List (Vec Frame)) : Type 0 where
+  pub frames : (k : ℕ) → list_at (frames_in new) k ≡ list_at (frames_in old) k
+  pub rooms : (k : ℕ) → slice_index_or (rooms_in old) k 0 ≤ slice_index_or (rooms_in new) k 0
+  pub count : length old ≤ length new

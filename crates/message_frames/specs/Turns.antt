@@ -1,5 +1,5 @@
 -- Which frame goes where: what one frame more is, and what it does to the state of a connection, apart from the frames that came before it.
-use Rattle.std.specs.Prelude.{◌≡◌, ℕ, ◌+◌, ◌<◌, ◌==◌, slice_index_or, slice_set, remove, Bool, true, false, not, if◌then◌else◌, List, [], ◌∷◌, ◌++◌, length, Option, Some, None, Ok, Err, nat_lt}
+use Rattle.std.specs.Prelude.{◌≡◌, ℕ, ◌+◌, ◌<◌, ◌≤◌, ◌==◌, slice_index_or, slice_set, remove, Bool, true, false, not, if◌then◌else◌, List, [], ◌∷◌, ◌++◌, length, Option, Some, None, Ok, Err, nat_lt}
 use Rattle.std.specs.List.{list_any}
 use Rattle.frame_codec.specs.declared.frames.Frame.{Frame}
 use Rattle.frame_codec.specs.declared.frames.PlacedFrame.{PlacedFrame}
@@ -140,3 +140,36 @@ turned_at shortest (OfFragment id last) new c =
 -- one frame more, where a first payload has at least so many bytes
 abbrev pub turned : ℕ → PlacedFrame → Control → Turned
 turned shortest new c = turned_at shortest c.spot new c
+
+-- frames in order
+
+abbrev pub is_failing : Turn → Bool
+is_failing (Fails fault) = true
+is_failing Heads = false
+is_failing (Joins list count ending) = false
+
+-- the state after frames, up to the first that fails
+abbrev pub after_all : ℕ → List PlacedFrame → Control → Control
+after_all shortest [] c = c
+after_all shortest (new ∷ frames) c =
+    let t = turned shortest new c in
+    if is_failing t.turn then c else after_all shortest frames t.after
+
+-- The list that a turn joins is one of so many.
+abbrev pub JoinsBelow : ℕ → Turn → Type 0
+JoinsBelow count (Fails fault) = Unit {0}
+JoinsBelow count Heads = Unit {0}
+JoinsBelow count (Joins list joined ending) = list < count
+
+-- The list that a turn joins is there, and has room for so many frames as it then has. Rooms are the capacities of the lists.
+abbrev pub HasRoom : List ℕ → Turn → Type 0
+HasRoom rooms (Fails fault) = Unit {0}
+HasRoom rooms Heads = Unit {0}
+HasRoom rooms (Joins list count ending) = (list < length rooms) × (count ≤ slice_index_or rooms list 0)
+
+-- Frames in order find their lists there, with room.
+abbrev pub HaveRoom : ℕ → List ℕ → List PlacedFrame → Control → Type 0
+HaveRoom shortest rooms [] c = c.lists ≤ length rooms
+HaveRoom shortest rooms (new ∷ frames) c =
+    let t = turned shortest new c in
+    (c.lists ≤ length rooms) × HasRoom rooms t.turn × (is_failing t.turn ≡ false → HaveRoom shortest rooms frames t.after)

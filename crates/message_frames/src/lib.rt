@@ -1,6 +1,7 @@
 //! Messages, read from the bytes of a connection in any pieces and written as bytes.
 #![tactic(auto)]
 
+mod assembler;
 mod control;
 pub mod laws;
 mod message;
