@@ -27,3 +27,5 @@ pub mod Streams
 pub mod HeardPieces
 pub mod SoFar
 pub mod Rooms
+pub mod SameLists
+pub mod Planning

@@ -62,3 +62,28 @@ fn make_room(
         Turn::Heads | Turn::Fails(_) => Ok(()),
     }
 }
+
+/// Room for what frames bring, up to the first that fails. Answers the control after them.
+fn plan(
+    alloc: Global,
+    shortest: usize,
+    control: &Control,
+    lists: &mut Vec<Vec<Frame>>,
+    frames: &[PlacedFrame],
+) -> Result<Control, Memory>
+    requires sound { IsSound control.now (frames_in lists.old.items) }
+    requires count { control.now.lists ≤ vec_len lists.old }
+    ensures same { GetRoom lists.old.items lists.new.items }
+    ensures after { IfOk result (λ after. after ≡ after_all shortest frames.now control.now) }
+    ensures room { OnOk result (HaveRoom shortest (rooms_in lists.new.items) frames.now control.now) }
+{
+    let mut after = control.copied();
+    for new in frames {
+        let turn = after.next(shortest, new);
+        if turn.is_failing() {
+            return Ok(after);
+        }
+        make_room(alloc, lists, after.lists, &turn)?;
+    }
+    Ok(after)
+}

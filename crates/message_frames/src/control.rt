@@ -1,6 +1,6 @@
 ghost use Rattle.std.specs.Prelude.{◌≡◌, ℕ, ◌+◌, ◌^◌, ◌<◌, length, None, Some, if◌then◌else◌, IfNone, position};
 ghost use Rattle.message_frames.specs.Assembly.{is_header, chain_id};
-ghost use Rattle.message_frames.specs.Turns.{at_first, is_named, chain_named, is_known, IsAt, header_turn, message_turn, fragment_turn, completion_fault, turned};
+ghost use Rattle.message_frames.specs.Turns.{at_first, is_named, chain_named, is_known, is_failing, IsAt, header_turn, message_turn, fragment_turn, completion_fault, turned};
 ghost use Rattle.message_frames.specs.declared.control.OpenChain.{OpenChain as OpenChainOf};
 
 use crate::tally::Tally;
@@ -78,6 +78,14 @@ pub(crate) enum Turn {
     },
 }
 
+impl Turn {
+    pub(crate) fn is_failing(&self) -> bool
+        ensures { result ≡ is_failing self.now }
+    {
+        matches!(self, Turn::Fails(_))
+    }
+}
+
 impl Control {
     /// The state at first.
     pub(crate) fn new() -> Self
@@ -88,6 +96,22 @@ impl Control {
             chains: ArrayVec::new(),
             lists: 0,
             complete: 0,
+        }
+    }
+
+    /// A second one, to look ahead with.
+    pub(crate) fn copied(&self) -> Self
+        ensures { result ≡ self.now }
+    {
+        let mut chains = ArrayVec::new();
+        chains
+            .try_extend_from_slice(self.chains.as_slice())
+            .unwrap();
+        Control {
+            spot: self.spot,
+            chains,
+            lists: self.lists,
+            complete: self.complete,
         }
     }
 
