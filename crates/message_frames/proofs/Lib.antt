@@ -29,3 +29,4 @@ pub mod SoFar
 pub mod Rooms
 pub mod SameLists
 pub mod Planning
+pub mod Live

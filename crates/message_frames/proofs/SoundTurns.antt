@@ -40,13 +40,13 @@ pub record NextIsSound (c : Control) (lists : List (List Frame)) (begun : Begun)
   pub chains : AreSound 0 c.chains.items begun.list lists
   pub unused : (k : ℕ) → more ≤ k → list_at lists k ≡ []
 
-end_of : {c : Control} {spot : Spot} {lists : List (List Frame)} → c.spot ≡ spot → IsSound c lists → AreSound 0 c.chains.items (chains_end spot c.lists) lists
+pub end_of : {c : Control} {spot : Spot} {lists : List (List Frame)} → c.spot ≡ spot → IsSound c lists → AreSound 0 c.chains.items (chains_end spot c.lists) lists
 end_of {c} {spot} {lists} is sound = subst (λ s. AreSound 0 c.chains.items (chains_end s c.lists) lists) is sound.chains
 
-spot_of : {c : Control} {spot : Spot} {lists : List (List Frame)} → c.spot ≡ spot → IsSound c lists → IsSoundSpot spot c lists
+pub spot_of : {c : Control} {spot : Spot} {lists : List (List Frame)} → c.spot ≡ spot → IsSound c lists → IsSoundSpot spot c lists
 spot_of {c} {spot} {lists} is sound = subst (λ s. IsSoundSpot s c lists) is sound.spot
 
-next_is_sound : (new : PlacedFrame) (c : Control) (lists : List (List Frame)) (begun : Begun) (more : ℕ) → IsNext new c begun more → IsSound c lists → NextIsSound c lists begun more
+pub next_is_sound : (new : PlacedFrame) (c : Control) (lists : List (List Frame)) (begun : Begun) (more : ℕ) → IsNext new c begun more → IsSound c lists → NextIsSound c lists begun more
 next_is_sound new c lists begun more (Begins free) sound = record {
   tally = ap tally_of (sym (sound.unused c.lists (omega arith)));
   list = omega arith;
