@@ -1,8 +1,9 @@
 -- Room in lists.
-use Rattle.std.proofs.Common.{◌≡◌, ◌≢◌, ℕ, zero, suc, ◌+◌, ◌<◌, ◌≤◌, List, [], ◌∷◌, ◌++◌, length, map, get_or, set, length-set, length-append, refl, sym, ◌∙◌, ap, ◌⊎◌, inl, inr, arith, vec_capacity}
+use Rattle.std.proofs.Common.{◌≡◌, ◌≢◌, ℕ, zero, suc, ◌+◌, ◌<◌, ◌≤◌, List, [], ◌∷◌, ◌++◌, length, map, get_or, set, get_or-set_other, length-set, length-append, refl, sym, ◌∙◌, ap, ◌⊎◌, inl, inr, arith, vec_capacity}
 use Rattle.std.specs.Global.{Vec}
+use Rattle.std.proofs.lemmas.List.{set-get_or, map-set}
 use Rattle.frame_codec.specs.declared.frames.Frame.{Frame}
-use Rattle.message_frames.specs.Lists.{list_at, frames_in, rooms_in, GetRoom}
+use Rattle.message_frames.specs.Lists.{list_at, frames_in, rooms_in, GetRoom, LosesRoom}
 
 pub same_room : (lists : List (Vec Frame)) → GetRoom lists lists
 same_room lists = record { frames = λ k. refl; rooms = λ k. omega arith; count = omega arith }
@@ -56,3 +57,31 @@ rooms_added (first ∷ lists) new (suc k) = rooms_added lists new k
 
 pub room_added : (lists : List (Vec Frame)) (new : Vec Frame) → new.items ≡ [] → GetRoom lists (lists ++ new ∷ [])
 room_added lists new none = record { frames = frames_added lists new none; rooms = rooms_added lists new; count = omega (arith, length-append {A = Vec Frame}) }
+
+-- one list replaced by another
+
+pub frames_in-set : (lists : List (Vec Frame)) (k : ℕ) (new : Vec Frame) → frames_in (set lists k new) ≡ set (frames_in lists) k new.items
+frames_in-set lists k new = map-set (λ (list : Vec Frame). list.items) lists k new
+
+pub rooms_in-set : (lists : List (Vec Frame)) (k : ℕ) (new : Vec Frame) → rooms_in (set lists k new) ≡ set (rooms_in lists) k (vec_capacity new)
+rooms_in-set lists k new = map-set vec_capacity lists k new
+
+pub frames_read : (lists : List (Vec Frame)) (k : ℕ) (old : Vec Frame) → k < length lists → old ≡ get_or lists k old → list_at (frames_in lists) k ≡ old.items
+frames_read [] k old within read = absurd (omega arith)
+frames_read (first ∷ lists) zero old within read = ap (λ (v : Vec Frame). v.items) (sym read)
+frames_read (first ∷ lists) (suc k) old within read = frames_read lists k old (omega arith) read
+
+pub room_read : (lists : List (Vec Frame)) (k : ℕ) (old : Vec Frame) → k < length lists → old ≡ get_or lists k old → get_or (rooms_in lists) k 0 ≡ vec_capacity old
+room_read [] k old within read = absurd (omega arith)
+room_read (first ∷ lists) zero old within read = ap (λ (v : Vec Frame). vec_capacity v) (sym read)
+room_read (first ∷ lists) (suc k) old within read = room_read lists k old (omega arith) read
+
+pub rooms_kept : (lists : List (Vec Frame)) (k : ℕ) (old new : Vec Frame) → k < length lists → old ≡ get_or lists k old → vec_capacity new ≡ vec_capacity old → rooms_in (set lists k new) ≡ rooms_in lists
+rooms_kept lists k old new within read same =
+    rooms_in-set lists k new ∙ ap (λ room. set (rooms_in lists) k room) (same ∙ sym (room_read lists k old within read)) ∙ set-get_or (rooms_in lists) k 0
+
+pub room_lost : (lists : List (Vec Frame)) (k : ℕ) (new : Vec Frame) → LosesRoom (rooms_in lists) (rooms_in (set lists k new)) k
+room_lost lists k new = rw (rooms_in-set lists k new) (record {
+  count = length-set (rooms_in lists) k (vec_capacity new);
+  others = λ j other. get_or-set_other (rooms_in lists) k j (vec_capacity new) 0 other;
+})

@@ -1,5 +1,5 @@
 -- The frames of open messages, which are in numbered lists: with the control they are the state of a connection.
-use Rattle.std.specs.Prelude.{◌≡◌, ℕ, suc, ◌<◌, ◌≤◌, true, false, List, [], ◌∷◌, ◌++◌, length, map, slice_index_or, slice_set, vec_capacity}
+use Rattle.std.specs.Prelude.{◌≡◌, ◌≢◌, ℕ, suc, ◌<◌, ◌≤◌, true, false, List, [], ◌∷◌, ◌++◌, length, map, slice_index_or, slice_set, vec_len, vec_capacity}
 use Rattle.std.specs.Global.{Vec}
 use Rattle.frame_codec.specs.Flags.{without_flag}
 use Rattle.frame_codec.specs.declared.frames.Frame.{Frame}
@@ -7,6 +7,7 @@ use Rattle.frame_codec.specs.declared.flags.TheConstants.{FINAL}
 use Rattle.message_frames.specs.Assembly.{Assembly, Chain, Place, Between, InMessage, InFragment, Step, Faulty, Goes, Gives}
 use Rattle.message_frames.specs.Tallies.{tally_of}
 use Rattle.message_frames.specs.Turns.{Turned, is_known}
+use Rattle.message_frames.specs.declared.message.Message.{Message}
 use Rattle.message_frames.specs.declared.control.OpenChain.{OpenChain}
 use Rattle.message_frames.specs.declared.control.Spot.{Spot}
 use Rattle.message_frames.specs.declared.control.Spot.TheVariants.{Free, OfMessage, OfFragment}
@@ -96,3 +97,25 @@ pub record GetRoom (old new : List (Vec Frame)) : Type 0 where
   pub frames : (k : ℕ) → list_at (frames_in new) k ≡ list_at (frames_in old) k
   pub rooms : (k : ℕ) → slice_index_or (rooms_in old) k 0 ≤ slice_index_or (rooms_in new) k 0
   pub count : length old ≤ length new
+
+-- One list is replaced, and what room it had. The others keep theirs.
+pub record LosesRoom (old new : List ℕ) (list : ℕ) : Type 0 where
+  pub count : length new ≡ length old
+  pub others : (k : ℕ) → k ≢ list → slice_index_or new k 0 ≡ slice_index_or old k 0
+
+abbrev pub KeepsRoom : Ending → List ℕ → List ℕ → ℕ → Type 0
+KeepsRoom GoesOn old new list = new ≡ old
+KeepsRoom EndsFragment old new list = new ≡ old
+KeepsRoom EndsMessage old new list = LosesRoom old new list
+
+-- a message that is given needs room among those that are given
+abbrev pub HasNumber : Ending → Vec Message → Type 0
+HasNumber GoesOn messages = Unit {0}
+HasNumber EndsFragment messages = Unit {0}
+HasNumber EndsMessage messages = vec_len messages < vec_capacity messages
+
+-- the message that a frame ends, if it ends one
+abbrev pub given : Ending → List Frame → List Message
+given GoesOn frames = []
+given EndsFragment frames = []
+given EndsMessage frames = record { frames = frames } ∷ []

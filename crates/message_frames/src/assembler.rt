@@ -1,7 +1,8 @@
 //! The messages in progress: the control and the frames that it speaks of, in numbered lists.
-ghost use Rattle.std.specs.Prelude.{◌≡◌, ℕ, ◌+◌, ◌-◌, ◌^◌, ◌<◌, ◌≤◌, [], ◌++◌, length, vec_len, vec_capacity, slice_index, OnOk, OnErr, IfOk};
+ghost use Rattle.std.specs.Prelude.{◌≡◌, ℕ, ◌+◌, ◌-◌, ◌^◌, ◌<◌, ◌≤◌, [], ◌∷◌, ◌++◌, length, vec_len, vec_capacity, slice_index, slice_set, OnOk, OnErr, IfOk};
+ghost use Rattle.message_frames.specs.Assembly.{assembled};
 ghost use Rattle.message_frames.specs.Turns.{JoinsBelow, HasRoom, HaveRoom, after_all};
-ghost use Rattle.message_frames.specs.Lists.{frames_in, rooms_in, GetRoom, assembly_of, IsSound};
+ghost use Rattle.message_frames.specs.Lists.{list_at, frames_in, rooms_in, GetRoom, LosesRoom, KeepsRoom, HasNumber, given, ended, assembly_of, IsSound};
 
 use crate::control::{Control, Ending, Turn};
 use crate::message::{Frames, Message};
@@ -86,4 +87,92 @@ fn plan(
         make_room(alloc, lists, after.lists, &turn)?;
     }
     Ok(after)
+}
+
+/// Takes a frame to the end of a list, which has room for it.
+fn append(lists: &mut Vec<Vec<Frame>>, list: usize, frame: Frame)
+    requires list { list < vec_len lists.old }
+    requires room { length (list_at (frames_in lists.old.items) list) < slice_index (rooms_in lists.old.items) list }
+    ensures frames { frames_in lists.new.items ≡ slice_set (frames_in lists.old.items) list (list_at (frames_in lists.old.items) list ++ frame ∷ []) }
+    ensures rooms { rooms_in lists.new.items ≡ rooms_in lists.old.items }
+{
+    lists[list].push_reserved(frame);
+}
+
+/// Gives a list away as a message.
+fn give(alloc: Global, lists: &mut Vec<Vec<Frame>>, list: usize, messages: &mut Vec<Message>)
+    requires list { list < vec_len lists.old }
+    requires room { vec_len messages.old < vec_capacity messages.old }
+    ensures frames { frames_in lists.new.items ≡ slice_set (frames_in lists.old.items) list [] }
+    ensures rooms { LosesRoom (rooms_in lists.old.items) (rooms_in lists.new.items) list }
+    ensures given { messages.new.items ≡ messages.old.items ++ record { frames = list_at (frames_in lists.old.items) list } ∷ [] }
+    ensures count { vec_len messages.new ≡ vec_len messages.old + 1 }
+    ensures capacity { vec_capacity messages.new ≡ vec_capacity messages.old }
+{
+    let frames = mem::replace(&mut lists[list], Vec::new(alloc));
+    messages.push_reserved(Message {
+        frames: Frames::from_vec(frames),
+    });
+}
+
+/// Takes a frame to the end of its list, and gives the list away where the frame ends its message.
+fn join(
+    alloc: Global,
+    lists: &mut Vec<Vec<Frame>>,
+    list: usize,
+    ending: Ending,
+    mut frame: Frame,
+    messages: &mut Vec<Message>,
+)
+    requires list { list < vec_len lists.old }
+    requires room { length (list_at (frames_in lists.old.items) list) < slice_index (rooms_in lists.old.items) list }
+    requires number { HasNumber ending messages.old }
+    ensures lists { frames_in lists.new.items ≡ ended ending (frames_in lists.old.items) list frame }
+    ensures rooms { KeepsRoom ending (rooms_in lists.old.items) (rooms_in lists.new.items) list }
+    ensures given { messages.new.items ≡ messages.old.items ++ given ending (list_at (frames_in lists.old.items) list ++ frame ∷ []) }
+    ensures capacity { vec_capacity messages.new ≡ vec_capacity messages.old }
+{
+    match ending {
+        Ending::GoesOn => append(lists, list, frame),
+        Ending::EndsFragment => {
+            frame.clear(FINAL);
+            append(lists, list, frame);
+        }
+        Ending::EndsMessage => {
+            append(lists, list, frame);
+            give(alloc, lists, list, messages);
+        }
+    }
+}
+
+/// Takes frames to their lists, up to the first that fails, and adds each message that is whole. Answers the fault.
+fn assemble(
+    alloc: Global,
+    shortest: usize,
+    control: &mut Control,
+    lists: &mut Vec<Vec<Frame>>,
+    frames: Vec<PlacedFrame>,
+    messages: &mut Vec<Message>,
+) -> Option<Malformed>
+    requires sound { IsSound control.old (frames_in lists.old.items) }
+    requires room { HaveRoom shortest (rooms_in lists.old.items) frames.items control.old }
+    requires numbers { vec_len messages.old + ((after_all shortest frames.items control.old).complete - control.old.complete) ≤ vec_capacity messages.old }
+    ensures messages { messages.new.items ≡ messages.old.items ++ (assembled shortest frames.items (assembly_of control.old (frames_in lists.old.items))).messages }
+    ensures fault { result ≡ (assembled shortest frames.items (assembly_of control.old (frames_in lists.old.items))).fault }
+    ensures after { assembly_of control.new (frames_in lists.new.items) ≡ (assembled shortest frames.items (assembly_of control.old (frames_in lists.old.items))).after }
+    ensures sound { IsSound control.new (frames_in lists.new.items) }
+    ensures control { control.new ≡ after_all shortest frames.items control.old }
+    ensures lists { vec_len lists.new ≡ vec_len lists.old }
+{
+    let mut rest = frames.into_iter();
+    while let Some(new) = rest.next() {
+        match control.next(shortest, &new) {
+            Turn::Fails(fault) => return Some(fault),
+            Turn::Heads => {}
+            Turn::Joins { list, ending, .. } => {
+                join(alloc, lists, list, ending, new.frame, messages);
+            }
+        }
+    }
+    None
 }
