@@ -30,3 +30,4 @@ pub mod Rooms
 pub mod SameLists
 pub mod Planning
 pub mod Live
+pub mod Assembling

@@ -130,6 +130,7 @@ fn join(
     ensures lists { frames_in lists.new.items ≡ ended ending (frames_in lists.old.items) list frame }
     ensures rooms { KeepsRoom ending (rooms_in lists.old.items) (rooms_in lists.new.items) list }
     ensures given { messages.new.items ≡ messages.old.items ++ given ending (list_at (frames_in lists.old.items) list ++ frame ∷ []) }
+    ensures count { vec_len messages.new ≡ vec_len messages.old + length (given ending (list_at (frames_in lists.old.items) list ++ frame ∷ [])) }
     ensures capacity { vec_capacity messages.new ≡ vec_capacity messages.old }
 {
     match ending {
@@ -162,7 +163,7 @@ fn assemble(
     ensures after { assembly_of control.new (frames_in lists.new.items) ≡ (assembled shortest frames.items (assembly_of control.old (frames_in lists.old.items))).after }
     ensures sound { IsSound control.new (frames_in lists.new.items) }
     ensures control { control.new ≡ after_all shortest frames.items control.old }
-    ensures lists { vec_len lists.new ≡ vec_len lists.old }
+    ensures count { control.new.lists ≤ vec_len lists.new }
 {
     let mut rest = frames.into_iter();
     while let Some(new) = rest.next() {
