@@ -31,3 +31,4 @@ pub mod SameLists
 pub mod Planning
 pub mod Live
 pub mod Assembling
+pub mod Settling

@@ -57,7 +57,7 @@ of_more k id list (first ∷ chains) (inr rest) = ⊎_elim (λ of. inl (inr of))
 
 -- a chain's list lies within the bounds
 
-of_within : (k from : ℕ) (chains : List OpenChain) (end : ℕ) (lists : List (List Frame)) → AreSound from chains end lists → IsOfChain k chains → (from ≤ k) × (k < end)
+pub of_within : (k from : ℕ) (chains : List OpenChain) (end : ℕ) (lists : List (List Frame)) → AreSound from chains end lists → IsOfChain k chains → (from ≤ k) × (k < end)
 of_within k from [] end lists sound of = absurd of
 of_within k from (first ∷ chains) end lists sound (inl here) =
     let above : from ≤ first.list = sound.0 in

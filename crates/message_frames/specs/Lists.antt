@@ -119,3 +119,28 @@ abbrev pub given : Ending → List Frame → List Message
 given GoesOn frames = []
 given EndsFragment frames = []
 given EndsMessage frames = record { frames = frames } ∷ []
+
+-- chains with lists numbered from one number on, in their order
+abbrev pub renumbered : ℕ → List OpenChain → List OpenChain
+renumbered n [] = []
+renumbered n (chain ∷ chains) = record chain { list = n } ∷ renumbered (suc n) chains
+
+abbrev pub lists_of : List (List Frame) → List OpenChain → List (List Frame)
+lists_of lists chains = map (λ (chain : OpenChain). list_at lists chain.list) chains
+
+-- a message in progress, with another list
+
+abbrev pub IsBelow : Spot → ℕ → Type 0
+IsBelow Free count = Unit {0}
+IsBelow (OfMessage begun) count = begun.list < count
+IsBelow (OfFragment id last) count = Unit {0}
+
+abbrev pub spot_with : ℕ → Spot → Spot
+spot_with list Free = Free
+spot_with list (OfMessage begun) = OfMessage (record begun { list = list })
+spot_with list (OfFragment id last) = OfFragment id last
+
+abbrev pub spot_lists : List (List Frame) → Spot → List (List Frame)
+spot_lists lists Free = []
+spot_lists lists (OfMessage begun) = list_at lists begun.list ∷ []
+spot_lists lists (OfFragment id last) = []

@@ -2,10 +2,11 @@
 ghost use Rattle.std.specs.Prelude.{◌≡◌, ℕ, ◌+◌, ◌-◌, ◌^◌, ◌<◌, ◌≤◌, [], ◌∷◌, ◌++◌, length, vec_len, vec_capacity, slice_index, slice_set, OnOk, OnErr, IfOk};
 ghost use Rattle.message_frames.specs.Assembly.{assembled};
 ghost use Rattle.message_frames.specs.Turns.{JoinsBelow, HasRoom, HaveRoom, after_all};
-ghost use Rattle.message_frames.specs.Lists.{list_at, frames_in, rooms_in, GetRoom, LosesRoom, KeepsRoom, HasNumber, given, ended, assembly_of, IsSound};
+ghost use Rattle.message_frames.specs.Lists.{list_at, frames_in, rooms_in, GetRoom, LosesRoom, KeepsRoom, HasNumber, given, ended, assembly_of, AreSound, IsSound, renumbered, lists_of, IsBelow, spot_with, spot_lists};
 
-use crate::control::{Control, Ending, Turn};
+use crate::control::{Begun, Control, Ending, MOST_CHAINS, OpenChain, Spot, Turn};
 use crate::message::{Frames, Message};
+use arrayvec::ArrayVec;
 use frame_codec::flags::FINAL;
 use frame_codec::{Frame, Malformed, PlacedFrame};
 use grid_base::Memory;
@@ -176,4 +177,82 @@ fn assemble(
         }
     }
     None
+}
+
+/// Moves the lists of chains behind those that are kept, in their order. Answers the chains with their new lists.
+fn move_chains(
+    alloc: Global,
+    chains: &[OpenChain],
+    lists: &mut Vec<Vec<Frame>>,
+    kept: &mut Vec<Vec<Frame>>,
+) -> ArrayVec<OpenChain, MOST_CHAINS>
+    requires sound { AreSound 0 chains.now (vec_len lists.old) (frames_in lists.old.items) }
+    requires few { length chains.now ≤ MOST_CHAINS }
+    requires none { kept.old.items ≡ [] }
+    requires room { length chains.now ≤ vec_capacity kept.old }
+    ensures chains { result.items ≡ renumbered 0 chains.now }
+    ensures kept { frames_in kept.new.items ≡ lists_of (frames_in lists.old.items) chains.now }
+    ensures others { (k : ℕ) → AreSound 0 chains.now k (frames_in lists.old.items) → list_at (frames_in lists.new.items) k ≡ list_at (frames_in lists.old.items) k }
+    ensures count { vec_len lists.new ≡ vec_len lists.old }
+    ensures kept_count { vec_len kept.new ≡ length chains.now }
+    ensures capacity { vec_capacity kept.new ≡ vec_capacity kept.old }
+{
+    let mut moved = ArrayVec::new();
+    for chain in chains {
+        kept.push_reserved(mem::replace(&mut lists[chain.list], Vec::new(alloc)));
+        moved.push(OpenChain {
+            id: chain.id,
+            list: moved.len(),
+            tally: chain.tally,
+        });
+    }
+    moved
+}
+
+/// Moves the list of a message in progress behind those that are kept. Answers the spot with its new list.
+fn move_message(
+    alloc: Global,
+    spot: Spot,
+    lists: &mut Vec<Vec<Frame>>,
+    kept: &mut Vec<Vec<Frame>>,
+) -> Spot
+    requires list { IsBelow spot (vec_len lists.old) }
+    requires room { vec_len kept.old < vec_capacity kept.old }
+    ensures spot { result ≡ spot_with (vec_len kept.old) spot }
+    ensures kept { frames_in kept.new.items ≡ frames_in kept.old.items ++ spot_lists (frames_in lists.old.items) spot }
+    ensures count { vec_len kept.new ≡ vec_len kept.old + length (spot_lists (frames_in lists.old.items) spot) }
+{
+    match spot {
+        Spot::OfMessage(Begun { at, list, tally }) => {
+            let place = kept.len();
+            kept.push_reserved(mem::replace(&mut lists[list], Vec::new(alloc)));
+            Spot::OfMessage(Begun {
+                at,
+                list: place,
+                tally,
+            })
+        }
+        Spot::Free | Spot::OfFragment { .. } => spot,
+    }
+}
+
+/// Numbers the lists of open messages anew, from 0 on, and lets the others go.
+fn settle(
+    alloc: Global,
+    control: &mut Control,
+    lists: &mut Vec<Vec<Frame>>,
+    mut kept: Vec<Vec<Frame>>,
+)
+    requires sound { IsSound control.old (frames_in lists.old.items) }
+    requires count { control.old.lists ≤ vec_len lists.old }
+    requires none { kept.items ≡ [] }
+    requires room { length control.old.chains.items < vec_capacity kept }
+    ensures same { assembly_of control.new (frames_in lists.new.items) ≡ assembly_of control.old (frames_in lists.old.items) }
+    ensures sound { IsSound control.new (frames_in lists.new.items) }
+    ensures count { control.new.lists ≤ vec_len lists.new }
+{
+    control.chains = move_chains(alloc, control.chains.as_slice(), lists, &mut kept);
+    control.spot = move_message(alloc, control.spot, lists, &mut kept);
+    control.lists = kept.len();
+    *lists = kept;
 }
