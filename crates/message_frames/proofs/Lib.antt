@@ -32,3 +32,4 @@ pub mod Planning
 pub mod Live
 pub mod Assembling
 pub mod Settling
+pub mod Settled

@@ -54,14 +54,14 @@ apart_before from (first ∷ before) chain after end lists sound (inr rest) = ap
 
 -- the lists in their new order
 
-at_seam : (front : List (List Frame)) (frames : List Frame) (rest : List (List Frame)) → list_at (front ++ frames ∷ rest) (length front) ≡ frames
+pub at_seam : (front : List (List Frame)) (frames : List Frame) (rest : List (List Frame)) → list_at (front ++ frames ∷ rest) (length front) ≡ frames
 at_seam [] frames rest = refl
 at_seam (first ∷ front) frames rest = at_seam front frames rest
 
 length-push : (front : List (List Frame)) (frames : List Frame) → length (front ++ frames ∷ []) ≡ suc (length front)
 length-push front frames = omega (arith, length-append front (frames ∷ []))
 
-is_known-renumbered : (id n : ℕ) (chains : List OpenChain) → is_known id (renumbered n chains) ≡ is_known id chains
+pub is_known-renumbered : (id n : ℕ) (chains : List OpenChain) → is_known id (renumbered n chains) ≡ is_known id chains
 is_known-renumbered id n [] = refl
 is_known-renumbered id n (chain ∷ chains) = ap (λ rest. is_named id chain || rest) (is_known-renumbered id (suc n) chains)
 
