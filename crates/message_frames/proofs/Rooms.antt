@@ -1,5 +1,5 @@
 -- Room in lists.
-use Rattle.std.proofs.Common.{◌≡◌, ◌≢◌, ℕ, zero, suc, ◌+◌, ◌<◌, ◌≤◌, List, [], ◌∷◌, ◌++◌, length, map, get_or, set, get_or-set_other, length-set, length-append, refl, sym, ◌∙◌, ap, ◌⊎◌, inl, inr, arith, vec_capacity}
+use Rattle.std.proofs.Common.{◌≡◌, ◌≢◌, ℕ, zero, suc, ◌+◌, ◌<◌, ◌≤◌, List, [], ◌∷◌, ◌++◌, length, map, get_or, set, take, get_or-set_other, length-set, length-append, refl, sym, ◌∙◌, ap, ◌⊎◌, inl, inr, arith, vec_capacity}
 use Rattle.std.specs.Global.{Vec}
 use Rattle.std.proofs.lemmas.List.{set-get_or, map-set}
 use Rattle.frame_codec.specs.declared.frames.Frame.{Frame}
@@ -85,3 +85,10 @@ room_lost lists k new = rw (rooms_in-set lists k new) (record {
   count = length-set (rooms_in lists) k (vec_capacity new);
   others = λ j other. get_or-set_other (rooms_in lists) k j (vec_capacity new) 0 other;
 })
+
+-- unused lists that are let go
+pub unused_dropped : (n : ℕ) (lists : List (Vec Frame)) → ((k : ℕ) → n ≤ k → list_at (frames_in lists) k ≡ []) → (k : ℕ) → list_at (frames_in (take n lists)) k ≡ list_at (frames_in lists) k
+unused_dropped zero lists unused k = sym (unused k (omega arith))
+unused_dropped (suc n) [] unused k = refl
+unused_dropped (suc n) (first ∷ lists) unused zero = refl
+unused_dropped (suc n) (first ∷ lists) unused (suc k) = unused_dropped n lists (λ j above. unused (suc j) (omega arith)) k

@@ -8,3 +8,4 @@ pub mod Turns
 pub mod Lists
 pub mod Laws
 pub mod Writing
+pub mod Assemblers

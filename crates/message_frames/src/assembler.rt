@@ -1,8 +1,9 @@
 //! The messages in progress: the control and the frames that it speaks of, in numbered lists.
 ghost use Rattle.std.specs.Prelude.{◌≡◌, ℕ, ◌+◌, ◌-◌, ◌^◌, ◌<◌, ◌≤◌, [], ◌∷◌, ◌++◌, length, vec_len, vec_capacity, slice_index, slice_set, OnOk, OnErr, IfOk};
-ghost use Rattle.message_frames.specs.Assembly.{assembled};
+ghost use Rattle.message_frames.specs.Assembly.{assembled, nothing_yet};
+ghost use Rattle.message_frames.specs.Assemblers.{state_of, IsSoundAssembler, IsRoomAfter, IsRoomFor};
 ghost use Rattle.message_frames.specs.Turns.{JoinsBelow, HasRoom, HaveRoom, after_all};
-ghost use Rattle.message_frames.specs.Lists.{list_at, frames_in, rooms_in, GetRoom, LosesRoom, KeepsRoom, HasNumber, given, ended, assembly_of, AreSound, IsSound, renumbered, lists_of, IsBelow, spot_with, spot_lists};
+ghost use Rattle.message_frames.specs.Lists.{list_at, frames_in, rooms_in, GetRoom, LosesRoom, KeepsRoom, HasNumber, given, ended, assembly_of, AreSound, IsSound,  renumbered, lists_of, IsBelow, spot_with, spot_lists};
 
 use crate::control::{Begun, Control, Ending, MOST_CHAINS, OpenChain, Spot, Turn};
 use crate::message::{Frames, Message};
@@ -13,13 +14,85 @@ use grid_base::Memory;
 use std::alloc::Global;
 use std::mem;
 
+/// How many lists there may be before those of open messages are numbered anew.
+const MANY_LISTS: usize = 64;
+
 /// The messages in progress on a connection.
 #[derive(Drop)]
 pub(crate) struct Assembler {
     /// How many bytes a first payload has at least.
-    shortest: usize,
-    control: Control,
-    lists: Vec<Vec<Frame>>,
+    pub(crate) shortest: usize,
+    pub(crate) control: Control,
+    pub(crate) lists: Vec<Vec<Frame>>,
+}
+
+/// Room for the messages that frames give, and for the lists that they leave where there are many.
+#[derive(Drop)]
+pub(crate) struct Room {
+    pub(crate) messages: Vec<Message>,
+    pub(crate) kept: Option<Vec<Vec<Frame>>>,
+}
+
+impl Assembler {
+    /// No messages, of which each first payload is to have at least so many bytes. Takes no memory.
+    pub(crate) fn new(alloc: Global, shortest: usize) -> Self
+        ensures shortest { result.shortest ≡ shortest }
+        ensures sound { IsSoundAssembler result }
+        ensures state { state_of result ≡ nothing_yet }
+    {
+        Assembler {
+            shortest,
+            control: Control::new(),
+            lists: Vec::new(alloc),
+        }
+    }
+
+    /// Makes room for what frames bring, at the cost of their number. Nothing else changes. Want of memory gives back what room was new.
+    pub(crate) fn prepare(&mut self, alloc: Global, frames: &[PlacedFrame]) -> Result<Room, Memory>
+        requires { IsSoundAssembler self.old }
+        ensures shortest { self.new.shortest ≡ self.old.shortest }
+        ensures state { state_of self.new ≡ state_of self.old }
+        ensures sound { IsSoundAssembler self.new }
+        ensures room { IfOk result (λ room. IsRoomFor self.new room frames.now) }
+    {
+        match room_for(alloc, self.shortest, &self.control, &mut self.lists, frames) {
+            Ok(room) => Ok(room),
+            Err(memory) => {
+                self.lists.truncate(self.control.lists);
+                Err(memory)
+            }
+        }
+    }
+
+    /// Takes frames for which there is room, up to the first fault, and gives the messages that they complete. Takes no memory.
+    pub(crate) fn take(
+        &mut self,
+        alloc: Global,
+        frames: Vec<PlacedFrame>,
+        room: Room,
+    ) -> (Vec<Message>, Option<Malformed>)
+        requires sound { IsSoundAssembler self.old }
+        requires room { IsRoomFor self.old room frames.items }
+        ensures shortest { self.new.shortest ≡ self.old.shortest }
+        ensures messages { result.0.items ≡ (assembled self.old.shortest frames.items (state_of self.old)).messages }
+        ensures fault { result.1 ≡ (assembled self.old.shortest frames.items (state_of self.old)).fault }
+        ensures state { state_of self.new ≡ (assembled self.old.shortest frames.items (state_of self.old)).after }
+        ensures sound { IsSoundAssembler self.new }
+    {
+        let Room { mut messages, kept } = room;
+        let fault = assemble(
+            alloc,
+            self.shortest,
+            &mut self.control,
+            &mut self.lists,
+            frames,
+            &mut messages,
+        );
+        if let Some(kept) = kept {
+            settle(alloc, &mut self.control, &mut self.lists, kept);
+        }
+        (messages, fault)
+    }
 }
 
 /// Room in a list for so many frames.
@@ -88,6 +161,37 @@ fn plan(
         make_room(alloc, lists, after.lists, &turn)?;
     }
     Ok(after)
+}
+
+/// Room for what frames bring: in the lists, for the messages, and for the lists that they leave.
+fn room_for(
+    alloc: Global,
+    shortest: usize,
+    control: &Control,
+    lists: &mut Vec<Vec<Frame>>,
+    frames: &[PlacedFrame],
+) -> Result<Room, Memory>
+    requires sound { IsSound control.now (frames_in lists.old.items) }
+    requires count { control.now.lists ≤ vec_len lists.old }
+    ensures same { GetRoom lists.old.items lists.new.items }
+    ensures room { OnOk result (HaveRoom shortest (rooms_in lists.new.items) frames.now control.now) }
+    ensures rest { IfOk result (λ room. IsRoomAfter control.now (after_all shortest frames.now control.now) room) }
+{
+    let after = plan(alloc, shortest, control, lists, frames)?;
+    let mut messages = Vec::new(alloc);
+    messages.reserve(after.complete.saturating_sub(control.complete) as usize)?;
+    if after.lists <= MANY_LISTS {
+        return Ok(Room {
+            messages,
+            kept: None,
+        });
+    }
+    let mut kept = Vec::new(alloc);
+    kept.reserve(after.chains.len() + 1)?;
+    Ok(Room {
+        messages,
+        kept: Some(kept),
+    })
 }
 
 /// Takes a frame to the end of a list, which has room for it.
