@@ -8,6 +8,7 @@ pub mod Weights
 pub mod Soundness
 pub mod Bounds
 pub mod Prefixes
+pub mod Packing
 pub mod FrameLaws
 pub mod Staying
 pub mod Places

@@ -1,5 +1,5 @@
 -- How a message is written: in one piece, or in fragments of whole frames.
-use Rattle.std.specs.Prelude.{ℕ, ◌-◌, Bool, true, false, if◌then◌else◌, List, [], ◌∷◌, All, IsTrue, nat_le, bit_or}
+use Rattle.std.specs.Prelude.{◌≡◌, ℕ, ◌-◌, ◌++◌, Bool, true, false, if◌then◌else◌, List, [], ◌∷◌, All, IsTrue, nat_le, bit_or}
 use Rattle.std.specs.Int.{w64, to_le_bytes}
 use Rattle.frame_codec.specs.Frames.{frame_length}
 use Rattle.frame_codec.specs.Laws.{IsWithinLimits}
@@ -13,6 +13,10 @@ pub record IsWritable (frames : List Frame) : Type 0 where
   pub each : All IsWithinLimits frames
   pub form : IsTrue (is_piece (Unfragmented frames))
   pub fits : IsTrue (fits frames)
+
+-- What stood in a buffer still stands at its front.
+abbrev pub KeepsFront : List ℕ → List ℕ → Type 0
+KeepsFront old new = (more : List ℕ) × (new ≡ old ++ more)
 
 -- packing
 
@@ -52,11 +56,16 @@ header_flags false false = 0
 abbrev pub header_of : ℕ → Bool → Bool → Frame
 header_of id first last = record { flags = header_flags first last; payload = to_le_bytes w64 id }
 
+-- the fragment of these frames, the chain's first or another, its last or not
+abbrev pub fragment_of : ℕ → Bool → Bool → List Frame → Piece
+fragment_of id first true frames = Fragment (header_of id first true) frames
+fragment_of id first false frames = Fragment (header_of id first false) (ended frames)
+
 -- the fragments of a chain from one on, its first or another
 abbrev pub chain_from : ℕ → Bool → List (List Frame) → List Piece
 chain_from id first [] = []
-chain_from id first (frames ∷ []) = Fragment (header_of id first true) frames ∷ []
-chain_from id first (frames ∷ next ∷ groups) = Fragment (header_of id first false) (ended frames) ∷ chain_from id false (next ∷ groups)
+chain_from id first (frames ∷ []) = fragment_of id first true frames ∷ []
+chain_from id first (frames ∷ next ∷ groups) = fragment_of id first false frames ∷ chain_from id false (next ∷ groups)
 
 -- A message that is one fragment is written unfragmented.
 abbrev pub chain_of_groups : ℕ → List (List Frame) → List Piece

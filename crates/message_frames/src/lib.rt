@@ -3,5 +3,7 @@
 
 pub mod laws;
 mod message;
+mod writing;
 
 pub use message::{Frames, Message};
+pub use writing::{write_fragments, write_message};
