@@ -8,6 +8,8 @@ pub mod Weights
 pub mod Soundness
 pub mod Bounds
 pub mod Prefixes
+pub mod FinalFlag
+pub mod Fragments
 pub mod Packing
 pub mod FrameLaws
 pub mod Staying
