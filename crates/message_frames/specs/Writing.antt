@@ -107,10 +107,11 @@ packing_is_full = (size : ℕ) (frames : List Frame) → IsPacking size frames (
 
 -- what is written
 
--- Further pieces go on a stream and add one message to its messages.
+-- Further pieces go on a stream, add one message to its messages, and leave the chains open that were open.
 pub record AddsMessage (shortest : ℕ) (pieces more : List Piece) (frames : List Frame) : Type 0 where
   pub stream : IsStream shortest (pieces ++ more)
   pub messages : messages_in (pieces ++ more) ≡ messages_in pieces ++ record { frames = frames } ∷ []
+  pub chains : open_after [] (pieces ++ more) ≡ open_after [] pieces
 
 -- A connection takes one more message of these frames: the first payload has a head, and there is a number left.
 pub record HasRoomFor (shortest : ℕ) (pieces : List Piece) (frames : List Frame) : Type 0 where
