@@ -11,6 +11,7 @@ pub mod Prefixes
 pub mod FinalFlag
 pub mod Fragments
 pub mod Packing
+pub mod PackingFull
 pub mod FrameLaws
 pub mod Staying
 pub mod Places
