@@ -12,6 +12,7 @@ pub mod FinalFlag
 pub mod Fragments
 pub mod Packing
 pub mod PackingFull
+pub mod Written
 pub mod FrameLaws
 pub mod Staying
 pub mod Places
