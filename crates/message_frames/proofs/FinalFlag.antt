@@ -1,10 +1,10 @@
 -- The final flag, one bit, set on a frame and taken away again.
-use Rattle.std.proofs.Common.{◌≡◌, ◌≢◌, ℕ, ◌+◌, ◌-◌, ◌*◌, ◌^◌, ◌<◌, ◌≤◌, min, max, Bool, true, false, not, eqb, bit_and, bit_or, List, [], ◌∷◌, ◌++◌, length, All, refl, sym, ◌∙◌, ap, ◌⊎◌, inl, inr, arith}
+use Rattle.std.proofs.Common.{◌≡◌, ℕ, ◌-◌, ◌^◌, ◌<◌, ◌≤◌, true, false, bit_and, refl, ◌∙◌, ap, ◌⊎◌, inl, inr, arith}
 use Rattle.std.specs.Int.{bit_at, w16}
-use Rattle.std.proofs.lemmas.Bool.{eqb-true, not-false, ne_eqb, not_from_false, cases_eq, cases_lt}
+use Rattle.std.proofs.lemmas.Bool.{eqb-true, not-false, cases_eq, cases_lt}
 use Rattle.std.proofs.lemmas.Nat.{and_or_self, and_or_apart, or_of_16}
 use Rattle.std.proofs.lemmas.Nat.Bits.{and_pow, bit_at_and, bit_at-lt, bit_at_above, same_from_bits, bit_at_not, bit_at-pow_other}
-use Rattle.frame_codec.specs.Flags.{has_flag, without_flag}
+use Rattle.frame_codec.specs.Flags.{without_flag}
 use Rattle.frame_codec.specs.Laws.{IsWithinLimits}
 use Rattle.frame_codec.specs.declared.frames.Frame.{Frame}
 use Rattle.frame_codec.specs.declared.flags.TheConstants.{FINAL}

@@ -1,21 +1,19 @@
 -- The fragments of a message, as pieces: they keep the rules, and merge to the message.
-use Rattle.std.proofs.Common.{◌≡◌, ◌≢◌, ℕ, zero, suc, ◌+◌, ◌-◌, ◌^◌, ◌<◌, ◌≤◌, Bool, true, false, not, ◌&&◌, List, [], ◌∷◌, ◌++◌, length, flat_map, sum_by, eqb, nat_lt, nat_le, refl, sym, ◌∙◌, ap, subst, ◌⊎◌, inl, inr, arith, append_assoc, append-nil, length-append}
-use Rattle.std.specs.Int.{w64, to_le_bytes, from_le_bytes}
-use Rattle.std.proofs.lemmas.Bool.{cases_Bool, and_parts, and_from, false≢true, not_from_false, le-leb, lt-ltb}
-use Rattle.std.proofs.lemmas.List.Sums.{sum_by-append, sum_by_push, sum_by-cons}
+use Rattle.std.proofs.Common.{◌≡◌, ℕ, suc, ◌^◌, ◌<◌, Bool, true, false, List, [], ◌∷◌, ◌++◌, length, flat_map, sum_by, nat_lt, refl, ◌∙◌, ap, arith, append_assoc, append-nil, length-append}
+use Rattle.std.proofs.lemmas.Bool.{and_from, lt-ltb}
+use Rattle.std.proofs.lemmas.List.Sums.{sum_by-append, sum_by-cons}
 use Rattle.std.proofs.lemmas.Nat.{from_le_bytes-to_le_bytes_8}
 use Rattle.frame_codec.specs.Frames.{frame_length}
 use Rattle.frame_codec.specs.Laws.{IsWithinLimits}
 use Rattle.frame_codec.specs.declared.frames.Frame.{Frame}
-use Rattle.frame_codec.specs.declared.flags.TheConstants.{FINAL}
-use Rattle.message_frames.specs.Assembly.{most_chains, Chain, is_final, is_unfragmented, is_header, is_open, begins_chain, ends_chain, chain_id, frames_of, with_frames, without}
-use Rattle.message_frames.specs.Grammar.{Piece, Unfragmented, Fragment, is_piece, is_empty, ends_at_final}
-use Rattle.message_frames.specs.Merging.{fits, may_complete, may_come, may_follow, unfinished, opened, merged, keeps_rules, completes, gathered, chains_after, complete_after, open_after}
-use Rattle.message_frames.specs.Writing.{with_flag, ended, header_of, fragment_of, chain_from}
-use Rattle.message_frames.proofs.Chains.{chain_of, same_id, frames_of_opened, open_when_opened, none_of_closed, changed_when_opened, without_opened}
+use Rattle.message_frames.specs.Assembly.{most_chains, Chain, is_final, is_open, chain_id, frames_of}
+use Rattle.message_frames.specs.Grammar.{Piece, is_piece, ends_at_final}
+use Rattle.message_frames.specs.Merging.{fits, may_complete, may_come, unfinished, merged, keeps_rules, completes, gathered, chains_after, open_after}
+use Rattle.message_frames.specs.Writing.{ended, header_of, fragment_of, chain_from}
+use Rattle.message_frames.proofs.Chains.{chain_of, frames_of_opened, open_when_opened, none_of_closed, changed_when_opened, without_opened}
 use Rattle.message_frames.proofs.FinalFlag.{final_when_set, unset_when_set, limits_when_set}
-use Rattle.message_frames.proofs.Pieces.{others_follow, last_is_final}
-use Rattle.message_frames.proofs.Sizes.{Fits, fits_is, is_fits, front_fits}
+use Rattle.message_frames.proofs.Pieces.{others_follow}
+use Rattle.message_frames.proofs.Sizes.{fits_is, is_fits, front_fits}
 
 -- the frames of a fragment that others follow
 

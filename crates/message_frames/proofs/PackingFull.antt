@@ -1,10 +1,10 @@
 -- Packing keeps the frames in order, gives no empty fragment, and fills each one.
-use Rattle.std.proofs.Common.{◌≡◌, ℕ, ◌+◌, ◌-◌, ◌<◌, ◌≤◌, Bool, true, false, List, [], ◌∷◌, ◌++◌, length, flat_map, sum_by, nat_le, refl, sym, ◌∙◌, ap, subst, ◌⊎◌, inl, inr, arith, append-nil, length-append}
+use Rattle.std.proofs.Common.{◌≡◌, ℕ, ◌+◌, ◌-◌, ◌<◌, ◌≤◌, true, false, List, [], ◌∷◌, ◌++◌, length, sum_by, nat_le, refl, sym, ◌∙◌, ap, subst, ◌⊎◌, inl, inr, arith, append-nil}
 use Rattle.std.proofs.lemmas.Bool.{cases_Bool, cases_lt}
 use Rattle.std.proofs.lemmas.List.Sums.{sum_by_push}
 use Rattle.frame_codec.specs.Frames.{frame_length}
 use Rattle.frame_codec.specs.declared.frames.Frame.{Frame}
-use Rattle.message_frames.specs.Writing.{with_first, packed_behind, packed, IsWithin, IsFull, ArePacked, IsPacking, packing_is_full}
+use Rattle.message_frames.specs.Writing.{with_first, packed_behind, packed, IsWithin, IsFull, ArePacked, packing_is_full}
 use Rattle.message_frames.proofs.Fragments.{joined_groups, EachSome}
 use Rattle.message_frames.proofs.Packing.{glued, glued_twice, packed_first, packed_fits, packed_full}
 

@@ -1,15 +1,14 @@
 -- What is written goes on a stream and adds its message.
-use Rattle.std.proofs.Common.{◌≡◌, ℕ, ◌+◌, ◌^◌, ◌<◌, ◌≤◌, Bool, true, false, List, [], ◌∷◌, ◌++◌, length, All, refl, sym, ◌∙◌, ap, subst, ◌⊎◌, inl, inr, arith, append_assoc, append-nil, add-zero, zero-add}
+use Rattle.std.proofs.Common.{◌≡◌, ℕ, ◌+◌, ◌<◌, Bool, true, false, List, [], ◌∷◌, ◌++◌, length, All, refl, sym, ◌∙◌, ap, subst, ◌⊎◌, inl, inr, arith, append-nil, add-zero, zero-add}
 use Rattle.std.proofs.lemmas.Bool.{cases_Bool, and_parts, and_from, false≢true, le-leb, lt-ltb}
 use Rattle.std.proofs.lemmas.List.Elements.{All-nil, All-cons, All-head, All-tail, All-append}
 use Rattle.frame_codec.specs.Laws.{IsWithinLimits}
 use Rattle.frame_codec.specs.declared.frames.Frame.{Frame}
-use Rattle.message_frames.specs.declared.message.Message.{Message}
-use Rattle.message_frames.specs.Assembly.{most_messages, Chain, Assembly, is_open, first_payload}
-use Rattle.message_frames.specs.Grammar.{Piece, Unfragmented, Fragment, is_piece, ends_at_final, piece_frames}
+use Rattle.message_frames.specs.Assembly.{Chain}
+use Rattle.message_frames.specs.Grammar.{Piece, Unfragmented, is_piece, ends_at_final}
 use Rattle.message_frames.specs.Laws.{IsStream, messages_in}
 use Rattle.message_frames.specs.Merging.{fits, may_complete, completes, gathered, merged, keeps_rules, chains_after, complete_after, open_after}
-use Rattle.message_frames.specs.Writing.{IsWritable, packed, header_of, fragment_of, chain_from, chain_of_groups, fragments_of, ended, AddsMessage, HasRoomFor, HasRoomForChain, a_written_message_is_heard, written_fragments_are_heard}
+use Rattle.message_frames.specs.Writing.{IsWritable, packed, header_of, fragment_of, chain_from, chain_of_groups, ended, AddsMessage, HasRoomFor, HasRoomForChain, a_written_message_is_heard, written_fragments_are_heard}
 use Rattle.message_frames.proofs.Fragments.{EachWithin, ended_within, Merges, fragments_merge, joined_groups, EachSome}
 use Rattle.message_frames.proofs.HeardPieces.{AreFrames}
 use Rattle.message_frames.proofs.PackingFull.{joined_packed, packed_groups, each_some}

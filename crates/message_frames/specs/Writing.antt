@@ -5,7 +5,6 @@ use Rattle.frame_codec.specs.Frames.{frame_length}
 use Rattle.frame_codec.specs.Laws.{IsWithinLimits}
 use Rattle.frame_codec.specs.declared.frames.Frame.{Frame}
 use Rattle.frame_codec.specs.declared.flags.TheConstants.{BEGIN_FRAGMENT, END_FRAGMENT, FINAL}
-use Rattle.message_frames.specs.declared.message.Message.{Message}
 use Rattle.message_frames.specs.Assembly.{most_chains, most_messages, is_open, first_payload}
 use Rattle.message_frames.specs.Grammar.{Piece, Unfragmented, Fragment, is_piece}
 use Rattle.message_frames.specs.Laws.{IsStream, messages_in}

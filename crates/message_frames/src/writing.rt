@@ -16,10 +16,7 @@ pub fn write_message(message: &Message, out: &mut Vec<u8>) -> Result<(), Memory>
 {
     let before = out.len();
     let written = write_frames(message.frames.as_slice(), out);
-    if written.is_err() {
-        out.truncate(before);
-    }
-    written
+    whole_or_nothing(written, before, out)
 }
 
 /// Appends a message in fragments of the chain with that id, at the cost of its bytes. Each fragment has as many whole
@@ -42,6 +39,19 @@ pub fn write_fragments(
     }
     let before = out.len();
     let written = write_chain(frames, id, size, out);
+    whole_or_nothing(written, before, out)
+}
+
+/// Takes back what an appending that failed left.
+fn whole_or_nothing(
+    written: Result<(), Memory>,
+    before: usize,
+    out: &mut Vec<u8>,
+) -> Result<(), Memory>
+    ensures same { result ≡ written }
+    ensures ok { OnOk result (out.new.items ≡ out.old.items) }
+    ensures err { OnErr result (out.new.items ≡ take before out.old.items) }
+{
     if written.is_err() {
         out.truncate(before);
     }
@@ -131,3 +141,6 @@ fn write_frames(frames: &[Frame], out: &mut Vec<u8>) -> Result<(), Memory>
     }
     Ok(())
 }
+
+#[cfg(test)]
+mod tests;
