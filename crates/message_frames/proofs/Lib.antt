@@ -23,3 +23,4 @@ pub mod NoPiece
 pub mod Streams
 pub mod HeardPieces
 pub mod SoFar
+pub mod Examples
