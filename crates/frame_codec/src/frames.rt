@@ -49,12 +49,22 @@ pub fn write_frame(frame: &Frame, out: &mut Vec<u8>) -> Result<(), Memory>
     ensures ok { OnOk result (out.new.items ≡ out.old.items ++ frame_bytes frame.now) }
     ensures err { OnErr result (out.new.items ≡ out.old.items) }
 {
-    let length = HEADER_LENGTH + frame.payload.len();
+    write_frame_of(frame.flags, frame.payload.as_slice(), out)
+}
+
+/// Appends the bytes of the frame that has these flags and this payload, at the cost of their
+/// number. Want of memory appends nothing.
+pub fn write_frame_of(flags: u16, payload: &[u8], out: &mut Vec<u8>) -> Result<(), Memory>
+    requires { length payload.now ≤ MAX_PAYLOAD }
+    ensures ok { OnOk result (out.new.items ≡ out.old.items ++ frame_bytes (record { flags = flags; payload = payload.now })) }
+    ensures err { OnErr result (out.new.items ≡ out.old.items) }
+{
+    let length = HEADER_LENGTH + payload.len();
     out.reserve(length)?;
     out.extend_from_slice(&(length as u32).to_le_bytes())
         .unwrap();
-    out.extend_from_slice(&frame.flags.to_le_bytes()).unwrap();
-    out.extend_from_slice(frame.payload.as_slice()).unwrap();
+    out.extend_from_slice(&flags.to_le_bytes()).unwrap();
+    out.extend_from_slice(payload).unwrap();
     Ok(())
 }
 

@@ -5,5 +5,7 @@ pub mod flags;
 mod frames;
 mod malformed;
 
-pub use frames::{Frame, HEADER_LENGTH, MAX_FRAME_LENGTH, MAX_PAYLOAD, PlacedFrame, write_frame};
+pub use frames::{
+    Frame, HEADER_LENGTH, MAX_FRAME_LENGTH, MAX_PAYLOAD, PlacedFrame, write_frame, write_frame_of,
+};
 pub use malformed::{Malformed, Why};

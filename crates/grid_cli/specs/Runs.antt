@@ -37,12 +37,13 @@ pub record Arrival : Type 0 where
   pub now : ℕ
   pub request : Request
 
--- a message appended to a connection's output at a line, and the call that it answers, if it answers one
+-- a message appended to a connection's output at a line: the call that it answers, if it answers one, and the call that it refuses, if it refuses one
 pub record Appended : Type 0 where
   pub conn : ℕ
   pub line : ℕ
   pub bytes : List ℕ
   pub answers : Option CallId
+  pub refuses : Option CallId
 
 pub record Run : Type 0 where
   pub members : ℕ
@@ -87,11 +88,11 @@ abbrev pub released_by : World Request → World Request → List (Executed Requ
 released_by before after = filter_map (executed_for after) (drop (length before.released) after.released)
 
 abbrev pub answer_to : ℕ → Executed Request → Appended
-answer_to line x = record { conn = x.conn; line = line; bytes = x.reply; answers = Some (id_of x) }
+answer_to line x = record { conn = x.conn; line = line; bytes = x.reply; answers = Some (id_of x); refuses = None }
 
--- a refusal, which answers no call
+-- A refusal answers no call: it names the call that wasn't executed.
 abbrev pub refusal : ℕ → Request → ℕ → ℕ → Appended
-refusal line request code first = record { conn = request.id.conn; line = line; bytes = error_bytes request.correlation code first 0; answers = None }
+refusal line request code first = record { conn = request.id.conn; line = line; bytes = error_bytes request.correlation code first 0; answers = None; refuses = Some request.id }
 
 abbrev pub refused_at : ℕ → Request → Reached → List Appended
 refused_at line request Executes = []
