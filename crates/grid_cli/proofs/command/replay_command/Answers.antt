@@ -1,5 +1,5 @@
 -- The clauses of the command that a proof answers.
-use Rattle.std.proofs.Common.{◌≡◌, sym, ◌∙◌, subst}
+use Rattle.std.proofs.Common.{subst}
 use Rattle.grid_cli.specs.Statuses.{WritesText}
 use Rattle.grid_cli.proofs.CommandLaws.{done_prints}
 use Rattle.grid_cli.proofs.command.replay_command.Goals as goal

@@ -1,4 +1,4 @@
-use Rattle.std.proofs.Common.{◌≡◌, ◌∙◌, ◌+◌, ◌++◌, List, ℕ, length, map, get_or, set, refl, ap, sym, arith}
+use Rattle.std.proofs.Common.{◌∙◌, ◌+◌, ◌++◌, List, ℕ, length, map, get_or, set, refl, ap, sym, arith}
 use Rattle.partition_world.specs.Worlds.{waiting}
 use Rattle.grid_cli.specs.declared.grid.Grid.{Grid}
 use Rattle.grid_cli.specs.Runs.{events_at}
