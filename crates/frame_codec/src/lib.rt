@@ -4,4 +4,6 @@
 pub mod flags;
 mod frames;
 
-pub use frames::{Frame, HEADER_LENGTH, MAX_FRAME_LENGTH, MAX_PAYLOAD, write_frame, write_frame_of};
+pub use frames::{
+    Frame, HEADER_LENGTH, MAX_FRAME_LENGTH, MAX_PAYLOAD, write_frame, write_frame_of,
+};
