@@ -1,16 +1,16 @@
 -- Two texts are the same exactly where their lines are.
 use Rattle.std.specs.Prelude.{◌↔◌, IsNone}
 use Rattle.std.specs.Option.{option_map}
-use Rattle.std.proofs.Common.{◌≡◌, ℕ, ◌+◌, ◌==◌, Bool, true, false, cond, List, [], ◌∷◌, ◌++◌, Option, Some, None, refl, ap, sym, ◌∙◌, subst, arith, ◌⊎◌, ⊎_elim}
+use Rattle.std.proofs.Common.{◌≡◌, ℕ, ◌+◌, ◌==◌, Bool, true, false, cond, List, [], ◌∷◌, ◌++◌, Option, Some, None, refl, ap, sym, ◌∙◌, arith}
 use Rattle.std.proofs.lemmas.Bool.Decides.{nat_tests}
 use Rattle.grid_cli.specs.Words.{newline, pieces_at, onto_first, are_same}
 use Rattle.grid_cli.specs.SameNames.{same_text, are_same_self}
 use Rattle.grid_cli.proofs.Pieces.{first_piece}
 use Rattle.grid_scenarios.specs.declared.difference.Difference.{Difference}
-use Rattle.grid_scenarios.specs.Differences.{Differs, difference_from, first_difference, differs_as}
+use Rattle.grid_scenarios.specs.Differences.{difference_from, first_difference, differs_as}
 
 -- lines, with a newline between two of them
-joined : List (List ℕ) → List ℕ
+abbrev joined : List (List ℕ) → List ℕ
 joined [] = []
 joined (line ∷ []) = line
 joined (line ∷ next ∷ lines) = line ++ newline ∷ joined (next ∷ lines)
@@ -58,5 +58,5 @@ same_where_none printed wanted e = same_lines printed wanted (same_in_none 1 (pi
 
 -- as the code has it
 pub is_same : (d : Option Difference) (printed wanted : List ℕ) → option_map differs_as d ≡ first_difference printed wanted → IsNone d ↔ (printed ≡ wanted)
-is_same None printed wanted e = (λ h. same_where_none printed wanted (sym e), λ h. tt)
-is_same (Some d) printed wanted e = (λ h. absurd h, λ h. let clash : Some (differs_as d) ≡ None = e ∙ none_where_same printed wanted h in absurd cc)
+is_same None printed wanted e = (λ h. same_where_none printed wanted (sym e), λ h. refl)
+is_same (Some d) printed wanted e = (λ h. let clash : true ≡ false = h in absurd cc, λ h. let clash : Some (differs_as d) ≡ None = e ∙ none_where_same printed wanted h in absurd cc)
