@@ -6,6 +6,7 @@ mod frames;
 mod malformed;
 
 pub use frames::{
+pub use frames::{
     Frame, HEADER_LENGTH, MAX_FRAME_LENGTH, MAX_PAYLOAD, PlacedFrame, write_frame, write_frame_of,
 };
 pub use malformed::{Malformed, Why};

@@ -1,6 +1,6 @@
 -- The grid after a call, which its partition's world ran or which found no memory.
-use Rattle.std.proofs.Common.{◌≡◌, ◌≢◌, ℕ, ◌+◌, ◌≤◌, ◌<◌, ◌==◌, ◌||◌, Bool, true, false, cond, List, [], ◌∷◌, ◌++◌, length, map, drop, Option, Some, None, slice_get, slice_set, refl, ap, sym, ◌∙◌, subst, ◌⊎◌, ⊎_elim, inl, inr, append-nil, append_assoc, arith}
-use Rattle.std.specs.List.{Contains, list_any}
+use Rattle.std.proofs.Common.{◌≡◌, ℕ, ◌+◌, ◌<◌, true, cond, List, [], ◌∷◌, ◌++◌, length, map, drop, Some, None, slice_get, slice_set, refl, ap, sym, ◌∙◌, subst, ◌⊎◌, ⊎_elim, inl, inr, append-nil, append_assoc, arith}
+use Rattle.std.specs.List.{Contains}
 use Rattle.std.proofs.lemmas.Bool.{eq-eqb}
 use Rattle.std.proofs.lemmas.List.{length-append}
 use Rattle.grid_base.specs.Names.{is_same_call}
@@ -10,14 +10,14 @@ use Rattle.partition_protocol.specs.World.{World}
 use Rattle.partition_protocol.specs.Events.{happens}
 use Rattle.partition_protocol.proofs.Lists.{In, in_contains}
 use Rattle.partition_world.specs.declared.node.Released.{Released}
-use Rattle.partition_world.specs.Answers.{released_at, released_by as answers_by}
-use Rattle.partition_world.specs.Worlds.{run_of, waiting}
+use Rattle.partition_world.specs.Answers.{released_by as answers_by}
+use Rattle.partition_world.specs.Worlds.{waiting}
 use Rattle.grid_cli.specs.declared.grid.Grid.{Grid}
 use Rattle.grid_cli.specs.PartitionObjects.{partition_object}
 use Rattle.grid_cli.specs.Replies.{want_of_memory}
 use Rattle.grid_cli.specs.Runs.{Run, Connection, Arrival, Appended, connection_of, events_at, next_id, updated, arrival_at, call_of, world_at, happening, refused_by, refusal, answer_to, released_by, asked, arrived, is_skipped}
 use Rattle.grid_cli.specs.Printing.{partitions, ok_text, line_text}
-use Rattle.grid_cli.specs.Tables.{Table, with_arrival}
+use Rattle.grid_cli.specs.Tables.{with_arrival}
 use Rattle.grid_cli.specs.Grids.{MapWorld, HasTable, HasWorld, Holds, Stands}
 use Rattle.grid_cli.specs.WorldCalls.{no_change, arrival_to, message_of, with_answers, texts_of, IsCalled, IsSkipped, GivesOut, HasAsked}
 use Rattle.grid_cli.proofs.Arriving.{its_event}

@@ -1,5 +1,5 @@
 -- The text of a refusal, as the code writes it.
-use Rattle.std.proofs.Common.{◌≡◌, ℕ, List, [], ◌∷◌, ◌++◌, Option, Some, None, refl, ap, sym, ◌∙◌, append-nil}
+use Rattle.std.proofs.Common.{◌≡◌, ℕ, List, Option, Some, None, ap, sym, ◌∙◌, append-nil}
 use Rattle.std.specs.Prelude.{ℤ}
 use Rattle.grid_base.specs.declared.calls.Request.{Request}
 use Rattle.grid_cli.specs.declared.grid.Refusal.{Refusal}

@@ -4,7 +4,7 @@ use Rattle.std.proofs.lemmas.List.{map-append}
 use Rattle.std.proofs.lemmas.Bool.Decides.{nat_tests}
 use Rattle.grid_base.specs.Objects.{Object}
 use Rattle.partition_protocol.specs.Node.{Held}
-use Rattle.partition_protocol.specs.World.{World, start}
+use Rattle.partition_protocol.specs.World.{start}
 use Rattle.partition_protocol.specs.Events.{Event, run}
 use Rattle.partition_protocol.specs.Arrivals.{CallName, NamedOnce, name, arrivals}
 use Rattle.partition_protocol.specs.Answers.{answered_call}

@@ -1,5 +1,5 @@
 -- When the history that a run prints for an object is one that a single thread could have seen.
-use Rattle.std.specs.Prelude.{◌≡◌, ℕ, ◌<◌, ◌≤◌, ◌≢◌, ◌⊎◌, Bool, true, if◌then◌else◌, List, [], ◌∷◌, map, filter, Option, Some, None, Contains}
+use Rattle.std.specs.Prelude.{◌≡◌, ℕ, ◌<◌, ◌≤◌, ◌≢◌, ◌⊎◌, Bool, true, List, [], ◌∷◌, map, filter, Some, None, Contains}
 use Rattle.grid_base.specs.Objects.{Object}
 use Rattle.grid_base.specs.Histories.{Answered, IsLegal}
 use Rattle.grid_base.specs.Names.{ObjectName, is_same}

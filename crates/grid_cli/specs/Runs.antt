@@ -1,15 +1,15 @@
 -- The run of a script: what its lines so far have made. The worlds of the partitions are not kept: each is the protocol's run of its events.
-use Rattle.std.specs.Prelude.{ℕ, ◌+◌, ◌-◌, ◌==◌, Bool, true, false, if◌then◌else◌, List, [], ◌∷◌, ◌++◌, length, map, filter, drop, Option, Some, None, option_map, option_and_then, is_some, nat_eq}
+use Rattle.std.specs.Prelude.{ℕ, ◌+◌, ◌==◌, Bool, true, false, if◌then◌else◌, List, [], ◌∷◌, ◌++◌, length, map, filter, drop, Option, Some, None, option_map, option_and_then, is_some}
 use Rattle.std.specs.List.{list_any, find, filter_map}
 use Rattle.grid_base.specs.Objects.{Object}
 use Rattle.grid_base.specs.Names.{is_same_call}
 use Rattle.grid_base.specs.declared.names.CallId.{CallId}
 use Rattle.grid_base.specs.declared.calls.Request.{Request}
 use Rattle.partition_protocol.specs.Node.{Held}
-use Rattle.partition_protocol.specs.History.{Executed, Entry, Called, Reset}
+use Rattle.partition_protocol.specs.History.{Executed}
 use Rattle.partition_protocol.specs.Execution.{Reached, Executes, PartitionLost, WrongTarget, Migrating}
 use Rattle.partition_protocol.specs.World.{World, start}
-use Rattle.partition_protocol.specs.Events.{Event, Call, Outcome, Refused, Happened, happens, run}
+use Rattle.partition_protocol.specs.Events.{Event, Call, Outcome, Refused, happens, run}
 use Rattle.partition_world.specs.Answers.{id_of, newest_call}
 use Rattle.grid_cli.specs.Words.{are_same}
 use Rattle.grid_cli.specs.Requests.{request_of}
