@@ -1,9 +1,9 @@
 -- Counting how many structures are open finds exactly the structures of the grammar.
-use Rattle.std.proofs.Common.{◌≡◌, ℕ, zero, suc, Bool, true, false, IsTrue, not, ◌&&◌, List, [], ◌∷◌, ◌++◌, Option, Some, None, refl, sym, ap, ◌∙◌, subst, append_assoc}
+use Rattle.std.proofs.Common.{◌≡◌, ℕ, zero, suc, Bool, true, false, not, List, [], ◌∷◌, ◌++◌, Some, None, refl, sym, ap, ◌∙◌, subst, append_assoc}
 use Rattle.std.proofs.lemmas.Bool.{and_parts, not-true, or_parts, or_from, not_from_false}
 use Rattle.frame_codec.specs.declared.frames.Frame.{Frame}
 use Rattle.frame_codec.specs.declared.flags.TheConstants.{END_STRUCTURE}
-use Rattle.fixed_fields.specs.Structures.{has_flag, opens, closes, is_plain, after_closing, after_structure, AreNested, nothing, plain, structure, IsStructureThen}
+use Rattle.fixed_fields.specs.Structures.{has_flag, opens, closes, is_plain, after_closing, after_structure, AreNested, nothing, plain, structure, BeginsWithStructure}
 
 after-opening : (frame : Frame) (frames : List Frame) (depth : ℕ) → opens frame ≡ true → after_closing (suc depth) (frame ∷ frames) ≡ after_closing (suc (suc depth)) frames
 after-opening frame frames depth opened = rw opened refl
@@ -30,7 +30,7 @@ after-nested (structure opening inside closing frames opened nested closed whole
     ∙ after-nested whole depth behind
 
 -- a structure of the grammar is passed
-pub after-structure : (frames rest : List Frame) → IsStructureThen frames rest → after_structure frames ≡ Some rest
+pub after-structure : (frames rest : List Frame) → BeginsWithStructure frames rest → after_structure frames ≡ Some rest
 after-structure frames rest it =
     let begun : after_structure (it.opening ∷ it.inside ++ it.closing ∷ rest) ≡ after_closing 1 (it.inside ++ it.closing ∷ rest) = rw it.opened refl in
     ap after_structure it.spelled ∙ begun ∙ after-nested it.nested 0 (it.closing ∷ rest) ∙ after-closing it.closing rest 0 it.closed
@@ -53,33 +53,33 @@ closed_from : (depth : ℕ) (frames rest : List Frame) → after_closing depth f
 closed_from zero frames rest e = let same : frames ≡ rest = cc in subst (λ fs. AreClosed zero fs rest) (sym same) (all rest)
 closed_from (suc depth) [] rest e = cc
 closed_from (suc depth) (frame ∷ frames) rest e = go (opens frame) (closes frame) refl refl
-  (closed_from (suc (suc depth)) frames rest) (closed_from depth frames rest) (closed_from (suc depth) frames rest)
+    (closed_from (suc (suc depth)) frames rest) (closed_from depth frames rest) (closed_from (suc depth) frames rest)
   where
     go : (o c : Bool) → opens frame ≡ o → closes frame ≡ c
-      → (after_closing (suc (suc depth)) frames ≡ Some rest → AreClosed (suc (suc depth)) frames rest)
-      → (after_closing depth frames ≡ Some rest → AreClosed depth frames rest)
-      → (after_closing (suc depth) frames ≡ Some rest → AreClosed (suc depth) frames rest)
-      → AreClosed (suc depth) (frame ∷ frames) rest
+        → (after_closing (suc (suc depth)) frames ≡ Some rest → AreClosed (suc (suc depth)) frames rest)
+        → (after_closing depth frames ≡ Some rest → AreClosed depth frames rest)
+        → (after_closing (suc depth) frames ≡ Some rest → AreClosed (suc depth) frames rest)
+        → AreClosed (suc depth) (frame ∷ frames) rest
     go true c opened _ deeper shallower level = with_opening frame opened (deeper (sym (after-opening frame frames depth opened) ∙ e))
     go false true shut closed deeper shallower level = one depth [] frame frames rest nothing closed (shallower (sym (after-closing frame frames depth closed) ∙ e))
     go false false shut even deeper shallower level =
-      let flat : is_plain frame ≡ true = not_from_false _ (or_from _ _ shut even) in
-      with_plain frame flat (level (sym (after-plain frame frames depth flat) ∙ e))
+        let flat : is_plain frame ≡ true = not_from_false _ (or_from _ _ shut even) in
+        with_plain frame flat (level (sym (after-plain frame frames depth flat) ∙ e))
 
-structure_of : (opening : Frame) {frames rest : List Frame} → opens opening ≡ true → AreClosed 1 frames rest → IsStructureThen (opening ∷ frames) rest
+structure_of : (opening : Frame) {frames rest : List Frame} → opens opening ≡ true → AreClosed 1 frames rest → BeginsWithStructure (opening ∷ frames) rest
 structure_of opening opened (one _ inside closing _ rest nested closed (all _)) =
     record { opening = opening; inside = inside; closing = closing; opened = opened; nested = nested; closed = closed; spelled = refl }
 
 -- what is passed is a structure of the grammar
-pub structure_from : (frames rest : List Frame) → after_structure frames ≡ Some rest → IsStructureThen frames rest
+pub structure_from : (frames rest : List Frame) → after_structure frames ≡ Some rest → BeginsWithStructure frames rest
 structure_from [] rest e = cc
 structure_from (frame ∷ frames) rest e = go (opens frame) refl
   where
-    go : (o : Bool) → opens frame ≡ o → IsStructureThen (frame ∷ frames) rest
+    go : (o : Bool) → opens frame ≡ o → BeginsWithStructure (frame ∷ frames) rest
     go true opened =
-      let begun : after_structure (frame ∷ frames) ≡ after_closing 1 frames = rw opened refl in
-      structure_of frame opened (closed_from 1 frames rest (sym begun ∙ e))
+        let begun : after_structure (frame ∷ frames) ≡ after_closing 1 frames = rw opened refl in
+        structure_of frame opened (closed_from 1 frames rest (sym begun ∙ e))
     go false shut =
-      let none : after_structure (frame ∷ frames) ≡ None = rw shut refl in
-      let clash : Some rest ≡ None = sym e ∙ none in
-      cc
+        let none : after_structure (frame ∷ frames) ≡ None = rw shut refl in
+        let clash : Some rest ≡ None = sym e ∙ none in
+        cc

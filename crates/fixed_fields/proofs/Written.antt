@@ -1,5 +1,5 @@
 -- A field that was appended is read back.
-use Rattle.std.proofs.Common.{◌≡◌, ℕ, ◌+◌, ◌≤◌, ℤ, SFits, List, ◌++◌, length, take, drop, Option, Some, option_map, refl, ap, ◌∙◌, append_assoc, arith, length-append}
+use Rattle.std.proofs.Common.{◌≡◌, ℕ, ◌+◌, ◌≤◌, ℤ, SFits, List, ◌++◌, length, take, drop, Some, option_map, refl, ap, ◌∙◌, append_assoc, arith, length-append}
 use Rattle.std.specs.Int.{w64, cast_unsigned}
 use Rattle.std.proofs.Math.Facts.{Fits-of_z}
 use Rattle.std.proofs.lemmas.Int.{to_z-of_z}

@@ -1,5 +1,5 @@
 -- The fixed fields of a payload: numbers and UUIDs, each at its place. A number has its low byte first.
-use Rattle.std.specs.Prelude.{◌≡◌, ℕ, zero, ◌+◌, ◌*◌, ◌/◌, ◌%◌, ◌^◌, ℤ, List, [], ◌∷◌, ◌++◌, length, take, drop, replicate, slice_get, nat_le, if◌then◌else◌, Option, Some, None, option_map}
+use Rattle.std.specs.Prelude.{◌≡◌, ℕ, zero, ◌+◌, ◌*◌, ◌/◌, ◌%◌, ◌^◌, ℤ, List, ◌∷◌, ◌++◌, length, take, drop, replicate, slice_get, nat_le, if◌then◌else◌, Option, Some, None, option_map}
 use Rattle.std.specs.Int.{w32, w64, to_le_bytes, from_le_bytes, cast_signed, cast_unsigned}
 
 -- the bytes of the field of that size at a place; none where the payload ends before the field does

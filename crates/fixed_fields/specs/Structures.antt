@@ -35,8 +35,8 @@ pub data AreNested : List Frame → Type 0 where
   plain : (frame : Frame) (behind : List Frame) → IsTrue (is_plain frame) → AreNested behind → AreNested (frame ∷ behind)
   structure : (opening : Frame) (inside : List Frame) (closing : Frame) (behind : List Frame) → IsTrue (opens opening) → AreNested inside → IsTrue (closes closing) → AreNested behind → AreNested (opening ∷ inside ++ closing ∷ behind)
 
--- these frames are one structure, and then the rest
-pub record IsStructureThen (frames rest : List Frame) : Type 0 where
+-- the first of these frames are one structure, and the others are the rest
+pub record BeginsWithStructure (frames rest : List Frame) : Type 0 where
   pub opening : Frame
   pub inside : List Frame
   pub closing : Frame

@@ -76,3 +76,45 @@ fn joined(halves: &[u8]) -> u128
     ]);
     (u128::from(high) << 64) + u128::from(low)
 }
+
+#[cfg(test)]
+mod tests {
+    use super::*;
+    use grid_base::Bytes;
+    use std::test::Fail;
+
+    // The first payload of an authentication of client 7, and of one without a number.
+    const KNOWN: &[u8] =
+        b"\x00\x01\x00\x00\xf0\xff\xff\xff\xff\xff\xff\xff\xff\xff\xff\xff\0\x02\0\0\0\0\0\0\0\x07\0\0\0\0\0\0\0\x01";
+
+    const UNKNOWN: &[u8] =
+        b"\x00\x01\x00\x00\xf0\xff\xff\xff\xff\xff\xff\xff\xff\xff\xff\xff\x03\x02\0\0\0\0\0\0\0\x07\0\0\0\0\0\0\0";
+
+    #[test]
+    fn reads_fields_at_their_places(rt: HostRuntime) -> Result<(), Fail> {
+        let frame = Frame {
+            flags: 0,
+            payload: Bytes::copied_from(rt.alloc(), KNOWN)?,
+        };
+        assert_eq!(rt; int32_at(&frame, 0), Ok(256));
+        assert_eq!(rt; int64_at(&frame, 4), Ok(-16));
+        assert_eq!(rt; int32_at(&frame, 12), Ok(-1));
+        assert_eq!(rt; uuid_at(&frame, 16), Ok(Some((2 << 64) + 7)));
+        assert_eq!(rt; byte_at(&frame, 33), Ok(1));
+        Ok(())
+    }
+
+    #[test]
+    fn refuses_fields_that_are_not_wholly_there(rt: HostRuntime) -> Result<(), Fail> {
+        let frame = Frame {
+            flags: 0,
+            payload: Bytes::copied_from(rt.alloc(), UNKNOWN)?,
+        };
+        assert_eq!(rt; uuid_at(&frame, 16), Ok(None));
+        assert_eq!(rt; byte_at(&frame, 33), Err(FieldRefused::Short));
+        assert_eq!(rt; uuid_at(&frame, 17), Err(FieldRefused::Short));
+        assert_eq!(rt; int32_at(&frame, 30), Err(FieldRefused::Short));
+        assert_eq!(rt; int64_at(&frame, usize::MAX), Err(FieldRefused::Short));
+        Ok(())
+    }
+}

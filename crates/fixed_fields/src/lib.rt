@@ -5,10 +5,10 @@
 mod cursor;
 mod fields;
 mod refusal;
-mod spelled;
 mod structures;
+mod writers;
 
 pub use cursor::Cursor;
 pub use fields::{byte_at, int32_at, int64_at, uuid_at};
 pub use refusal::FieldRefused;
-pub use spelled::{write_int32, write_int64, write_uuid};
+pub use writers::{write_int32, write_int64, write_uuid};

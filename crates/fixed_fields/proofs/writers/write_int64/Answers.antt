@@ -1,7 +1,6 @@
-use Rattle.std.proofs.Common.{◌≡◌}
 use Rattle.std.proofs.lemmas.Int.{to_z-of_z}
 use Rattle.fixed_fields.proofs.Written.{int64_read}
-use Rattle.fixed_fields.proofs.spelled.write_int64.Goals as goal
+use Rattle.fixed_fields.proofs.writers.write_int64.Goals as goal
 
 pub returns-clause-read : goal.returns-clause-read
 returns-clause-read c =
