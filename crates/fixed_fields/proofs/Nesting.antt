@@ -83,3 +83,7 @@ structure_from (frame ∷ frames) rest e = go (opens frame) refl
         let none : after_structure (frame ∷ frames) ≡ None = rw shut refl in
         let clash : Some rest ≡ None = sym e ∙ none in
         cc
+
+-- no two structures of the grammar begin the same frames
+pub structure_unique : (frames rest other : List Frame) → after_structure frames ≡ Some rest → BeginsWithStructure frames other → other ≡ rest
+structure_unique frames rest other passed it = let same : Some other ≡ Some rest = sym (after-structure frames other it) ∙ passed in cc

@@ -122,8 +122,10 @@ impl<'a> Cursor<'a> {
         ensures refused { IfErr result (λ why. next_structure self.old ≡ Err why) }
         ensures stays { OnErr result (self.new ≡ self.old) }
 
-        // It is a structure of the grammar that was passed, and where there is one it is passed.
+        // It is the one structure of the grammar that was passed, and where there is one it is passed.
         ensures structure { OnOk result (BeginsWithStructure self.old self.new) }
+        ensures only { OnOk result ((rest : List FrameOf)
+            → BeginsWithStructure self.old rest → rest ≡ self.new) }
         ensures none { OnErr result ((rest : List FrameOf) → ¬ BeginsWithStructure self.old rest) }
     {
         match after_structure(self.frames) {

@@ -1,13 +1,18 @@
 use Rattle.std.proofs.Common.{◌≡◌, List, Some, None, sym, subst, ◌∙◌}
 use Rattle.frame_codec.specs.declared.frames.Frame.{Frame}
 use Rattle.fixed_fields.specs.Structures.{after_structure, BeginsWithStructure}
-use Rattle.fixed_fields.proofs.Nesting.{after-structure, structure_from}
+use Rattle.fixed_fields.proofs.Nesting.{after-structure, structure_from, structure_unique}
 use Rattle.fixed_fields.proofs.cursor.Cursor.skip_structure.Goals as goal
 
 pub returns-in-Some-clause-structure : goal.returns-in-Some-clause-structure
 returns-in-Some-clause-structure c =
     let passed : after_structure c.self.inside.frames.now ≡ Some c.in-Some.rest.now = sym c.in-Some.ensures in
     subst (λ frames. BeginsWithStructure frames c.in-Some.rest.now) c.self.view_is (structure_from c.self.inside.frames.now c.in-Some.rest.now passed)
+
+pub returns-in-Some-clause-only : goal.returns-in-Some-clause-only
+returns-in-Some-clause-only c rest it =
+    let passed : after_structure c.self.inside.frames.now ≡ Some c.in-Some.rest.now = sym c.in-Some.ensures in
+    structure_unique c.args.self.now c.in-Some.rest.now rest (subst (λ frames. after_structure frames ≡ Some c.in-Some.rest.now) c.self.view_is passed) it
 
 pub returns-in-None-clause-none : goal.returns-in-None-clause-none
 returns-in-None-clause-none c rest it =
