@@ -1,3 +1,8 @@
+pub mod Feeding
 pub mod Flags
+pub mod FrameReaders
 pub mod Frames
+pub mod Laws
+pub mod Layout
+pub mod Marks
 pub mod Reading

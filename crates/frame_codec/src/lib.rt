@@ -3,10 +3,16 @@
 
 pub mod flags;
 mod frames;
+pub mod laws;
 mod malformed;
+mod marks;
+mod partial;
+mod reader;
 
 pub use frames::{
 pub use frames::{
     Frame, HEADER_LENGTH, MAX_FRAME_LENGTH, MAX_PAYLOAD, PlacedFrame, write_frame, write_frame_of,
 };
 pub use malformed::{Malformed, Why};
+pub use marks::{FrameMark, PartialMark};
+pub use reader::{FedFrames, FrameReader};
