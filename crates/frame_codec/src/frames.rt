@@ -49,14 +49,15 @@ pub fn write_frame(frame: &Frame, out: &mut Vec<u8>) -> Result<(), Memory>
     ensures ok { OnOk result (out.new.items ≡ out.old.items ++ frame_bytes frame.now) }
     ensures err { OnErr result (out.new.items ≡ out.old.items) }
 {
-    write_frame_of(frame.flags, frame.payload.as_slice(), out)
+    write_payload(frame.flags, frame.payload.as_slice(), out)
 }
 
-/// Appends the bytes of the frame that has these flags and this payload, at the cost of their
-/// number. Want of memory appends nothing.
-pub fn write_frame_of(flags: u16, payload: &[u8], out: &mut Vec<u8>) -> Result<(), Memory>
+/// Appends the bytes of the frame with these flags and this payload, which need not lie in a `Frame`.
+/// Costs and fails as `write_frame`.
+pub fn write_payload(flags: u16, payload: &[u8], out: &mut Vec<u8>) -> Result<(), Memory>
     requires { length payload.now ≤ MAX_PAYLOAD }
-    ensures ok { OnOk result (out.new.items ≡ out.old.items ++ frame_bytes (record { flags = flags; payload = payload.now })) }
+    ensures ok { OnOk result (out.new.items
+        ≡ out.old.items ++ frame_bytes (record { flags = flags; payload = payload.now })) }
     ensures err { OnErr result (out.new.items ≡ out.old.items) }
 {
     let length = HEADER_LENGTH + payload.len();
@@ -82,11 +83,7 @@ mod tests {
             payload: Bytes::copied_from(rt.alloc(), b"m")?,
         };
         write_frame(&name, &mut out)?;
-        let cluster = Frame {
-            flags: flags::FINAL,
-            payload: Bytes::copied_from(rt.alloc(), b"dev")?,
-        };
-        write_frame(&cluster, &mut out)?;
+        write_payload(flags::FINAL, b"dev", &mut out)?;
         assert_eq!(rt;
             out.as_slice(),
             b"\x07\0\0\0\0\0m\x09\0\0\0\0\x20dev".as_slice()

@@ -10,9 +10,8 @@ mod partial;
 mod reader;
 
 pub use frames::{
-pub use frames::{
-    Frame, HEADER_LENGTH, MAX_FRAME_LENGTH, MAX_PAYLOAD, PlacedFrame, write_frame, write_frame_of,
+    Frame, HEADER_LENGTH, MAX_FRAME_LENGTH, MAX_PAYLOAD, PlacedFrame, write_frame, write_payload,
 };
 pub use malformed::{Malformed, Why};
-pub use marks::{FrameMark, PartialMark};
+pub use marks::FrameMark;
 pub use reader::{FedFrames, FrameReader};
