@@ -1,11 +1,11 @@
 -- A reader that takes more bytes.
-use Rattle.std.proofs.Common.{◌≡◌, ℕ, zero, suc, ◌+◌, ◌-◌, ◌<◌, ◌≤◌, Option, is_some, true, List, [], ◌∷◌, ◌++◌, length, take, drop, None, Some, refl, sym, ◌∙◌, ap, arith, length-append, subst}
+use Rattle.std.proofs.Common.{◌≡◌, ℕ, ◌+◌, ◌-◌, Option, is_some, true, List, [], ◌++◌, length, take, drop, None, Some, refl, sym, ◌∙◌, ap, arith, length-append, subst}
 use Rattle.std.proofs.lemmas.List.{take_all, take-append-le, append-nil, append_assoc, take-append-drop}
 use Rattle.std.proofs.Math.Seq.{take-add}
 use Rattle.frame_codec.specs.Reading.{Reading, reading}
 use Rattle.frame_codec.specs.Laws.{read_on}
-use Rattle.frame_codec.specs.FrameReaders.{InProgress, in_progress, frames_of, fault_of, kept, standing, StandsFor}
-use Rattle.frame_codec.specs.Feeding.{HasGiven, Takes, TakesSome}
+use Rattle.frame_codec.specs.FrameReaders.{InProgress, frames_of, kept, standing, StandsFor}
+use Rattle.frame_codec.specs.Feeding.{HasGiven, Takes}
 use Rattle.frame_codec.specs.declared.frames.PlacedFrame.{PlacedFrame}
 use Rattle.frame_codec.specs.declared.malformed.Malformed.{Malformed}
 use Rattle.frame_codec.proofs.GoingOn.{goes_on_by, reading-append, rest_within}

@@ -1,22 +1,21 @@
 -- The way back over a feed.
-use Rattle.std.proofs.Common.{◌≡◌, ℕ, zero, suc, ◌+◌, ◌-◌, ◌<◌, ◌≤◌, Option, List, [], ◌∷◌, ◌++◌, length, take, drop, None, Some, refl, sym, ◌∙◌, ap, arith, length-append, ⊎_elim}
-use Rattle.std.proofs.lemmas.List.{take_all, take_at, take-take, take-append-le, drop-append-le, drop-take, drop_all, length-take, length-take-le, length-drop, append-nil, append_cancel_left, take-append-drop}
+use Rattle.std.proofs.Common.{◌≡◌, ℕ, ◌+◌, ◌-◌, ◌<◌, ◌≤◌, Option, List, [], ◌++◌, length, take, drop, None, Some, refl, sym, ◌∙◌, ap, arith, length-append, ⊎_elim}
+use Rattle.std.proofs.lemmas.List.{take_all, take_at, take-take, take-append-le, drop-take, drop_all, length-take, length-take-le, length-drop, append_cancel_left, take-append-drop}
 use Rattle.std.proofs.lemmas.Bool.{cases_lt}
 use Rattle.std.specs.Int.{w32, from_le_bytes}
-use Rattle.frame_codec.specs.Frames.{frame_length}
-use Rattle.frame_codec.specs.Reading.{Front, Partial, Whole, Wrong, front, stated_length, frame_of, Reading, reading}
+use Rattle.frame_codec.specs.Reading.{Partial, Wrong, front, stated_length, Reading, reading}
 use Rattle.frame_codec.specs.FrameReaders.{InProgress, in_progress, HasRoom, IsUnfinished, frames_of, kept, standing, StandsFor}
-use Rattle.frame_codec.specs.Marks.{IsPartialMarkOf, bytes_at, payload_since, first_frame, IsMarkOf, IsFedSince}
+use Rattle.frame_codec.specs.Marks.{IsPartialMarkOf, bytes_at, payload_since, first_frame, IsFedSince}
 use Rattle.frame_codec.specs.declared.frames.PlacedFrame.{PlacedFrame}
 use Rattle.frame_codec.specs.declared.malformed.Malformed.{Malformed}
 use Rattle.frame_codec.specs.declared.malformed.Why.{Why}
 use Rattle.frame_codec.specs.declared.marks.PartialMark.{PartialMark}
 use Rattle.frame_codec.specs.declared.marks.FrameMark.{FrameMark}
-use Rattle.frame_codec.proofs.Fronts.{FrontCase, early, too_short, too_long, begun, whole, front_cases, stated_length-append, front-append_same_whole}
+use Rattle.frame_codec.proofs.Fronts.{FrontCase, early, too_short, too_long, begun, whole, front_cases, stated_length-append}
 use Rattle.frame_codec.proofs.Readings.{ReadingCase, nothing, ended, begins, reading_cases}
-use Rattle.frame_codec.proofs.Standing.{standing_of, standing-is}
+use Rattle.frame_codec.proofs.Standing.{standing-is}
 use Rattle.frame_codec.proofs.Rests.{standing_shown, partial_without_fault}
-use Rattle.frame_codec.proofs.Feeds.{GoesOn, goes_on, goes_nowhere}
+use Rattle.frame_codec.proofs.Feeds.{goes_on, goes_nowhere}
 
 -- where the payload begins it has the header's whole length before it
 mark_payload : (mark : PartialMark) (bytes : List ℕ) → IsPartialMarkOf mark bytes → mark.payload ≡ length bytes - 6

@@ -1,12 +1,11 @@
 -- A text read on with more bytes.
-use Rattle.std.proofs.Common.{◌≡◌, ℕ, zero, suc, ◌+◌, ◌-◌, ◌<◌, ◌≤◌, Option, List, [], ◌∷◌, ◌++◌, length, take, drop, None, Some, refl, sym, ◌∙◌, ap, arith, length-append}
+use Rattle.std.proofs.Common.{◌≡◌, ℕ, zero, suc, ◌+◌, ◌-◌, ◌<◌, ◌≤◌, Option, List, ◌++◌, length, drop, None, Some, refl, sym, ◌∙◌, ap, arith}
 use Rattle.std.proofs.lemmas.List.{drop-append-le, length-drop}
 use Rattle.frame_codec.specs.Frames.{frame_length}
-use Rattle.frame_codec.specs.Reading.{Front, Partial, Whole, Wrong, front, frame_of, Reading, with_frame, reading}
+use Rattle.frame_codec.specs.Reading.{Front, Whole, Wrong, front, frame_of, Reading, with_frame, reading}
 use Rattle.frame_codec.specs.Laws.{read_on}
 use Rattle.frame_codec.specs.declared.frames.Frame.{Frame}
 use Rattle.frame_codec.specs.declared.malformed.Malformed.{Malformed}
-use Rattle.frame_codec.specs.declared.malformed.Why.{Why}
 use Rattle.frame_codec.proofs.Fronts.{front-append_wrong, front-append_same_whole}
 use Rattle.frame_codec.proofs.Readings.{ReadingCase, nothing, ended, begins, reading_cases, read_by, reading-step}
 

@@ -1,6 +1,6 @@
 -- A header and a payload as one list.
-use Rattle.std.proofs.Common.{◌≡◌, ℕ, ◌+◌, ◌-◌, ◌*◌, ◌<◌, ◌≤◌, List, [], ◌∷◌, ◌++◌, length, take, drop, get_or, lit<, refl, arith, sym, ◌∙◌, ap, length-append, ⊎_elim}
-use Rattle.std.proofs.lemmas.List.{get_or-take, length-take-le, take_all, drop_at, take_at, take-append-le, take-take, append-nil, append_assoc, nil_from_length, take-append-drop, length-take, drop_all}
+use Rattle.std.proofs.Common.{◌≡◌, ℕ, ◌+◌, ◌-◌, ◌*◌, ◌<◌, ◌≤◌, List, [], ◌++◌, length, take, drop, get_or, lit<, refl, arith, sym, ◌∙◌, ap, length-append, ⊎_elim}
+use Rattle.std.proofs.lemmas.List.{get_or-take, length-take-le, take_all, drop_at, take_at, take-append-le, take-take, append-nil, append_assoc, take-append-drop, drop_all}
 use Rattle.std.proofs.lemmas.Bool.{cases_lt}
 use Rattle.std.proofs.lemmas.Slice.{take-put_mid}
 use borrow.Rule.Slice.PartMut.{put_mid}

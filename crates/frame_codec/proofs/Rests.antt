@@ -1,6 +1,6 @@
 -- What is left of a text after its whole frames.
-use Rattle.std.proofs.Common.{◌≡◌, ◌≢◌, ℕ, zero, suc, ◌+◌, ◌-◌, ◌<◌, ◌≤◌, Option, List, [], ◌∷◌, ◌++◌, length, take, drop, None, Some, refl, sym, ◌∙◌, ap, arith}
-use Rattle.std.proofs.lemmas.List.{length-drop, length-take, length-take-le, take-take, take-append-le}
+use Rattle.std.proofs.Common.{◌≡◌, ◌≢◌, ℕ, zero, suc, ◌+◌, ◌-◌, ◌<◌, ◌≤◌, Option, List, length, take, drop, None, Some, refl, sym, ◌∙◌, ap, arith}
+use Rattle.std.proofs.lemmas.List.{length-drop, length-take, length-take-le, take-take}
 use Rattle.std.specs.Int.{w32, from_le_bytes}
 use Rattle.frame_codec.specs.Frames.{frame_length}
 use Rattle.frame_codec.specs.Reading.{Front, Partial, Whole, Wrong, front, stated_length, frame_of, Reading, with_frame, reading}
@@ -8,7 +8,6 @@ use Rattle.frame_codec.specs.FrameReaders.{InProgress, in_progress, shown, kept,
 use Rattle.frame_codec.specs.declared.frames.Frame.{Frame}
 use Rattle.frame_codec.specs.declared.malformed.Malformed.{Malformed}
 use Rattle.frame_codec.specs.declared.malformed.Why.{Why}
-use Rattle.frame_codec.specs.declared.malformed.Why.TheVariants.{TooShort, TooLong}
 use Rattle.frame_codec.proofs.Fronts.{FrontCase, early, too_short, too_long, begun, whole, front_cases, front_too_short, front_too_long}
 use Rattle.frame_codec.proofs.Readings.{ReadingCase, nothing, ended, begins, reading_cases}
 use Rattle.frame_codec.proofs.GoingOn.{rest_within}

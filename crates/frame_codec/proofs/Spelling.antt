@@ -1,6 +1,6 @@
 -- Frames as they are spelled, and read again.
-use Rattle.std.proofs.Common.{◌≡◌, ◌≢◌, ℕ, zero, suc, ◌+◌, ◌-◌, ◌*◌, ◌^◌, ◌<◌, ◌≤◌, List, [], ◌∷◌, ◌++◌, length, take, drop, get_or, map, None, Some, refl, sym, ◌∙◌, ap, subst, arith, lit<, length-append, ⊎_elim}
-use Rattle.std.proofs.lemmas.List.{take_at, drop_at, take-take, take-append-drop, append_assoc, append_cancel_left, length-drop, length-take-le, get_or_past, nil_from_length}
+use Rattle.std.proofs.Common.{◌≡◌, ℕ, zero, suc, ◌+◌, ◌^◌, ◌<◌, ◌≤◌, List, [], ◌∷◌, ◌++◌, length, take, drop, get_or, refl, sym, ◌∙◌, ap, arith, lit<, length-append, ⊎_elim}
+use Rattle.std.proofs.lemmas.List.{take_at, drop_at, take-take, take-append-drop, append_assoc, length-drop, length-take-le, get_or_past}
 use Rattle.std.proofs.lemmas.List.Elements.{All-get_or, All-take, All-drop, All-cons, All-nil, All-head, All-tail}
 use Rattle.std.proofs.lemmas.Bool.{cases_lt}
 use Rattle.std.proofs.lemmas.Nat.{from_le_bytes-to_le_bytes_2, from_le_bytes-to_le_bytes_4, le_bytes_2, le_bytes_4}
@@ -8,12 +8,11 @@ use Rattle.std.proofs.Math.Seq.{take-add}
 use Rattle.std.specs.Prelude.{All}
 use Rattle.std.specs.Int.{w16, w32, from_le_bytes, to_le_bytes}
 use Rattle.frame_codec.specs.Frames.{frame_bytes, frame_length}
-use Rattle.frame_codec.specs.Reading.{Front, Partial, Whole, Wrong, front, stated_length, frame_of, Reading, with_frame, reading}
+use Rattle.frame_codec.specs.Reading.{Front, Whole, front, stated_length, frame_of, Reading, with_frame, reading}
 use Rattle.frame_codec.specs.FrameReaders.{shown}
 use Rattle.frame_codec.specs.Laws.{IsBytes, IsWithinLimits, spelled, placed, unplaced, BeginsWithNoFrame, IsSpelledBy}
 use Rattle.frame_codec.specs.declared.frames.Frame.{Frame}
 use Rattle.frame_codec.specs.declared.frames.PlacedFrame.{PlacedFrame}
-use Rattle.frame_codec.specs.declared.malformed.Why.{Why}
 use Rattle.frame_codec.proofs.Fronts.{FrontCase, early, too_short, too_long, begun, whole, front_cases, front_whole}
 use Rattle.frame_codec.proofs.Readings.{ReadingCase, nothing, ended, begins, reading_cases, read_by, reading-step, frame_length-frame_of}
 

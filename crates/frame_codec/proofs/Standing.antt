@@ -1,19 +1,15 @@
 -- What a reader stands for.
-use Rattle.std.proofs.Common.{◌≡◌, ◌≢◌, ℕ, zero, suc, ◌+◌, ◌-◌, ◌<◌, ◌≤◌, Option, List, [], ◌∷◌, ◌++◌, length, take, drop, None, Some, refl, sym, ◌∙◌, ap, arith, length-append, ⊎_elim}
+use Rattle.std.proofs.Common.{◌≡◌, ℕ, ◌+◌, ◌-◌, ◌<◌, ◌≤◌, Option, List, [], ◌∷◌, length, take, drop, None, Some, refl, sym, ◌∙◌, ap, arith, ⊎_elim}
 use Rattle.std.proofs.lemmas.Bool.{cases_lt}
-use Rattle.std.proofs.lemmas.List.{take_all, take-append-le, length-drop, length-take-le, take-take, drop_all, append-nil, append_assoc}
-use Rattle.std.specs.Int.{w32, from_le_bytes}
+use Rattle.std.proofs.lemmas.List.{take_all, drop_all}
 use Rattle.frame_codec.specs.Frames.{frame_length}
-use Rattle.frame_codec.specs.Reading.{Front, Partial, Whole, Wrong, front, stated_length, frame_of, Reading, with_frame, reading}
-use Rattle.frame_codec.specs.FrameReaders.{InProgress, in_progress, shown, HasRoom, IsUnfinished, frames_of, fault_of, kept, standing, StandsFor}
-use Rattle.frame_codec.specs.declared.frames.Frame.{Frame}
-use Rattle.frame_codec.specs.declared.frames.PlacedFrame.{PlacedFrame}
+use Rattle.frame_codec.specs.Reading.{Front, Partial, Wrong, front, stated_length, frame_of, Reading, with_frame, reading}
+use Rattle.frame_codec.specs.FrameReaders.{InProgress, in_progress, shown, IsUnfinished, frames_of, kept, standing}
 use Rattle.frame_codec.specs.declared.malformed.Malformed.{Malformed}
 use Rattle.frame_codec.specs.declared.malformed.Why.{Why}
 use Rattle.frame_codec.specs.declared.malformed.Why.TheVariants.{TooShort, TooLong}
-use Rattle.frame_codec.proofs.Fronts.{FrontCase, early, too_short, too_long, begun, whole, front_cases, front_whole, front_too_short, front_too_long}
-use Rattle.frame_codec.proofs.Readings.{ReadingCase, nothing, ended, begins, reading_cases, read_by, reading-step, frame_length-frame_of}
-use Rattle.frame_codec.proofs.GoingOn.{goes_on_by, reading-append, rest_within}
+use Rattle.frame_codec.proofs.Fronts.{FrontCase, early, too_short, too_long, begun, whole, front_cases, front_whole}
+use Rattle.frame_codec.proofs.Readings.{read_by, reading-step, frame_length-frame_of}
 
 -- what a reader is after a reading of so many bytes
 abbrev pub standing_of : ℕ → ℕ → Reading → InProgress

@@ -1,7 +1,7 @@
 -- One step of a reader: a part of a frame, or the rest of one.
-use Rattle.std.proofs.Common.{◌≡◌, ℕ, ◌+◌, ◌<◌, ◌≤◌, List, [], ◌∷◌, ◌++◌, length, take, None, Some, sym, ◌∙◌, ap, subst, arith, length-append}
+use Rattle.std.proofs.Common.{◌≡◌, ℕ, ◌+◌, ◌<◌, ◌≤◌, List, [], ◌∷◌, ◌++◌, length, take, None, sym, ◌∙◌, ap, subst, arith, length-append}
 use Rattle.std.proofs.lemmas.List.{append-nil}
-use Rattle.frame_codec.specs.Reading.{Front, Partial, Whole, Wrong, front, stated_length, frame_of}
+use Rattle.frame_codec.specs.Reading.{front, stated_length, frame_of}
 use Rattle.frame_codec.specs.FrameReaders.{InProgress, in_progress, shown, IsUnfinished, frames_of, standing}
 use Rattle.frame_codec.specs.Feeding.{Takes}
 use Rattle.frame_codec.specs.declared.frames.PlacedFrame.{PlacedFrame}

@@ -1,5 +1,5 @@
 -- What a reader of frames stands for: all bytes of its stream so far, however they were cut.
-use Rattle.std.specs.Prelude.{◌≡◌, ℕ, ◌+◌, ◌-◌, ◌<◌, ◌≤◌, List, ◌++◌, length, take, Option, Some, None}
+use Rattle.std.specs.Prelude.{◌≡◌, ℕ, ◌+◌, ◌-◌, ◌<◌, ◌≤◌, List, length, take, Option, Some, None}
 use Rattle.frame_codec.specs.Reading.{Front, Partial, Whole, Wrong, front, reading, stated_length}
 use Rattle.frame_codec.specs.declared.frames.PlacedFrame.{PlacedFrame}
 use Rattle.frame_codec.specs.declared.frames.TheConstants.{HEADER_LENGTH, MAX_FRAME_LENGTH}

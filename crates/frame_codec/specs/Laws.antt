@@ -2,7 +2,7 @@
 use Rattle.std.specs.Prelude.{◌≡◌, ◌≢◌, ℕ, ◌+◌, ◌-◌, ◌^◌, ◌<◌, ◌≤◌, List, [], ◌∷◌, ◌++◌, length, map, All, Some, None}
 use Rattle.std.specs.List.{flat_map}
 use Rattle.frame_codec.specs.Frames.{frame_bytes, frame_length}
-use Rattle.frame_codec.specs.Reading.{Reading, Front, Whole, front, reading}
+use Rattle.frame_codec.specs.Reading.{Reading, Whole, front, reading}
 use Rattle.frame_codec.specs.FrameReaders.{shown, fault_of, next_place, standing}
 use Rattle.frame_codec.specs.declared.frames.Frame.{Frame}
 use Rattle.frame_codec.specs.declared.frames.PlacedFrame.{PlacedFrame}

@@ -6,6 +6,9 @@ pub const BEGIN_FRAGMENT: u16 = 0x8000;
 /// The frame ends a fragment chain; with `BEGIN_FRAGMENT`, it begins an unfragmented message.
 pub const END_FRAGMENT: u16 = 0x4000;
 
+/// The first frame of a message that isn't in fragments.
+pub const UNFRAGMENTED: u16 = BEGIN_FRAGMENT | END_FRAGMENT;
+
 /// The frame is the last of its message or fragment.
 pub const FINAL: u16 = 0x2000;
 

@@ -52,8 +52,8 @@ pub fn write_frame(frame: &Frame, out: &mut Vec<u8>) -> Result<(), Memory>
     write_payload(frame.flags, frame.payload.as_slice(), out)
 }
 
-/// Appends the bytes of the frame with these flags and this payload, which need not lie in a `Frame`. Costs and fails as
-/// `write_frame`.
+/// Appends the bytes of the frame with these flags and this payload, which need not lie in a `Frame`.
+/// Costs and fails as `write_frame`.
 pub fn write_payload(flags: u16, payload: &[u8], out: &mut Vec<u8>) -> Result<(), Memory>
     requires { length payload.now ≤ MAX_PAYLOAD }
     ensures ok { OnOk result (out.new.items
@@ -83,11 +83,7 @@ mod tests {
             payload: Bytes::copied_from(rt.alloc(), b"m")?,
         };
         write_frame(&name, &mut out)?;
-        let cluster = Frame {
-            flags: flags::FINAL,
-            payload: Bytes::copied_from(rt.alloc(), b"dev")?,
-        };
-        write_frame(&cluster, &mut out)?;
+        write_payload(flags::FINAL, b"dev", &mut out)?;
         assert_eq!(rt;
             out.as_slice(),
             b"\x07\0\0\0\0\0m\x09\0\0\0\0\x20dev".as_slice()

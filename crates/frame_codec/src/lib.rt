@@ -9,7 +9,9 @@ mod marks;
 mod partial;
 mod reader;
 
-pub use frames::{Frame, HEADER_LENGTH, MAX_FRAME_LENGTH, MAX_PAYLOAD, PlacedFrame, write_frame, write_payload};
+pub use frames::{
+    Frame, HEADER_LENGTH, MAX_FRAME_LENGTH, MAX_PAYLOAD, PlacedFrame, write_frame, write_payload,
+};
 pub use malformed::{Malformed, Why};
-pub use marks::{FrameMark, PartialMark};
+pub use marks::FrameMark;
 pub use reader::{FedFrames, FrameReader};

@@ -14,6 +14,7 @@ use Rattle.partition_protocol.specs.History.{Entry, Executed, Called}
 use Rattle.partition_protocol.specs.Execution.{Reached, Executes, PartitionLost, WrongTarget, Migrating, reached}
 use Rattle.partition_protocol.specs.World.{World, start, is_live, map_or}
 use Rattle.partition_protocol.specs.Events.{Happened, Outcome, NothingDone, Done, HeldAt, ReleasedAt, Refused, TookMessage, RowMadeAt, MoveIsRefused, ReopenIsRefused, nothing, if_executes, calling, executes, happens, run}
+use Rattle.partition_protocol.specs.Answers.{answered_call}
 use Rattle.partition_protocol.specs.Arrivals.{name}
 use Rattle.partition_protocol.specs.Sequences.{IsFrontOf}
 use Rattle.partition_protocol.specs.Claims.{is_reset}
@@ -26,10 +27,10 @@ use Rattle.grid_cli.specs.Replies.{want_of_memory}
 use Rattle.grid_cli.specs.Printing.{is_answer_to}
 use Rattle.grid_cli.proofs.Parts.{in_map, in_mapped}
 use Rattle.grid_cli.proofs.Counts.{count, count-append, count_none, count_in, count_cases}
-use Rattle.grid_cli.proofs.Releases.{held_name, one, times_in, answers, answers-append, released_once}
+use Rattle.grid_cli.proofs.Releases.{one, times_in, answers, answers-append, released_once}
 use Rattle.grid_cli.proofs.Places.{same_number}
 use Rattle.grid_cli.proofs.Trails.{executed, executed_name, newest_executed}
-use Rattle.grid_cli.proofs.RunFacts.{id_name, arrival_name, is_of, ArrivalsOk, AnswersOk, IsGiven, IsGivenIn, given_executed, RunOk, safe, origin, one_partition}
+use Rattle.grid_cli.proofs.RunFacts.{id_name, arrival_name, is_of, ArrivalsOk, AnswersOk, IsGiven, IsGivenIn, given_executed, RunOk, named, origin, one_partition}
 use Rattle.grid_cli.proofs.Arriving.{events_at-append, events_of_more, maybe_one, its_event}
 use Rattle.grid_cli.proofs.Answers.{named_answer}
 
@@ -55,7 +56,7 @@ answers_count w line id (h ∷ hs) = go (executed_for w h) (λ x s. (newest_exec
   where
     go : (found : Option (Executed Request)) → ((x : Executed Request) → found ≡ Some x → id_of x ≡ record { conn = h.conn; number = h.number })
         → count (is_answer_to id) (map (answer_to line) (filter_map (executed_for w) hs)) ≤ answers (id_name id) hs
-        → count (is_answer_to id) (map (answer_to line) (cons_option found (filter_map (executed_for w) hs))) ≤ one (id_name id) (held_name h) + answers (id_name id) hs
+        → count (is_answer_to id) (map (answer_to line) (cons_option found (filter_map (executed_for w) hs))) ≤ one (id_name id) (answered_call h) + answers (id_name id) hs
     go None f l = omega (arith, l)
     go (Some x) f l = let e = ap {B = ℕ} (λ c. cond (is_same_call c id) 1 0) (f x refl) in omega (arith, e, l)
 
@@ -236,7 +237,7 @@ module _ {State : Type 0} (o : Object Request State) (r : Run) (ok : RunOk o r) 
             let more = (run_extends (its_event a ∷ []) (happening o r a) p).1 in
             let whole : before.released ++ more.0 ≡ after.released = more.1 ∙ ap (λ (w : World Request). w.released) world_here in
             let rest : drop (length before.released) after.released ≡ more.0 = ap (drop (length before.released)) (sym whole) ∙ drop-append_seam before.released more.0 in
-            let limit = released_once o p r.members r.backups (events_at p next.events) (id_name id) (safe o next ok.members arrivals p).1.once in
+            let limit = released_once o p r.members r.backups (events_at p next.events) (id_name id) (named o next ok.members arrivals p) in
             let split = ap (answers (id_name id)) (sym more.1) ∙ answers-append (id_name id) before.released more.0 in
             let last = ap (answers (id_name id)) rest in
             omega (arith, limit, split, last)
@@ -252,8 +253,8 @@ module _ {State : Type 0} (o : Object Request State) (r : Run) (ok : RunOk o r) 
             let q = one_partition o next ok.members arrivals old.0 p old.2.call new.call (given_executed m id old.2) (given_executed n id new)
             (ap id_name old.2.call_is ∙ ap id_name (sym new.call_is)) in
             let g = subst (λ v. IsGivenIn o r v m id) q old.1 in
-            times_in (id_name id) (map held_name before.released)
-            (subst (λ v. In v (map held_name before.released)) (g.held_is ∙ ap id_name g.call_is) (in_map held_name before.released g.held g.is_released))
+            times_in (id_name id) (map answered_call before.released)
+            (subst (λ v. In v (map answered_call before.released)) (g.held_is ∙ ap id_name g.call_is) (in_map answered_call before.released g.held g.is_released))
 
         once_of : (count (is_answer_to id) r.appended ≡ 0) ⊎ ((m : Appended) × In m r.appended × (is_answer_to id m ≡ true))
             → (count (is_answer_to id) given_new ≡ 0) ⊎ ((m : Appended) × In m given_new × (is_answer_to id m ≡ true))

@@ -78,6 +78,7 @@ quiet o r ks ok grows = record {
     calls = ok.of_arrivals.calls;
   };
   of_answers = record { given = ok.of_answers.given; once = ok.of_answers.once; resets = ok.of_answers.resets };
+  of_refusals = record { arrived = ok.of_refusals.arrived; unexecuted = ok.of_refusals.unexecuted };
 }
 
 -- events

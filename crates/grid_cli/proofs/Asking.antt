@@ -1,5 +1,5 @@
 -- The world of a call's partition, where the code reads it.
-use Rattle.std.proofs.Common.{◌≡◌, ℕ, ◌+◌, ◌-◌, ◌≤◌, ◌<◌, ◌==◌, ◌^◌, Bool, true, false, cond, List, [], ◌∷◌, length, get_or, map, filter, Option, Result, Ok, Err, Some, slice_get, refl, ap, sym, ◌∙◌, arith}
+use Rattle.std.proofs.Common.{◌≡◌, ℕ, ◌+◌, ◌-◌, ◌≤◌, ◌<◌, ◌^◌, Bool, true, false, cond, List, [], ◌∷◌, length, get_or, map, filter, Result, Ok, Err, Some, slice_get, ap, sym, ◌∙◌, arith}
 use Rattle.std.specs.Result.{OnOk}
 use Rattle.std.proofs.lemmas.Option.{slice_get_within}
 use Rattle.partition_world.specs.Worlds.{steps_of}
@@ -7,7 +7,7 @@ use Rattle.partition_world.proofs.Places.{read_there}
 use Rattle.grid_cli.specs.declared.grid.Grid.{Grid}
 use Rattle.grid_cli.specs.Runs.{Run, At, is_at, events_at}
 use Rattle.grid_cli.specs.Printing.{partitions}
-use Rattle.grid_cli.specs.Grids.{MapWorld, IsWorld, HasWorld, Stands}
+use Rattle.grid_cli.specs.Grids.{MapWorld, IsWorld, Stands}
 use Rattle.grid_cli.proofs.HistoryTexts.{indexed_world}
 
 -- what follows of three facts on a result

@@ -1,12 +1,12 @@
 -- The grid after the first line.
-use Rattle.std.proofs.Common.{◌≡◌, ◌≢◌, ℕ, zero, suc, ◌+◌, ◌<◌, ◌≤◌, List, [], ◌∷◌, ◌++◌, length, replicate, Option, Some, None, slice_get, refl, ap, sym, ◌∙◌, subst, ◌⊎◌, ⊎_elim, inl, inr, arith}
+use Rattle.std.proofs.Common.{◌≡◌, ◌≢◌, ℕ, zero, suc, ◌+◌, ◌<◌, ◌≤◌, List, [], ◌∷◌, ◌++◌, length, Some, None, slice_get, refl, ap, sym, ◌∙◌, subst, ⊎_elim, arith}
 use Rattle.std.specs.Option.{option_map, option_and_then}
 use Rattle.std.proofs.lemmas.Bool.{cases_eq}
 use Rattle.partition_world.specs.Worlds.{waiting}
 use Rattle.grid_cli.specs.declared.grid.Grid.{Grid}
 use Rattle.grid_cli.specs.Runs.{Run, begun}
 use Rattle.grid_cli.specs.Printing.{partitions}
-use Rattle.grid_cli.specs.Tables.{Table, Opened, most_connections, unopened, no_connections, present, opened_at}
+use Rattle.grid_cli.specs.Tables.{most_connections, unopened, no_connections, opened_at}
 use Rattle.grid_cli.specs.Grids.{MapWorld, IsWorld, HasTable, HasWorld, Stands, first, connection_as}
 use Rattle.grid_cli.proofs.TableChanges.{got_last, got_before, line_at}
 

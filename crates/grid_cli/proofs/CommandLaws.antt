@@ -1,19 +1,19 @@
 -- A transcript that ends at the line `end` closes with the histories of its run.
-use Rattle.std.proofs.Common.{◌≡◌, ℕ, suc, ◌+◌, ◌≤◌, Bool, true, false, if◌then◌else◌, List, [], ◌∷◌, ◌++◌, take, Option, Some, None, refl, ap, sym, ◌∙◌, subst, arith, append_assoc}
-use Rattle.std.specs.Io.KnownBytes.{append_known}
+use Rattle.std.proofs.Common.{◌≡◌, ℕ, suc, ◌+◌, Bool, true, false, List, [], ◌∷◌, ◌++◌, take, Option, Some, None, refl, ap, sym, ◌∙◌, subst, arith, append_assoc}
 use Rattle.grid_base.specs.declared.names.CallId.{CallId}
 use Rattle.grid_cli.specs.Lines.{line_of}
 use Rattle.grid_cli.specs.PartitionObjects.{partition_object}
 use Rattle.grid_cli.specs.Runs.{Run, begun}
 use Rattle.grid_cli.specs.Printing.{ok_text, line_text, end_text}
-use Rattle.grid_cli.specs.Transcripts.{Transcript, Ending, Ended, Refused, TooLong, transcript, lines_of, is_too_long, first_line, later_lines, following, stopped, ran, refused, is_end}
+use Rattle.grid_cli.specs.Transcripts.{Transcript, Ending, Ended, Refused, TooLong, transcript, lines_of, is_too_long, first_line, later_lines, following, ran, refused, is_end}
 use Rattle.grid_cli.specs.Linearizability.{IsLinearizable, run_after}
 use Rattle.grid_cli.specs.Progress.{run_of}
 use Rattle.grid_cli.specs.Statuses.{whole, WritesText}
-use Rattle.grid_cli.specs.Commands.{ClosesWithHistories, PrintsHistories}
+use Rattle.grid_cli.specs.Commands.{PrintsHistories}
 use Rattle.grid_cli.specs.declared.script.Line.{Line}
 use Rattle.grid_cli.specs.declared.script.Line.TheVariants.{Grid, OpenConn, Arrive, End}
-use Rattle.grid_cli.specs.declared.script.LineWhy.TheVariants.{NotBuilt, NoEnd}
+use Rattle.grid_cli.specs.declared.script.LineWhy.TheVariants.{NotBuilt}
+use Rattle.grid_cli.specs.declared.status.Status.{Status}
 use Rattle.grid_cli.specs.declared.status.Status.TheVariants.{Done}
 use Rattle.grid_cli.proofs.TranscriberLaws.{the_grid_line}
 use Rattle.grid_cli.proofs.Linear.{every_run_is_linearizable}
@@ -99,7 +99,7 @@ run_is_linearizable skips [] = every_run_is_linearizable 1 0 skips [] (omega ari
 run_is_linearizable skips (first ∷ texts) = every_run_is_linearizable 1 0 skips texts (omega arith)
 
 -- Where a replay is done, what it wrote closes with histories.
-pub done_prints : (left before after : Option (List ℕ)) → WritesText Done left before after → (script : List ℕ) → left ≡ Some script → PrintsHistories script before after
+done_prints : (left before after : Option (List ℕ)) → WritesText Done left before after → (script : List ℕ) → left ≡ Some script → PrintsHistories script before after
 done_prints left before after writes script told =
     let w = writes script told in
     let skips : List CallId = w.0 in
@@ -116,3 +116,6 @@ done_prints left before after writes script told =
         linearizable = run_is_linearizable skips (take closes.0 (lines_of script));
       },
     )
+
+pub prints_if_done : (status : Status) (left before after : Option (List ℕ)) → WritesText status left before after → (script : List ℕ) → left ≡ Some script → status ≡ Done → PrintsHistories script before after
+prints_if_done status left before after writes script told done = done_prints left before after (subst (λ s. WritesText s left before after) done writes) script told

@@ -1,8 +1,9 @@
 -- How many elements of a list pass a test, and which of them is found.
 use Rattle.std.proofs.Common.{◌≡◌, ℕ, ◌+◌, ◌≤◌, Bool, true, false, cond, List, [], ◌∷◌, ◌++◌, Some, refl, ap, ◌∙◌, ◌⊎◌, ⊎_elim, inl, inr, arith}
 use Rattle.std.specs.List.{find}
-use Rattle.partition_protocol.proofs.Lists.{In, cases}
+use Rattle.partition_protocol.proofs.Lists.{In, in_contains, cases}
 use Rattle.partition_protocol.proofs.RowFacts.{false_or_not}
+use Rattle.grid_cli.specs.Linearizability.{Before}
 
 abbrev pub count : {X : Type 0} → (X → Bool) → List X → ℕ
 count t [] = 0
@@ -44,3 +45,13 @@ find_only t (y ∷ ys) x l (inr i) e =
   where
     two : t y ≡ true → 1 ≤ count t ys → ⊥
     two p one = let k = rw p at l in omega (arith, k, one)
+
+-- where one passes at most, no two do
+pub count_before : {X : Type 0} (t : X → Bool) (xs : List X) (a b : X) → count t xs ≤ 1 → Before xs a b → t a ≡ true → t b ≡ true → ⊥
+count_before t [] a b l h p q = absurd h
+count_before t (x ∷ xs) a b l (inl h) p q =
+    let first : t x ≡ true = ap t h.0 ∙ p in
+    let second = count_in t xs b (in_contains b xs h.1) q in
+    let k = rw first at l in
+    omega (arith, k, second)
+count_before t (x ∷ xs) a b l (inr h) p q = count_before t xs a b (omega (arith, l)) h p q

@@ -1,5 +1,5 @@
 -- Reading digits on only makes a number greater.
-use Rattle.std.proofs.Common.{◌≡◌, ℕ, ◌+◌, ◌-◌, ◌*◌, ◌<◌, ◌≤◌, List, [], ◌∷◌, fold, Bool, true, false, cond, nat_lt, Option, Some, None, refl, arith}
+use Rattle.std.proofs.Common.{◌≡◌, ℕ, ◌+◌, ◌-◌, ◌*◌, ◌≤◌, List, [], ◌∷◌, fold, false, cond, nat_lt, Some, None, refl, arith}
 use Rattle.std.proofs.lemmas.Bool.Decides.{nat_tests}
 
 pub fold_grows : (v : ℕ) (ds : List ℕ) → v ≤ fold (λ n d. n * 10 + (d - 48)) v ds

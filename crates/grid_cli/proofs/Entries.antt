@@ -1,5 +1,5 @@
 -- What a list of map entries has after one of them is set.
-use Rattle.std.proofs.Common.{◌≡◌, ℕ, ◌<◌, ◌+◌, Bool, true, false, cond, List, [], ◌∷◌, ◌++◌, length, get_or, set, map, Option, Some, None, refl, sym, ap, subst, ◌∙◌, ltb, arith}
+use Rattle.std.proofs.Common.{◌≡◌, ℕ, ◌<◌, Bool, true, false, cond, List, [], ◌∷◌, ◌++◌, length, get_or, set, map, Option, Some, None, refl, sym, ap, subst, ◌∙◌, ltb}
 use Rattle.std.specs.Prelude.{IfSome}
 use Rattle.std.specs.List.{All, find, list_any, position, position_or_len, IsDistinct}
 use Rattle.std.specs.Option.{option_map, option_or}
@@ -15,7 +15,7 @@ use Rattle.grid_base.specs.Names.{ObjectName, is_same}
 use Rattle.grid_cli.specs.declared.shelf.StoredEntry.{StoredEntry}
 use Rattle.grid_cli.specs.Effects.{FitsFrame}
 use Rattle.grid_cli.specs.MapLists.{name_of, is_named, value_in, partition_of, IsMapList}
-use Rattle.grid_cli.specs.PartitionObjects.{Partition, with_entry}
+use Rattle.grid_cli.specs.PartitionObjects.{with_entry}
 use Rattle.grid_cli.specs.SameNames.{same_name, is_same_self, one_entry_set}
 use Rattle.grid_cli.proofs.Names.{is_same_equivalence}
 

@@ -1,5 +1,5 @@
 -- The call that a line brings has a name of its own.
-use Rattle.std.proofs.Common.{◌≡◌, ◌≢◌, ℕ, ◌<◌, ◌+◌, Bool, true, false, cond, List, Option, Some, None, refl, ap, sym, ◌∙◌, subst, arith}
+use Rattle.std.proofs.Common.{◌≡◌, ◌≢◌, ℕ, Bool, true, false, cond, List, Option, Some, None, refl, ap, sym, ◌∙◌}
 use Rattle.std.specs.Prelude.{option_map, option_and_then}
 use Rattle.grid_base.specs.declared.names.CallId.{CallId}
 use Rattle.grid_base.specs.declared.calls.Request.{Request}
@@ -9,11 +9,11 @@ use Rattle.partition_protocol.proofs.RowFacts.{same_number}
 use Rattle.grid_cli.specs.PartitionObjects.{partition_object}
 use Rattle.grid_cli.specs.Requests.{request_of}
 use Rattle.grid_cli.specs.Runs.{Run, Connection, Arrival, is_connection, connection_of, next_id, arrival_at}
-use Rattle.grid_cli.specs.Skips.{arrival_on, arrival_of_line, call_at}
+use Rattle.grid_cli.specs.Skips.{arrival_on, call_at}
 use Rattle.grid_cli.specs.declared.script.Line.{Line}
 use Rattle.grid_cli.specs.declared.script.Line.TheVariants.{Grid, OpenConn, Arrive, End}
 use Rattle.grid_cli.proofs.Places.{IsRead, request_read}
-use Rattle.grid_cli.proofs.RunFacts.{RunOk, arrival_name}
+use Rattle.grid_cli.proofs.RunFacts.{RunOk}
 use Rattle.grid_cli.proofs.Arriving.{fresh}
 
 module _ (r : Run) (ok : RunOk partition_object r) (b : Arrival) (i : In b r.arrivals) (id : CallId) where

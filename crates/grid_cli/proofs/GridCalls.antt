@@ -1,6 +1,6 @@
 -- The grid after a call, which its partition's world ran or which found no memory.
-use Rattle.std.proofs.Common.{◌≡◌, ◌≢◌, ℕ, ◌+◌, ◌≤◌, ◌<◌, ◌==◌, ◌||◌, Bool, true, false, cond, List, [], ◌∷◌, ◌++◌, length, map, drop, Option, Some, None, slice_get, slice_set, refl, ap, sym, ◌∙◌, subst, ◌⊎◌, ⊎_elim, inl, inr, append-nil, append_assoc, arith}
-use Rattle.std.specs.List.{Contains, list_any}
+use Rattle.std.proofs.Common.{◌≡◌, ℕ, ◌+◌, ◌<◌, true, cond, List, [], ◌∷◌, ◌++◌, length, map, drop, Some, None, slice_get, slice_set, refl, ap, sym, ◌∙◌, subst, ◌⊎◌, ⊎_elim, inl, inr, append-nil, append_assoc, arith}
+use Rattle.std.specs.List.{Contains}
 use Rattle.std.proofs.lemmas.Bool.{eq-eqb}
 use Rattle.std.proofs.lemmas.List.{length-append}
 use Rattle.grid_base.specs.Names.{is_same_call}
@@ -10,16 +10,16 @@ use Rattle.partition_protocol.specs.World.{World}
 use Rattle.partition_protocol.specs.Events.{happens}
 use Rattle.partition_protocol.proofs.Lists.{In, in_contains}
 use Rattle.partition_world.specs.declared.node.Released.{Released}
-use Rattle.partition_world.specs.Answers.{released_at, released_by as answers_by}
-use Rattle.partition_world.specs.Worlds.{run_of, waiting}
+use Rattle.partition_world.specs.Answers.{released_by as answers_by}
+use Rattle.partition_world.specs.Worlds.{waiting}
 use Rattle.grid_cli.specs.declared.grid.Grid.{Grid}
 use Rattle.grid_cli.specs.PartitionObjects.{partition_object}
 use Rattle.grid_cli.specs.Replies.{want_of_memory}
 use Rattle.grid_cli.specs.Runs.{Run, Connection, Arrival, Appended, connection_of, events_at, next_id, updated, arrival_at, call_of, world_at, happening, refused_by, refusal, answer_to, released_by, asked, arrived, is_skipped}
 use Rattle.grid_cli.specs.Printing.{partitions, ok_text, line_text}
-use Rattle.grid_cli.specs.Tables.{Table, with_arrival}
+use Rattle.grid_cli.specs.Tables.{with_arrival}
 use Rattle.grid_cli.specs.Grids.{MapWorld, HasTable, HasWorld, Holds, Stands}
-use Rattle.grid_cli.specs.WorldCalls.{no_change, reaching, message_of, with_answers, texts_of, IsCalled, IsSkipped, GivesOut, HasAsked}
+use Rattle.grid_cli.specs.WorldCalls.{no_change, arrival_to, message_of, with_answers, texts_of, IsCalled, IsSkipped, GivesOut, HasAsked}
 use Rattle.grid_cli.proofs.Arriving.{its_event}
 use Rattle.grid_cli.proofs.Answering.{refusals_answer_none}
 use Rattle.grid_cli.proofs.Places.{same_call_refl}
@@ -172,7 +172,7 @@ module _ (grid : Grid) (r : Run) (s : Stands grid r) (k : Connection) (request :
 pub asked_grid : (grid : Grid) (r : Run) (s : Stands grid r) (k : Connection) (request : Request) → connection_of r request.id.conn ≡ Some k → next_id k ≡ request.id → (low : request.partition < partitions)
     → (new : Grid) (old called world : MapWorld) (line member : ℕ) (added written text : List ℕ) → slice_get grid.worlds.items request.partition ≡ Some old → line ≡ r.lines + 1 → k.member ≡ member
     → IsAfter grid new line request.partition request.id.conn world (waiting called member) → GivesOut called world member
-    → IsCalled old called (events_at request.partition r.events) (reaching line member request) added ⊎ IsSkipped old called (events_at request.partition r.events) (reaching line member request) added
+    → IsCalled old called (events_at request.partition r.events) (arrival_to line member request) added ⊎ IsSkipped old called (events_at request.partition r.events) (arrival_to line member request) added
     → text ≡ call_text written line added (waiting called member) → HasAsked new r k request written text
 asked_grid grid r s k request is named low new old called world line member added written text there at_line of_member after out did wrote = ⊎_elim ran skipped did
   where
@@ -192,16 +192,16 @@ asked_grid grid r s k request is named low new old called world line member adde
     wrote_it : text ≡ call_text written (r.lines + 1) added (waiting called k.member)
     wrote_it = wrote ∙ (λ i. call_text written (at_line i) added (waiting called (sym of_member i)))
 
-    ran : IsCalled old called (events_at request.partition r.events) (reaching line member request) added → HasAsked new r k request written text
+    ran : IsCalled old called (events_at request.partition r.events) (arrival_to line member request) added → HasAsked new r k request written text
     ran d =
         call_ran grid r s k request is named low new called world added written text after_it gave_out wrote_it
         (subst (λ w. IsCalled w called (events_at request.partition r.events) (arrival_at r k request) added) same_world
-        (subst (λ m. IsCalled old called (events_at request.partition r.events) (reaching (r.lines + 1) m request) added) (sym of_member)
-        (subst (λ l. IsCalled old called (events_at request.partition r.events) (reaching l member request) added) at_line d)))
+        (subst (λ m. IsCalled old called (events_at request.partition r.events) (arrival_to (r.lines + 1) m request) added) (sym of_member)
+        (subst (λ l. IsCalled old called (events_at request.partition r.events) (arrival_to l member request) added) at_line d)))
 
-    skipped : IsSkipped old called (events_at request.partition r.events) (reaching line member request) added → HasAsked new r k request written text
+    skipped : IsSkipped old called (events_at request.partition r.events) (arrival_to line member request) added → HasAsked new r k request written text
     skipped d =
         call_skipped grid r s k request is named low new called world added written text after_it gave_out wrote_it
         (subst (λ w. IsSkipped w called (events_at request.partition r.events) (arrival_at r k request) added) same_world
-        (subst (λ m. IsSkipped old called (events_at request.partition r.events) (reaching (r.lines + 1) m request) added) (sym of_member)
-        (subst (λ l. IsSkipped old called (events_at request.partition r.events) (reaching l member request) added) at_line d)))
+        (subst (λ m. IsSkipped old called (events_at request.partition r.events) (arrival_to (r.lines + 1) m request) added) (sym of_member)
+        (subst (λ l. IsSkipped old called (events_at request.partition r.events) (arrival_to l member request) added) at_line d)))

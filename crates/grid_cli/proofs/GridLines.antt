@@ -1,7 +1,7 @@
 -- The grid after each line: it stands for the run after the line, and the line's text was added.
-use Rattle.std.proofs.Common.{◌≡◌, ◌≢◌, ℕ, ◌+◌, ◌≤◌, ◌<◌, Bool, true, false, cond, List, [], ◌∷◌, ◌++◌, length, map, Option, Some, None, slice_get, slice_set, refl, ap, sym, ◌∙◌, subst, ◌⊎◌, ⊎_elim, inl, inr, append-nil, append_assoc, arith}
+use Rattle.std.proofs.Common.{◌≡◌, ℕ, ◌+◌, ◌<◌, true, false, cond, List, [], ◌∷◌, ◌++◌, Option, Some, None, refl, ap, sym, ◌∙◌, subst, append_assoc, arith}
 use Rattle.std.specs.Option.{option_map, option_and_then, is_some}
-use Rattle.std.specs.List.{flat_map, Contains}
+use Rattle.std.specs.List.{flat_map}
 use Rattle.grid_base.specs.declared.names.CallId.{CallId}
 use Rattle.grid_base.specs.declared.calls.Request.{Request}
 use Rattle.partition_protocol.proofs.Lists.{in_contains}
@@ -12,11 +12,11 @@ use Rattle.grid_cli.specs.PartitionObjects.{partition_object}
 use Rattle.grid_cli.specs.Words.{are_same}
 use Rattle.grid_cli.specs.Requests.{request_of}
 use Rattle.grid_cli.specs.Runs.{Run, Connection, Arrival, connection_of, after_line, opened, next_line, next_id, updated, greeting, prefix, requested, bytes_arrived, asked, arrival_at}
-use Rattle.grid_cli.specs.Printing.{partitions, ok_text, line_text, end_text, entry_text, all_entries}
+use Rattle.grid_cli.specs.Printing.{ok_text, line_text, end_text, entry_text, all_entries}
 use Rattle.grid_cli.specs.Transcripts.{is_end}
 use Rattle.grid_cli.specs.Skips.{arrival_on, call_at}
 use Rattle.grid_cli.specs.Tables.{Table, most_connections, opened_at, with_opened, with_greeting}
-use Rattle.grid_cli.specs.Grids.{HasTable, HasWorld, Holds, Stands, HasRun, IsRun, later, connection_as, text_at}
+use Rattle.grid_cli.specs.Grids.{HasTable, Holds, Stands, HasRun, IsRun, later, connection_as, text_at}
 use Rattle.grid_cli.specs.WorldCalls.{HasAsked}
 use Rattle.grid_cli.proofs.LineTexts.{text_without}
 use Rattle.grid_cli.proofs.TableRuns.{opened_table, greeted_table}

@@ -1,10 +1,9 @@
 -- The text of a recorded history: what the code prints of its entries is what the run has of them.
 use Rattle.std.proofs.Common.{◌≡◌, ℕ, zero, suc, ◌+◌, List, [], ◌∷◌, ◌++◌, length, get_or, take, Option, Some, None, slice_get, refl, ap, sym, ◌∙◌, subst, append_assoc, append-nil, arith}
-use Rattle.std.specs.Option.{option_map, option_and_then, unwrap_or}
+use Rattle.std.specs.Option.{option_map, unwrap_or}
 use Rattle.std.specs.List.{flat_map}
 use Rattle.std.proofs.lemmas.List.{take_all}
 use Rattle.std.proofs.lemmas.List.Concat.{flat_map-append}
-use Rattle.grid_base.specs.declared.names.CallId.{CallId}
 use Rattle.grid_base.specs.declared.calls.Request.{Request}
 use Rattle.partition_protocol.specs.History.{Entry as ProtocolEntry, Executed, Called, Reset}
 use Rattle.partition_protocol.specs.Service.{numbers_below}
@@ -13,7 +12,7 @@ use Rattle.partition_world.proofs.Places.{read_there}
 use Rattle.grid_cli.specs.declared.connections.CallLines.{CallLines}
 use Rattle.grid_cli.specs.PartitionObjects.{partition_object}
 use Rattle.grid_cli.specs.Runs.{Run, Arrival, Appended}
-use Rattle.grid_cli.specs.Printing.{Printed, printed, printed_from, entry_text, entries_of, arrival_of, answer_of}
+use Rattle.grid_cli.specs.Printing.{printed, printed_from, entry_text, entries_of, arrival_of, answer_of}
 use Rattle.grid_cli.specs.PrintedEntries.{arrived_in, answered_in, printed_as}
 use Rattle.grid_cli.specs.Grids.{MapWorld, IsWorld, HasWorld, IsRun, lines_in}
 use Rattle.grid_cli.proofs.RunsOfLines.{unheard_unanswered}

@@ -12,6 +12,7 @@ pub mod GridLines
 pub mod GridCalls
 pub mod GivingOut
 pub mod Refusing
+pub mod Refusals
 pub mod HistoryTexts
 pub mod Beginning
 pub mod Asking

@@ -1,6 +1,6 @@
 -- The text of a line, by what it appended.
-use Rattle.std.proofs.Common.{◌≡◌, ℕ, List, [], ◌∷◌, ◌++◌, length, map, drop, refl, ap, sym, ◌∙◌, append_assoc, append-nil}
-use Rattle.std.specs.List.{flat_map, filter_map, cons_option}
+use Rattle.std.proofs.Common.{◌≡◌, ℕ, List, [], ◌∷◌, ◌++◌, length, map, drop, refl, ap, sym, ◌∙◌, append-nil}
+use Rattle.std.specs.List.{filter_map, cons_option}
 use Rattle.std.specs.Option.{option_map}
 use Rattle.std.specs.Prelude.{Option, Some, None}
 use Rattle.std.proofs.lemmas.List.{drop_at}
@@ -11,8 +11,8 @@ use Rattle.partition_protocol.specs.History.{Executed}
 use Rattle.partition_protocol.specs.World.{World}
 use Rattle.partition_world.specs.Answers.{answer_of, held_answer, newest_call}
 use Rattle.grid_cli.specs.PartitionObjects.{partition_object}
-use Rattle.grid_cli.specs.Runs.{Run, Appended, answer_to, executed_for, released_by}
-use Rattle.grid_cli.specs.Printing.{appended_text, ok_text, line_text, new_messages}
+use Rattle.grid_cli.specs.Runs.{Run, Appended, answer_to, executed_for}
+use Rattle.grid_cli.specs.Printing.{appended_text, ok_text, line_text}
 use Rattle.grid_cli.specs.WorldCalls.{no_change, message_of, texts_of}
 
 pub text_with : (r next : Run) (ms : List Appended) → next.appended ≡ r.appended ++ ms → line_text r next ≡ ok_text next.lines ++ texts_of ms

@@ -15,7 +15,7 @@ use Rattle.partition_protocol.proofs.Faithful.{part_in}
 use Rattle.partition_world.specs.Answers.{id_of}
 use Rattle.grid_cli.specs.PartitionObjects.{target_of, map_entry, partition_object}
 use Rattle.grid_cli.specs.Runs.{Run, begun, Arrival, Appended, world_at}
-use Rattle.grid_cli.specs.Printing.{Printed, partitions, entries_of, all_entries, printed_from, arrival_of, answer_of}
+use Rattle.grid_cli.specs.Printing.{Printed, partitions, entries_of, all_entries, printed_from, arrival_of, is_answer_to, answer_of}
 use Rattle.grid_cli.specs.Linearizability.{is_on, history_of, Before, answered_call, IsOf, Fits, IsLinearizable, run_after, EveryRunIsLinearizable}
 use Rattle.grid_cli.specs.SameNames.{same_name}
 use Rattle.grid_cli.proofs.Parts.{before_first, before_second, part_filter, before_part, named_apart, in_filter, in_filtered}
@@ -24,7 +24,12 @@ use Rattle.grid_cli.proofs.Trails.{executed, asked, executed_name, Prints, print
 use Rattle.grid_cli.proofs.RunFacts.{RunOk, asked_of, arrival_name, id_name, safe, log_once, origin, origins, arrival_found, IsGivenIn, given_executed, asked_as}
 use Rattle.grid_cli.proofs.Lines.{run_after_ok, begun_ok}
 use Rattle.grid_cli.proofs.Locality.{legal_on, history_elsewhere, history_at, history_past}
-use Rattle.grid_cli.proofs.Answers.{trail_part, given_at, printed_answer, answer_stands, answer_found, arrived_before}
+use Rattle.grid_cli.proofs.Counts.{count_before}
+use Rattle.grid_cli.proofs.Answers.{trail_part, answer_named, given_at, printed_answer, answer_stands, answer_found, arrived_before}
+
+pub answered_once : (r : Run) → RunOk partition_object r → (m n : Appended) (id : CallId) → Before r.appended m n → m.answers ≡ Some id → n.answers ≢ Some id
+answered_once r ok m n id before first second =
+    count_before (is_answer_to id) r.appended m n (ok.of_answers.once id) before (answer_named id m first) (answer_named id n second)
 
 module _ (r : Run) (ok : RunOk partition_object r) (p : ℕ) where
   abbrev pub w : World Request
@@ -94,6 +99,11 @@ module _ (r : Run) (ok : RunOk partition_object r) (p : ℕ) where
         let from = origin partition_object r ok.members ok.of_arrivals p k.1.0 k.1.1 in
         (k.0, (from.0, contains_in from.0 r.arrivals from.1, is_of_arrival from.0 k.1.0 e from.1 from.3 k.1.2))
 
+    pub unrefused : (e : Printed) (m : Appended) → Contains h e → Contains r.appended m → m.refuses ≢ Some e.id
+    unrefused e m c d refused =
+        let k = entry_call e (in_contains e h c) in
+        ok.of_refusals.unexecuted m e.id (in_contains m r.appended d) refused p k.1.0 k.1.1 (ap (λ (f : Printed). id_name f.id) k.1.2.is)
+
     pub once : (a b : Printed) → Before h a b → a.id ≢ b.id
     once a b before same =
         let k = entries_in_order a b before in
@@ -159,15 +169,27 @@ module _ (r : Run) (ok : RunOk partition_object r) (p : ℕ) where
         omega (arith, apart, left, right)
 
     pub fits : home name ≡ p → Fits map_entry name r h
-    fits at = record { legal = legal; arrived = arrived; once = once; answered = answered at; given = given; ordered = ordered; same_line = same_line }
+    fits at = record {
+      legal = legal;
+      arrived = arrived;
+      unrefused = unrefused;
+      once = once;
+      answered = answered at;
+      answered_once = answered_once r ok;
+      given = given;
+      ordered = ordered;
+      same_line = same_line;
+    }
 
 -- nothing is printed of an object that is nowhere
 pub nothing_fits : (r : Run) → RunOk partition_object r → (name : ObjectName) → partitions ≤ home name → Fits map_entry name r []
 nothing_fits r ok name far = record {
   legal = tt;
   arrived = λ e c. absurd (in_contains e [] c);
+  unrefused = λ e m c d. absurd (in_contains e [] c);
   once = λ a b before. absurd before;
   answered = λ a m c on d s. absurd (nowhere a (in_contains a r.arrivals c) on);
+  answered_once = answered_once r ok;
   given = λ e line c s. absurd (in_contains e [] c);
   ordered = λ a b line before s. absurd before;
   same_line = λ a b before s. absurd before;

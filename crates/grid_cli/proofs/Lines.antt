@@ -18,6 +18,7 @@ use Rattle.grid_cli.proofs.Trails.{find_some}
 use Rattle.grid_cli.proofs.RunFacts.{RunOk}
 use Rattle.grid_cli.proofs.Arriving.{opened_grows, updated_grows, quiet, arrivals_with, its_event}
 use Rattle.grid_cli.proofs.Answering.{skipped_answers, answers_after}
+use Rattle.grid_cli.proofs.Refusals.{skipped_refusals, refusals_after}
 
 module _ {State : Type 0} (o : Object Request State) (skips : List CallId) (r next : Run) (ok : RunOk o r) where
   -- a call, with an event or none
@@ -35,10 +36,16 @@ module _ {State : Type 0} (o : Object Request State) (skips : List CallId) (r ne
         members = ok.members;
         of_arrivals = arrivals_with r ok.of_arrivals k there request read.0 read.1 [] (refusal (r.lines + 1) request want_of_memory 0 ∷ []) (inl refl);
         of_answers = skipped_answers o r ok k (arrival_at r k request);
+        of_refusals = skipped_refusals o r ok k there request read.0 read.1;
       }
       go false =
           let come = arrivals_with r ok.of_arrivals k there request read.0 read.1 (its_event (arrival_at r k request) ∷ []) (happening o r (arrival_at r k request)) (inr refl) in
-          record { members = ok.members; of_arrivals = come; of_answers = answers_after o r ok k (arrival_at r k request) come }
+          record {
+            members = ok.members;
+            of_arrivals = come;
+            of_answers = answers_after o r ok k (arrival_at r k request) come;
+            of_refusals = refusals_after o r ok k there request read.0 read.1;
+          }
 
   pub requested_ok : (k : Connection) (bytes : List ℕ) → connection_of r k.conn ≡ Some k → requested o skips r k bytes ≡ Some next → RunOk o next
   requested_ok k bytes there e = go (request_of (next_id k) bytes) (λ request s. request_read (next_id k) bytes request s) e
@@ -115,4 +122,5 @@ begun_ok o members backups grid = record {
   members = grid;
   of_arrivals = record { placed = λ a i. absurd i; once = tt; counted = λ a i. absurd i; in_order = λ a b h. absurd h; by_now = λ a i. absurd i; calls = λ p. refl };
   of_answers = record { given = λ m id i e. absurd i; once = λ id. omega arith; resets = λ p. refl };
+  of_refusals = record { arrived = λ m id i e. absurd i; unexecuted = λ m id i e. absurd i };
 }

@@ -1,7 +1,6 @@
 -- Running a script line by line: what each line adds to what was written, and how the run ends.
-use Rattle.std.proofs.Common.{◌≡◌, ◌≢◌, ℕ, zero, suc, ◌+◌, ◌<◌, Bool, true, false, ◌||◌, cond, if◌then◌else◌, List, [], ◌∷◌, ◌++◌, length, Option, Some, None, refl, ap, sym, ◌∙◌, subst, ◌⊎◌, inl, inr, ⊎_elim, arith, append_assoc, append-nil, length-append}
-use Rattle.std.specs.Prelude.{Contains, option_map, option_and_then}
-use Rattle.std.specs.List.{list_any}
+use Rattle.std.proofs.Common.{◌≡◌, ◌≢◌, ℕ, ◌+◌, Bool, true, false, ◌||◌, if◌then◌else◌, List, [], ◌∷◌, ◌++◌, length, Option, Some, None, refl, ap, sym, ◌∙◌, subst, inl, inr, ⊎_elim, arith, append_assoc, append-nil, length-append}
+use Rattle.std.specs.Prelude.{Contains, option_map}
 use Rattle.std.specs.Option.{option_to_list}
 use Rattle.grid_base.specs.declared.names.CallId.{CallId}
 use Rattle.grid_base.specs.Names.{is_same_call}
@@ -11,14 +10,14 @@ use Rattle.std.proofs.lemmas.Bool.Decides.{nat_tests}
 use Rattle.grid_cli.specs.Lines.{line_of}
 use Rattle.grid_cli.specs.PartitionObjects.{partition_object}
 use Rattle.grid_cli.specs.Runs.{Run, Arrival, begun, after_line, is_skipped}
-use Rattle.grid_cli.specs.Printing.{ok_text, line_text, end_text, refused_text}
-use Rattle.grid_cli.specs.Transcripts.{Transcript, Ended, Refused, first_line, later_lines, following, stopped, refused, ran, is_end, why_text}
+use Rattle.grid_cli.specs.Printing.{ok_text, line_text, end_text}
+use Rattle.grid_cli.specs.Transcripts.{Transcript, Ended, first_line, later_lines, following, stopped, refused, ran, is_end}
 use Rattle.grid_cli.specs.Linearizability.{run_after}
 use Rattle.grid_cli.specs.Skips.{AgreeOn, AreOfLine, call_at, arrival_of_line}
 use Rattle.grid_cli.specs.Statuses.{whole}
 use Rattle.grid_cli.specs.Progress.{IsAt, run_of}
 use Rattle.grid_cli.specs.declared.script.Line.{Line}
-use Rattle.grid_cli.specs.declared.script.Line.TheVariants.{Grid, OpenConn, Arrive, End}
+use Rattle.grid_cli.specs.declared.script.Line.TheVariants.{Grid}
 use Rattle.grid_cli.specs.declared.script.LineWhy.TheVariants.{NotBuilt}
 use Rattle.grid_cli.proofs.SkipLaws.{Alike, skips_alike, Counts, line_counts}
 

@@ -1,17 +1,16 @@
 -- How a replay ends, as the transcript of its script does.
-use Rattle.std.proofs.Common.{◌≡◌, ℕ, ◌+◌, ◌-◌, ◌≤◌, ◌<◌, Bool, true, false, cond, List, [], ◌∷◌, ◌++◌, ◌==◌, length, take, drop, Option, Some, None, nat_lt, refl, ap, sym, ◌∙◌, subst, arith, append-nil, append_assoc, length-append}
+use Rattle.std.proofs.Common.{◌≡◌, ℕ, ◌+◌, ◌-◌, ◌≤◌, ◌<◌, Bool, true, false, cond, List, [], ◌∷◌, ◌++◌, ◌==◌, length, take, nat_lt, refl, ap, sym, ◌∙◌, subst, arith, append-nil, append_assoc}
 use Rattle.std.proofs.Math.Seq.{take-append-add}
 use Rattle.std.proofs.lemmas.Bool.Decides.{nat_tests}
 use Rattle.grid_base.specs.declared.names.CallId.{CallId}
 use Rattle.partition_protocol.specs.Sequences.{IsFrontOf}
 use Rattle.grid_cli.specs.Words.{whole_lines, unfinished}
 use Rattle.grid_cli.specs.PartitionObjects.{partition_object}
-use Rattle.grid_cli.specs.Transcripts.{Transcript, Ended, Refused, TooLong, first_line, following, refused, most_bytes, is_too_long, last_line, lines_of, transcript}
+use Rattle.grid_cli.specs.Transcripts.{Transcript, Ended, Refused, first_line, most_bytes, is_too_long, last_line, lines_of, transcript}
 use Rattle.grid_cli.specs.Statuses.{whole, Writes, IsTextSoFar}
-use Rattle.grid_cli.specs.Transcribing.{Follows, Concludes, StopsAs}
+use Rattle.grid_cli.specs.Transcribing.{Concludes, StopsAs}
 use Rattle.grid_cli.specs.Replays.{HasRead, OfLines, StopsWithin}
 use Rattle.grid_cli.specs.declared.replay.Replay.{Replay}
-use Rattle.grid_cli.specs.declared.script.LineWhy.TheVariants.{NoEnd}
 use Rattle.grid_cli.specs.declared.status.Status.{Status}
 use Rattle.grid_cli.specs.declared.status.Status.TheVariants.{Done, Usage, ScriptRefused, ReadFault, WriteFault, Limit, Memory}
 use Rattle.grid_cli.proofs.TranscriberLaws.{stop_of_lines}

@@ -1,14 +1,13 @@
 -- Reading a script piece by piece: which lines are whole, how many there are, and where the run stops within them.
-use Rattle.std.proofs.Common.{◌≡◌, ℕ, zero, suc, ◌+◌, ◌≤◌, ◌<◌, ◌==◌, ◌^◌, Bool, true, false, cond, List, [], ◌∷◌, ◌++◌, length, take, drop, Option, Some, None, refl, ap, sym, ◌∙◌, subst, arith, append-nil, append_assoc, length-append}
+use Rattle.std.proofs.Common.{◌≡◌, ℕ, suc, ◌+◌, ◌≤◌, ◌<◌, ◌==◌, Bool, true, false, cond, List, [], ◌∷◌, ◌++◌, length, Option, Some, None, refl, ap, sym, ◌∙◌, subst, arith, append-nil, append_assoc}
 use Rattle.grid_base.specs.declared.names.CallId.{CallId}
 use Rattle.partition_protocol.specs.Sequences.{IsFrontOf}
 use Rattle.grid_cli.specs.Words.{newline, pieces_at, onto_first, fronts, last_piece, whole_lines, unfinished}
 use Rattle.grid_cli.specs.Pieces.{IsOnePiece}
 use Rattle.grid_cli.specs.PartitionObjects.{partition_object}
-use Rattle.grid_cli.specs.Transcripts.{Transcript, Ended, Refused, first_line, later_lines, following}
+use Rattle.grid_cli.specs.Transcripts.{Transcript, Ended, Refused, first_line, later_lines}
 use Rattle.grid_cli.specs.Statuses.{whole}
-use Rattle.grid_cli.specs.Grids.{lines_run}
-use Rattle.grid_cli.specs.Transcribing.{Follows, HasRun, Continues, StopsAs, lines_of}
+use Rattle.grid_cli.specs.Transcribing.{Follows, Continues, StopsAs, lines_of}
 use Rattle.grid_cli.specs.Replays.{HasRead, OfLines, StopsWithin, ended_line}
 use Rattle.grid_cli.specs.declared.grid.Grid.{Grid}
 use Rattle.grid_cli.specs.declared.replay.Replay.{Replay}

@@ -1,5 +1,5 @@
 -- What holds of a run after every line: what its arrivals, its events and its answers have to do with one another.
-use Rattle.std.proofs.Common.{◌≡◌, ℕ, ◌≤◌, ◌<◌, Bool, true, false, ◌==◌, List, [], ◌∷◌, ◌++◌, map, filter, Some, refl, ap, sym, ◌∙◌, subst, inl, inr}
+use Rattle.std.proofs.Common.{◌≡◌, ◌≢◌, ℕ, ◌≤◌, ◌<◌, Bool, true, false, ◌==◌, List, [], ◌∷◌, ◌++◌, map, filter, Some, refl, ap, sym, ◌∙◌, subst, inl, inr}
 use Rattle.std.specs.List.{find}
 use Rattle.grid_base.specs.Objects.{Object}
 use Rattle.grid_base.specs.Names.{is_same_call}
@@ -7,6 +7,7 @@ use Rattle.grid_base.specs.declared.names.CallId.{CallId}
 use Rattle.grid_base.specs.declared.calls.Request.{Request}
 use Rattle.partition_protocol.specs.Node.{Held}
 use Rattle.partition_protocol.specs.History.{Entry, Executed}
+use Rattle.partition_protocol.specs.Answers.{answered_call}
 use Rattle.partition_protocol.specs.Arrivals.{Asked, CallName, NamedOnce, name, arrivals, calls_in}
 use Rattle.partition_protocol.specs.Sequences.{IsFrontOf}
 use Rattle.partition_protocol.specs.Claims.{IsSafe, IsFaithful, is_reset}
@@ -20,7 +21,6 @@ use Rattle.grid_cli.specs.Printing.{arrival_of, is_answer_to}
 use Rattle.grid_cli.specs.Linearizability.{Before}
 use Rattle.grid_cli.proofs.Parts.{in_map, before_map, subsequence_part, part_filter, part_trans, before_part, before_mapped, in_mapped, in_filtered, named_same}
 use Rattle.grid_cli.proofs.Counts.{count}
-use Rattle.grid_cli.proofs.Releases.{held_name}
 use Rattle.grid_cli.proofs.Places.{IsPlaced, same_call, same_call_refl, same_number}
 use Rattle.grid_cli.proofs.Trails.{executed, executed-append, asked, executed_name, calls_executed, names_executed}
 
@@ -59,7 +59,7 @@ pub record IsGiven (log : List (Entry Request)) (released : List Held) (come : L
   pub call_is : id_of call ≡ id
   pub reply : m.bytes ≡ call.reply
   pub held : Held
-  pub held_is : held_name held ≡ executed_name call
+  pub held_is : answered_call held ≡ executed_name call
   pub is_released : In held released
   -- the log as the answer was given
   pub log_then : List (Entry Request)
@@ -77,10 +77,19 @@ pub record AnswersOk {State : Type 0} (o : Object Request State) (r : Run) : Typ
   -- nothing is reopened
   pub resets : (p : ℕ) → filter is_reset (world_at o r p).recorded.log ≡ []
 
+-- refusals
+
+pub record RefusalsOk {State : Type 0} (o : Object Request State) (r : Run) : Type 0 where
+  -- a call that was refused arrived
+  pub arrived : (m : Appended) (id : CallId) → In m r.appended → m.refuses ≡ Some id → (a : Arrival) × In a r.arrivals × (a.id ≡ id)
+  -- and is executed nowhere
+  pub unexecuted : (m : Appended) (id : CallId) → In m r.appended → m.refuses ≡ Some id → (p : ℕ) (x : Executed Request) → In x (executed (world_at o r p).recorded.log) → executed_name x ≢ id_name id
+
 pub record RunOk {State : Type 0} (o : Object Request State) (r : Run) : Type 0 where
   pub members : 1 ≤ r.members
   pub of_arrivals : ArrivalsOk r
   pub of_answers : AnswersOk o r
+  pub of_refusals : RefusalsOk o r
 
 -- the log is as it was then, and more
 pub log_since : {log : List (Entry Request)} {released : List Held} {come : List Arrival} (m : Appended) (id : CallId) (g : IsGiven log released come m id)

@@ -1,8 +1,8 @@
 -- What holds of every run that lines can make.
-use Rattle.std.proofs.Common.{◌≡◌, ℕ, List, Option, Some, None, refl, ap, sym, ◌∙◌, subst}
+use Rattle.std.proofs.Common.{◌≡◌, Option, Some, None, refl, ap, sym, ◌∙◌}
 use Rattle.grid_base.specs.declared.names.CallId.{CallId}
 use Rattle.grid_cli.specs.PartitionObjects.{partition_object}
-use Rattle.grid_cli.specs.Runs.{Run, Arrival, Appended, after_line}
+use Rattle.grid_cli.specs.Runs.{Run, Appended}
 use Rattle.grid_cli.specs.Printing.{arrival_of, answer_of, is_answer_to}
 use Rattle.grid_cli.specs.Grids.{IsRun, first, later}
 use Rattle.grid_cli.proofs.RunFacts.{RunOk, arrival_found}

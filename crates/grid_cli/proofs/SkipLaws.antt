@@ -1,5 +1,5 @@
 -- A line asks of the skips only whether its own call is among them, and adds its own call to the arrivals.
-use Rattle.std.proofs.Common.{◌≡◌, ◌≢◌, ℕ, ◌+◌, Bool, true, false, cond, ◌||◌, List, [], ◌∷◌, ◌++◌, Option, Some, None, refl, ap, sym, ◌∙◌, ◌⊎◌, inl, inr, append-nil, subst}
+use Rattle.std.proofs.Common.{◌≡◌, ℕ, ◌+◌, Bool, true, false, cond, List, ◌++◌, Option, Some, None, refl, ap, sym, ◌∙◌, append-nil, subst}
 use Rattle.std.specs.Prelude.{option_map, option_and_then, is_some}
 use Rattle.std.specs.Option.{option_to_list}
 use Rattle.grid_base.specs.declared.names.CallId.{CallId}
@@ -8,7 +8,7 @@ use Rattle.grid_cli.specs.Words.{are_same}
 use Rattle.grid_cli.specs.PartitionObjects.{partition_object}
 use Rattle.grid_cli.specs.Requests.{request_of}
 use Rattle.grid_cli.specs.Runs.{Run, Connection, Arrival, connection_of, next_id, arrival_at, after_line, bytes_arrived, requested, greeting, asked, is_skipped, opened, next_line, updated, prefix}
-use Rattle.grid_cli.specs.Skips.{arrival_on, arrival_of_line, call_at, AreOfLine}
+use Rattle.grid_cli.specs.Skips.{arrival_on, arrival_of_line, call_at}
 use Rattle.grid_cli.specs.declared.script.Line.{Line}
 use Rattle.grid_cli.specs.declared.script.Line.TheVariants.{Grid, OpenConn, Arrive, End}
 

@@ -1,15 +1,15 @@
 -- What is read as an effect is spelled so.
-use Rattle.std.proofs.Common.{◌≡◌, ℕ, suc, inl, inr, ◌+◌, ◌^◌, ◌<◌, ◌≤◌, Bool, true, false, cond, ltb, leb, eqb, List, [], ◌∷◌, ◌++◌, ◌&&◌, length, get_or, take, drop, Option, Some, None, refl, sym, ap, subst, ◌∙◌, append_assoc, arith}
+use Rattle.std.proofs.Common.{◌≡◌, ℕ, suc, inl, inr, ◌+◌, ◌<◌, ◌≤◌, Bool, true, false, cond, ltb, leb, eqb, List, [], ◌∷◌, ◌++◌, ◌&&◌, length, get_or, take, drop, Option, Some, None, refl, sym, ap, subst, ◌∙◌, append_assoc, arith}
 use Rattle.std.specs.Int.{w32, from_le_bytes, to_le_bytes}
-use Rattle.std.proofs.lemmas.Bool.{cases_lt, ltb-false, le-ltb, le-leb, leb-true, eqb-true, and_parts, and_from}
-use Rattle.std.proofs.lemmas.List.{take_at, drop_at, take-append-drop, length-append, length-take, length-drop, get_or-drop, get_or-take, get_or_past}
+use Rattle.std.proofs.lemmas.Bool.{cases_lt, ltb-false, eqb-true, and_parts}
+use Rattle.std.proofs.lemmas.List.{take-append-drop, length-take, get_or-drop, get_or-take, get_or_past}
 use Rattle.std.proofs.lemmas.Option.{cond_some, same_Some}
-use Rattle.std.proofs.lemmas.Nat.{le_bytes_4, from_le_bytes-to_le_bytes_4}
+use Rattle.std.proofs.lemmas.Nat.{le_bytes_4}
 use Rattle.frame_codec.specs.declared.frames.TheConstants.{MAX_PAYLOAD}
 use Rattle.grid_base.specs.Names.{ObjectName}
 use Rattle.grid_cli.specs.Requests.{◌>>=◌}
 use Rattle.grid_cli.specs.Words.{are_same}
-use Rattle.grid_cli.specs.Effects.{FitsFrame, sized, sized_at, after_byte, effect_bytes, effect_at, rest_of_record, set_map, map_kind, present, name_bytes, record_bytes}
+use Rattle.grid_cli.specs.Effects.{sized, sized_at, after_byte, effect_bytes, effect_at, rest_of_record, set_map, map_kind, present, name_bytes}
 use Rattle.grid_cli.specs.SameNames.{same_text}
 
 abbrev pub IsBytes : List ℕ → Type 0

@@ -1,5 +1,5 @@
 -- A connection of the table, and the lines of a call, after a change to one connection.
-use Rattle.std.proofs.Common.{◌≡◌, ◌≢◌, ℕ, zero, suc, ◌+◌, ◌<◌, ◌≤◌, List, [], ◌∷◌, ◌++◌, length, map, Option, Some, None, refl, ap, sym, ◌∙◌, subst, ◌⊎◌, ⊎_elim, inl, inr, arith}
+use Rattle.std.proofs.Common.{◌≡◌, ◌≢◌, ℕ, zero, suc, ◌<◌, List, [], ◌∷◌, ◌++◌, length, Option, Some, None, refl, ap, sym, ◌∙◌, subst, ⊎_elim}
 use Rattle.std.specs.Option.{option_map, option_and_then, option_or}
 use Rattle.std.specs.List.{slice_get}
 use Rattle.std.proofs.lemmas.Bool.{cases_eq}
@@ -7,7 +7,7 @@ use Rattle.std.proofs.lemmas.Option.{slice_get-get_or}
 use Rattle.partition_protocol.proofs.Lists.{set_get_same, set_get_other}
 use Rattle.grid_base.specs.declared.names.CallId.{CallId}
 use Rattle.grid_cli.specs.declared.connections.CallLines.{CallLines}
-use Rattle.grid_cli.specs.Tables.{Table, Opened, present, opened_at, lines_of, silent, with_opened, changed_at, with_change, called, with_arrival, lines_answered, answered, with_answer}
+use Rattle.grid_cli.specs.Tables.{Table, Opened, present, opened_at, lines_of, silent, with_opened, changed_at, with_change, lines_answered, answered, with_answer}
 
 -- options
 

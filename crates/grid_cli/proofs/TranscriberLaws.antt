@@ -1,5 +1,5 @@
 -- What the code that runs lines has done, line by line.
-use Rattle.std.proofs.Common.{◌≡◌, ℕ, ◌+◌, ◌≤◌, Bool, true, false, if◌then◌else◌, List, [], ◌∷◌, ◌++◌, length, Option, Some, None, refl, ap, sym, ◌∙◌, subst, arith, append-nil, append_assoc, length-append, take, drop}
+use Rattle.std.proofs.Common.{◌≡◌, ℕ, ◌+◌, Bool, true, false, if◌then◌else◌, List, [], ◌∷◌, ◌++◌, length, Option, Some, None, refl, ap, sym, ◌∙◌, subst, arith, append-nil, append_assoc, length-append, take, drop}
 use Rattle.std.proofs.lemmas.List.{take-append-drop}
 use Rattle.partition_protocol.specs.Sequences.{IsFrontOf}
 use Rattle.std.specs.Prelude.{option_map, option_and_then, codes}
@@ -10,7 +10,7 @@ use Rattle.grid_cli.specs.PartitionObjects.{partition_object}
 use Rattle.grid_cli.specs.Runs.{Run, begun, after_line}
 use Rattle.grid_cli.specs.Printing.{ok_text, refused_text, limit_text, line_text, end_text}
 use Rattle.grid_cli.specs.Transcripts.{Transcript, Ending, Ended, Refused, TooLong, first_line, later_lines, following, stopped, ran, refused, why_text, is_end}
-use Rattle.grid_cli.specs.Skips.{AgreeOn, AreOfLine}
+use Rattle.grid_cli.specs.Skips.{AreOfLine}
 use Rattle.grid_cli.specs.Statuses.{whole}
 use Rattle.grid_cli.specs.Grids.{Stands, lines_run, text_at}
 use Rattle.grid_cli.specs.Progress.{IsAt, run_of}

@@ -1,16 +1,14 @@
 -- The worlds of the partitions, after a call reached one of them.
-use Rattle.std.proofs.Common.{◌≡◌, ◌≢◌, ℕ, ◌+◌, ◌≤◌, ◌<◌, ◌==◌, Bool, true, false, cond, List, [], ◌∷◌, ◌++◌, length, Some, slice_get, slice_set, refl, ap, sym, ◌∙◌, subst, ◌⊎◌, ⊎_elim, inl, inr, append-nil, arith}
+use Rattle.std.proofs.Common.{◌≡◌, ◌≢◌, ℕ, ◌==◌, false, List, [], ◌∷◌, ◌++◌, slice_set, refl, ap, sym, ◌∙◌, subst, ⊎_elim, append-nil}
 use Rattle.std.proofs.lemmas.Bool.{cases_eq, eq-eqb, ne_eqb}
-use Rattle.grid_base.specs.declared.calls.Request.{Request}
-use Rattle.partition_protocol.specs.World.{World, start}
-use Rattle.partition_protocol.specs.Events.{Event, run}
+use Rattle.partition_protocol.specs.World.{start}
+use Rattle.partition_protocol.specs.Events.{run}
 use Rattle.partition_protocol.proofs.Lists.{set_get_same, set_get_other}
-use Rattle.partition_world.specs.declared.node.Released.{Released}
 use Rattle.partition_world.specs.Answers.{released_at}
-use Rattle.partition_world.specs.Worlds.{StandsFor, Setup, run_of, setup_of, waiting}
+use Rattle.partition_world.specs.Worlds.{StandsFor, Setup, run_of, waiting}
 use Rattle.grid_cli.specs.MapLists.{partition_of}
 use Rattle.grid_cli.specs.PartitionObjects.{partition_object}
-use Rattle.grid_cli.specs.Runs.{Run, Arrival, At, call_of, events_at, world_at}
+use Rattle.grid_cli.specs.Runs.{Run, Arrival, call_of, events_at, world_at}
 use Rattle.grid_cli.specs.Grids.{MapWorld, IsWorld, HasWorld}
 use Rattle.grid_cli.specs.WorldCalls.{no_change, IsCalled, IsSkipped, GivesOut}
 use Rattle.grid_cli.proofs.Arriving.{its_event, maybe_one, events_of_more}

@@ -1,11 +1,10 @@
 -- What the program's commands are, and what a replay that came to its line `end` has printed.
-use Rattle.std.specs.Prelude.{◌≡◌, ℕ, Bool, false, List, [], ◌∷◌, ◌++◌, take, Option, Some, codes, String, string_bytes}
+use Rattle.std.specs.Prelude.{◌≡◌, ℕ, Bool, false, List, [], ◌∷◌, ◌++◌, take, Option, codes, String, string_bytes}
 use Rattle.std.specs.Io.KnownBytes.{append_known}
 use Rattle.std.specs.declared.alloc.Global.{Global}
 use Rattle.grid_base.specs.declared.names.CallId.{CallId}
 use Rattle.grid_cli.specs.Words.{are_same}
 use Rattle.grid_cli.specs.PartitionObjects.{partition_object}
-use Rattle.grid_cli.specs.Runs.{Run}
 use Rattle.grid_cli.specs.Printing.{end_text}
 use Rattle.grid_cli.specs.Transcripts.{lines_of}
 use Rattle.grid_cli.specs.Linearizability.{IsLinearizable}

@@ -8,7 +8,7 @@ use Rattle.std.proofs.lemmas.List.{take_at, drop_at, length-append}
 use Rattle.std.proofs.lemmas.Nat.{from_le_bytes-to_le_bytes_4}
 use Rattle.std.proofs.lemmas.Option.{none-some, cond_some}
 use Rattle.frame_codec.specs.declared.frames.TheConstants.{MAX_PAYLOAD}
-use Rattle.grid_base.specs.MapEntries.{MapEntry, after}
+use Rattle.grid_base.specs.MapEntries.{after}
 use Rattle.grid_base.specs.Names.{ObjectName, entry_of, object_of}
 use Rattle.grid_base.specs.declared.calls.MapCall.TheVariants.{Put, Get}
 use Rattle.grid_base.specs.declared.calls.GridCall.{GridCall}

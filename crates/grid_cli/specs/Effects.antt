@@ -1,13 +1,11 @@
 -- Effects as bytes: what makes the state after a call of the state before it.
-use Rattle.std.specs.Prelude.{ℕ, ◌+◌, ◌^◌, ◌<◌, ◌≤◌, ◌==◌, ◌&&◌, if◌then◌else◌, List, [], ◌∷◌, ◌++◌, length, take, drop, Option, Some, None, IfSome, nat_le, nat_lt}
+use Rattle.std.specs.Prelude.{ℕ, ◌+◌, ◌^◌, ◌<◌, ◌≤◌, ◌==◌, ◌&&◌, if◌then◌else◌, List, [], ◌∷◌, ◌++◌, length, take, drop, Option, Some, None, nat_le, nat_lt}
 use Rattle.std.specs.Option.{option_map}
 use Rattle.std.specs.Borrow.{Bor}
 use Rattle.std.specs.Int.{w32, to_le_bytes, from_le_bytes}
 use Rattle.frame_codec.specs.declared.frames.TheConstants.{MAX_PAYLOAD}
 use Rattle.grid_base.specs.MapEntries.{MapEntry}
 use Rattle.grid_base.specs.Names.{ObjectName}
-use Rattle.grid_base.specs.declared.calls.Answer.{Answer}
-use Rattle.grid_base.specs.declared.calls.Answer.TheVariants.{Maybe}
 use Rattle.grid_base.specs.declared.calls.MapCall.{MapCall}
 use Rattle.grid_base.specs.declared.calls.MapCall.TheVariants.{Put, Get}
 use Rattle.grid_base.specs.declared.calls.Request.{Request}
@@ -16,13 +14,10 @@ use Rattle.grid_cli.specs.Words.{are_same}
 use Rattle.grid_cli.specs.Requests.{◌>>=◌}
 use Rattle.grid_cli.specs.PartitionObjects.{Partition, with_entry, map_call_of, target_of, entry_after, entry_changes}
 
--- What fits a frame: of an answer its value; of a call its name, its key and its value.
+-- What fits a frame: of a call its name, its key and its value.
 
 abbrev pub FitsFrame : List ℕ → Type 0
 FitsFrame bytes = length bytes ≤ MAX_PAYLOAD
-
-abbrev pub AnswerFits : Answer → Type 0
-AnswerFits (Maybe value) = IfSome value FitsFrame
 
 abbrev pub CallFits : MapCall → Type 0
 CallFits (Put name key owner value ttl) = FitsFrame name × FitsFrame key × FitsFrame value

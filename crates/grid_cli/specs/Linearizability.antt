@@ -1,5 +1,5 @@
 -- When the history that a run prints for an object is one that a single thread could have seen.
-use Rattle.std.specs.Prelude.{◌≡◌, ℕ, ◌<◌, ◌≤◌, ◌≢◌, ◌⊎◌, Bool, true, if◌then◌else◌, List, [], ◌∷◌, map, filter, Option, Some, None, Contains}
+use Rattle.std.specs.Prelude.{◌≡◌, ℕ, ◌<◌, ◌≤◌, ◌≢◌, ◌⊎◌, Bool, true, List, [], ◌∷◌, map, filter, Some, None, Contains}
 use Rattle.grid_base.specs.Objects.{Object}
 use Rattle.grid_base.specs.Histories.{Answered, IsLegal}
 use Rattle.grid_base.specs.Names.{ObjectName, is_same}
@@ -37,11 +37,15 @@ pub record Fits {State : Type 0} (object : Object Request State) (name : ObjectN
   pub legal : IsLegal object object.empty (map answered_call h)
   -- each entry is a call on the object that arrived
   pub arrived : (e : Printed) → Contains h e → (is_on name e ≡ true) × ((a : Arrival) × Contains r.arrivals a × IsOf a e)
+  -- and that wasn't refused
+  pub unrefused : (e : Printed) (m : Appended) → Contains h e → Contains r.appended m → m.refuses ≢ Some e.id
   -- no call stands twice
   pub once : (a b : Printed) → Before h a b → a.id ≢ b.id
   -- each answered call on the object stands in it, with its answer and the line at which it was given
   pub answered : (a : Arrival) (m : Appended) → Contains r.arrivals a → is_same (target_of a.request) name ≡ true → Contains r.appended m → m.answers ≡ Some a.id
       → (e : Printed) × Contains h e × IsOf a e × (e.reply ≡ m.bytes) × (e.answered ≡ Some m.line)
+  -- no call is answered twice
+  pub answered_once : (m n : Appended) (id : CallId) → Before r.appended m n → m.answers ≡ Some id → n.answers ≢ Some id
   -- and every answer that is printed was given
   pub given : (e : Printed) (line : ℕ) → Contains h e → e.answered ≡ Some line → (m : Appended) × Contains r.appended m × (m.answers ≡ Some e.id) × (m.line ≡ line) × (m.bytes ≡ e.reply)
   -- no call stands before one that was answered before it arrived

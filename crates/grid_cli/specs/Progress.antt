@@ -1,11 +1,9 @@
 -- How far a script was run: the lines so far, what was written of its transcript, and the run from which it goes on.
 use Rattle.std.specs.Prelude.{◌≡◌, ℕ, Bool, List, [], ◌∷◌, ◌++◌, length, Contains}
-use Rattle.grid_base.specs.Objects.{Object}
 use Rattle.grid_base.specs.declared.names.CallId.{CallId}
-use Rattle.grid_base.specs.declared.calls.Request.{Request}
 use Rattle.grid_cli.specs.PartitionObjects.{partition_object}
 use Rattle.grid_cli.specs.Runs.{Run, Arrival, begun}
-use Rattle.grid_cli.specs.Transcripts.{Transcript, first_line, later_lines, following}
+use Rattle.grid_cli.specs.Transcripts.{first_line, later_lines, following}
 use Rattle.grid_cli.specs.Linearizability.{run_after}
 use Rattle.grid_cli.specs.Skips.{AgreeOn}
 

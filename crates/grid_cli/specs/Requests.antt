@@ -1,5 +1,5 @@
 -- The requests of this stage as bytes, a put and a get: how a request is spelled, and how it is read.
-use Rattle.std.specs.Prelude.{ℕ, ◌^◌, ◌==◌, ◌&&◌, ◌||◌, Bool, if◌then◌else◌, List, [], ◌∷◌, ◌++◌, length, take, drop, Option, Some, None, nat_le, nat_lt}
+use Rattle.std.specs.Prelude.{ℕ, ◌^◌, ◌==◌, ◌&&◌, ◌||◌, Bool, if◌then◌else◌, List, ◌++◌, length, take, drop, Option, Some, None, nat_le, nat_lt}
 use Rattle.std.specs.Str.{is_utf8}
 use Rattle.std.specs.Int.{w16, w32, w64, to_le_bytes, from_le_bytes, from_be_bytes, cast_signed, cast_unsigned}
 use Rattle.grid_base.specs.declared.names.CallId.{CallId}

@@ -1,15 +1,15 @@
 -- The run of a script: what its lines so far have made. The worlds of the partitions are not kept: each is the protocol's run of its events.
-use Rattle.std.specs.Prelude.{ℕ, ◌+◌, ◌-◌, ◌==◌, Bool, true, false, if◌then◌else◌, List, [], ◌∷◌, ◌++◌, length, map, filter, drop, Option, Some, None, option_map, option_and_then, is_some, nat_eq}
+use Rattle.std.specs.Prelude.{ℕ, ◌+◌, ◌==◌, Bool, true, false, if◌then◌else◌, List, [], ◌∷◌, ◌++◌, length, map, filter, drop, Option, Some, None, option_map, option_and_then, is_some}
 use Rattle.std.specs.List.{list_any, find, filter_map}
 use Rattle.grid_base.specs.Objects.{Object}
 use Rattle.grid_base.specs.Names.{is_same_call}
 use Rattle.grid_base.specs.declared.names.CallId.{CallId}
 use Rattle.grid_base.specs.declared.calls.Request.{Request}
 use Rattle.partition_protocol.specs.Node.{Held}
-use Rattle.partition_protocol.specs.History.{Executed, Entry, Called, Reset}
+use Rattle.partition_protocol.specs.History.{Executed}
 use Rattle.partition_protocol.specs.Execution.{Reached, Executes, PartitionLost, WrongTarget, Migrating}
 use Rattle.partition_protocol.specs.World.{World, start}
-use Rattle.partition_protocol.specs.Events.{Event, Call, Outcome, Refused, Happened, happens, run}
+use Rattle.partition_protocol.specs.Events.{Event, Call, Outcome, Refused, happens, run}
 use Rattle.partition_world.specs.Answers.{id_of, newest_call}
 use Rattle.grid_cli.specs.Words.{are_same}
 use Rattle.grid_cli.specs.Requests.{request_of}
@@ -37,12 +37,13 @@ pub record Arrival : Type 0 where
   pub now : ℕ
   pub request : Request
 
--- a message appended to a connection's output at a line, and the call that it answers, if it answers one
+-- a message appended to a connection's output at a line: the call that it answers, if it answers one, and the call that it refuses, if it refuses one
 pub record Appended : Type 0 where
   pub conn : ℕ
   pub line : ℕ
   pub bytes : List ℕ
   pub answers : Option CallId
+  pub refuses : Option CallId
 
 pub record Run : Type 0 where
   pub members : ℕ
@@ -87,11 +88,11 @@ abbrev pub released_by : World Request → World Request → List (Executed Requ
 released_by before after = filter_map (executed_for after) (drop (length before.released) after.released)
 
 abbrev pub answer_to : ℕ → Executed Request → Appended
-answer_to line x = record { conn = x.conn; line = line; bytes = x.reply; answers = Some (id_of x) }
+answer_to line x = record { conn = x.conn; line = line; bytes = x.reply; answers = Some (id_of x); refuses = None }
 
--- a refusal, which answers no call
+-- A refusal answers no call: it names the call that wasn't executed.
 abbrev pub refusal : ℕ → Request → ℕ → ℕ → Appended
-refusal line request code first = record { conn = request.id.conn; line = line; bytes = error_bytes request.correlation code first 0; answers = None }
+refusal line request code first = record { conn = request.id.conn; line = line; bytes = error_bytes request.correlation code first 0; answers = None; refuses = Some request.id }
 
 abbrev pub refused_at : ℕ → Request → Reached → List Appended
 refused_at line request Executes = []

@@ -1,9 +1,8 @@
 -- The statuses of a command, and what is written of a script's transcript at each.
-use Rattle.std.specs.Prelude.{◌≡◌, ℕ, Bool, false, List, [], ◌∷◌, length, Option, Some}
+use Rattle.std.specs.Prelude.{◌≡◌, ℕ, false, List, [], length, Option, Some}
 use Rattle.std.specs.Io.KnownBytes.{append_known}
 use Rattle.grid_base.specs.declared.names.CallId.{CallId}
 use Rattle.partition_protocol.specs.Sequences.{IsFrontOf}
-use Rattle.grid_cli.specs.declared.script.LineWhy.{LineWhy}
 use Rattle.grid_cli.specs.declared.script.LineWhy.TheVariants.{NoEnd}
 use Rattle.grid_cli.specs.declared.status.Status.{Status}
 use Rattle.grid_cli.specs.declared.status.Status.TheVariants.{Done, Usage, ScriptRefused, ReadFault, WriteFault, Limit, Memory}

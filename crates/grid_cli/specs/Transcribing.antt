@@ -3,7 +3,6 @@ use Rattle.std.specs.Prelude.{◌≡◌, ℕ, Bool, List, [], ◌∷◌, ◌++�
 use Rattle.grid_base.specs.declared.names.CallId.{CallId}
 use Rattle.partition_protocol.specs.Sequences.{IsFrontOf}
 use Rattle.grid_cli.specs.declared.grid.Grid.{Grid}
-use Rattle.grid_cli.specs.declared.script.LineWhy.{LineWhy}
 use Rattle.grid_cli.specs.declared.script.LineWhy.TheVariants.{NotBuilt}
 use Rattle.grid_cli.specs.declared.status.Status.{Status}
 use Rattle.grid_cli.specs.declared.status.Status.TheVariants.{Done, Usage, ScriptRefused, ReadFault, WriteFault, Limit, Memory}

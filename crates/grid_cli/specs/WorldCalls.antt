@@ -23,8 +23,8 @@ abbrev pub no_change : Partition → Request → ℕ → Option Change
 no_change s call now = None
 
 -- the call of a request that reaches a member at a line, at the member's moment 0
-abbrev pub reaching : ℕ → ℕ → Request → Arrival
-reaching line member request = record { id = request.id; line = line; member = member; now = 0; request = request }
+abbrev pub arrival_to : ℕ → ℕ → Request → Arrival
+arrival_to line member request = record { id = request.id; line = line; member = member; now = 0; request = request }
 
 -- the message that refuses a call, if it is refused
 abbrev pub refusals : ℕ → Request → Option Refusal → List Appended
@@ -50,7 +50,7 @@ pub record IsSkipped (old new : MapWorld) (events : List (Event Request)) (a : A
 
 -- an answer that was given out at a line, as a message
 abbrev pub message_of : ℕ → Released → Appended
-message_of line answer = record { conn = answer.id.conn; line = line; bytes = answer.reply; answers = Some answer.id }
+message_of line answer = record { conn = answer.id.conn; line = line; bytes = answer.reply; answers = Some answer.id; refuses = None }
 
 abbrev pub with_answers : Table → ℕ → List Released → Table
 with_answers table line [] = table

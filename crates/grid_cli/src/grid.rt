@@ -12,11 +12,11 @@ ghost use Rattle.grid_cli.specs.Runs.{Run, Connection as RunConnection, begun, c
 ghost use Rattle.grid_cli.specs.Printing.{partitions, appended_text, entry_text, entries_of, all_entries, ok_text};
 ghost use Rattle.grid_cli.specs.Tables.{with_answer};
 ghost use Rattle.grid_cli.specs.Grids.{Stands, Holds, HasWorld, HasRun, HasRefused, lines_run, IsRead};
-ghost use Rattle.grid_cli.specs.WorldCalls.{reaching, refusals, texts_of, message_of, with_answers, IsCalled, IsSkipped, GivesOut, HasAsked};
+ghost use Rattle.grid_cli.specs.WorldCalls.{arrival_to, refusals, texts_of, message_of, with_answers, IsCalled, IsSkipped, GivesOut, HasAsked};
 
 use crate::connections::Connections;
 use crate::print::{EntryPlace, push_appended, push_entry, push_ok};
-use crate::replies::write_error;
+use crate::replies::{MIGRATING, PARTITION_LOST, WANT_OF_MEMORY, WRONG_TARGET, write_error};
 use crate::requests::read_request;
 use crate::script::Line;
 use crate::shelf::MapList;
@@ -56,8 +56,8 @@ struct Refusal {
 }
 
 /// A call found no memory.
-const WANT_OF_MEMORY: Refusal = Refusal {
-    code: 10,
+const NO_MEMORY: Refusal = Refusal {
+    code: WANT_OF_MEMORY,
     version: 0,
 };
 
@@ -68,14 +68,18 @@ fn refusal_of(happened: Happened) -> Option<Refusal>
     match happened {
         Happened::Nothing => None,
         Happened::Called(CallOutcome::Held { .. } | CallOutcome::Released { .. }) => None,
-        Happened::Called(CallOutcome::PartitionLost { version }) => {
-            Some(Refusal { code: 7, version })
-        }
-        Happened::Called(CallOutcome::WrongTarget { version }) => Some(Refusal {
-            code: 8,
+        Happened::Called(CallOutcome::PartitionLost { version }) => Some(Refusal {
+            code: PARTITION_LOST,
             version,
         }),
-        Happened::Called(CallOutcome::Migrating { version }) => Some(Refusal { code: 9, version }),
+        Happened::Called(CallOutcome::WrongTarget { version }) => Some(Refusal {
+            code: WRONG_TARGET,
+            version,
+        }),
+        Happened::Called(CallOutcome::Migrating { version }) => Some(Refusal {
+            code: MIGRATING,
+            version,
+        }),
     }
 }
 
@@ -118,7 +122,7 @@ fn call(
     requires stands { (events : List (ProtocolEvent Call)) × StandsFor partition_object partition_of world.old events }
     ensures { (events : List (ProtocolEvent Call)) → StandsFor partition_object partition_of world.old events
         → OnOk result ((text : List ℕ) × (out.new.items ≡ out.old.items ++ text)
-        × (IsCalled world.old world.new events (reaching line member request) text ⊎ IsSkipped world.old world.new events (reaching line member request) text)) }
+        × (IsCalled world.old world.new events (arrival_to line member request) text ⊎ IsSkipped world.old world.new events (arrival_to line member request) text)) }
 {
     let id = request.id;
     let to = Caller {
@@ -134,7 +138,7 @@ fn call(
     };
     match world.step(alloc, &(), event) {
         Ok(happened) => push_refusal(alloc, out, to, refusal_of(happened)),
-        Err(_) => push_refusal(alloc, out, to, Some(WANT_OF_MEMORY)),
+        Err(_) => push_refusal(alloc, out, to, Some(NO_MEMORY)),
     }
 }
 

@@ -98,8 +98,8 @@ pub(crate) fn push_appended(
     conn: u32,
     bytes: &[u8],
 ) -> Result<(), Memory>
-    ensures { (answers : Option CallId) → OnOk result (out.new.items
-        ≡ out.old.items ++ appended_text (record { conn = conn; line = line; bytes = bytes.now; answers = answers })) }
+    ensures { (answers refuses : Option CallId) → OnOk result (out.new.items
+        ≡ out.old.items ++ appended_text (record { conn = conn; line = line; bytes = bytes.now; answers = answers; refuses = refuses })) }
 {
     push_number(out, u64::from(line))?;
     push_text(out, b"to ")?;

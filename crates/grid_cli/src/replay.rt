@@ -1,4 +1,4 @@
-ghost use Rattle.std.specs.Prelude.{◌≡◌, ◌+◌, ◌≤◌, ◌<◌, ◌++◌, [], List, ℕ, length, OnOk, IfErr, IsErrOf, false, ◌≢◌};
+ghost use Rattle.std.specs.Prelude.{◌≡◌, ◌+◌, ◌≤◌, ◌<◌, ◌++◌, [], List, ℕ, Some, length, OnOk, IfErr, IsErrOf, false, ◌≢◌};
 ghost use Rattle.std.specs.Io.KnownBytes.{append_known};
 ghost use Rattle.grid_base.specs.declared.names.CallId.{CallId};
 ghost use Rattle.grid_edge.specs.Faults.{Rose};
@@ -8,6 +8,7 @@ ghost use Rattle.grid_cli.specs.Statuses.{WritesText};
 ghost use Rattle.grid_cli.specs.Transcribing.{Concludes};
 ghost use Rattle.grid_cli.specs.Pieces.{IsOnePiece};
 ghost use Rattle.grid_cli.specs.Replays.{HasRead, StopsWithin, ended_line};
+ghost use Rattle.grid_cli.specs.Commands.{PrintsHistories};
 
 use crate::status::Status;
 use crate::transcriber::Transcriber;
@@ -150,6 +151,8 @@ fn run_pieces<S: Source, K: Sink>(
 /// Reads a script from its source and writes its transcript.
 pub(crate) fn run_script<S: Source, K: Sink>(alloc: Global, script: &mut S, out: &mut K) -> Status
     ensures text { WritesText result (S.left script.old) (K.taken out.old) (K.taken out.new) }
+    ensures headline { (bytes : List ℕ) → S.left script.old ≡ Some bytes → result ≡ Status.Done
+        → PrintsHistories bytes (K.taken out.old) (K.taken out.new) }
     ensures runs { result ≢ Status.Usage }
     ensures read_fault { result ≡ Status.ReadFault → Rose (S.faults script.old) (S.faults script.new) }
     ensures write_fault { result ≡ Status.WriteFault → Rose (K.faults out.old) (K.faults out.new) }

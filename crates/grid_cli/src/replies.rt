@@ -1,17 +1,27 @@
 ghost use Rattle.std.specs.Prelude.{◌≡◌, ◌+◌, ◌^◌, ◌<◌, ◌++◌, IfOk, OnOk, IfSome, option_copied};
+ghost use Rattle.grid_base.specs.declared.calls.Answer.TheVariants.{Maybe};
 ghost use Rattle.grid_cli.specs.Replies.{response_head, nullable_frame, reply_bytes, error_bytes};
-ghost use Rattle.grid_cli.specs.Effects.{FitsFrame, AnswerFits};
+ghost use Rattle.grid_cli.specs.Effects.{FitsFrame};
 
-use frame_codec::flags::{BEGIN_FRAGMENT, END_FRAGMENT, FINAL, NULL};
-use frame_codec::{Frame, write_frame};
-use grid_base::{Answer, Bytes, Memory};
+use frame_codec::flags::{FINAL, NULL, UNFRAGMENTED};
+use frame_codec::write_frame_of;
+use grid_base::{Bytes, Memory};
 use std::alloc::Global;
-
-/// The flags of the first frame of a message.
-const UNFRAGMENTED: u16 = BEGIN_FRAGMENT | END_FRAGMENT;
 
 /// The type of an error.
 const ERROR_KIND: u32 = 0;
+
+/// The error of a call to a partition that is lost.
+pub(crate) const PARTITION_LOST: u32 = 7;
+
+/// The error of a call to a member that isn't its partition's primary.
+pub(crate) const WRONG_TARGET: u32 = 8;
+
+/// The error of a call to a partition that is being handed over.
+pub(crate) const MIGRATING: u32 = 9;
+
+/// The error of a call that found no memory.
+pub(crate) const WANT_OF_MEMORY: u32 = 10;
 
 /// What every response begins with: its type, the correlation, and that no backup acknowledged.
 fn head_of(alloc: Global, kind: u32, correlation: i64) -> Result<Vec<u8>, Memory>
@@ -24,42 +34,32 @@ fn head_of(alloc: Global, kind: u32, correlation: i64) -> Result<Vec<u8>, Memory
     Ok(head)
 }
 
-fn write_nullable(alloc: Global, value: Option<&Bytes>, out: &mut Vec<u8>) -> Result<(), Memory>
+fn write_nullable(value: Option<&Bytes>, out: &mut Vec<u8>) -> Result<(), Memory>
     requires { IfSome (option_copied value) FitsFrame }
     ensures { OnOk result (out.new.items ≡ out.old.items ++ nullable_frame (option_copied value.entry)) }
 {
-    let frame = match value {
-        Some(value) => Frame {
-            flags: FINAL,
-            payload: value.copied(alloc)?,
-        },
-        None => Frame {
-            flags: FINAL | NULL,
-            payload: Bytes::new(alloc),
-        },
-    };
-    write_frame(&frame, out)
+    match value {
+        Some(value) => write_frame_of(FINAL, value.as_slice(), out),
+        None => write_frame_of(FINAL | NULL, &[], out),
+    }
 }
 
-/// The reply to a request of that type, at the cost of its bytes.
+/// The reply to a request of that type: a value, or null. It costs its bytes, and copies the value
+/// once.
 pub(crate) fn write_reply(
     alloc: Global,
     kind: u32,
     correlation: i64,
-    answer: &Answer,
+    value: Option<&Bytes>,
 ) -> Result<Bytes, Memory>
-    requires fits { AnswerFits answer.now }
+    requires fits { IfSome (option_copied value) FitsFrame }
     requires kind { kind + 1 < 2 ^ 32 }
-    ensures { IfOk result (λ reply. reply ≡ reply_bytes kind correlation answer.now) }
+    ensures { IfOk result (λ reply. reply ≡ reply_bytes kind correlation (Maybe (option_copied value.entry))) }
 {
+    let head = head_of(alloc, kind + 1, correlation)?;
     let mut reply = Vec::new(alloc);
-    let head = Frame {
-        flags: UNFRAGMENTED,
-        payload: Bytes::from_vec(head_of(alloc, kind + 1, correlation)?),
-    };
-    write_frame(&head, &mut reply)?;
-    let Answer::Maybe(value) = answer;
-    write_nullable(alloc, value.as_ref(), &mut reply)?;
+    write_frame_of(UNFRAGMENTED, head.as_slice(), &mut reply)?;
+    write_nullable(value, &mut reply)?;
     Ok(Bytes::from_vec(reply))
 }
 
@@ -77,11 +77,7 @@ pub(crate) fn write_error(
     payload.extend_from_slice(&code.to_le_bytes())?;
     payload.extend_from_slice(&first.to_le_bytes())?;
     payload.extend_from_slice(&second.to_le_bytes())?;
-    let frame = Frame {
-        flags: UNFRAGMENTED | FINAL,
-        payload: Bytes::from_vec(payload),
-    };
     let mut error = Vec::new(alloc);
-    write_frame(&frame, &mut error)?;
+    write_frame_of(UNFRAGMENTED | FINAL, payload.as_slice(), &mut error)?;
     Ok(Bytes::from_vec(error))
 }

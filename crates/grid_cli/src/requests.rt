@@ -6,14 +6,11 @@ ghost use Rattle.grid_cli.specs.Effects.{parts_of};
 ghost use Rattle.grid_cli.specs.Requests.{frame_found, frame_at, payload_at, u32_at, u64_at, is_placed, never_ends, owner_of, request_with, put_at, get_at, request_of};
 ghost use Rattle.grid_cli.specs.StageRequests.{IsWithinLimits};
 
-use frame_codec::flags::{BEGIN_FRAGMENT, END_FRAGMENT, FINAL};
+use frame_codec::flags::{FINAL, UNFRAGMENTED};
 use frame_codec::{HEADER_LENGTH, MAX_FRAME_LENGTH};
 use grid_base::{Bytes, CallId, ClientKey, GridCall, MapCall, Memory, Owner, PARTITIONS, Request};
 use simdutf8::basic::from_utf8;
 use std::alloc::Global;
-
-/// The flags of the first frame of a message.
-const UNFRAGMENTED: u16 = BEGIN_FRAGMENT | END_FRAGMENT;
 
 /// The message type of a put.
 const PUT_KIND: u32 = 0x01_01_00;

@@ -4,13 +4,13 @@ ghost use Rattle.std.specs.Option.{option_map};
 ghost use Rattle.grid_base.specs.Names.{ObjectName, is_same, entry_of};
 ghost use Rattle.grid_cli.specs.Effects.{FitsFrame, CallFits, RequestFits, effect_on, effect_of, set_by};
 ghost use Rattle.grid_cli.specs.MapLists.{is_named, value_in, partition_of, IsMapList};
-ghost use Rattle.grid_cli.specs.PartitionObjects.{has_value, with_entry};
+ghost use Rattle.grid_cli.specs.PartitionObjects.{has_value, with_entry, reply_to};
 
 mod effects;
 
 use crate::replies::write_reply;
 use effects::{MapSet, read_set, write_set};
-use grid_base::{Answer, Bytes, Executed, GridCall, MapCall, Memory, Moment, Request, Shelf};
+use grid_base::{Bytes, Executed, GridCall, MapCall, Memory, Moment, Request, Shelf};
 use std::alloc::Global;
 use std::marker::Model;
 
@@ -84,9 +84,8 @@ impl Shelf for MapList {
         let GridCall::Map(map_call) = &call.call;
         let (name, key) = target_of(map_call);
         let old = find_value(self.entries.as_slice(), name.as_slice(), key.as_slice());
-        let answer = Answer::Maybe(copied(alloc, old)?);
         Ok(Executed {
-            reply: write_reply(alloc, call.kind, call.correlation, &answer)?,
+            reply: reply_to(alloc, call, old)?,
             effect: effect_of(alloc, call, old, now)?,
             change: None,
         })
@@ -148,6 +147,16 @@ fn is_value(old: Option<&Bytes>, value: &Bytes) -> bool
     }
 }
 
+/// The reply to a call on an entry that has this value: a put is answered with the value that it
+/// replaces, and a get with the one that it finds.
+fn reply_to(alloc: Global, call: &Request, old: Option<&Bytes>) -> Result<Bytes, Memory>
+    requires call { RequestFits call.now }
+    requires old { IfSome (option_copied old) FitsFrame }
+    ensures { (now : ℕ) → IfOk result (λ reply. reply ≡ reply_to (record { value = option_copied old.entry }) call.now now) }
+{
+    write_reply(alloc, call.kind, call.correlation, old)
+}
+
 /// What makes the state after a call, if it changes the value that its entry had.
 fn effect_of(
     alloc: Global,
@@ -194,13 +203,4 @@ fn set_value(alloc: Global, entries: &mut Vec<StoredEntry>, set: MapSet) -> Resu
         })?,
     }
     Ok(())
-}
-
-fn copied(alloc: Global, value: Option<&Bytes>) -> Result<Option<Bytes>, Memory>
-    ensures { IfOk result (λ copy. copy ≡ option_copied value.entry) }
-{
-    match value {
-        Some(value) => Ok(Some(value.copied(alloc)?)),
-        None => Ok(None),
-    }
 }

@@ -1,6 +1,11 @@
 //! Runs each script of `data/` in memory and compares what it prints with the transcript beside it.
 #![tactic(auto)]
 
+ghost use Rattle.std.specs.Prelude.{◌<◌};
+
+mod difference;
+
+use difference::{first_difference, verdict};
 use grid_cli::{Status, replay_command};
 use grid_edge::{MemorySink, MemorySource};
 use std::alloc::Global;
@@ -29,21 +34,63 @@ const SCENARIOS: [(&str, u8); 15] = [
 /// The numbers of the calls that are made to fail lie below this; the last is past the last call.
 const CALLS: u64 = 64;
 
-/// A call of the source gives at most this many bytes.
-const READ_PIECE: usize = 64;
+/// How a script is given, and its transcript taken.
+#[derive(Clone, Copy, Debug, PartialEq, Eq)]
+enum Pieces {
+    /// A few bytes a call.
+    Small,
+    /// As many as are asked for.
+    Whole,
+}
 
-/// A call of the sink takes at most this many bytes.
-const WRITE_PIECE: usize = 16;
+impl Pieces {
+    /// The most bytes that a call of the source gives.
+    fn most_read(self) -> usize
+        ensures { 0 < result }
+    {
+        match self {
+            Pieces::Small => 64,
+            Pieces::Whole => usize::MAX,
+        }
+    }
 
-/// Carries out `replay` on a script in memory, where these calls of the source and of the sink fail.
+    /// The most bytes that a call of the sink takes.
+    fn most_written(self) -> usize
+        ensures { 0 < result }
+    {
+        match self {
+            Pieces::Small => 16,
+            Pieces::Whole => usize::MAX,
+        }
+    }
+}
+
+/// Which calls of the source and of the sink fail.
+#[derive(Debug, Drop)]
+struct Fails {
+    reads: Vec<u64>,
+    writes: Vec<u64>,
+}
+
+impl Fails {
+    fn none(alloc: Global) -> Fails {
+        Fails {
+            reads: Vec::new(alloc),
+            writes: Vec::new(alloc),
+        }
+    }
+}
+
+/// Carries out `replay` on a script in memory, where these calls fail.
 fn replayed(
     alloc: Global,
     script: Vec<u8>,
-    fails: (Vec<u64>, Vec<u64>),
+    fails: Fails,
+    pieces: Pieces,
 ) -> io::Result<(Status, Vec<u8>)> {
     let words = vec![in alloc; String::from_str(alloc, "replay")?]?;
-    let mut script = MemorySource::in_pieces(script, fails.0, READ_PIECE);
-    let mut out = MemorySink::in_pieces(fails.1, WRITE_PIECE);
+    let mut script = MemorySource::in_pieces(script, fails.reads, pieces.most_read());
+    let mut out = MemorySink::in_pieces(fails.writes, pieces.most_written());
     let status = replay_command(alloc, words.as_slice(), &mut script, &mut out);
     Ok((status, out.into_bytes()))
 }
@@ -57,45 +104,40 @@ fn read_data(rt: &HostRuntime, name: &str, kind: &str) -> io::Result<Vec<u8>> {
 fn played(
     rt: &HostRuntime,
     name: &str,
-    fails: (Vec<u64>, Vec<u64>),
+    fails: Fails,
+    pieces: Pieces,
 ) -> io::Result<(Status, Vec<u8>, Vec<u8>)> {
     let script = read_data(rt, name, "script")?;
     let transcript = read_data(rt, name, "transcript")?;
-    let (status, text) = replayed(rt.alloc(), script, fails)?;
+    let (status, text) = replayed(rt.alloc(), script, fails, pieces)?;
     Ok((status, text, transcript))
 }
 
-/// The first line of `text` that differs from the line of `wanted` at its place, with its number from 1.
-/// Where `text` has no line there, the line is empty.
-fn first_difference<'a>(text: &'a [u8], wanted: &[u8]) -> Option<(usize, &'a [u8])> {
-    let mut wanteds = wanted.split(|byte| *byte == b'\n');
-    let mut number = 1usize;
-    for line in text.split(|byte| *byte == b'\n') {
-        if wanteds.next() != Some(line) {
-            return Some((number, line));
-        }
-        number = number.saturating_add(1);
-    }
-    if wanteds.next().is_some() {
-        return Some((number, &[]));
-    }
-    None
-}
-
-/// Does the script print its transcript, and end with this exit status? Prints the answer.
-fn is_as_written(rt: &HostRuntime, name: &str, code: u8) -> io::Result<bool> {
+/// Does the script print its transcript, and end with this exit status? Where it doesn't, says so.
+fn is_as_written(rt: &HostRuntime, name: &str, code: u8, pieces: Pieces) -> io::Result<bool> {
     let alloc = rt.alloc();
-    let (status, text, transcript) = played(rt, name, (Vec::new(alloc), Vec::new(alloc)))?;
-    if let Some((number, line)) = first_difference(text.as_slice(), transcript.as_slice()) {
-        let line = str::from_utf8(line).unwrap_or("(no UTF-8)");
-        println!(rt; "{name} {number} {line}")?;
+    let (status, text, transcript) = played(rt, name, Fails::none(alloc), pieces)?;
+    let difference = first_difference(text.as_slice(), transcript.as_slice());
+    if difference.is_some() {
+        println!(rt; "{}", verdict(alloc, name, difference)?)?;
         return Ok(false);
     }
     if status.code() != code {
         println!(rt; "{name} ends with {}", status.code())?;
         return Ok(false);
     }
-    println!(rt; "{name} ok")?;
+    Ok(true)
+}
+
+/// Runs a scenario in small pieces and in whole ones, and tells how it came out.
+fn holds(rt: &HostRuntime, name: &str, code: u8) -> io::Result<bool> {
+    if !is_as_written(rt, name, code, Pieces::Small)? {
+        return Ok(false);
+    }
+    if !is_as_written(rt, name, code, Pieces::Whole)? {
+        return Ok(false);
+    }
+    println!(rt; "{}", verdict(rt.alloc(), name, None)?)?;
     Ok(true)
 }
 
@@ -113,13 +155,13 @@ fn each_call_fails(rt: &HostRuntime, name: &str, fault: Status) -> io::Result<bo
     let mut faults = 0u64;
     for call in 0..CALLS {
         let one = vec![in alloc; call]?;
-        let none = Vec::new(alloc);
-        let fails = if fault == Status::ReadFault {
-            (one, none)
+        let mut fails = Fails::none(alloc);
+        if fault == Status::ReadFault {
+            fails.reads = one;
         } else {
-            (none, one)
-        };
-        let (status, text, transcript) = played(rt, name, fails)?;
+            fails.writes = one;
+        }
+        let (status, text, transcript) = played(rt, name, fails, Pieces::Small)?;
         if status == fault {
             // No call before this one was past the last.
             held &= faults == call && transcript.as_slice().starts_with(text.as_slice());
@@ -134,14 +176,14 @@ fn each_call_fails(rt: &HostRuntime, name: &str, fault: Status) -> io::Result<bo
 /// With memory for all, does the scenario end as done?
 fn memory_suffices(rt: &HostRuntime, name: &str) -> io::Result<bool> {
     let alloc = rt.alloc();
-    let (status, _, _) = played(rt, name, (Vec::new(alloc), Vec::new(alloc)))?;
+    let (status, _, _) = played(rt, name, Fails::none(alloc), Pieces::Small)?;
     Ok(status == Status::Done)
 }
 
 fn main(rt: HostRuntime) -> io::Result<ExitCode> {
     let mut held = true;
     for (name, code) in SCENARIOS {
-        held &= is_as_written(&rt, name, code)?;
+        held &= holds(&rt, name, code)?;
     }
     let name = "put_then_get";
     let told = each_call_fails(&rt, name, Status::ReadFault)?;

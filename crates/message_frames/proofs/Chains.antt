@@ -60,3 +60,14 @@ open_when_opened id frames (chain ∷ chains) = go (cases_Bool (has_id id chain)
     go : (has_id id chain ≡ true) ⊎ (has_id id chain ≡ false) → is_open id (chains ++ chain_of id frames ∷ []) ≡ true → is_open id (chain ∷ chains ++ chain_of id frames ∷ []) ≡ true
     go (inl here) later = rw here refl
     go (inr there) later = rw there later
+
+pub changed_when_opened : (id : ℕ) (first second : List Frame) (chains : List Chain) → is_open id chains ≡ false →
+    with_frames id second (chains ++ chain_of id first ∷ []) ≡ chains ++ chain_of id second ∷ []
+changed_when_opened id first second [] closed = rw same_id refl
+changed_when_opened id first second (chain ∷ chains) closed =
+    let parts = or_parts (has_id id chain) (is_open id chains) closed in rw (parts.0) (ap (λ cs. chain ∷ cs) (changed_when_opened id first second chains parts.1))
+
+pub without_opened : (id : ℕ) (frames : List Frame) (chains : List Chain) → is_open id chains ≡ false → without id (chains ++ chain_of id frames ∷ []) ≡ chains
+without_opened id frames [] closed = rw same_id refl
+without_opened id frames (chain ∷ chains) closed =
+    let parts = or_parts (has_id id chain) (is_open id chains) closed in rw (parts.0) (ap (λ cs. chain ∷ cs) (without_opened id frames chains parts.1))

@@ -17,6 +17,11 @@ pub mod Weights
 pub mod Soundness
 pub mod Bounds
 pub mod Prefixes
+pub mod FinalFlag
+pub mod Fragments
+pub mod Packing
+pub mod PackingFull
+pub mod Written
 pub mod FrameLaws
 pub mod Staying
 pub mod Bounded
@@ -33,3 +38,4 @@ pub mod Live
 pub mod Assembling
 pub mod Settling
 pub mod Settled
+pub mod Examples

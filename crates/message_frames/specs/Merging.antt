@@ -44,6 +44,11 @@ merged chains (piece ∷ pieces) =
     if completes piece then record { frames = gathered piece chains } ∷ merged (chains_after piece chains) pieces
     else merged (chains_after piece chains) pieces
 
+-- the chains that pieces leave open
+abbrev pub open_after : List Chain → List Piece → List Chain
+open_after chains [] = chains
+open_after chains (piece ∷ pieces) = open_after (chains_after piece chains) pieces
+
 -- rules and limits
 
 -- A header with the begin bit opens a chain that isn't open; another one continues a chain that is.

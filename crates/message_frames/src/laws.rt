@@ -1,6 +1,7 @@
 //! What holds of the bytes of a connection and of the messages that are heard of them. Nothing runs here.
 ghost use Rattle.std.specs.Prelude.{◌<◌, ◌^◌};
 ghost use Rattle.message_frames.specs.Laws as laws;
+ghost use Rattle.message_frames.specs.Writing as writing;
 
 /// The bytes of the pieces that a connection takes are heard as the messages that they merge to, without a fault, also
 /// where they break off in the midst of a piece. Behind them no other message is heard before a further piece is there.
@@ -29,4 +30,16 @@ pub fn a_fault_stays()
 pub fn texts_without_fault_are_bounded()
     ensures bound { laws.texts_without_fault_are_bounded }
     ensures small { laws.longest_text < 2 ^ 56 }
+{}
+
+/// What `write_message` and `write_fragments` append goes on any stream that has room for the message. It adds that message
+/// to those that are heard, and leaves no chain open.
+pub fn what_is_written_is_heard()
+    ensures message { writing.a_written_message_is_heard }
+    ensures fragments { writing.written_fragments_are_heard }
+{}
+
+/// Fragments have the frames of their message in order. Each has one, or as many as are within the size together.
+pub fn packing_is_full()
+    ensures { writing.packing_is_full }
 {}

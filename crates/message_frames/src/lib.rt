@@ -7,6 +7,8 @@ pub mod laws;
 mod message;
 mod reader;
 mod tally;
+mod writing;
 
 pub use message::{Frames, Message};
 pub use reader::{FedMessages, MessageReader};
+pub use writing::{write_fragments, write_message};

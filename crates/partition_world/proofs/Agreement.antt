@@ -12,7 +12,7 @@ use Rattle.partition_protocol.specs.Events.{Event, Call, Happened, ReleasedAt, h
 use Rattle.partition_world.specs.declared.node.Node.{Node}
 use Rattle.partition_world.specs.declared.node.Released.{Released}
 use Rattle.partition_world.specs.declared.world.World.{World}
-use Rattle.partition_world.specs.Nodes.{machine_node}
+use Rattle.partition_world.specs.Nodes.{protocol_node}
 use Rattle.partition_world.specs.Entries.{entry_of}
 use Rattle.partition_world.specs.Answers.{released_by, released_at}
 use Rattle.partition_world.specs.Executions.{HasKept, HasExecuted}
@@ -59,17 +59,17 @@ module _ {S Env C State : Type 0} (o : Object C State) (state : S → State) (ol
   pub members : new.members ≡ w.members
   members = ap (λ (u : Setup). u.members) setup ∙ a.members
 
-  pub there_too : slice_get w.nodes member ≡ Some (machine_node node)
-  there_too = ap (λ ns. slice_get ns member) (sym a.nodes) ∙ get_map machine_node old.nodes.items member node there
+  pub there_too : slice_get w.nodes member ≡ Some (protocol_node node)
+  there_too = ap (λ ns. slice_get ns member) (sym a.nodes) ∙ get_map protocol_node old.nodes.items member node there
 
   -- one node is another one with the same facts and contents, and some of the answers
-  pub agrees_set : (next : Node S) → new.nodes.items ≡ slice_set old.nodes.items member next → vec_len new.nodes ≡ vec_len old.nodes → machine_node next ≡ machine_node node → state next.shelf ≡ state node.shelf
+  pub agrees_set : (next : Node S) → new.nodes.items ≡ slice_set old.nodes.items member next → vec_len new.nodes ≡ vec_len old.nodes → protocol_node next ≡ protocol_node node → state next.shelf ≡ state node.shelf
       → new.trail.entries.items ≡ old.trail.entries.items → ((q : ℕ) (answer : Released) → Contains (waiting new q) answer → Contains (waiting old q) answer) → Agrees o state new w
   agrees_set next nodes size says contents same fewer = record {
     members = members;
     nodes =
-        ap (map machine_node) nodes ∙ map_set machine_node old.nodes.items member next ∙ ap (slice_set (map machine_node old.nodes.items) member) says
-        ∙ set_itself (map machine_node old.nodes.items) member (machine_node node) (get_map machine_node old.nodes.items member node there) ∙ a.nodes;
+        ap (map protocol_node) nodes ∙ map_set protocol_node old.nodes.items member next ∙ ap (slice_set (map protocol_node old.nodes.items) member) says
+        ∙ set_itself (map protocol_node old.nodes.items) member (protocol_node node) (get_map protocol_node old.nodes.items member node there) ∙ a.nodes;
     size = size ∙ a.size;
     shelves = λ q x e. shelf q x (get_set old.nodes.items member q next x (ap (λ ns. slice_get ns q) (sym nodes) ∙ e));
     trail = ap (map entry_of) same ∙ a.trail;
@@ -77,8 +77,8 @@ module _ {S Env C State : Type 0} (o : Object C State) (state : S → State) (ol
     alone = a.alone;
   }
     where
-      shelf : (q : ℕ) (x : Node S) → ((q ≡ member) × (next ≡ x)) ⊎ ((q ≢ member) × (slice_get old.nodes.items q ≡ Some x)) → state x.shelf ≡ pair_state o w (machine_node x).pair
-      shelf q x (inl e) = subst (λ (z : Node S). state z.shelf ≡ pair_state o w (machine_node z).pair) e.1 (contents ∙ a.shelves member node there ∙ ap (λ (z : ProtocolNode). pair_state o w z.pair) (sym says))
+      shelf : (q : ℕ) (x : Node S) → ((q ≡ member) × (next ≡ x)) ⊎ ((q ≢ member) × (slice_get old.nodes.items q ≡ Some x)) → state x.shelf ≡ pair_state o w (protocol_node x).pair
+      shelf q x (inl e) = subst (λ (z : Node S). state z.shelf ≡ pair_state o w (protocol_node z).pair) e.1 (contents ∙ a.shelves member node there ∙ ap (λ (z : ProtocolNode). pair_state o w z.pair) (sym says))
       shelf q x (inr e) = a.shelves q x e.1
 
   pub agrees_kept : HasKept state old new member node → Agrees o state new w
@@ -88,9 +88,9 @@ module _ {S Env C State : Type 0} (o : Object C State) (state : S → State) (ol
   waits_kept k = nothing_more old new member node k.next there k.nodes k.released
 
   module _ (change_of : State → C → ℕ → Option Change) (id : CallId) (call : C) (now seen : ℕ) (h : HasExecuted o change_of state old new member node id call now seen)
-      (executes_it : reached member (machine_node node) ≡ Executes) where
+      (executes_it : reached member (protocol_node node) ≡ Executes) where
     abbrev n : ProtocolNode
-    n = machine_node node
+    n = protocol_node node
 
     abbrev s : State
     s = pair_state o w n.pair
@@ -110,7 +110,7 @@ module _ {S Env C State : Type 0} (o : Object C State) (state : S → State) (ol
     contents_were : state node.shelf ≡ s
     contents_were = a.shelves member node there
 
-    says : machine_node h.next ≡ settled after
+    says : protocol_node h.next ≡ settled after
     says = h.says ∙ ap (λ z. settled (executing (o.changes z call now) id.conn id.number n)) contents_were
 
     version : h.next.replica.version ≡ after.pair.version
@@ -192,23 +192,23 @@ module _ {S Env C State : Type 0} (o : Object C State) (state : S → State) (ol
         go (inr k) = subst (λ z. IsReleased then_so.world z) (one_there answer answer' k) is_released
     all_released q answer' false c = was_released answer' (a.waiting q answer' (subst (λ xs. Contains xs answer') (append-nil (waiting old q)) c))
 
-    shelf : (q : ℕ) (z : Node S) → ((q ≡ member) × (h.next ≡ z)) ⊎ ((q ≢ member) × (slice_get old.nodes.items q ≡ Some z)) → state z.shelf ≡ pair_state o then_so.world (machine_node z).pair
+    shelf : (q : ℕ) (z : Node S) → ((q ≡ member) × (h.next ≡ z)) ⊎ ((q ≢ member) × (slice_get old.nodes.items q ≡ Some z)) → state z.shelf ≡ pair_state o then_so.world (protocol_node z).pair
     shelf q z (inl e) =
-        subst (λ (z : Node S). state z.shelf ≡ pair_state o then_so.world (machine_node z).pair) e.1
+        subst (λ (z : Node S). state z.shelf ≡ pair_state o then_so.world (protocol_node z).pair) e.1
         (h.contents ∙ ap (λ z. o.after z call now) contents_were ∙ sym (lone.state_now o w a.alone member id.conn id.number call now n there_too)
         ∙ ap (λ (z : ProtocolNode). pair_state o then_so.world z.pair) (sym says))
     shelf q z (inr e) = absurd (e.0 (other_place q z e.1 ∙ sym (lone.only o w a.alone member id.conn id.number call now n there_too).0))
       where
         other_place : (q : ℕ) (z : Node S) → slice_get old.nodes.items q ≡ Some z → q ≡ 0
         other_place q z e =
-            (only_one a.alone.node (machine_node z) q
-            (ap (λ ns. slice_get ns q) (sym a.alone.nodes) ∙ ap (λ ns. slice_get ns q) (sym a.nodes) ∙ get_map machine_node old.nodes.items q z e)).0
+            (only_one a.alone.node (protocol_node z) q
+            (ap (λ ns. slice_get ns q) (sym a.alone.nodes) ∙ ap (λ ns. slice_get ns q) (sym a.nodes) ∙ get_map protocol_node old.nodes.items q z e)).0
 
     agrees_so : Agrees o state new then_so.world
     agrees_so = record {
       members = members;
       nodes =
-          ap (map machine_node) h.nodes ∙ map_set machine_node old.nodes.items member h.next ∙ ap (slice_set (map machine_node old.nodes.items) member) says
+          ap (map protocol_node) h.nodes ∙ map_set protocol_node old.nodes.items member h.next ∙ ap (slice_set (map protocol_node old.nodes.items) member) says
           ∙ ap (λ ns. slice_set ns member (settled after)) a.nodes;
       size = h.size ∙ a.size;
       shelves = λ q z e. shelf q z (get_set old.nodes.items member q h.next z (ap (λ ns. slice_get ns q) (sym h.nodes) ∙ e));

@@ -6,7 +6,7 @@ use Rattle.partition_protocol.specs.Events.{Event, happens, run}
 use Rattle.partition_protocol.proofs.Bounds.{every_run_is_within}
 use Rattle.partition_world.specs.declared.node.Node.{Node}
 use Rattle.partition_world.specs.declared.world.World.{World}
-use Rattle.partition_world.specs.Nodes.{machine_node}
+use Rattle.partition_world.specs.Nodes.{protocol_node}
 use Rattle.partition_world.specs.Worlds.{Setup, setup_of, steps_of, Agrees, StandsFor, run_of}
 use Rattle.partition_world.proofs.Places.{get_map}
 
@@ -54,5 +54,5 @@ module _ {S Env C State : Type 0} (o : Object C State) (state : S → State) (ol
 pub counts_few : {S Env C State : Type 0} (o : Object C State) (state : S → State) (world : World S Env C) (events : List (Event C)) → StandsFor o state world events
     → (member : ℕ) (node : Node S) → slice_get world.nodes.items member ≡ Some node → node.replica.count ≤ length events
 counts_few o state world events stands member node there =
-    ((every_run_is_within o world.partition world.members world.backups events).nodes member (machine_node node)
-    (ap (λ ns. slice_get ns member) (sym stands.agrees.nodes) ∙ get_map machine_node world.nodes.items member node there)).pair.count
+    ((every_run_is_within o world.partition world.members world.backups events).nodes member (protocol_node node)
+    (ap (λ ns. slice_get ns member) (sym stands.agrees.nodes) ∙ get_map protocol_node world.nodes.items member node there)).pair.count

@@ -12,7 +12,7 @@ use Rattle.partition_protocol.specs.World.{start, pair_state}
 use Rattle.partition_world.specs.declared.node.Node.{Node}
 use Rattle.partition_world.specs.declared.node.Released.{Released}
 use Rattle.partition_world.specs.declared.world.World.{World}
-use Rattle.partition_world.specs.Nodes.{machine_node}
+use Rattle.partition_world.specs.Nodes.{protocol_node}
 use Rattle.partition_world.specs.Entries.{entry_of}
 use Rattle.partition_world.specs.Alone.{IsAlone}
 use Rattle.partition_world.specs.Worlds.{waiting, StandsFor}
@@ -56,7 +56,7 @@ none_waits {S = S} world none member = go (slice_get world.nodes.items member) r
     go (Some node) at = all_at (λ (node : Node S). node.replica.released.items ≡ []) world.nodes.items member node none at
 
 pub starts : {S Env C State : Type 0} (o : Object C State) (state : S → State) (world : World S Env C) → world.members ≡ 1 → vec_len world.nodes ≡ world.members
-    → map machine_node world.nodes.items ≡ map (opening_node (initial_row world.partition world.members world.backups)) (numbers_below world.members)
+    → map protocol_node world.nodes.items ≡ map (opening_node (initial_row world.partition world.members world.backups)) (numbers_below world.members)
     → All (λ (node : Node S). state node.shelf ≡ o.empty) world.nodes.items → All (λ (node : Node S). node.replica.released.items ≡ []) world.nodes.items
     → world.trail.entries.items ≡ [] → world.steps ≡ 0 → StandsFor o state world []
 starts {S} {Env} {C} o state world one size nodes empty none entries steps = record {
@@ -64,7 +64,7 @@ starts {S} {Env} {C} o state world one size nodes empty none entries steps = rec
     members = refl;
     nodes = nodes;
     size = size;
-    shelves = λ member node at. all_at (λ (node : Node S). state node.shelf ≡ o.empty) world.nodes.items member node empty at ∙ sym (start_state o world.partition world.members world.backups (machine_node node).pair);
+    shelves = λ member node at. all_at (λ (node : Node S). state node.shelf ≡ o.empty) world.nodes.items member node empty at ∙ sym (start_state o world.partition world.members world.backups (protocol_node node).pair);
     trail = ap (map entry_of) entries ∙ sym (trail_alone (start world.partition world.members world.backups) alone);
     waiting = λ member answer c. absurd (nobody answer (subst (λ xs. Contains xs answer) (none_waits world none member) c));
     alone = alone;

@@ -11,7 +11,7 @@ use Rattle.partition_protocol.specs.World.{World as Machine, map_or, is_live}
 use Rattle.partition_protocol.specs.Events.{Event, Call, Happened, Outcome, Refused, nothing, executes, if_executes, calling, happens}
 use Rattle.partition_world.specs.declared.node.Node.{Node}
 use Rattle.partition_world.specs.declared.world.World.{World}
-use Rattle.partition_world.specs.Nodes.{machine_node}
+use Rattle.partition_world.specs.Nodes.{protocol_node}
 use Rattle.partition_world.specs.Answers.{held_answer, is_at, released_by, released_at}
 use Rattle.partition_world.specs.Worlds.{waiting, Agrees}
 use Rattle.partition_world.proofs.LoneCalls as lone
@@ -31,19 +31,19 @@ module _ {S Env C State : Type 0} (o : Object C State) (state : S → State) (wo
   -- there is a node for each member
   pub nodes_there : length world.nodes.items ≡ world.members
   nodes_there =
-      sym (length-map world.nodes.items machine_node) ∙ ap length a.nodes ∙ ap length a.alone.nodes ∙ sym a.alone.members ∙ sym a.members
+      sym (length-map world.nodes.items protocol_node) ∙ ap length a.nodes ∙ ap length a.alone.nodes ∙ sym a.alone.members ∙ sym a.members
 
   module _ (member conn number : ℕ) (call : C) (now : ℕ) where
     pub not_there : nat_lt member world.members ≡ false → happens o w (Call member conn number call now) ≡ nothing w
     not_there e =
         ap (λ b. if b then map_or (slice_get w.nodes member) (nothing w) (calling o w member conn number call now) else nothing w) (live member ∙ e)
 
-    pub refused : (node : Node S) (r : Reached) → slice_get world.nodes.items member ≡ Some node → reached member (machine_node node) ≡ r
-        → if_executes w r (executes o w member conn number call now (machine_node node)) ≡ record { world = w; outcome = Refused r }
+    pub refused : (node : Node S) (r : Reached) → slice_get world.nodes.items member ≡ Some node → reached member (protocol_node node) ≡ r
+        → if_executes w r (executes o w member conn number call now (protocol_node node)) ≡ record { world = w; outcome = Refused r }
         → happens o w (Call member conn number call now) ≡ record { world = w; outcome = Refused r }
     refused node r there is so =
-        lone.reaches o w a.alone member conn number call now (machine_node node) (there_too o state world world w member node a there refl)
-        ∙ ap (λ r. if_executes w r (executes o w member conn number call now (machine_node node))) is ∙ so
+        lone.reaches o w a.alone member conn number call now (protocol_node node) (there_too o state world world w member node a there refl)
+        ∙ ap (λ r. if_executes w r (executes o w member conn number call now (protocol_node node))) is ∙ so
 
 -- any event that leaves the protocol's world
 module _ {C State : Type 0} (o : Object C State) (w : Machine C) (event : Event C) (outcome : Outcome) (same : happens o w event ≡ record { world = w; outcome = outcome }) where

@@ -23,5 +23,5 @@ happened_of Nothing = NothingDone
 happened_of (Called outcome) = outcome_of outcome
 
 -- the call that the event brings keeps to the limits
-abbrev pub IsWithin : {C : Type 0} → (C → Type 0) → Event C → Type 0
-IsWithin limits (Call member id call now) = limits call
+abbrev pub IsWithinLimits : {C : Type 0} → (C → Type 0) → Event C → Type 0
+IsWithinLimits limits (Call member id call now) = limits call

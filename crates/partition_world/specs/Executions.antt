@@ -7,14 +7,14 @@ use Rattle.partition_protocol.specs.Node.{settled}
 use Rattle.partition_protocol.specs.Execution.{executing}
 use Rattle.partition_world.specs.declared.node.Node.{Node}
 use Rattle.partition_world.specs.declared.world.World.{World}
-use Rattle.partition_world.specs.Nodes.{machine_node}
+use Rattle.partition_world.specs.Nodes.{protocol_node}
 
 -- The member's node alone is another one, which says the same with the same contents
 pub record HasKept {S Env C State : Type 0} (state : S → State) (old new : World S Env C) (member : ℕ) (node : Node S) : Type 0 where
   pub next : Node S
   pub nodes : new.nodes.items ≡ slice_set old.nodes.items member next
   pub size : vec_len new.nodes ≡ vec_len old.nodes
-  pub says : machine_node next ≡ machine_node node
+  pub says : protocol_node next ≡ protocol_node node
   pub contents : state next.shelf ≡ state node.shelf
   pub released : next.replica.released.items ≡ node.replica.released.items
   pub trail : new.trail.entries.items ≡ old.trail.entries.items
@@ -25,7 +25,7 @@ pub record HasExecuted {S Env C State : Type 0} (o : Object C State) (change_of 
   pub next : Node S
   pub nodes : new.nodes.items ≡ slice_set old.nodes.items member next
   pub size : vec_len new.nodes ≡ vec_len old.nodes
-  pub says : machine_node next ≡ settled (executing (o.changes (state node.shelf) call now) id.conn id.number (machine_node node))
+  pub says : protocol_node next ≡ settled (executing (o.changes (state node.shelf) call now) id.conn id.number (protocol_node node))
   pub contents : state next.shelf ≡ o.after (state node.shelf) call now
   pub saw : seen ≡ next.replica.count
   pub released : next.replica.released.items ≡ node.replica.released.items ++ record {

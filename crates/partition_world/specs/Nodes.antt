@@ -21,8 +21,8 @@ node_of replica = record {
   held = [];
 }
 
-abbrev pub machine_node : {S : Type 0} → Node S → ProtocolNode
-machine_node node = node_of node.replica
+abbrev pub protocol_node : {S : Type 0} → Node S → ProtocolNode
+protocol_node node = node_of node.replica
 
 abbrev pub reached_of : Reached → ProtocolReached
 reached_of Executes = IsExecuted

@@ -7,7 +7,7 @@ use Rattle.partition_protocol.specs.Events.{Event, run}
 use Rattle.partition_world.specs.declared.node.Node.{Node}
 use Rattle.partition_world.specs.declared.node.Released.{Released}
 use Rattle.partition_world.specs.declared.world.World.{World}
-use Rattle.partition_world.specs.Nodes.{machine_node}
+use Rattle.partition_world.specs.Nodes.{protocol_node}
 use Rattle.partition_world.specs.Entries.{entry_of}
 use Rattle.partition_world.specs.Alone.{IsAlone}
 
@@ -44,9 +44,9 @@ pub record IsReleased {C : Type 0} (w : Machine C) (answer : Released) : Type 0 
 -- The code says what the protocol says, and each shelf has the state that its member's pair names
 pub record Agrees {S Env C State : Type 0} (o : Object C State) (state : S → State) (world : World S Env C) (w : Machine C) : Type 0 where
   pub members : world.members ≡ w.members
-  pub nodes : map machine_node world.nodes.items ≡ w.nodes
+  pub nodes : map protocol_node world.nodes.items ≡ w.nodes
   pub size : vec_len world.nodes ≡ w.members
-  pub shelves : (member : ℕ) (node : Node S) → slice_get world.nodes.items member ≡ Some node → state node.shelf ≡ pair_state o w (machine_node node).pair
+  pub shelves : (member : ℕ) (node : Node S) → slice_get world.nodes.items member ≡ Some node → state node.shelf ≡ pair_state o w (protocol_node node).pair
   pub trail : map entry_of world.trail.entries.items ≡ trail w
   pub waiting : (member : ℕ) (answer : Released) → Contains (waiting world member) answer → IsReleased w answer
   pub alone : IsAlone w

@@ -7,9 +7,9 @@ ghost use Rattle.partition_protocol.specs.World.{World as Machine, is_live, trai
 ghost use Rattle.partition_protocol.specs.Arrivals.{NamedOnce, arrivals, name};
 ghost use Rattle.partition_protocol.specs.Claims.{IsSafe, IsFaithful};
 ghost use Rattle.partition_protocol.specs.Events.{Event as ProtocolEvent, Call as CallEvent, happens};
-ghost use Rattle.partition_world.specs.Nodes.{machine_node};
+ghost use Rattle.partition_world.specs.Nodes.{protocol_node};
 ghost use Rattle.partition_world.specs.Entries.{entry_of};
-ghost use Rattle.partition_world.specs.Events.{event_of, happened_of, IsWithin};
+ghost use Rattle.partition_world.specs.Events.{event_of, happened_of, IsWithinLimits};
 ghost use Rattle.partition_world.specs.Answers.{released_at};
 ghost use Rattle.partition_world.specs.Executions.{HasExecuted, HasKept};
 ghost use Rattle.partition_world.specs.Worlds.{Agrees, StandsFor, IsReleased, run_of, setup_of, steps_of, trail_length, waiting};
@@ -74,7 +74,7 @@ impl<S: Shelf> World<S> {
     ) -> Result<Happened, Memory>
     where
         S::Call: Drop,
-        requires limits { IsWithin S.within_limits event }
+        requires limits { IsWithinLimits S.within_limits event }
         requires room { steps_of self.old < MOST_EVENTS }
         requires stands { (events : List (ProtocolEvent S.Call)) × StandsFor (S.object env.now) S.state self.old events }
 
@@ -212,7 +212,7 @@ impl<S: Shelf> World<S> {
         ensures refused { (env : S.Env) (w : Machine S.Call) → let o = S.object env in Agrees o S.state self.now w
             → IfSome result (λ happened. (conn number : ℕ) (call : S.Call) (now : ℕ) → happens o w (CallEvent member conn number call now) ≡ record { world = w; outcome = happened_of happened }) }
         ensures there { IfNone result (member < vec_len self.now.nodes) }
-        ensures executes { IfNone result ((node : Node S) → slice_get self.now.nodes.items member ≡ Some node → reached member (machine_node node) ≡ Executes) }
+        ensures executes { IfNone result ((node : Node S) → slice_get self.now.nodes.items member ≡ Some node → reached member (protocol_node node) ≡ Executes) }
     {
         if !self.is_member(member) {
             return Some(Happened::Nothing);
@@ -272,7 +272,7 @@ impl<S: Shelf> World<S> {
 /// The members' nodes at the start.
 fn opening_nodes<S: Shelf>(alloc: Global, members: u8, row: &Row) -> Result<Vec<Node<S>>, Memory>
     ensures len { IfOk result (λ nodes. vec_len nodes ≡ members) }
-    ensures nodes { IfOk result (λ nodes. map machine_node nodes.items ≡ map (opening_node row.now) (numbers_below members)) }
+    ensures nodes { IfOk result (λ nodes. map protocol_node nodes.items ≡ map (opening_node row.now) (numbers_below members)) }
     ensures empty { IfOk result (λ nodes. All (λ node. S.state node.shelf ≡ S.empty_state) nodes.items) }
     ensures released { IfOk result (λ nodes. All (λ node. node.replica.released.items ≡ []) nodes.items) }
 {

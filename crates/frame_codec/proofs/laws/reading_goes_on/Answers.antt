@@ -1,5 +1,5 @@
 -- By the two cases of the fault.
-use Rattle.std.proofs.Common.{◌∙◌, ap, None, Some, Option, length}
+use Rattle.std.proofs.Common.{◌∙◌, ap, Option, length}
 use Rattle.frame_codec.specs.Reading.{reading}
 use Rattle.frame_codec.specs.declared.malformed.Malformed.{Malformed}
 use Rattle.frame_codec.proofs.GoingOn.{goes_on_by, reading-append}

@@ -1,9 +1,5 @@
-use Rattle.std.proofs.Common.{◌≡◌, ◌≢◌, ℕ, List, ◌++◌, length, map}
-use Rattle.grid_base.specs.declared.calls.Request.{Request}
-use Rattle.partition_protocol.specs.Events.{Event}
-use Rattle.partition_world.specs.Worlds.{StandsFor, setup_of, waiting}
-use Rattle.grid_cli.specs.MapLists.{partition_of}
-use Rattle.grid_cli.specs.PartitionObjects.{partition_object}
+use Rattle.std.proofs.Common.{◌≡◌, ◌++◌, length, map}
+use Rattle.partition_world.specs.Worlds.{waiting}
 use Rattle.grid_cli.specs.WorldCalls.{texts_of, message_of, with_answers}
 use Rattle.grid_cli.proofs.GivingOut.{GaveOut}
 use Rattle.grid_cli.proofs.grid.give_out.Given as goal

@@ -1,4 +1,4 @@
-use Rattle.std.proofs.Common.{◌≡◌, ◌∙◌, ◌++◌, List, ℕ, None, ap, w64, rules}
+use Rattle.std.proofs.Common.{◌≡◌, ◌∙◌, ◌++◌, List, ℕ, Some, None, ap, w64, rules}
 use Rattle.std.specs.Prelude.{ℤ}
 use mir.Val.{SFits}
 use Rattle.std.proofs.lemmas.Int.{to_z-of_z}
@@ -14,4 +14,4 @@ returns c =
     c.as_slice.ensures ∙ c.in_ok-error.ensures ∙ ap (λ (z : ℤ). error_bytes z c.in-Some.field-0.code c.in-Some.field-0.version 0) (to_z-of_z w64 c.args.to.correlation fits) in
     λ request conn correlation. on_ok_weaker c.push_appended.result
     (λ e. e ∙ ap (λ (xs : List ℕ). c.args.out.now.items ++ xs) (refusal_text c.args.to.line c.args.to.conn c.args.to.correlation c.in-Some.field-0 c.args.refusal c.as_slice.result.now request conn correlation c.in-Some.is bytes))
-    (c.push_appended.ensures None)
+    (c.push_appended.ensures None (Some request.id))

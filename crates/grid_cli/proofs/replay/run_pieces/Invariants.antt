@@ -1,4 +1,4 @@
-use Rattle.std.proofs.Common.{◌≤◌, ◌<◌, ◌-◌, ◌+◌, length}
+use Rattle.std.proofs.Common.{◌≤◌, ◌<◌, ◌-◌, length}
 use Rattle.grid_cli.proofs.ReplayRuns.{HasPlayed}
 use Rattle.grid_cli.proofs.replay.run_pieces.Given as goal
 

@@ -1,7 +1,6 @@
-use Rattle.std.proofs.Common.{◌≡◌, List, [], ◌∷◌, ◌++◌, sym, subst, rules}
-use Rattle.grid_cli.specs.declared.shelf.StoredEntry.{StoredEntry}
+use Rattle.std.proofs.Common.{rules}
 use Rattle.grid_cli.specs.Effects.{set_by}
-use Rattle.grid_cli.proofs.Entries.{HasSet, value_set, value_added}
+use Rattle.grid_cli.proofs.Entries.{value_set, value_added}
 use Rattle.grid_cli.proofs.shelf.set_value.Goals as goal
 
 pub returns-in-Some-clause-list : goal.returns-in-Some-clause-list

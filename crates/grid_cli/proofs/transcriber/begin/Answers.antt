@@ -1,7 +1,6 @@
 -- What the first line makes.
-use Rattle.std.proofs.Common.{◌≡◌, ℕ, ◌++◌, sym, ◌∙◌, ap, subst, Some}
+use Rattle.std.proofs.Common.{sym, ◌∙◌, ap, subst, Some}
 use Rattle.grid_cli.specs.Runs.{begun}
-use Rattle.grid_cli.specs.Printing.{ok_text}
 use Rattle.grid_cli.specs.Grids.{Stands}
 use Rattle.grid_cli.proofs.TranscriberLaws.{the_grid_line}
 use Rattle.grid_cli.proofs.transcriber.begin.Goals as goal

@@ -1,4 +1,4 @@
-use Rattle.std.proofs.Common.{◌≡◌, List, ℕ, ◌+◌, ◌++◌, sym, ◌∙◌, ap, Some, Err}
+use Rattle.std.proofs.Common.{◌+◌, ◌++◌, sym, ◌∙◌, ap, Some, Err}
 use Rattle.grid_cli.specs.Grids.{text_at}
 use Rattle.grid_cli.specs.Printing.{refused_text}
 use Rattle.grid_cli.specs.Transcripts.{why_text}

@@ -1,4 +1,4 @@
-use Rattle.std.proofs.Common.{◌≡◌, ℕ, ◌<◌, ◌-◌, ◌*◌, ◌+◌, drop, fold}
+use Rattle.std.proofs.Common.{◌≡◌, ◌<◌, ◌-◌, ◌*◌, ◌+◌, drop, fold}
 use Rattle.grid_cli.specs.Words.{decimal_value}
 use Rattle.grid_cli.proofs.words.value_below.Given as goal
 

@@ -4,7 +4,7 @@ use Rattle.std.proofs.lemmas.List.Elements.{All-append}
 use Rattle.partition_protocol.specs.Node.{Node as ProtocolNode, opening_node}
 use Rattle.partition_protocol.specs.Service.{numbers_below}
 use Rattle.partition_world.specs.declared.node.Node.{Node}
-use Rattle.partition_world.specs.Nodes.{machine_node}
+use Rattle.partition_world.specs.Nodes.{protocol_node}
 use Rattle.partition_world.proofs.Agreement.{map_append}
 use Rattle.partition_world.proofs.Places.{all_one}
 use Rattle.partition_world.proofs.Starts.{opening_more}
@@ -20,7 +20,7 @@ loop-member-preserved g c =
     record {
       len = omega (arith, c.in_ok-push.ensures.len, kept.len);
       nodes =
-          ap (map machine_node) gains ∙ map_append machine_node before (node ∷ []) ∙ ap (λ ns. ns ++ machine_node node ∷ []) kept.nodes
+          ap (map protocol_node) gains ∙ map_append protocol_node before (node ∷ []) ∙ ap (λ ns. ns ++ protocol_node node ∷ []) kept.nodes
           ∙ ap (λ (n : ProtocolNode). map (opening_node row) (numbers_below c.loop-member.member) ++ n ∷ []) c.in_ok-opening.ensures.node ∙ sym (opening_more row c.loop-member.member);
       empty =
           let P : Node _ → Type 0 = λ node. g.S.Shelf.state node.shelf ≡ g.S.Shelf.empty_state in

@@ -1,5 +1,5 @@
 -- The front of the bytes fills the header up, and the others are payload.
-use Rattle.std.proofs.Common.{◌≡◌, ℕ, List, ◌++◌, ◌-◌, ◌≤◌, ap, ◌∙◌, arith}
+use Rattle.std.proofs.Common.{ℕ, List, ◌++◌, ◌-◌, ◌≤◌, ap, ◌∙◌, arith}
 use Rattle.frame_codec.proofs.Parts.{appended}
 use Rattle.frame_codec.proofs.partial.PartialFrame.append.Goals as goal
 

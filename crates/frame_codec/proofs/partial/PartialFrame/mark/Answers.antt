@@ -1,5 +1,5 @@
 -- The header lies apart from the payload.
-use Rattle.std.proofs.Common.{◌≡◌, ℕ, length, take, sym, ap, ◌∙◌, arith}
+use Rattle.std.proofs.Common.{◌≡◌, length, take, sym, ap, ◌∙◌, arith}
 use Rattle.frame_codec.proofs.Parts.{take-laid_out, length-laid_out}
 use Rattle.frame_codec.proofs.partial.PartialFrame.mark.Goals as goal
 

@@ -1,6 +1,6 @@
 -- The payload is the frame's that was taken, or the one here.
 use Rattle.std.proofs.Common.{◌≡◌, ℕ, List, ◌++◌, take, drop, sym, ap, ◌∙◌}
-use Rattle.frame_codec.specs.Marks.{bytes_at, payload_since}
+use Rattle.frame_codec.specs.Marks.{payload_since}
 use Rattle.frame_codec.proofs.Parts.{drop-laid_out}
 use Rattle.frame_codec.proofs.partial.PartialFrame.put_back.Goals as goal
 use Rattle.frame_codec.proofs.partial.PartialFrame.put_back.Goals.{in-Some, in_default}

@@ -1,8 +1,7 @@
 -- A feed takes all of the piece, or goes back over what it took.
-use Rattle.std.proofs.Common.{◌≡◌, List, ℕ, ◌++◌, length, take, ap, sym, subst, ◌∙◌, arith, length-append}
-use Rattle.frame_codec.specs.FrameReaders.{InProgress, next_place, frames_of, StandsFor}
-use Rattle.frame_codec.specs.Feeding.{HasGiven, Takes}
-use Rattle.frame_codec.specs.Marks.{IsMarkOf, IsFedSince}
+use Rattle.std.proofs.Common.{◌≡◌, ◌++◌, take, ap, sym, subst, ◌∙◌, arith, length-append}
+use Rattle.frame_codec.specs.FrameReaders.{InProgress, next_place}
+use Rattle.frame_codec.specs.Marks.{IsMarkOf}
 use Rattle.frame_codec.proofs.Feeds.{from_none, from_none_all}
 use Rattle.frame_codec.proofs.Standing.{standing-is}
 use Rattle.frame_codec.proofs.Rests.{next_place_within}

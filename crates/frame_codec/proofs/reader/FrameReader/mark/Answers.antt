@@ -1,5 +1,5 @@
 -- A reader's own bytes are all that it stands for at least.
-use Rattle.std.proofs.Common.{ℕ, List, sym, subst, ◌∙◌}
+use Rattle.std.proofs.Common.{sym, subst}
 use Rattle.frame_codec.specs.FrameReaders.{InProgress, StandsFor}
 use Rattle.frame_codec.proofs.GoingBack.{mark_has_room}
 use Rattle.frame_codec.proofs.Standing.{read_unfinished}

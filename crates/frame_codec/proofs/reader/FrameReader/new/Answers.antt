@@ -1,9 +1,7 @@
 -- A reader of no bytes has none in progress.
-use Rattle.std.proofs.Common.{ℕ, List, [], ap, sym, ◌∙◌, arith}
+use Rattle.std.proofs.Common.{[], ap, sym, ◌∙◌, arith}
 use Rattle.frame_codec.specs.FrameReaders.{in_progress}
 use Rattle.frame_codec.proofs.Standing.{read_unfinished}
-use Rattle.frame_codec.proofs.Rests.{standing_shown}
-use Rattle.frame_codec.proofs.Feeds.{goes_on}
 use Rattle.frame_codec.proofs.reader.FrameReader.new.Goals as goal
 
 pub returns-clause-stands : goal.returns-clause-stands

@@ -1,5 +1,5 @@
 -- What goes back is what the mark and the given frames say together.
-use Rattle.std.proofs.Common.{List, ℕ, Option, ap, sym, subst, ◌∙◌}
+use Rattle.std.proofs.Common.{Option, ap, sym, subst, ◌∙◌}
 use Rattle.frame_codec.specs.FrameReaders.{InProgress, in_progress, IsUnfinished}
 use Rattle.frame_codec.specs.Marks.{bytes_at, payload_since, first_frame}
 use Rattle.frame_codec.specs.declared.frames.Frame.{Frame}

@@ -1,9 +1,9 @@
 -- One part of the piece after another, to its end or to the first fault.
-use Rattle.std.proofs.Common.{◌≡◌, ℕ, ◌+◌, ◌-◌, ◌<◌, ◌≤◌, Option, is_some, not, List, length, take, drop, ap, sym, subst, ◌∙◌, arith}
+use Rattle.std.proofs.Common.{◌≡◌, ℕ, ◌-◌, ◌≤◌, Option, is_some, not, List, length, take, drop, ap, sym, subst, ◌∙◌, arith}
 use Rattle.std.proofs.lemmas.List.{take_rest, length-drop}
 use Rattle.std.proofs.lemmas.Result.{err_from_is_err_and}
 use Rattle.frame_codec.specs.FrameReaders.{InProgress}
-use Rattle.frame_codec.specs.Feeding.{Takes, TakesSome}
+use Rattle.frame_codec.specs.Feeding.{Takes}
 use Rattle.frame_codec.specs.declared.frames.PlacedFrame.{PlacedFrame}
 use Rattle.frame_codec.specs.declared.malformed.Malformed.{Malformed}
 use Rattle.frame_codec.proofs.Feeds.{takes_more, takes_all_faulty}

@@ -1,9 +1,9 @@
 -- Each way of `take_some` is a part of a frame, or the rest of one.
-use Rattle.std.proofs.Common.{◌≡◌, ℕ, ◌+◌, ◌-◌, ◌<◌, ◌≤◌, List, [], ◌∷◌, ◌++◌, length, take, None, ap, sym, subst, ◌∙◌, arith, length-append}
+use Rattle.std.proofs.Common.{◌≡◌, ℕ, ◌+◌, ◌-◌, ◌<◌, ◌≤◌, List, [], ◌∷◌, ◌++◌, length, take, ap, sym, subst, ◌∙◌, arith, length-append}
 use Rattle.std.proofs.lemmas.List.{length-take, length-take-le, take_all}
-use Rattle.frame_codec.specs.FrameReaders.{InProgress, in_progress, shown, IsUnfinished}
+use Rattle.frame_codec.specs.FrameReaders.{InProgress, in_progress}
 use Rattle.frame_codec.specs.Feeding.{Takes}
-use Rattle.frame_codec.specs.Reading.{front, stated_length, frame_of}
+use Rattle.frame_codec.specs.Reading.{stated_length, frame_of}
 use Rattle.frame_codec.specs.declared.frames.Frame.{Frame}
 use Rattle.frame_codec.specs.declared.frames.PlacedFrame.{PlacedFrame}
 use Rattle.frame_codec.proofs.Taken.{open_frame, took_part, took_whole, still_unfinished, now_whole}

@@ -1,4 +1,4 @@
-use Rattle.std.proofs.Common.{◌≡◌, ◌∙◌, ◌+◌, ◌++◌, List, ℕ, length, map, get_or, set, refl, ap, sym, arith}
+use Rattle.std.proofs.Common.{◌∙◌, ◌+◌, ◌++◌, List, ℕ, length, map, get_or, set, refl, ap, sym, arith}
 use Rattle.partition_world.specs.Worlds.{waiting}
 use Rattle.grid_cli.specs.declared.grid.Grid.{Grid}
 use Rattle.grid_cli.specs.Runs.{events_at}
@@ -11,7 +11,7 @@ use Rattle.grid_cli.proofs.grid.Grid.ask.Goals as goal
 
 pub index_mut-world-requires : goal.index_mut-world-requires
 index_mut-world-requires c =
-    let within = world_within c.args.self.now c.requires.stands.0 c.requires.stands.1 c.args.request.partition c.from.result c.requires.placed c.from.ensures in
+    let within = world_within c.args.self.now c.requires.stands.0 c.requires.stands.1 c.from.result c.from.result (omega (arith, c.requires.placed, c.from.ensures)) refl in
     let same = ap (λ (g : Grid). length g.worlds.items) c.next_line.ensures.grid in
     omega (arith, within, same, c.next_line.new.self.worlds.ok.0)
 
@@ -19,14 +19,14 @@ pub call-requires-clause-room : goal.call-requires-clause-room
 call-requires-clause-room c =
     let world = c.index_mut-world.result.now in
     let read = c.index_mut-world.ensures.value ∙ ap (λ (g : Grid). get_or g.worlds.items c.from.result world) c.next_line.ensures.grid in
-    world_room c.args.self.now c.requires.stands.0 c.requires.stands.1 c.args.request.partition c.from.result c.requires.placed c.from.ensures world read c.requires.room
+    world_room c.args.self.now c.requires.stands.0 c.requires.stands.1 c.from.result c.from.result (omega (arith, c.requires.placed, c.from.ensures)) refl world read c.requires.room
 
 pub call-requires-clause-stands : goal.call-requires-clause-stands
 call-requires-clause-stands c =
     let world = c.index_mut-world.result.now in
     let read = c.index_mut-world.ensures.value ∙ ap (λ (g : Grid). get_or g.worlds.items c.from.result world) c.next_line.ensures.grid in (
-      events_at c.args.request.partition c.requires.stands.0.events,
-      (world_is c.args.self.now c.requires.stands.0 c.requires.stands.1 c.args.request.partition c.from.result c.requires.placed c.from.ensures world read).stands,
+      events_at c.from.result c.requires.stands.0.events,
+      (world_is c.args.self.now c.requires.stands.0 c.requires.stands.1 c.from.result c.from.result (omega (arith, c.requires.placed, c.from.ensures)) refl world read).stands,
     )
 
 pub returns : goal.returns

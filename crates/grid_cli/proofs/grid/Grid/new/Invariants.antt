@@ -1,7 +1,6 @@
 use Rattle.std.proofs.Common.{◌≡◌, ℕ, ◌<◌, length}
 use Rattle.grid_cli.specs.Runs.{begun}
 use Rattle.grid_cli.specs.Grids.{HasWorld}
-use Rattle.grid_cli.proofs.Beginning.{more_worlds}
 use Rattle.grid_cli.proofs.grid.Grid.new.Given as goal
 
 -- each partition so far has its world

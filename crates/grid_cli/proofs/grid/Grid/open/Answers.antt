@@ -1,4 +1,3 @@
-use Rattle.grid_cli.proofs.GridCalls.{asked_grid}
 use Rattle.std.proofs.Common.{◌≡◌, ◌∙◌, ap, None, rules}
 use Rattle.grid_cli.specs.Tables.{Table, opened_at}
 use Rattle.grid_cli.proofs.GridLines.{after_quiet, opened_line}

@@ -1,6 +1,6 @@
-use Rattle.std.proofs.Common.{◌≡◌, List, [], ℕ, ◌++◌, sym, ◌∙◌, ap, arith}
+use Rattle.std.proofs.Common.{[], ◌++◌, sym, ◌∙◌, ap, arith}
 use Rattle.grid_edge.proofs.Told.{append_known-nil}
-use Rattle.grid_cli.specs.Words.{whole_lines, unfinished}
+use Rattle.grid_cli.specs.Words.{whole_lines}
 use Rattle.grid_cli.proofs.ReplayLaws.{has_room, line_read, line_stops, line_without_memory}
 use Rattle.grid_cli.proofs.replay.Replay.complete.Goals as goal
 

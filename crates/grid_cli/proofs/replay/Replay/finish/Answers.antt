@@ -1,4 +1,4 @@
-use Rattle.std.proofs.Common.{◌≡◌, ◌==◌, ◌+◌, ◌<◌, ◌≤◌, List, [], ◌∷◌, ℕ, ◌++◌, length, sym, ◌∙◌, ap, subst, arith, false, length-append, append_assoc}
+use Rattle.std.proofs.Common.{◌≡◌, ◌==◌, List, [], ◌∷◌, ℕ, ◌++◌, length, sym, ◌∙◌, ap, subst, arith, false, length-append, append_assoc}
 use Rattle.grid_edge.proofs.Told.{more_taken}
 use Rattle.grid_cli.specs.Words.{whole_lines, unfinished}
 use Rattle.grid_cli.specs.Transcripts.{last_line}

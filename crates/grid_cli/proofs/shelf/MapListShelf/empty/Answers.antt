@@ -1,4 +1,3 @@
-use Rattle.std.proofs.Common.{rules}
 use Rattle.grid_cli.proofs.Entries.{IsMapList-nil}
 use Rattle.grid_cli.proofs.shelf.MapListShelf.empty.Goals as goal
 

@@ -1,4 +1,4 @@
-use Rattle.std.proofs.Common.{◌≡◌, List, [], ℕ, ◌+◌, ◌++◌, take, sym, ◌∙◌, ap, true}
+use Rattle.std.proofs.Common.{List, [], ℕ, ◌+◌, ◌++◌, take, sym, ◌∙◌, ap, true}
 use Rattle.std.specs.Io.KnownBytes.{append_known}
 use Rattle.grid_edge.proofs.Told.{append_known-nil}
 use Rattle.grid_cli.specs.Printing.{limit_text}

@@ -1,4 +1,4 @@
-use Rattle.std.proofs.Common.{◌≡◌, List, [], ℕ, ◌++◌, take, sym, ◌∙◌, ap}
+use Rattle.std.proofs.Common.{[], take, sym, ◌∙◌, ap}
 use Rattle.std.specs.Io.KnownBytes.{append_known}
 use Rattle.grid_edge.proofs.Told.{append_known-nil}
 use Rattle.grid_cli.proofs.TranscriberLaws.{stops_at_once, stops_in_text}

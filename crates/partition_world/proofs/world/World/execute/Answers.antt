@@ -4,7 +4,7 @@ use Rattle.std.specs.Vec.{with_item}
 use Rattle.partition_protocol.specs.Node.{settled}
 use Rattle.partition_protocol.specs.Execution.{executing}
 use Rattle.partition_world.specs.declared.node.Node.{Node}
-use Rattle.partition_world.specs.Nodes.{machine_node}
+use Rattle.partition_world.specs.Nodes.{protocol_node}
 use Rattle.partition_world.specs.Executions.{HasKept}
 use Rattle.partition_world.proofs.Effects.{on_err}
 use Rattle.partition_world.proofs.Places.{read_there, stands_there, set_itself}
@@ -42,7 +42,7 @@ returns-in_err-version-clause-err g c node there =
       next = c.call.new.self;
       nodes = ap (λ i. slice_set old.nodes.items i c.call.new.self) c.from.ensures;
       size = refl;
-      says = c.in_err-version.ensures.err_node ∙ ap machine_node is;
+      says = c.in_err-version.ensures.err_node ∙ ap protocol_node is;
       contents = c.in_err-version.ensures.err_contents ∙ ap (λ (z : Node _). g.S.Shelf.state z.shelf) is;
       released = c.in_err-version.ensures.err_released ∙ ap (λ (z : Node _). z.replica.released.items) is;
       trail = c.in_ok-reserve.ensures.entries;
@@ -58,7 +58,7 @@ returns-clause-executed g c node there =
       next = c.call.new.self;
       nodes = ap (λ i. slice_set c.args.self.now.nodes.items i c.call.new.self) c.from.ensures;
       size = refl;
-      says = said.node ∙ ap (λ (z : Node _). settled (executing (o.changes (g.S.Shelf.state z.shelf) c.args.call c.args.now) c.args.id.conn c.args.id.number (machine_node z))) is;
+      says = said.node ∙ ap (λ (z : Node _). settled (executing (o.changes (g.S.Shelf.state z.shelf) c.args.call c.args.now) c.args.id.conn c.args.id.number (protocol_node z))) is;
       contents = said.contents ∙ ap (λ (z : Node _). o.after (g.S.Shelf.state z.shelf) c.args.call c.args.now) is;
       saw = said.seen;
       released = cc (said.released, said.version, said.seen, said.reply, is);

@@ -3,7 +3,7 @@ use Rattle.std.proofs.Common.{◌≡◌, ◌<◌, length, Some, slice_get, refl,
 use Rattle.std.proofs.lemmas.Bool.{ltb-true}
 use Rattle.partition_protocol.specs.Execution.{PartitionLost, WrongTarget, reached}
 use Rattle.partition_world.specs.declared.node.Node.{Node}
-use Rattle.partition_world.specs.Nodes.{machine_node}
+use Rattle.partition_world.specs.Nodes.{protocol_node}
 use Rattle.partition_world.proofs.Unchanged.{not_there, refused}
 use Rattle.partition_world.proofs.Places.{read_there, stands_there}
 use Rattle.partition_world.proofs.world.World.refusal.Goals as goal
@@ -19,7 +19,7 @@ index-requires g c =
 pub returns-in-Executes-clause-executes : goal.returns-in-Executes-clause-executes
 returns-in-Executes-clause-executes g c node there =
     let is : c.index.result.now ≡ node = read_there c.args.self.now.nodes.items c.args.member c.from.result node c.index.result.now c.from.ensures there c.index.ensures in
-    ap (λ (z : Node _). reached c.args.member (machine_node z)) (sym is) ∙ sym c.in-Executes.ensures
+    ap (λ (z : Node _). reached c.args.member (protocol_node z)) (sym is) ∙ sym c.in-Executes.ensures
 
 pub returns-in-PartitionLost-clause-refused : goal.returns-in-PartitionLost-clause-refused
 returns-in-PartitionLost-clause-refused g c env w a conn number call now =
