@@ -9,3 +9,4 @@ pub mod Lists
 pub mod Laws
 pub mod Writing
 pub mod Assemblers
+pub mod FedFrames

@@ -1,12 +1,19 @@
-ghost use Rattle.std.specs.Prelude.{◌≡◌, ℕ, Bool, List, [], ◌++◌, Option, IfOk, OnOk, OnErr};
-ghost use Rattle.message_frames.specs.Messages.{messages_of, fault_of};
+ghost use Rattle.std.specs.Prelude.{◌≡◌, ℕ, ◌+◌, ◌^◌, ◌<◌, ◌≤◌, Bool, List, [], ◌++◌, length, drop, min, Option, None, Some, IfOk, IfErr, OnOk, OnErr};
+ghost use Rattle.frame_codec.specs.FrameReaders.{next_place, StandsFor as FramesStandFor};
+ghost use Rattle.message_frames.specs.Messages.{prefix_of, differing, messages_of, fault_of};
+ghost use Rattle.message_frames.specs.Assemblers.{state_of, IsSoundAssembler};
+ghost use Rattle.message_frames.specs.FedFrames.{Gives};
 ghost use Rattle.message_frames.specs.MessageReaders.{StandsFor, shown_fault};
 
+use crate::assembler::Assembler;
 use crate::message::Message;
-use frame_codec::Malformed;
+use frame_codec::{FrameReader, Malformed, Why};
 use grid_base::Memory;
-use std::alloc::{AllocError, Global};
+use std::alloc::Global;
 use std::marker::Model;
+
+/// What a stream to a member begins with.
+const PREFIX: &[u8] = b"CP2";
 
 /// What a feed gave: the messages that its piece completed, and the first fault of the stream if it has shown.
 #[derive(Debug, Drop)]
@@ -15,50 +22,66 @@ pub struct FedMessages {
     pub fault: Option<Malformed>,
 }
 
-/// A reader of messages, whose stream comes in any pieces.
-#[derive(Debug, Drop)]
-pub struct MessageReader {
-    prefix: bool,
+/// The bytes of the prefix that are awaited.
+fn prefix_bytes(prefix: bool) -> &'static [u8]
+    ensures { result.now ≡ prefix_of prefix }
+{
+    if prefix { PREFIX } else { &PREFIX[..0] }
 }
 
-impl Model for MessageReader {
-    ghost use Rattle.message_frames.specs.MessageReaders.{Hearing, standing};
-    ghost use Rattle.std.specs.Prelude.{[]};
-
-    ghost Value = { Hearing };
-
-    ghost view = { λ r. standing r.prefix [] };
+/// How many bytes of the prefix have come with a piece, of which so many came before it.
+/// An `Err` has the place of the first byte that differs.
+fn past_prefix(prefix: bool, begun: usize, piece: &[u8]) -> Result<usize, usize>
+    requires { begun ≤ length (prefix_of prefix) }
+    ensures count { IfOk result (λ now. now ≡ min (length (prefix_of prefix)) (begun + length piece.now)) }
+    ensures same { IfOk result (λ now. differing begun (drop begun (prefix_of prefix)) piece.now ≡ None) }
+    ensures other { IfErr result (λ at. differing begun (drop begun (prefix_of prefix)) piece.now ≡ Some at) }
+{
+    let wanted = prefix_bytes(prefix);
+    let mut now = begun;
+    for byte in piece {
+        if now == wanted.len() {
+            return Ok(now);
+        }
+        if *byte != wanted[now] {
+            return Err(now);
+        }
+        now += 1;
+    }
+    Ok(now)
 }
 
-impl MessageReader {
-    /// A reader of a stream that begins with `CP2`, or of one without a prefix. Takes no memory.
-    pub fn new(_alloc: Global, prefix: bool) -> Self
-        ensures { StandsFor result prefix [] }
-    {
-        MessageReader { prefix }
-    }
-
-    /// The first fault of the stream, if it has shown.
-    pub fn fault(&self) -> Option<Malformed>
-        ensures shown { result ≡ shown_fault self.now }
-        ensures first { (prefix : Bool) (text : List ℕ) → StandsFor self.now prefix text → result ≡ fault_of prefix text }
-    {
-        let _prefix = self.prefix;
-        None
-    }
-
-    /// Takes the next piece of the stream, at the cost of its length, and gives the messages that it completes.
-    /// After the stream's first fault each feed gives no message and that fault. Want of memory changes nothing.
-    pub fn feed(&mut self, alloc: Global, piece: &[u8]) -> Result<FedMessages, Memory>
-        // Whatever bytes the reader stood for, the piece follows them, and all that is given is what is heard of all bytes.
-        ensures stands { OnOk result ((prefix : Bool) (text : List ℕ) → StandsFor self.old prefix text → StandsFor self.new prefix (text ++ piece.now)) }
-        ensures messages { IfOk result (λ fed. (prefix : Bool) (text : List ℕ) → StandsFor self.old prefix text →
-            messages_of prefix text ++ fed.messages.items ≡ messages_of prefix (text ++ piece.now)) }
-        ensures fault { IfOk result (λ fed. (prefix : Bool) (text : List ℕ) → StandsFor self.old prefix text →
-            fed.fault ≡ fault_of prefix (text ++ piece.now)) }
-        ensures err { OnErr result (self.new ≡ self.old) }
-    {
-        let _ = Vec::from_slice(alloc, piece)?;
-        Err(AllocError)
+/// Takes bytes to frames, and frames to messages. Want of memory changes nothing.
+fn feed_frames(
+    alloc: Global,
+    frames: &mut FrameReader,
+    assembler: &mut Assembler,
+    piece: &[u8],
+) -> Result<FedMessages, Memory>
+    requires sound { IsSoundAssembler assembler.old }
+    requires places { next_place frames.old + length piece.now < 2 ^ 64 }
+    ensures stands { OnOk result ((at : ℕ) (text : List ℕ) → FramesStandFor frames.old at text → FramesStandFor frames.new at (text ++ piece.now)) }
+    ensures given { IfOk result (λ given. (at : ℕ) (text : List ℕ) → FramesStandFor frames.old at text →
+        Gives at text piece.now assembler.old.shortest (state_of assembler.old) (state_of assembler.new) given.messages.items given.fault) }
+    ensures shortest { assembler.new.shortest ≡ assembler.old.shortest }
+    ensures sound { IsSoundAssembler assembler.new }
+    ensures err_frames { OnErr result (frames.new ≡ frames.old) }
+    ensures err_state { OnErr result (state_of assembler.new ≡ state_of assembler.old) }
+{
+    let mark = frames.mark();
+    let fed = frames.feed(alloc, piece)?;
+    match assembler.prepare(alloc, fed.frames.as_slice()) {
+        Ok(room) => {
+            let (messages, fault) = assembler.take(alloc, fed.frames, room);
+            let fault = match fault {
+                Some(fault) => Some(fault),
+                None => fed.fault,
+            };
+            Ok(FedMessages { messages, fault })
+        }
+        Err(memory) => {
+            frames.put_back(mark, fed);
+            Err(memory)
+        }
     }
 }
