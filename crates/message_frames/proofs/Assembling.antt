@@ -38,7 +38,7 @@ complete_grows shortest (new ∷ frames) c known = go (cases_Bool (is_failing (t
     go (inl fails) later = rw fails (omega arith)
     go (inr on) later =
         let first : c.complete ≤ (turned shortest new c).after.complete =
-          counts_up (turned shortest new c).turn c (known.0) (turned shortest new c).after (turn_counts new c (known.0) (known.1) shortest).at in
+        counts_up (turned shortest new c).turn c (known.0) (turned shortest new c).after (turn_counts new c (known.0) (known.1) shortest).at in
         rw on (omega arith)
 
 -- what is left to take of frames
@@ -83,7 +83,7 @@ module _ (shortest : ℕ) (before : List Message) (whole : Assembled) (end c : C
   step_is : (turn : Turn) → (turned shortest new c).turn ≡ turn →
       assembled shortest (new ∷ rest) (assembly_of c (frames_in lists))
       ≡ after_step shortest rest (assembly_of c (frames_in lists))
-        (turn_step turn (frames_in lists) new.frame (assembly_of (turned shortest new c).after (lists_after turn (frames_in lists) new.frame)))
+      (turn_step turn (frames_in lists) new.frame (assembly_of (turned shortest new c).after (lists_after turn (frames_in lists) new.frame)))
   step_is turn is =
       assembled_next shortest new rest c lists under_way.sound under_way.room
       ∙ ap (λ t. after_step shortest rest (assembly_of c (frames_in lists)) (turn_step t (frames_in lists) new.frame (assembly_of (turned shortest new c).after (lists_after t (frames_in lists) new.frame)))) is
@@ -92,13 +92,12 @@ module _ (shortest : ℕ) (before : List Message) (whole : Assembled) (end c : C
       (before ++ whole.messages ≡ messages.items) × (whole.fault ≡ Some fault) × (whole.after ≡ assembly_of c (frames_in lists)) × (end ≡ c) × ((turned shortest new c).after ≡ c)
   stops fault is =
       let all = step_is (Fails fault) is in
-      let fails : is_failing (turned shortest new c).turn ≡ true = ap is_failing is in
-      (
+      let fails : is_failing (turned shortest new c).turn ≡ true = ap is_failing is in (
         under_way.given_on ∙ ap (λ (a : Assembled). messages.items ++ a.messages) all ∙ append-nil messages.items,
         under_way.fault ∙ ap (λ (a : Assembled). a.fault) all,
         under_way.after ∙ ap (λ (a : Assembled). a.after) all,
         under_way.end_is ∙ rw fails refl,
-        failing_stays shortest new c fails
+        failing_stays shortest new c fails,
       )
 
   goes_on_after : is_failing (turned shortest new c).turn ≡ false → after_all shortest (new ∷ rest) c ≡ after_all shortest rest (turned shortest new c).after
@@ -187,24 +186,24 @@ module _ (shortest : ℕ) (before : List Message) (whole : Assembled) (end c : C
       let s = assembly_of c (frames_in lists) in
       let next = assembly_of t.after (ended ending (frames_in lists) list new.frame) in
       let all : assembled shortest (new ∷ rest) s ≡ record { messages = given ending joined ++ (assembled shortest rest next).messages; fault = (assembled shortest rest next).fault; after = (assembled shortest rest next).after } =
-        step_is shortest before whole end c lists messages new rest under_way (Joins list count ending) is ∙ after_ending shortest rest s next ending joined in
+      step_is shortest before whole end c lists messages new rest under_way (Joins list count ending) is ∙ after_ending shortest rest s next ending joined in
       let next_is : next ≡ assembly_of t.after (frames_in others) = ap (assembly_of t.after) (sym frames) in
       let sound : IsSound t.after (ended ending (frames_in lists) list new.frame) =
-        subst (λ turn. IsSound t.after (lists_after turn (frames_in lists) new.frame)) is (sound_next shortest new rest c lists under_way.sound under_way.room) in
+      subst (λ turn. IsSound t.after (lists_after turn (frames_in lists) new.frame)) is (sound_next shortest new rest c lists under_way.sound under_way.room) in
       let final_is = goes_on_after shortest before whole end c lists messages new rest under_way on in
       record {
         sound = subst (λ frames. IsSound t.after frames) (sym frames) sound;
         room = have_room_if_live shortest (rooms_in lists) (rooms_in others) rest t.after (_, sound) (rooms_longer ending (rooms_in lists) (rooms_in others) list rooms)
-          (λ k live. rooms_wider ending count (rooms_in lists) (rooms_in others) list k c rooms (subst (λ turn. IsStillLive turn c k) is (still_live new c (frames_in lists) under_way.sound shortest k live)))
-          (under_way.room.2 on);
+            (λ k live. rooms_wider ending count (rooms_in lists) (rooms_in others) list k c rooms (subst (λ turn. IsStillLive turn c k) is (still_live new c (frames_in lists) under_way.sound shortest k live)))
+            (under_way.room.2 on);
         numbers = subst (λ (final : Control). vec_len more + (final.complete - t.after.complete) ≤ vec_capacity more) final_is
-          (numbers_after ending list count c (frames_in lists) t.after messages more (after_all shortest (new ∷ rest) c).complete joined counts_here grows_here under_way.numbers len capacity);
+            (numbers_after ending list count c (frames_in lists) t.after messages more (after_all shortest (new ∷ rest) c).complete joined counts_here grows_here under_way.numbers len capacity);
         given_on =
-          under_way.given_on
-          ∙ ap (λ (a : Assembled). messages.items ++ a.messages) all
-          ∙ sym (append_assoc messages.items (given ending joined) (assembled shortest rest next).messages)
-          ∙ ap (λ front. front ++ (assembled shortest rest next).messages) (sym given_now)
-          ∙ ap (λ state. more.items ++ (assembled shortest rest state).messages) next_is;
+            under_way.given_on
+            ∙ ap (λ (a : Assembled). messages.items ++ a.messages) all
+            ∙ sym (append_assoc messages.items (given ending joined) (assembled shortest rest next).messages)
+            ∙ ap (λ front. front ++ (assembled shortest rest next).messages) (sym given_now)
+            ∙ ap (λ state. more.items ++ (assembled shortest rest state).messages) next_is;
         fault = under_way.fault ∙ ap (λ (a : Assembled). a.fault) all ∙ ap (λ state. (assembled shortest rest state).fault) next_is;
         after = under_way.after ∙ ap (λ (a : Assembled). a.after) all ∙ ap (λ state. (assembled shortest rest state).after) next_is;
         end_is = under_way.end_is ∙ final_is;

@@ -47,8 +47,8 @@ pub place_found : (id : ℕ) (chains : List OpenChain) (i : ℕ) → position (i
 place_found id [] i is = absurd (cc is)
 place_found id (chain ∷ chains) i is =
     place_of_first id (chain ∷ chains) i (position-Some (is_named id) (chain ∷ chains) i chain is).0
-      (λ d. (position-Some (is_named id) (chain ∷ chains) i d is).1)
-      (λ k d less. (position-Some (is_named id) (chain ∷ chains) i d is).2 k less)
+    (λ d. (position-Some (is_named id) (chain ∷ chains) i d is).1)
+    (λ k d less. (position-Some (is_named id) (chain ∷ chains) i d is).2 k less)
 
 none_below : (n m : ℕ) → None ≡ cond (ltb n m) (Some n) None → m ≤ n
 none_below n m is = go (cases_Bool (ltb n m))

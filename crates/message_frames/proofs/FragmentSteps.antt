@@ -91,28 +91,28 @@ module _ (shortest id : ℕ) (last : Bool) (new : PlacedFrame) (c : Control) (ch
       let of_chain : frames_of id s.chains ≡ frames = frames_of-named id lists c.chains.items chain named in
       let tally : chain.tally ≡ tally_of frames = (named_within id 0 c.chains.items end lists chain sound named).tally in
       let goes_on : is_final new.frame ≡ false → size_fault all ≡ None → Goal =
-        λ not_final sized. step_goes_on shortest id last new s frames of_chain sized not_final
-          ∙ rw (with_frames-changed id 0 c.chains.items end lists chain all (tally_of all) sound named within, same_place (set lists chain.list all)) refl
-          ∙ sym (ap of_turn (turn_goes_on shortest id last new c chain lists tally sized not_final)) in
+      λ not_final sized. step_goes_on shortest id last new s frames of_chain sized not_final
+      ∙ rw (with_frames-changed id 0 c.chains.items end lists chain all (tally_of all) sound named within, same_place (set lists chain.list all)) refl
+      ∙ sym (ap of_turn (turn_goes_on shortest id last new c chain lists tally sized not_final)) in
       let ends_fragment : is_final new.frame ≡ true → last ≡ false → size_fault all ≡ None → Goal =
-        λ final not_last sized. step_ends_fragment shortest id last new s frames of_chain sized final not_last
-          ∙ rw (with_frames-changed id 0 c.chains.items end lists chain (frames ++ without_flag FINAL new.frame ∷ []) (tally_of all) sound named within) refl
-          ∙ sym (ap of_turn (turn_ends_fragment shortest id last new c chain lists tally sized final not_last)) in
+      λ final not_last sized. step_ends_fragment shortest id last new s frames of_chain sized final not_last
+      ∙ rw (with_frames-changed id 0 c.chains.items end lists chain (frames ++ without_flag FINAL new.frame ∷ []) (tally_of all) sound named within) refl
+      ∙ sym (ap of_turn (turn_ends_fragment shortest id last new c chain lists tally sized final not_last)) in
       let ends : is_final new.frame ≡ true → last ≡ true → size_fault all ≡ None → Goal =
-        λ final is_last sized. ⊎_elim
-          (λ given. step_ends shortest id last new s frames of_chain sized final is_last ∙ completes shortest new.at new.at all (record s { place = Between; chains = without id s.chains }) c refl given
-            ∙ rw (without-removed id 0 c.chains.items end lists chain [] sound named) refl
-            ∙ sym (ap of_turn (turn_ends shortest id last new c chain lists tally sized final is_last given)))
-          (λ failed. step_ends shortest id last new s frames of_chain sized final is_last ∙ completion_fails shortest new.at new.at all (record s { place = Between; chains = without id s.chains }) c refl (failed.0) (failed.1)
-            ∙ sym (ap of_turn (turn_ends_badly shortest id last new c chain lists tally (failed.0) sized final is_last failed.1)))
-          (none_or_some (completion_fault shortest new.at new.at (tally_of all) c)) in
+      λ final is_last sized. ⊎_elim
+      (λ given. step_ends shortest id last new s frames of_chain sized final is_last ∙ completes shortest new.at new.at all (record s { place = Between; chains = without id s.chains }) c refl given
+      ∙ rw (without-removed id 0 c.chains.items end lists chain [] sound named) refl
+      ∙ sym (ap of_turn (turn_ends shortest id last new c chain lists tally sized final is_last given)))
+      (λ failed. step_ends shortest id last new s frames of_chain sized final is_last ∙ completion_fails shortest new.at new.at all (record s { place = Between; chains = without id s.chains }) c refl (failed.0) (failed.1)
+      ∙ sym (ap of_turn (turn_ends_badly shortest id last new c chain lists tally (failed.0) sized final is_last failed.1)))
+      (none_or_some (completion_fault shortest new.at new.at (tally_of all) c)) in
       ⊎_elim
-        (λ sized. ⊎_elim
-          (λ final. ⊎_elim (λ is_last. ends final is_last sized) (λ not_last. ends_fragment final not_last sized) (cases_Bool last))
-          (λ not_final. goes_on not_final sized)
-          (cases_Bool (is_final new.frame)))
-        (λ sized. step_fails shortest id last new s frames of_chain (sized.0) (sized.1) ∙ sym (ap of_turn (turn_fails shortest id last new c chain lists tally (sized.0) sized.1)))
-        (none_or_some (size_fault all))
+      (λ sized. ⊎_elim
+      (λ final. ⊎_elim (λ is_last. ends final is_last sized) (λ not_last. ends_fragment final not_last sized) (cases_Bool last))
+      (λ not_final. goes_on not_final sized)
+      (cases_Bool (is_final new.frame)))
+      (λ sized. step_fails shortest id last new s frames of_chain (sized.0) (sized.1) ∙ sym (ap of_turn (turn_fails shortest id last new c chain lists tally (sized.0) sized.1)))
+      (none_or_some (size_fault all))
 
 -- a header
 
@@ -133,20 +133,20 @@ module _ (new : PlacedFrame) (c : Control) (lists : List (List Frame)) (unused :
       let Goal : Type 0 = at_header new (assembly_of c lists) ≡ step_of (header_turn new c) lists new.frame in
       let not_header : is_header new.frame ≡ false → Goal = λ none. rw (none, at_header) refl in
       let begins_known : is_header new.frame ≡ true → begins_chain new.frame ≡ true → is_known (chain_id new.frame) c.chains.items ≡ true → Goal =
-        λ header begins known. rw (header, begins, known_here true known, at_header) (rw known refl) in
+      λ header begins known. rw (header, begins, known_here true known, at_header) (rw known refl) in
       let begins_seventeenth : is_header new.frame ≡ true → begins_chain new.frame ≡ true → is_known (chain_id new.frame) c.chains.items ≡ false → (length c.chains.items == most_chains) ≡ true → Goal =
-        λ header begins unknown many. rw (header, begins, known_here false unknown, many_here true many, at_header) (rw (unknown, many) refl) in
+      λ header begins unknown many. rw (header, begins, known_here false unknown, many_here true many, at_header) (rw (unknown, many) refl) in
       let continues : is_header new.frame ≡ true → begins_chain new.frame ≡ false → is_known (chain_id new.frame) c.chains.items ≡ true → Goal =
-        λ header continues known. rw (header, continues, known_here true known, at_header) (rw known refl) in
+      λ header continues known. rw (header, continues, known_here true known, at_header) (rw known refl) in
       let continues_none : is_header new.frame ≡ true → begins_chain new.frame ≡ false → is_known (chain_id new.frame) c.chains.items ≡ false → Goal =
-        λ header continues unknown. rw (header, continues, known_here false unknown, at_header) (rw unknown refl) in
+      λ header continues unknown. rw (header, continues, known_here false unknown, at_header) (rw unknown refl) in
       ⊎_elim
-        (λ header. ⊎_elim
-          (λ begins. ⊎_elim
-            (λ known. begins_known header begins known)
-            (λ unknown. ⊎_elim (λ many. begins_seventeenth header begins unknown many) (λ few. header_opens header begins unknown few) (cases_Bool (length c.chains.items == most_chains)))
-            (cases_Bool (is_known (chain_id new.frame) c.chains.items)))
-          (λ goes_on. ⊎_elim (λ known. continues header goes_on known) (λ unknown. continues_none header goes_on unknown) (cases_Bool (is_known (chain_id new.frame) c.chains.items)))
-          (cases_Bool (begins_chain new.frame)))
-        not_header
-        (cases_Bool (is_header new.frame))
+      (λ header. ⊎_elim
+      (λ begins. ⊎_elim
+      (λ known. begins_known header begins known)
+      (λ unknown. ⊎_elim (λ many. begins_seventeenth header begins unknown many) (λ few. header_opens header begins unknown few) (cases_Bool (length c.chains.items == most_chains)))
+      (cases_Bool (is_known (chain_id new.frame) c.chains.items)))
+      (λ goes_on. ⊎_elim (λ known. continues header goes_on known) (λ unknown. continues_none header goes_on unknown) (cases_Bool (is_known (chain_id new.frame) c.chains.items)))
+      (cases_Bool (begins_chain new.frame)))
+      not_header
+      (cases_Bool (is_header new.frame))

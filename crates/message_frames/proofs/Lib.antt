@@ -39,3 +39,5 @@ pub mod Assembling
 pub mod Settling
 pub mod Settled
 pub mod Examples
+pub mod PrefixParts
+pub mod Hearings

@@ -135,14 +135,14 @@ module _ (new : PlacedFrame) (c : Control) (lists : List (List Frame)) (sound : 
   live_after_opening : (id : ℕ) (k : ℕ) → IsLive (record c { spot = OfFragment id false; chains = record { items = c.chains.items ++ opened id c.lists ∷ [] }; lists = c.lists + 1 }) k → IsLive c k
   live_after_opening id =
       live_of_chains (record c { spot = OfFragment id false; chains = record { items = c.chains.items ++ opened id c.lists ∷ [] }; lists = c.lists + 1 }) (omega arith)
-        (λ k of. ⊎_elim (λ old. OfChain k old) (λ new_list. Unused k (omega arith)) (of_more k id c.lists c.chains.items of))
-        (λ begun is. absurd (cc is))
+      (λ k of. ⊎_elim (λ old. OfChain k old) (λ new_list. Unused k (omega arith)) (of_more k id c.lists c.chains.items of))
+      (λ begun is. absurd (cc is))
 
   live_after_message : (begun : Begun) (more : ℕ) (tally : Tally) → IsNext new c begun more → (k : ℕ) → IsLive (record c { spot = OfMessage (record begun { tally = tally }); lists = more }) k → IsLive c k
   live_after_message begun more tally next =
       let known = next_is_sound new c lists begun more next sound in
       live_of_chains (record c { spot = OfMessage (record begun { tally = tally }); lists = more }) known.no_less (λ k of. OfChain k of)
-        (λ later is. let same : record begun { tally = tally } ≡ later = cc is in subst (λ (b : Begun). IsLive c b.list) same (next_is_live new c begun more next))
+      (λ later is. let same : record begun { tally = tally } ≡ later = cc is in subst (λ (b : Begun). IsLive c b.list) same (next_is_live new c begun more next))
 
   live_after_message_end : (begun : Begun) (more complete : ℕ) → IsNext new c begun more → (k : ℕ) → IsLive (record c { spot = Free; lists = more; complete = complete }) k → IsLive c k × (k ≢ begun.list)
   live_after_message_end begun more complete next k live =
@@ -161,13 +161,15 @@ module _ (new : PlacedFrame) (c : Control) (lists : List (List Frame)) (sound : 
       (k : ℕ) → IsLive (record c { spot = spot; chains = record { items = with_tally id tally c.chains.items } }) k → IsLive c k
   live_after_frame spot id tally none =
       live_of_chains (record c { spot = spot; chains = record { items = with_tally id tally c.chains.items } }) (omega arith)
-        (λ k of. OfChain k (of_changed k id tally c.chains.items of)) (λ begun is. absurd (none begun is))
+      (λ k of. OfChain k (of_changed k id tally c.chains.items of)) (λ begun is. absurd (none begun is))
 
   live_after_chain_end : (id : ℕ) (last : Bool) (chain : OpenChain) (complete : ℕ) → c.spot ≡ OfFragment id last → chain_named id c.chains.items ≡ Some chain →
       (k : ℕ) → IsLive (record c { spot = Free; chains = record { items = without_chain id c.chains.items }; complete = complete }) k → IsLive c k × (k ≢ chain.list)
-  live_after_chain_end id last chain complete spot named k live =
-      (live_of_chains (record c { spot = Free; chains = record { items = without_chain id c.chains.items }; complete = complete }) (omega arith)
-        (λ j of. OfChain j (of_fewer j id c.chains.items of)) (λ begun is. absurd (cc is)) k live, apart k live)
+  live_after_chain_end id last chain complete spot named k live = (
+    live_of_chains (record c { spot = Free; chains = record { items = without_chain id c.chains.items }; complete = complete }) (omega arith)
+        (λ j of. OfChain j (of_fewer j id c.chains.items of)) (λ begun is. absurd (cc is)) k live,
+    apart k live,
+  )
     where
       apart : (j : ℕ) → IsLive (record c { spot = Free; chains = record { items = without_chain id c.chains.items }; complete = complete }) j → j ≢ chain.list
       apart _ (Unused j above) = let below : chain.list < c.lists = (named_within id 0 c.chains.items c.lists lists chain (end_of spot sound) named).below in λ equal. absurd (omega arith)
@@ -206,10 +208,9 @@ pub have_room_if_live : (shortest : ℕ) (rooms more : List ℕ) (frames : List 
     ((k : ℕ) → IsLive c k → get_or rooms k 0 ≤ get_or more k 0) → HaveRoom shortest rooms frames c → HaveRoom shortest more frames c
 have_room_if_live shortest rooms more [] c known longer wider room = let few : c.lists ≤ length rooms = room in omega arith
 have_room_if_live shortest rooms more (new ∷ frames) c known longer wider room =
-    let t = turned shortest new c in
-    (
+    let t = turned shortest new c in (
       omega (arith, room.0),
       room_if_live rooms more t.turn c (joins_live shortest new c) longer wider room.1,
       λ on. have_room_if_live shortest rooms more frames t.after (lists_after_turn shortest new c known) longer
-        (λ k live. wider k (still_is_live t.turn c k (still_live new c (known.0) (known.1) shortest k live))) (room.2 on)
+          (λ k live. wider k (still_is_live t.turn c k (still_live new c (known.0) (known.1) shortest k live))) (room.2 on),
     )

@@ -105,7 +105,7 @@ module _ (shortest : ℕ) (rooms : List ℕ) (done : List PlacedFrame) (control 
   planned_more more on longer wider enough room =
       let next_on : GoOn shortest (new ∷ []) (after_all shortest done control) = subst (λ c. GoOn shortest (new ∷ []) c) planned.is (on, tt) in
       let next_room : HaveRoom shortest more (new ∷ []) (after_all shortest done control) =
-        subst (λ c. HaveRoom shortest more (new ∷ []) c) planned.is (omega (arith, planned.count), room, λ _. enough) in
+      subst (λ c. HaveRoom shortest more (new ∷ []) c) planned.is (omega (arith, planned.count), room, λ _. enough) in
       record {
         goes_on = go_on-append shortest done (new ∷ []) control planned.goes_on next_on;
         is = sym (after_all-append shortest done (new ∷ []) control planned.goes_on ∙ ap (after_all shortest (new ∷ [])) (sym planned.is) ∙ rw on refl);
@@ -116,10 +116,9 @@ module _ (shortest : ℕ) (rooms : List ℕ) (done : List PlacedFrame) (control 
 
   pub planned_to_fault : (rest : List PlacedFrame) → is_failing (turned shortest new after).turn ≡ true → HaveRoom shortest rooms (done ++ new ∷ rest) control × (after ≡ after_all shortest (done ++ new ∷ rest) control)
   planned_to_fault rest fails =
-      let stopped : HaveRoom shortest rooms (new ∷ rest) after = (planned.count, no_room (turned shortest new after).turn fails, λ on. absurd (false≢true (sym on ∙ fails))) in
-      (
+      let stopped : HaveRoom shortest rooms (new ∷ rest) after = (planned.count, no_room (turned shortest new after).turn fails, λ on. absurd (false≢true (sym on ∙ fails))) in (
         have_room-append shortest rooms done (new ∷ rest) control planned.goes_on planned.room (subst (λ c. HaveRoom shortest rooms (new ∷ rest) c) planned.is stopped),
-        sym (after_all-append shortest done (new ∷ rest) control planned.goes_on ∙ ap (after_all shortest (new ∷ rest)) (sym planned.is) ∙ rw fails refl)
+        sym (after_all-append shortest done (new ∷ rest) control planned.goes_on ∙ ap (after_all shortest (new ∷ rest)) (sym planned.is) ∙ rw fails refl),
       )
     where
       no_room : (turn : Turn) → is_failing turn ≡ true → HasRoom rooms turn

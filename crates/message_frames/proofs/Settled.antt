@@ -62,7 +62,7 @@ module _ (c : Control) (lists : List (List Frame)) (sound : IsSound c lists) whe
   pub sound_renumbered : IsSound (renumbered_control c) (open_lists lists c.chains.items c.spot)
   sound_renumbered = record {
     chains = subst (λ end. AreSound 0 (renumbered 0 c.chains.items) end (open_lists lists c.chains.items c.spot)) (new_end lists c.chains.items c.spot)
-      (sound_placed lists (spot_lists lists c.spot) [] c.chains.items 0 (chains_end c.spot c.lists) sound.chains);
+        (sound_placed lists (spot_lists lists c.spot) [] c.chains.items 0 (chains_end c.spot c.lists) sound.chains);
     spot = spot_sound c.spot refl;
     unused = none_past lists c.chains.items c.spot;
   }

@@ -29,7 +29,7 @@ pub renumbered-push : (n : ℕ) (chains : List OpenChain) (chain : OpenChain) �
 renumbered-push n [] chain = ap (λ k. record chain { list = k } ∷ []) (omega arith)
 renumbered-push n (first ∷ chains) chain =
     ap (λ rest. record first { list = n } ∷ rest)
-      (renumbered-push (suc n) chains chain ∙ ap (λ k. renumbered (suc n) chains ++ record chain { list = k } ∷ []) (suc_moved n (length chains)))
+    (renumbered-push (suc n) chains chain ∙ ap (λ k. renumbered (suc n) chains ++ record chain { list = k } ∷ []) (suc_moved n (length chains)))
 
 pub lists_of-push : (lists : List (List Frame)) (chains : List OpenChain) (chain : OpenChain) → lists_of lists (chains ++ chain ∷ []) ≡ lists_of lists chains ++ list_at lists chain.list ∷ []
 lists_of-push lists chains chain = map-append (λ (c : OpenChain). list_at lists c.list) chains (chain ∷ [])
@@ -77,9 +77,9 @@ module _ (lists behind : List (List Frame)) where
   chains_placed front (chain ∷ chains) =
       let next = front ++ list_at lists chain.list ∷ [] in
       let rest : map (chain_of (placed front (chain ∷ chains))) (renumbered (suc (length front)) chains) ≡ map (chain_of lists) chains =
-        ap (λ n. map (chain_of (placed front (chain ∷ chains))) (renumbered n chains)) (sym (length-push front (list_at lists chain.list)))
-        ∙ ap (λ all. map (chain_of all) (renumbered (length next) chains)) (sym (next_placed front chain chains))
-        ∙ chains_placed next chains in
+      ap (λ n. map (chain_of (placed front (chain ∷ chains))) (renumbered n chains)) (sym (length-push front (list_at lists chain.list)))
+      ∙ ap (λ all. map (chain_of all) (renumbered (length next) chains)) (sym (next_placed front chain chains))
+      ∙ chains_placed next chains in
       rw (at_seam front (list_at lists chain.list) (lists_of lists chains ++ behind), rest) refl
 
   pub sound_placed : (front : List (List Frame)) (chains : List OpenChain) (from end : ℕ) → AreSound from chains end lists →
@@ -88,14 +88,13 @@ module _ (lists behind : List (List Frame)) where
   sound_placed front (chain ∷ chains) from end sound =
       let next = front ++ list_at lists chain.list ∷ [] in
       let rest : AreSound (suc (length front)) (renumbered (suc (length front)) chains) (length front + suc (length chains)) (placed front (chain ∷ chains)) =
-        subst (λ all. AreSound (suc (length front)) (renumbered (suc (length front)) chains) (length front + suc (length chains)) all) (next_placed front chain chains)
-        (subst (λ last. AreSound (suc (length front)) (renumbered (suc (length front)) chains) last (placed next chains)) (suc_moved (length front) (length chains))
-        (subst (λ n. AreSound n (renumbered n chains) (n + length chains) (placed next chains)) (length-push front (list_at lists chain.list)) (sound_placed next chains (suc chain.list) end sound.3))) in
-      (
+      subst (λ all. AreSound (suc (length front)) (renumbered (suc (length front)) chains) (length front + suc (length chains)) all) (next_placed front chain chains)
+      (subst (λ last. AreSound (suc (length front)) (renumbered (suc (length front)) chains) last (placed next chains)) (suc_moved (length front) (length chains))
+      (subst (λ n. AreSound n (renumbered n chains) (n + length chains) (placed next chains)) (length-push front (list_at lists chain.list)) (sound_placed next chains (suc chain.list) end sound.3))) in (
         omega arith,
         is_known-renumbered chain.id (suc (length front)) chains ∙ sound.1,
         sound.2 ∙ ap tally_of (sym (at_seam front (list_at lists chain.list) (lists_of lists chains ++ behind))),
-        rest
+        rest,
       )
 
 -- chains whose lists were moved, and what is left of the lists
@@ -115,12 +114,12 @@ one_moved before done moved lists kept chain rest end sound so_far =
     record {
       chains = ap (λ n. moved ++ record chain { list = n } ∷ []) count ∙ ap (λ front. front ++ record chain { list = 0 + length done } ∷ []) so_far.chains ∙ sym (renumbered-push 0 done chain);
       kept_are =
-        ap (λ front. front ++ list_at lists chain.list ∷ []) so_far.kept_are
-        ∙ ap (λ frames. lists_of before done ++ frames ∷ []) (so_far.others chain.list (apart_before 0 done chain rest end before sound))
-        ∙ sym (lists_of-push before done chain);
+          ap (λ front. front ++ list_at lists chain.list ∷ []) so_far.kept_are
+          ∙ ap (λ frames. lists_of before done ++ frames ∷ []) (so_far.others chain.list (apart_before 0 done chain rest end before sound))
+          ∙ sym (lists_of-push before done chain);
       others = λ k none.
-        let apart : k ≢ chain.list = λ same. none (of_push k done chain (inr (sym same))) in
-        get_or-set_other lists chain.list k [] [] apart ∙ so_far.others k (λ of. none (of_push k done chain (inl of)));
+          let apart : k ≢ chain.list = λ same. none (of_push k done chain (inr (sym same))) in
+          get_or-set_other lists chain.list k [] [] apart ∙ so_far.others k (λ of. none (of_push k done chain (inl of)));
     }
 
 pub not_of_chain : (k : ℕ) (chains : List OpenChain) (lists : List (List Frame)) → AreSound 0 chains k lists → IsOfChain k chains → ⊥

@@ -58,7 +58,7 @@ sound_changed id from (first ∷ chains) end lists chain frames sound is within 
           sound.0,
           is_known-with_tally first.id id (tally_of frames) chains ∙ sound.1,
           sound.2 ∙ ap tally_of (sym (get_or-set_other lists chain.list first.list frames [] apart)),
-          later (rw other at is) within
+          later (rw other at is) within,
         )
 
 pub sound_removed : (id from : ℕ) (chains : List OpenChain) (end : ℕ) (lists : List (List Frame)) (chain : OpenChain) (frames : List Frame) → AreSound from chains end lists →
@@ -83,7 +83,7 @@ sound_removed id from (first ∷ chains) end lists chain frames sound is =
           sound.0,
           unknown_without first.id id chains sound.1,
           sound.2 ∙ ap tally_of (sym (get_or-set_other lists chain.list first.list frames [] apart)),
-          later (rw other at is)
+          later (rw other at is),
         )
 
 -- a chain that is opened with the next list
@@ -112,10 +112,9 @@ pub sound_opened : (id from : ℕ) (chains : List OpenChain) (end : ℕ) (lists 
     AreSound from (chains ++ opened id end ∷ []) (suc end) lists
 sound_opened id from [] end lists sound unknown unused = (sound, refl, rw unused refl, (let same : suc end ≤ suc end = omega arith in same))
 sound_opened id from (chain ∷ chains) end lists sound unknown unused =
-    let parts = or_parts (is_named id chain) (is_known id chains) unknown in
-    (
+    let parts = or_parts (is_named id chain) (is_known id chains) unknown in (
       sound.0,
       unknown_when_opened chain.id id end chains (eqb-false_comm chain.id id parts.0) sound.1,
       sound.2,
-      sound_opened id (suc chain.list) chains end lists sound.3 parts.1 unused
+      sound_opened id (suc chain.list) chains end lists sound.3 parts.1 unused,
     )

@@ -85,9 +85,9 @@ module _ (new : PlacedFrame) (c : Control) (lists : List (List Frame)) (sound : 
   StaysSound t = HasList t.turn lists → IsSound t.after (lists_after t.turn lists new.frame)
 
   message_sound : (begun : Begun) (more : ℕ) → IsNext new c begun more → StaysSound (record {
-        turn = Joins begun.list (begun.tally.count + 1) GoesOn;
-        after = record c { spot = OfMessage (record begun { tally = tally_with new.frame begun.tally }); lists = more };
-      })
+    turn = Joins begun.list (begun.tally.count + 1) GoesOn;
+    after = record c { spot = OfMessage (record begun { tally = tally_with new.frame begun.tally }); lists = more };
+  })
   message_sound begun more next there =
       let known = next_is_sound new c lists begun more next sound in
       let all = list_at lists begun.list ++ new.frame ∷ [] in
@@ -109,38 +109,38 @@ module _ (new : PlacedFrame) (c : Control) (lists : List (List Frame)) (sound : 
       }
 
   chain_sound : (id : ℕ) (last : Bool) (chain : OpenChain) → c.spot ≡ OfFragment id last → chain_named id c.chains.items ≡ Some chain → StaysSound (record {
-        turn = Joins chain.list (chain.tally.count + 1) GoesOn;
-        after = record c { chains = record { items = with_tally id (tally_with new.frame chain.tally) c.chains.items } };
-      })
+    turn = Joins chain.list (chain.tally.count + 1) GoesOn;
+    after = record c { chains = record { items = with_tally id (tally_with new.frame chain.tally) c.chains.items } };
+  })
   chain_sound id last chain spot named there =
       let known = named_within id 0 c.chains.items c.lists lists chain (end_of spot sound) named in
       let all = list_at lists chain.list ++ new.frame ∷ [] in
       let tally = tally_with new.frame chain.tally in
       let changed : AreSound 0 (with_tally id tally c.chains.items) c.lists (set lists chain.list all) =
-        rw (tally_joined (list_at lists chain.list) new.frame chain.tally known.tally) (sound_changed id 0 c.chains.items c.lists lists chain all (end_of spot sound) named there) in
+      rw (tally_joined (list_at lists chain.list) new.frame chain.tally known.tally) (sound_changed id 0 c.chains.items c.lists lists chain all (end_of spot sound) named there) in
       record {
         chains = subst (λ s. AreSound 0 (with_tally id tally c.chains.items) (chains_end s c.lists) (set lists chain.list all)) (sym spot) changed;
         spot = subst (λ s. IsSoundSpot s (record c { chains = record { items = with_tally id tally c.chains.items } }) (set lists chain.list all)) (sym spot)
-          (is_known-with_tally id id tally c.chains.items ∙ spot_of spot sound);
+            (is_known-with_tally id id tally c.chains.items ∙ spot_of spot sound);
         unused = still_unused lists c.lists chain.list all known.below sound.unused;
       }
 
   fragment_end_sound : (id : ℕ) (last : Bool) (chain : OpenChain) → c.spot ≡ OfFragment id last → chain_named id c.chains.items ≡ Some chain → StaysSound (record {
-        turn = Joins chain.list (chain.tally.count + 1) EndsFragment;
-        after = record c { spot = Free; chains = record { items = with_tally id (tally_with new.frame chain.tally) c.chains.items } };
-      })
+    turn = Joins chain.list (chain.tally.count + 1) EndsFragment;
+    after = record c { spot = Free; chains = record { items = with_tally id (tally_with new.frame chain.tally) c.chains.items } };
+  })
   fragment_end_sound id last chain spot named there =
       let known = named_within id 0 c.chains.items c.lists lists chain (end_of spot sound) named in
       let all = list_at lists chain.list ++ without_flag FINAL new.frame ∷ [] in
       let tally = tally_with new.frame chain.tally in
       let changed : AreSound 0 (with_tally id tally c.chains.items) c.lists (set lists chain.list all) =
-        rw (tally_cleared (list_at lists chain.list) new.frame chain.tally known.tally) (sound_changed id 0 c.chains.items c.lists lists chain all (end_of spot sound) named there) in
+      rw (tally_cleared (list_at lists chain.list) new.frame chain.tally known.tally) (sound_changed id 0 c.chains.items c.lists lists chain all (end_of spot sound) named there) in
       record { chains = changed; spot = tt; unused = still_unused lists c.lists chain.list all known.below sound.unused }
 
   chain_end_sound : (id : ℕ) (last : Bool) (chain : OpenChain) → c.spot ≡ OfFragment id last → chain_named id c.chains.items ≡ Some chain → StaysSound (record {
-        turn = Joins chain.list (chain.tally.count + 1) EndsMessage;
-        after = record c { spot = Free; chains = record { items = without_chain id c.chains.items }; complete = c.complete + 1 };
-      })
+    turn = Joins chain.list (chain.tally.count + 1) EndsMessage;
+    after = record c { spot = Free; chains = record { items = without_chain id c.chains.items }; complete = c.complete + 1 };
+  })
   chain_end_sound id last chain spot named there =
       let known = named_within id 0 c.chains.items c.lists lists chain (end_of spot sound) named in
       record {
@@ -149,11 +149,14 @@ module _ (new : PlacedFrame) (c : Control) (lists : List (List Frame)) (sound : 
         unused = still_unused lists c.lists chain.list [] known.below sound.unused;
       }
 
-  opening_sound : (id : ℕ) → c.spot ≡ Free → is_known id c.chains.items ≡ false → StaysSound (record { turn = Heads; after = record c {
-        spot = OfFragment id false;
-        chains = record { items = c.chains.items ++ opened id c.lists ∷ [] };
-        lists = c.lists + 1;
-      } })
+  opening_sound : (id : ℕ) → c.spot ≡ Free → is_known id c.chains.items ≡ false → StaysSound (record {
+    turn = Heads;
+    after = record c {
+      spot = OfFragment id false;
+      chains = record { items = c.chains.items ++ opened id c.lists ∷ [] };
+      lists = c.lists + 1;
+    };
+  })
   opening_sound id free unknown there =
       let added : AreSound 0 (c.chains.items ++ opened id c.lists ∷ []) (suc c.lists) lists = sound_opened id 0 c.chains.items c.lists lists (end_of free sound) unknown (sound.unused c.lists (omega arith)) in
       record {
@@ -231,8 +234,8 @@ module _ (shortest : ℕ) (new : PlacedFrame) (c : Control) (lists : List (List 
       in_message shortest new.at (new.frame ∷ []) new (assembly_of c lists) ≡ step_of (message_turn shortest (begun_at new.at c.lists) (c.lists + 1) new c) lists new.frame
   step_of_first free there =
       subst (λ frames. in_message shortest new.at (frames ++ new.frame ∷ []) new (assembly_of c lists) ≡ step_of (message_turn shortest (begun_at new.at c.lists) (c.lists + 1) new c) lists new.frame)
-        (sound.unused c.lists (omega arith))
-        (step_of_message (begun_at new.at c.lists) (c.lists + 1) (Begins free) there)
+      (sound.unused c.lists (omega arith))
+      (step_of_message (begun_at new.at c.lists) (c.lists + 1) (Begins free) there)
 
   free_step : c.spot ≡ Free → HasList (turned_at shortest Free new c).turn lists → between shortest new (assembly_of c lists) ≡ step_of (turned_at shortest Free new c) lists new.frame
   free_step free there = go (cases_Bool (is_unfragmented new.frame))

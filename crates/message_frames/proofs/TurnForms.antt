@@ -29,11 +29,14 @@ pub data IsNext (new : PlacedFrame) (c : Control) : Begun → ℕ → Type 0 whe
 pub data Form (new : PlacedFrame) (c : Control) : Turned → Type 0 where
   Failing : (fault : Malformed) → Form new c (fails fault c)
   Opening : (id : ℕ) → c.spot ≡ Free → is_known id c.chains.items ≡ false →
-      Form new c (record { turn = Heads; after = record c {
-        spot = OfFragment id false;
-        chains = record { items = c.chains.items ++ opened id c.lists ∷ [] };
-        lists = c.lists + 1;
-      } })
+      Form new c (record {
+        turn = Heads;
+        after = record c {
+          spot = OfFragment id false;
+          chains = record { items = c.chains.items ++ opened id c.lists ∷ [] };
+          lists = c.lists + 1;
+        };
+      })
   Continuing : (id : ℕ) (last : Bool) → c.spot ≡ Free → is_known id c.chains.items ≡ true → Form new c (record { turn = Heads; after = record c { spot = OfFragment id last } })
   MessageOn : (begun : Begun) (more : ℕ) → IsNext new c begun more →
       Form new c (record {
@@ -84,15 +87,15 @@ module _ (shortest : ℕ) (new : PlacedFrame) (c : Control) (begun : Begun) (mor
   pub message_form : Form new c (message_turn shortest begun more new c)
   message_form =
       ⊎_elim
-        (λ none. ⊎_elim
-          (λ final. ⊎_elim
-            (λ given. message_ends none final given)
-            (λ failed. message_ends_badly none final (failed.0) failed.1)
-            (none_or_some (completion_fault shortest begun.at new.at (tally_with new.frame begun.tally) c)))
-          (λ not_final. message_goes_on none not_final)
-          (cases_Bool (is_final new.frame)))
-        (λ past. message_passes (past.0) past.1)
-        (none_or_some (limit_fault (tally_with new.frame begun.tally)))
+      (λ none. ⊎_elim
+      (λ final. ⊎_elim
+      (λ given. message_ends none final given)
+      (λ failed. message_ends_badly none final (failed.0) failed.1)
+      (none_or_some (completion_fault shortest begun.at new.at (tally_with new.frame begun.tally) c)))
+      (λ not_final. message_goes_on none not_final)
+      (cases_Bool (is_final new.frame)))
+      (λ past. message_passes (past.0) past.1)
+      (none_or_some (limit_fault (tally_with new.frame begun.tally)))
 
 -- a frame of a fragment
 
@@ -117,18 +120,18 @@ module _ (shortest : ℕ) (new : PlacedFrame) (c : Control) (id : ℕ) (last : B
   pub fragment_form : Form new c (fragment_turn shortest id last new c chain)
   fragment_form =
       ⊎_elim
-        (λ none. ⊎_elim
-          (λ final. ⊎_elim
-            (λ is_last. ⊎_elim
-              (λ given. chain_ends none final is_last given)
-              (λ failed. chain_ends_badly none final is_last (failed.0) failed.1)
-              (none_or_some (completion_fault shortest new.at new.at (tally_with new.frame chain.tally) c)))
-            (λ not_last. fragment_ends none final not_last)
-            (cases_Bool last))
-          (λ not_final. fragment_goes_on none not_final)
-          (cases_Bool (is_final new.frame)))
-        (λ past. fragment_passes (past.0) past.1)
-        (none_or_some (limit_fault (tally_with new.frame chain.tally)))
+      (λ none. ⊎_elim
+      (λ final. ⊎_elim
+      (λ is_last. ⊎_elim
+      (λ given. chain_ends none final is_last given)
+      (λ failed. chain_ends_badly none final is_last (failed.0) failed.1)
+      (none_or_some (completion_fault shortest new.at new.at (tally_with new.frame chain.tally) c)))
+      (λ not_last. fragment_ends none final not_last)
+      (cases_Bool last))
+      (λ not_final. fragment_goes_on none not_final)
+      (cases_Bool (is_final new.frame)))
+      (λ past. fragment_passes (past.0) past.1)
+      (none_or_some (limit_fault (tally_with new.frame chain.tally)))
 
 -- a header
 
@@ -154,15 +157,15 @@ module _ (new : PlacedFrame) (c : Control) (free : c.spot ≡ Free) where
   pub header_form : Form new c (header_turn new c)
   header_form =
       ⊎_elim
-        (λ header. ⊎_elim
-          (λ begins. ⊎_elim
-            (λ known. header_begins_known header begins known)
-            (λ unknown. ⊎_elim (λ many. header_past header begins unknown many) (λ few. header_begins header begins unknown few) (cases_Bool (length c.chains.items == most_chains)))
-            (cases_Bool (is_known (chain_id new.frame) c.chains.items)))
-          (λ goes_on. ⊎_elim (λ known. header_goes_on header goes_on known) (λ unknown. header_of_none header goes_on unknown) (cases_Bool (is_known (chain_id new.frame) c.chains.items)))
-          (cases_Bool (begins_chain new.frame)))
-        (λ none. bad_header none)
-        (cases_Bool (is_header new.frame))
+      (λ header. ⊎_elim
+      (λ begins. ⊎_elim
+      (λ known. header_begins_known header begins known)
+      (λ unknown. ⊎_elim (λ many. header_past header begins unknown many) (λ few. header_begins header begins unknown few) (cases_Bool (length c.chains.items == most_chains)))
+      (cases_Bool (is_known (chain_id new.frame) c.chains.items)))
+      (λ goes_on. ⊎_elim (λ known. header_goes_on header goes_on known) (λ unknown. header_of_none header goes_on unknown) (cases_Bool (is_known (chain_id new.frame) c.chains.items)))
+      (cases_Bool (begins_chain new.frame)))
+      (λ none. bad_header none)
+      (cases_Bool (is_header new.frame))
 
 -- any frame
 

@@ -25,7 +25,6 @@ use Rattle.message_frames.proofs.ListsOfChains.{same_chains}
 
 -- tallies
 
-
 abbrev pub tally : ℕ → ℕ → ℕ → Tally
 tally count bytes first = record { count = count; bytes = bytes; first = first }
 
@@ -140,18 +139,18 @@ module _ (shortest : ℕ) (begun : Begun) (more : ℕ) (new : PlacedFrame) (c : 
       let Goal : Type 0 = in_message shortest begun.at all new (assembly_of c lists) ≡ step_of (message_turn shortest begun more new c) lists new.frame in
       let of_turn = λ (t : Turned). step_of t lists new.frame in
       let ends : is_final new.frame ≡ true → size_fault all ≡ None → Goal =
-        λ final sized. ⊎_elim
-          (λ given. step_ends shortest begun.at all new (assembly_of c lists) sized final ∙ completes shortest begun.at new.at all (record (assembly_of c lists) { place = Between }) c refl given
-            ∙ rw (sym (unchanged_by_message c.chains.items end begun.list lists [] sound above)) refl ∙ sym (ap of_turn (turn_ends shortest begun more new c lists tally sized final given)))
-          (λ failed. step_ends shortest begun.at all new (assembly_of c lists) sized final ∙ completion_fails shortest begun.at new.at all (record (assembly_of c lists) { place = Between }) c refl (failed.0) (failed.1)
-            ∙ sym (ap of_turn (turn_ends_badly shortest begun more new c lists tally (failed.0) sized final failed.1)))
-          (none_or_some (completion_fault shortest begun.at new.at (tally_of all) c)) in
+      λ final sized. ⊎_elim
+      (λ given. step_ends shortest begun.at all new (assembly_of c lists) sized final ∙ completes shortest begun.at new.at all (record (assembly_of c lists) { place = Between }) c refl given
+      ∙ rw (sym (unchanged_by_message c.chains.items end begun.list lists [] sound above)) refl ∙ sym (ap of_turn (turn_ends shortest begun more new c lists tally sized final given)))
+      (λ failed. step_ends shortest begun.at all new (assembly_of c lists) sized final ∙ completion_fails shortest begun.at new.at all (record (assembly_of c lists) { place = Between }) c refl (failed.0) (failed.1)
+      ∙ sym (ap of_turn (turn_ends_badly shortest begun more new c lists tally (failed.0) sized final failed.1)))
+      (none_or_some (completion_fault shortest begun.at new.at (tally_of all) c)) in
       let goes_on : is_final new.frame ≡ false → size_fault all ≡ None → Goal =
-        λ not_final sized. step_goes_on shortest begun.at all new (assembly_of c lists) sized not_final
-          ∙ (let there : begun.list < length lists = within (tally_of all).count GoesOn (ap (λ (t : Turned). t.turn) (turn_goes_on shortest begun more new c lists tally sized not_final)) in
-             rw (get_or-set_same lists begun.list all [] there, unchanged_by_message c.chains.items end begun.list lists all sound above) refl)
-          ∙ sym (ap of_turn (turn_goes_on shortest begun more new c lists tally sized not_final)) in
+      λ not_final sized. step_goes_on shortest begun.at all new (assembly_of c lists) sized not_final
+      ∙ (let there : begun.list < length lists = within (tally_of all).count GoesOn (ap (λ (t : Turned). t.turn) (turn_goes_on shortest begun more new c lists tally sized not_final)) in
+      rw (get_or-set_same lists begun.list all [] there, unchanged_by_message c.chains.items end begun.list lists all sound above) refl)
+      ∙ sym (ap of_turn (turn_goes_on shortest begun more new c lists tally sized not_final)) in
       ⊎_elim
-        (λ sized. ⊎_elim (λ final. ends final sized) (λ not_final. goes_on not_final sized) (cases_Bool (is_final new.frame)))
-        (λ sized. step_fails shortest begun.at all new (assembly_of c lists) (sized.0) (sized.1) ∙ sym (ap of_turn (turn_fails shortest begun more new c lists tally (sized.0) sized.1)))
-        (none_or_some (size_fault all))
+      (λ sized. ⊎_elim (λ final. ends final sized) (λ not_final. goes_on not_final sized) (cases_Bool (is_final new.frame)))
+      (λ sized. step_fails shortest begun.at all new (assembly_of c lists) (sized.0) (sized.1) ∙ sym (ap of_turn (turn_fails shortest begun more new c lists tally (sized.0) sized.1)))
+      (none_or_some (size_fault all))

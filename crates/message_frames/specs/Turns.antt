@@ -87,9 +87,9 @@ message_turn shortest begun lists new c =
           else elim (completion_fault shortest begun.at new.at all c) [
             | Some fault ↦ fails fault c
             | None ↦ record {
-                turn = Joins begun.list all.count EndsMessage;
-                after = record c { spot = Free; lists = lists; complete = c.complete + 1 };
-              }
+              turn = Joins begun.list all.count EndsMessage;
+              after = record c { spot = Free; lists = lists; complete = c.complete + 1 };
+            }
           ]
     ]
 
@@ -101,11 +101,14 @@ header_turn new c =
     else if begins_chain new.frame then
     (if is_known id c.chains.items then fails_at new BadFragment c
     else if length c.chains.items == most_chains then fails_at new OpenFragments c
-    else (record { turn = Heads; after = record c {
-      spot = OfFragment id false;
-      chains = record { items = c.chains.items ++ record { id = id; list = c.lists; tally = no_tally } ∷ [] };
-      lists = c.lists + 1;
-    } }))
+    else (record {
+      turn = Heads;
+      after = record c {
+        spot = OfFragment id false;
+        chains = record { items = c.chains.items ++ record { id = id; list = c.lists; tally = no_tally } ∷ [] };
+        lists = c.lists + 1;
+      };
+    }))
     else if is_known id c.chains.items then (record { turn = Heads; after = record c { spot = OfFragment id (ends_chain new.frame) } })
     else fails_at new BadFragment c
 
@@ -120,11 +123,14 @@ fragment_turn shortest id last new c chain =
           else if not last then (record { turn = Joins chain.list all.count EndsFragment; after = record more { spot = Free } })
           else elim (completion_fault shortest new.at new.at all c) [
             | Some fault ↦ fails fault c
-            | None ↦ record { turn = Joins chain.list all.count EndsMessage; after = record c {
+            | None ↦ record {
+              turn = Joins chain.list all.count EndsMessage;
+              after = record c {
                 spot = Free;
                 chains = record { items = without_chain id c.chains.items };
                 complete = c.complete + 1;
-              } }
+              };
+            }
           ]
     ]
 

@@ -3,7 +3,7 @@ ghost use Rattle.std.specs.Prelude.{◌≡◌, ℕ, ◌+◌, ◌-◌, ◌^◌, �
 ghost use Rattle.message_frames.specs.Assembly.{assembled, nothing_yet};
 ghost use Rattle.message_frames.specs.Assemblers.{state_of, IsSoundAssembler, IsRoomAfter, IsRoomFor};
 ghost use Rattle.message_frames.specs.Turns.{JoinsBelow, HasRoom, HaveRoom, after_all};
-ghost use Rattle.message_frames.specs.Lists.{list_at, frames_in, rooms_in, GetRoom, LosesRoom, KeepsRoom, HasNumber, given, ended, assembly_of, AreSound, IsSound,  renumbered, lists_of, IsBelow, spot_with, spot_lists};
+ghost use Rattle.message_frames.specs.Lists.{list_at, frames_in, rooms_in, GetRoom, LosesRoom, KeepsRoom, HasNumber, given, ended, assembly_of, AreSound, IsSound, renumbered, lists_of, IsBelow, spot_with, spot_lists};
 
 use crate::control::{Begun, Control, Ending, MOST_CHAINS, OpenChain, Spot, Turn};
 use crate::message::{Frames, Message};
@@ -18,7 +18,7 @@ use std::mem;
 const MANY_LISTS: usize = 64;
 
 /// The messages in progress on a connection.
-#[derive(Drop)]
+#[derive(Debug, Drop)]
 pub(crate) struct Assembler {
     /// How many bytes a first payload has at least.
     pub(crate) shortest: usize,

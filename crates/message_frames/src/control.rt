@@ -44,7 +44,7 @@ pub(crate) enum Spot {
 }
 
 /// The state of a connection between two frames, apart from the frames, which are in lists.
-#[derive(Drop)]
+#[derive(Debug, Drop)]
 pub(crate) struct Control {
     pub(crate) spot: Spot,
     /// The open ones, in the order in which they were opened.

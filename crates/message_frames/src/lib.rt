@@ -10,5 +10,5 @@ mod tally;
 mod writing;
 
 pub use message::{Frames, Message};
-pub use reader::FedMessages;
+pub use reader::{FedMessages, MessageReader};
 pub use writing::{write_fragments, write_message};

@@ -1,6 +1,6 @@
 ghost use Rattle.std.specs.Prelude.{◌≡◌, ℕ, ◌+◌, ◌^◌, ◌<◌, ◌≤◌, Bool, List, [], ◌++◌, length, drop, min, Option, None, Some, IfOk, IfErr, OnOk, OnErr};
 ghost use Rattle.frame_codec.specs.FrameReaders.{next_place, StandsFor as FramesStandFor};
-ghost use Rattle.message_frames.specs.Messages.{prefix_of, differing, messages_of, fault_of};
+ghost use Rattle.message_frames.specs.Messages.{prefix_of, shortest_start, differing, messages_of, fault_of};
 ghost use Rattle.message_frames.specs.Assemblers.{state_of, IsSoundAssembler};
 ghost use Rattle.message_frames.specs.FedFrames.{Gives};
 ghost use Rattle.message_frames.specs.MessageReaders.{StandsFor, shown_fault};
@@ -27,6 +27,13 @@ fn prefix_bytes(prefix: bool) -> &'static [u8]
     ensures { result.now ≡ prefix_of prefix }
 {
     if prefix { PREFIX } else { &PREFIX[..0] }
+}
+
+/// How many bytes a first payload has at least: those of a request's head, or of a response's.
+fn shortest_start(prefix: bool) -> usize
+    ensures { result ≡ shortest_start prefix }
+{
+    if prefix { 16 } else { 13 }
 }
 
 /// How many bytes of the prefix have come with a piece, of which so many came before it.
@@ -83,5 +90,95 @@ fn feed_frames(
             frames.put_back(mark, fed);
             Err(memory)
         }
+    }
+}
+
+/// A reader of messages, whose stream comes in any pieces.
+#[derive(Debug, Drop)]
+pub struct MessageReader {
+    prefix: bool,
+    /// How many bytes of the prefix have come.
+    begun: usize,
+    frames: FrameReader,
+    assembler: Assembler,
+    fault: Option<Malformed>,
+}
+
+impl Model for MessageReader {
+    ghost use Rattle.message_frames.specs.Assemblers.{state_of};
+    ghost use Rattle.message_frames.specs.MessageReaders.{Hearing, hearing, IsHearing};
+
+    ghost Value = { Hearing };
+
+    ghost view = { λ r. hearing r.fault r.prefix r.begun r.frames (state_of r.assembler) };
+
+    ghost invariant = { λ r. IsHearing r.fault r.prefix r.begun r.frames r.assembler };
+}
+
+impl MessageReader {
+    /// A reader of a stream that begins with `CP2`, or of one without a prefix. Takes no memory.
+    pub fn new(alloc: Global, prefix: bool) -> Self
+        ensures { StandsFor result prefix [] }
+    {
+        let at = prefix_bytes(prefix).len();
+        MessageReader {
+            prefix,
+            begun: 0,
+            frames: FrameReader::new(alloc, at as u64),
+            assembler: Assembler::new(alloc, shortest_start(prefix)),
+            fault: None,
+        }
+    }
+
+    /// The first fault of the stream, if it has shown.
+    pub fn fault(&self) -> Option<Malformed>
+        ensures shown { result ≡ shown_fault self.now }
+        ensures first { (prefix : Bool) (text : List ℕ) → StandsFor self.now prefix text → result ≡ fault_of prefix text }
+    {
+        self.fault
+    }
+
+    /// Takes the next piece of the stream, at the cost of its length, and gives the messages that it completes.
+    /// After the stream's first fault each feed gives no message and that fault. Want of memory changes nothing.
+    pub fn feed(&mut self, alloc: Global, piece: &[u8]) -> Result<FedMessages, Memory>
+        // Whatever bytes the reader stood for, the piece follows them, and all that is given is what is heard of all bytes.
+        ensures stands { OnOk result ((prefix : Bool) (text : List ℕ) → StandsFor self.old prefix text → StandsFor self.new prefix (text ++ piece.now)) }
+        ensures messages { IfOk result (λ fed. (prefix : Bool) (text : List ℕ) → StandsFor self.old prefix text →
+            messages_of prefix text ++ fed.messages.items ≡ messages_of prefix (text ++ piece.now)) }
+        ensures fault { IfOk result (λ fed. (prefix : Bool) (text : List ℕ) → StandsFor self.old prefix text →
+            fed.fault ≡ fault_of prefix (text ++ piece.now)) }
+        ensures err { OnErr result (self.new ≡ self.old) }
+    {
+        if let Some(fault) = self.fault {
+            return Ok(failed(alloc, fault));
+        }
+        match past_prefix(self.prefix, self.begun, piece) {
+            Ok(begun) => {
+                let rest = &piece[begun - self.begun..];
+                let fed = feed_frames(alloc, &mut self.frames, &mut self.assembler, rest)?;
+                self.begun = begun;
+                self.fault = fed.fault;
+                Ok(fed)
+            }
+            Err(at) => {
+                let fault = Malformed {
+                    at: at as u64,
+                    why: Why::Prefix,
+                };
+                self.fault = Some(fault);
+                Ok(failed(alloc, fault))
+            }
+        }
+    }
+}
+
+/// No messages, and a fault.
+fn failed(alloc: Global, fault: Malformed) -> FedMessages
+    ensures messages { result.messages.items ≡ [] }
+    ensures fault { result.fault ≡ Some fault }
+{
+    FedMessages {
+        messages: Vec::new(alloc),
+        fault: Some(fault),
     }
 }

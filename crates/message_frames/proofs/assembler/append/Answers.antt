@@ -8,7 +8,7 @@ returns-clause-frames c =
     let old = c.index_mut.result.now in
     frames_in-set c.args.lists.now.items c.args.list c.push_reserved.new.self
     ∙ ap (λ frames. set (frames_in c.args.lists.now.items) c.args.list frames)
-        (c.push_reserved.ensures.items ∙ ap (λ frames. frames ++ c.args.frame ∷ []) (sym (frames_read c.args.lists.now.items c.args.list old (omega arith) c.index_mut.ensures.value)))
+    (c.push_reserved.ensures.items ∙ ap (λ frames. frames ++ c.args.frame ∷ []) (sym (frames_read c.args.lists.now.items c.args.list old (omega arith) c.index_mut.ensures.value)))
 
 pub returns-clause-rooms : goal.returns-clause-rooms
 returns-clause-rooms c =

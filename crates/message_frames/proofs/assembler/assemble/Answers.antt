@@ -22,7 +22,7 @@ end c = after_all c.args.shortest c.args.frames.items c.args.control.now
 under_way : (c : In-Some) → IsUnderWay c.args.shortest c.args.messages.now.items (whole c) (end c) c.loop-new.control c.loop-new.lists.items c.loop-new.messages (c.in-Some.new ∷ into_iter_items c.next.new.self)
 under_way c =
     subst (λ rest. IsUnderWay c.args.shortest c.args.messages.now.items (whole c) (end c) c.loop-new.control c.loop-new.lists.items c.loop-new.messages rest)
-      c.in-Some.ensures.items c.loop-new.invariant
+    c.in-Some.ensures.items c.loop-new.invariant
 
 -- the control's turn of it
 abbrev turn : In-Some → Turned
@@ -68,8 +68,8 @@ pub loop-new-preserved-in-Heads-1 : goal.loop-new-preserved-in-Heads-1
 loop-new-preserved-in-Heads-1 c =
     let d = (goal.at.loop-new-preserved-in-Heads-1 c).In-Some in
     rw c.next-in-Some.ensures.after
-      (heads_on c.args.shortest c.args.messages.now.items (whole d) (end d) c.loop-new.control c.loop-new.lists.items c.loop-new.messages c.in-Some.new (into_iter_items c.next.new.self) (under_way d)
-        (sym c.in-Heads.ensures.turn))
+    (heads_on c.args.shortest c.args.messages.now.items (whole d) (end d) c.loop-new.control c.loop-new.lists.items c.loop-new.messages c.in-Some.new (into_iter_items c.next.new.self) (under_way d)
+    (sym c.in-Heads.ensures.turn))
 
 pub join-requires-clause-room : goal.join-requires-clause-room
 join-requires-clause-room c = (fits (goal.at.join-requires-clause-room c).In-Some c.in-Joins.list c.in-Joins.count c.in-Joins.ending (sym c.in-Joins.ensures.turn)).room
@@ -81,6 +81,6 @@ pub loop-new-preserved : goal.loop-new-preserved
 loop-new-preserved c =
     let d = (goal.at.loop-new-preserved c).In-Some in
     rw c.next-in-Some.ensures.after
-      (joins_on c.args.shortest c.args.messages.now.items (whole d) (end d) c.loop-new.control c.loop-new.lists.items c.loop-new.messages c.in-Some.new (into_iter_items c.next.new.self) (under_way d)
-        c.in-Joins.list c.in-Joins.count c.in-Joins.ending (sym c.in-Joins.ensures.turn) c.join.new.lists.items c.join.new.messages
-        c.join.ensures.lists c.join.ensures.rooms c.join.ensures.given c.join.ensures.count c.join.ensures.capacity)
+    (joins_on c.args.shortest c.args.messages.now.items (whole d) (end d) c.loop-new.control c.loop-new.lists.items c.loop-new.messages c.in-Some.new (into_iter_items c.next.new.self) (under_way d)
+    c.in-Joins.list c.in-Joins.count c.in-Joins.ending (sym c.in-Joins.ensures.turn) c.join.new.lists.items c.join.new.messages
+    c.join.ensures.lists c.join.ensures.rooms c.join.ensures.given c.join.ensures.count c.join.ensures.capacity)

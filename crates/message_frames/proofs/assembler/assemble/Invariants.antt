@@ -9,9 +9,9 @@ use Rattle.message_frames.proofs.assembler.assemble.Given as goal
 abbrev pub invariant-loop-new : goal.invariant-loop-new
 invariant-loop-new l =
     IsUnderWay l.shortest l.initial.messages.items
-      (assembled l.shortest l.fn.frames.items (assembly_of l.initial.control (frames_in l.initial.lists.items)))
-      (after_all l.shortest l.fn.frames.items l.initial.control)
-      l.control l.lists.items l.messages (into_iter_items l.rest)
+    (assembled l.shortest l.fn.frames.items (assembly_of l.initial.control (frames_in l.initial.lists.items)))
+    (after_all l.shortest l.fn.frames.items l.initial.control)
+    l.control l.lists.items l.messages (into_iter_items l.rest)
 
 abbrev pub decreases-loop-new : goal.decreases-loop-new
 decreases-loop-new l = length (into_iter_items l.rest)

@@ -21,7 +21,7 @@ index_mut-requires c =
 pub push-requires : goal.push-requires
 push-requires c =
     let count = moved_count (frames_in c.args.lists.now.items) c.args.chains.now (vec_len c.args.lists.now) c.loop-chain.chain-index none c.requires.sound c.loop-chain-test.true
-      c.loop-chain.moved.items (frames_in c.loop-chain.lists.items) (frames_in c.loop-chain.kept.items) c.loop-chain.invariant.moved in
+    c.loop-chain.moved.items (frames_in c.loop-chain.lists.items) (frames_in c.loop-chain.kept.items) c.loop-chain.invariant.moved in
     (omega arith, omega (arith, count, c.requires.few))
 
 pub loop-chain-preserved : goal.loop-chain-preserved
@@ -31,17 +31,17 @@ loop-chain-preserved c =
     let below = list_within (frames_in c.args.lists.now.items) c.args.chains.now (vec_len c.args.lists.now) c.loop-chain.chain-index none c.requires.sound c.loop-chain-test.true in
     let within : chain.list < length lists = omega (arith, below, c.loop-chain.invariant.count, c.loop-chain.lists.ok) in
     let emptied : frames_in (set lists chain.list c.replace.new.dest) ≡ set (frames_in lists) chain.list [] =
-      frames_in-set lists chain.list c.replace.new.dest ∙ ap (λ (list : Vec Frame). set (frames_in lists) chain.list list.items) c.replace.ensures.after ∙ ap (λ frames. set (frames_in lists) chain.list frames) c.new.ensures.items in
+    frames_in-set lists chain.list c.replace.new.dest ∙ ap (λ (list : Vec Frame). set (frames_in lists) chain.list list.items) c.replace.ensures.after ∙ ap (λ frames. set (frames_in lists) chain.list frames) c.new.ensures.items in
     let taken : frames_in c.push_reserved.new.self.items ≡ frames_in c.loop-chain.kept.items ++ list_at (frames_in lists) chain.list ∷ [] =
-      ap frames_in c.push_reserved.ensures.items
-      ∙ map-append (λ (list : Vec Frame). list.items) c.loop-chain.kept.items (c.replace.result ∷ [])
-      ∙ ap (λ (list : Vec Frame). frames_in c.loop-chain.kept.items ++ list.items ∷ []) c.replace.ensures.value
-      ∙ ap (λ frames. frames_in c.loop-chain.kept.items ++ frames ∷ []) (sym (frames_read lists chain.list c.index_mut.result.now within c.index_mut.ensures.value)) in
+    ap frames_in c.push_reserved.ensures.items
+    ∙ map-append (λ (list : Vec Frame). list.items) c.loop-chain.kept.items (c.replace.result ∷ [])
+    ∙ ap (λ (list : Vec Frame). frames_in c.loop-chain.kept.items ++ list.items ∷ []) c.replace.ensures.value
+    ∙ ap (λ frames. frames_in c.loop-chain.kept.items ++ frames ∷ []) (sym (frames_read lists chain.list c.index_mut.result.now within c.index_mut.ensures.value)) in
     let pushed : c.push.new.self.items ≡ c.loop-chain.moved.items ++ record chain { list = length c.loop-chain.moved.items } ∷ [] =
-      c.push.ensures.items ∙ ap (λ n. c.loop-chain.moved.items ++ record chain { list = n } ∷ []) c.len.ensures.value in
+    c.push.ensures.items ∙ ap (λ n. c.loop-chain.moved.items ++ record chain { list = n } ∷ []) c.len.ensures.value in
     record {
       moved = rw (pushed, emptied, taken)
-        (more_moved (frames_in c.args.lists.now.items) c.args.chains.now (vec_len c.args.lists.now) c.loop-chain.chain-index none c.requires.sound c.loop-chain-test.true
+          (more_moved (frames_in c.args.lists.now.items) c.args.chains.now (vec_len c.args.lists.now) c.loop-chain.chain-index none c.requires.sound c.loop-chain-test.true
           c.loop-chain.moved.items (frames_in lists) (frames_in c.loop-chain.kept.items) c.loop-chain.invariant.moved);
       count = c.loop-chain.invariant.count;
       kept = omega (arith, c.push_reserved.ensures.len, c.loop-chain.invariant.kept);

@@ -23,7 +23,7 @@ control_of complete spot chains lists = record { spot = spot; chains = record { 
 message_list_same : (c : After-drop-lists) → spot_lists (frames_in c.move_chains-control.new.lists.items) c.args.control.now.spot ≡ spot_lists (frames_in c.args.lists.now.items) c.args.control.now.spot
 message_list_same c =
     spot_lists_same c.args.control.now (frames_in c.args.lists.now.items) c.requires.sound (frames_in c.move_chains-control.new.lists.items)
-      (λ k sound. c.move_chains-control.ensures.others k (rw c.as_slice.ensures.value sound))
+    (λ k sound. c.move_chains-control.ensures.others k (rw c.as_slice.ensures.value sound))
 
 kept_are : (c : After-drop-lists) → frames_in c.move_message-control.new.kept.items ≡ open_lists (frames_in c.args.lists.now.items) c.args.control.now.chains.items c.args.control.now.spot
 kept_are c =
@@ -37,7 +37,7 @@ control_is c =
     let spot : c.move_message-control.result ≡ spot_with (length c.args.control.now.chains.items) c.args.control.now.spot = c.move_message-control.ensures.spot ∙ ap (λ n. spot_with n c.args.control.now.spot) count in
     let chains : c.move_chains-control.result.items ≡ renumbered 0 c.args.control.now.chains.items = c.move_chains-control.ensures.chains ∙ ap (renumbered 0) c.as_slice.ensures.value in
     let lists : c.len-control.result ≡ length c.args.control.now.chains.items + length (spot_lists [] c.args.control.now.spot) =
-      omega (arith, c.len-control.ensures, c.move_message-control.ensures.count, count, length-spot_lists [] (frames_in c.move_chains-control.new.lists.items) c.args.control.now.spot) in
+    omega (arith, c.len-control.ensures, c.move_message-control.ensures.count, count, length-spot_lists [] (frames_in c.move_chains-control.new.lists.items) c.args.control.now.spot) in
     ap (λ s. control_of c.args.control.now.complete s c.move_chains-control.result.items c.len-control.result) spot
     ∙ ap (λ cs. control_of c.args.control.now.complete (spot_with (length c.args.control.now.chains.items) c.args.control.now.spot) cs c.len-control.result) chains
     ∙ ap (λ n. control_of c.args.control.now.complete (spot_with (length c.args.control.now.chains.items) c.args.control.now.spot) (renumbered 0 c.args.control.now.chains.items) n) lists

@@ -14,7 +14,7 @@ returns-in-Ok-clause-sound c = record {
 same_dropped : (c : goal.After-truncate) → AreSame (frames_in c.args.self.now.lists.items) (frames_in c.truncate.new.self.items)
 same_dropped c k =
     let unused : (j : ℕ) → c.args.self.now.control.lists ≤ j → list_at (frames_in c.room_for.new.lists.items) j ≡ [] =
-      λ j above. c.room_for.ensures.same.frames j ∙ c.requires.control.unused j above in
+    λ j above. c.room_for.ensures.same.frames j ∙ c.requires.control.unused j above in
     ap (λ lists. list_at (frames_in lists) k) c.truncate.ensures.items
     ∙ unused_dropped c.args.self.now.control.lists c.room_for.new.lists.items unused k
     ∙ c.room_for.ensures.same.frames k

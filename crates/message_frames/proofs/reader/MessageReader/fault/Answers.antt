@@ -1,0 +1,10 @@
+use Rattle.std.proofs.Common.{sym, ◌∙◌, ap}
+use Rattle.message_frames.specs.Assemblers.{state_of}
+use Rattle.message_frames.specs.MessageReaders.{shown_fault}
+use Rattle.message_frames.proofs.Shown.{shown_fault-standing, shown_fault-hearing}
+use Rattle.message_frames.proofs.reader.MessageReader.fault.Goals as goal
+
+pub returns-clause-first : goal.returns-clause-first
+returns-clause-first c = λ prefix text stands.
+    let r = c.self.inside in
+    sym (shown_fault-hearing r.fault r.prefix r.begun r.frames (state_of r.assembler)) ∙ ap shown_fault (c.self.view_is ∙ stands) ∙ shown_fault-standing prefix text
