@@ -4,19 +4,19 @@ use Rattle.std.proofs.lemmas.Bool.{and_parts, and_from}
 use Rattle.std.proofs.lemmas.List.Concat.{flat_map-append}
 use Rattle.std.proofs.lemmas.List.Elements.{All-nil, All-cons, All-head, All-tail, All-append}
 use Rattle.frame_codec.specs.Frames.{frame_bytes}
-use Rattle.frame_codec.specs.Laws.{IsWithinLimits, IsBytes, IsSpelledBy, BeginsWithNoFrame, placed, unplaced, spelled}
+use Rattle.frame_codec.specs.Laws.{IsWithinLimits, IsBytes, BeginsWithNoFrame, placed, unplaced, spelled}
 use Rattle.frame_codec.specs.Reading.{Reading, Whole, Partial, reading}
 use Rattle.frame_codec.specs.declared.frames.Frame.{Frame}
 use Rattle.frame_codec.specs.declared.frames.PlacedFrame.{PlacedFrame}
-use Rattle.message_frames.specs.Assembly.{Chain, Assembly, Assembled, assembled, nothing_yet}
+use Rattle.message_frames.specs.Assembly.{Chain, Assembled, assembled, nothing_yet}
 use Rattle.message_frames.specs.Grammar.{Piece, is_piece, piece_frames, piece_bytes, stream_of}
 use Rattle.message_frames.specs.Merging.{keeps_rules, may_come, chains_after, complete_after}
 use Rattle.message_frames.specs.Messages.{prefix_of, shortest_start, Heard, heard_of_frames, or_else, messages_of}
-use Rattle.message_frames.specs.Laws.{IsStream, messages_in, NoPieceBegins, the_grammar_is_heard, exactly_the_pieces_are_heard, what_is_heard_is_in_the_grammar, nothing_is_heard_without_the_prefix}
+use Rattle.message_frames.specs.Laws.{IsStream, messages_in, NoPieceBegins, the_grammar_is_heard, exactly_the_pieces_are_heard, nothing_is_heard_without_the_prefix}
 use Rattle.message_frames.proofs.FrameLaws.{read, on, spelled_by}
 use Rattle.message_frames.proofs.NextPiece.{TakesNext}
 use Rattle.message_frames.proofs.Prefixes.{Begins, Differs, Shorter, Follows, begins, behind, heard_behind, heard_of_other, heard_of_less}
-use Rattle.message_frames.proofs.Streams.{frames_in, state_after, pieces_run, Split, split, messages_of_pieces, unplaced-placed, placed-append, place_behind}
+use Rattle.message_frames.proofs.Streams.{frames_in, state_after, pieces_run, messages_of_pieces}
 
 -- All of a list and of its parts
 
@@ -89,7 +89,7 @@ longer_stream shortest pieces piece s limits form may =
       rules = rules_longer shortest [] 0 pieces piece s.rules (and_from _ _ (and_from _ _ form may) refl);
     }
 
-unplaced-append : (xs ys : List PlacedFrame) → unplaced (xs ++ ys) ≡ unplaced xs ++ unplaced ys
+pub unplaced-append : (xs ys : List PlacedFrame) → unplaced (xs ++ ys) ≡ unplaced xs ++ unplaced ys
 unplaced-append [] ys = refl
 unplaced-append (x ∷ xs) ys = ap (λ fs. x.frame ∷ fs) (unplaced-append xs ys)
 
@@ -155,69 +155,3 @@ piece_begins shortest pieces rest bytes s none place t =
 
 pub exactly_heard : exactly_the_pieces_are_heard
 exactly_heard prefix pieces rest s bytes none = messages_with_rest prefix pieces rest s (piece_begins (shortest_start prefix) pieces rest bytes s none)
-
--- The pieces that a text's frames split into are the stream that is heard.
-pub heard_pieces : what_is_heard_is_in_the_grammar
-heard_pieces prefix bytes are = (
-  s.pieces,
-  rest,
-  record {
-    whole = ap (λ bs. prefix_of prefix ++ bs) bytes_are ∙ sym (append_assoc (prefix_of prefix) (flat_map piece_bytes s.pieces) rest);
-    stream = stream;
-    messages =
-        ap (λ (h : Heard). h.messages) (heard_behind prefix bytes)
-        ∙ ap (λ fs. (assembled shortest fs nothing_yet).messages) frames_are
-        ∙ messages_of_pieces shortest n s.pieces (placed (place_behind n (frames_in s.pieces)) s.more) s.rules
-        (λ t. s.rest (subst (TakesNext shortest state.chains state.complete) (unplaced-placed (place_behind n (frames_in s.pieces)) s.more) t));
-    complete = complete;
-  },
-)
-  where
-    shortest : ℕ
-    shortest = shortest_start prefix
-
-    n : ℕ
-    n = behind prefix
-
-    r : Reading
-    r = reading (behind prefix) bytes
-
-    by : IsSpelledBy (behind prefix) bytes (reading (behind prefix) bytes)
-    by = spelled_by (behind prefix) bytes are
-
-    s : Split (shortest_start prefix) [] 0 (unplaced (reading (behind prefix) bytes).frames)
-    s = split (shortest_start prefix) [] 0 (unplaced (reading (behind prefix) bytes).frames)
-
-    state : Assembly
-    state = state_after [] 0 s.pieces
-
-    rest : List ℕ
-    rest = spelled s.more ++ r.rest
-
-    limits : All IsWithinLimits (frames_in s.pieces ++ s.more)
-    limits = subst (All IsWithinLimits) s.whole by.limits
-
-    stream : IsStream (shortest_start prefix) s.pieces
-    stream = record { frames = pieces_within s.pieces (all_front IsWithinLimits (frames_in s.pieces) s.more limits); rules = s.rules }
-
-    bytes_are : bytes ≡ flat_map piece_bytes s.pieces ++ (spelled s.more ++ (reading (behind prefix) bytes).rest)
-    bytes_are =
-        by.whole
-        ∙ ap (λ fs. spelled fs ++ r.rest) s.whole
-        ∙ ap (λ bs. bs ++ r.rest) (flat_map-append frame_bytes (frames_in s.pieces) s.more)
-        ∙ append_assoc (spelled (frames_in s.pieces)) (spelled s.more) r.rest
-        ∙ ap (λ bs. bs ++ (spelled s.more ++ r.rest)) (sym (spelled_pieces s.pieces))
-
-    frames_are : (reading (behind prefix) bytes).frames ≡ placed (behind prefix) (frames_in s.pieces) ++ placed (place_behind (behind prefix) (frames_in s.pieces)) s.more
-    frames_are = by.places ∙ ap (placed n) s.whole ∙ placed-append n (frames_in s.pieces) s.more
-
-    complete : NoPieceBegins (shortest_start prefix) s.pieces (spelled s.more ++ (reading (behind prefix) bytes).rest)
-    complete piece more longer e =
-        let last = last_of_stream shortest s.pieces piece longer in
-        let left = read 0 s.more r.rest (all_back IsWithinLimits (frames_in s.pieces) s.more limits) by.rest_is_none in
-        let right = frames_read 0 (piece_frames piece) more last.0 in
-        let same : placed 0 s.more ≡ placed 0 (piece_frames piece) ++ (reading right.0 more).frames = ap (λ (q : Reading). q.frames) (sym left ∙ ap (reading 0) e ∙ right.1) in
-        let front : s.more ≡ piece_frames piece ++ unplaced (reading right.0 more).frames =
-        sym (unplaced-placed 0 s.more) ∙ ap unplaced same ∙ unplaced-append (placed 0 (piece_frames piece)) (reading right.0 more).frames
-        ∙ ap (λ fs. fs ++ unplaced (reading right.0 more).frames) (unplaced-placed 0 (piece_frames piece)) in
-        s.rest (record { piece = piece; more = unplaced (reading right.0 more).frames; front = front; form = last.1.0; may = last.1.1 })

@@ -22,6 +22,8 @@ pub mod Fragments
 pub mod Packing
 pub mod PackingFull
 pub mod Written
+pub mod FaultPlaces
+pub mod Refused
 pub mod FrameLaws
 pub mod Staying
 pub mod Bounded
@@ -30,6 +32,7 @@ pub mod NextPiece
 pub mod NoPiece
 pub mod Streams
 pub mod HeardPieces
+pub mod HeardTexts
 pub mod SoFar
 pub mod Rooms
 pub mod SameLists

@@ -62,7 +62,7 @@ takes_or_not shortest chains complete (frame ∷ frames) =
 
 -- faults that refuse a piece
 
-completes_badly : (shortest began ended : ℕ) (frames : List Frame) (s : Assembly) → s.complete ≤ most_messages → may_complete shortest s.complete frames ≡ false →
+pub completes_badly : (shortest began ended : ℕ) (frames : List Frame) (s : Assembly) → s.complete ≤ most_messages → may_complete shortest s.complete frames ≡ false →
     (fault : Malformed) × (completed shortest began ended frames s ≡ Faulty fault)
 completes_badly shortest began ended frames s counted refused = go (cases_Bool (nat_lt (length (first_payload frames)) shortest))
   where
@@ -71,7 +71,7 @@ completes_badly shortest began ended frames s counted refused = go (cases_Bool (
     go (inl short) = (record { at = began; why = ShortStart }, rw short refl)
     go (inr long) = let spent : eqb s.complete most_messages ≡ true = grind (arith, nat_tests, refused, long, counted) in (record { at = ended; why = Spent }, rw (long, spent) refl)
 
-header_refused : (x : PlacedFrame) (s : Assembly) → length s.chains ≤ most_chains → is_header x.frame && header_may_come x.frame s.chains ≡ false →
+pub header_refused : (x : PlacedFrame) (s : Assembly) → length s.chains ≤ most_chains → is_header x.frame && header_may_come x.frame s.chains ≡ false →
     (fault : Malformed) × (at_header x s ≡ Faulty fault)
 header_refused x s few refused =
     go (cases_Bool (is_header x.frame)) (cases_Bool (begins_chain x.frame)) (cases_Bool (is_open (chain_id x.frame) s.chains)) (cases_Bool (eqb (length s.chains) most_chains))
@@ -126,7 +126,7 @@ no_rest_of_message shortest began (x ∷ xs) before s counted none =
     (λ no. no_rest_of_message shortest began xs (before ++ x.frame ∷ []) s counted no)
 
 -- what the frames of a fragment have to pass with those of its chain, by whether it is the last one
-abbrev last_passes : ℕ → ℕ → Bool → List Frame → Bool
+abbrev pub last_passes : ℕ → ℕ → Bool → List Frame → Bool
 last_passes shortest complete last frames = if last then may_complete shortest complete frames else true
 
 no_rest_of_fragment : (shortest id : ℕ) (last : Bool) (xs : List PlacedFrame) (s : Assembly) → s.complete ≤ most_messages → is_open id s.chains ≡ true →

@@ -1,12 +1,13 @@
 -- What one frame does, where the tests of its step are known.
-use Rattle.std.proofs.Common.{◌≡◌, ℕ, ◌+◌, Bool, true, false, List, [], ◌∷◌, ◌++◌, length, None, refl, ◌⊎◌, inl, inr, arith, eqb, nat_lt}
+use Rattle.std.proofs.Common.{◌≡◌, ℕ, ◌+◌, Bool, true, false, List, [], ◌∷◌, ◌++◌, length, Some, None, refl, ◌⊎◌, inl, inr, arith, eqb, nat_lt}
 use Rattle.std.proofs.lemmas.Bool.{cases_Bool, and_parts, not-true}
 use Rattle.std.proofs.lemmas.Bool.Decides.{nat_tests}
 use Rattle.frame_codec.specs.Flags.{without_flag}
 use Rattle.frame_codec.specs.declared.frames.Frame.{Frame}
 use Rattle.frame_codec.specs.declared.frames.PlacedFrame.{PlacedFrame}
 use Rattle.frame_codec.specs.declared.flags.TheConstants.{FINAL}
-use Rattle.message_frames.specs.Assembly.{most_messages, most_chains, Chain, Assembly, Between, InMessage, InFragment, Goes, Gives, size_fault, first_payload, completed, in_message, in_fragment, at_header, between, is_unfragmented, is_final, is_header, begins_chain, ends_chain, chain_id, is_open, frames_of, with_frames, without}
+use Rattle.frame_codec.specs.declared.malformed.Why.{Why}
+use Rattle.message_frames.specs.Assembly.{faulty, most_messages, most_chains, Chain, Assembly, Between, InMessage, InFragment, Goes, Gives, size_fault, first_payload, completed, in_message, in_fragment, at_header, between, is_unfragmented, is_final, is_header, begins_chain, ends_chain, chain_id, is_open, frames_of, with_frames, without}
 use Rattle.message_frames.specs.Merging.{may_complete, may_follow, opened}
 use Rattle.message_frames.specs.Grammar.{Fragment}
 
@@ -27,7 +28,15 @@ pub message_goes : (shortest began : ℕ) (frames : List Frame) (x : PlacedFrame
     in_message shortest began frames x s ≡ Goes (record s { place = InMessage began frames })
 message_goes shortest began frames x s small final = rw (in_message, small) (rw final refl)
 
+pub message_large : (shortest began : ℕ) (frames : List Frame) (x : PlacedFrame) (s : Assembly) (why : Why) → size_fault frames ≡ Some why →
+    in_message shortest began frames x s ≡ faulty x.at why
+message_large shortest began frames x s why fault = rw (in_message, fault) refl
+
 -- in a fragment
+
+pub fragment_large : (shortest id : ℕ) (last : Bool) (x : PlacedFrame) (s : Assembly) (why : Why) → size_fault (frames_of id s.chains ++ x.frame ∷ []) ≡ Some why →
+    in_fragment shortest id last x s ≡ faulty x.at why
+fragment_large shortest id last x s why fault = rw (in_fragment, fault) refl
 
 pub fragment_goes : (shortest id : ℕ) (last : Bool) (x : PlacedFrame) (s : Assembly) →
     size_fault (frames_of id s.chains ++ x.frame ∷ []) ≡ None → is_final x.frame ≡ false →

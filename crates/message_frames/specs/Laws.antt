@@ -1,12 +1,12 @@
 -- What holds of the bytes of a connection and of the messages that are heard of them.
-use Rattle.std.specs.Prelude.{◌≡◌, ◌≢◌, ℕ, ◌+◌, ◌*◌, ◌≤◌, Bool, List, [], ◌∷◌, ◌++◌, length, All, IsTrue, Some, None}
+use Rattle.std.specs.Prelude.{◌≡◌, ◌≢◌, ℕ, ◌+◌, ◌*◌, ◌<◌, ◌≤◌, Bool, List, [], ◌∷◌, ◌++◌, length, All, IsTrue, Some, None}
 use Rattle.frame_codec.specs.Laws.{IsBytes, IsWithinLimits}
 use Rattle.frame_codec.specs.declared.frames.TheConstants.{MAX_FRAME_LENGTH}
 use Rattle.frame_codec.specs.declared.malformed.Malformed.{Malformed}
 use Rattle.message_frames.specs.declared.message.Message.{Message}
 use Rattle.message_frames.specs.Assembly.{most_frames, most_length, most_chains, most_messages}
 use Rattle.message_frames.specs.Messages.{prefix_of, shortest_start, heard, messages_of, fault_of}
-use Rattle.message_frames.specs.Grammar.{Piece, piece_frames, piece_bytes, stream_of}
+use Rattle.message_frames.specs.Grammar.{Piece, is_piece, piece_frames, piece_bytes, stream_of}
 use Rattle.message_frames.specs.Merging.{merged, keeps_rules}
 
 -- Pieces that a connection takes, one after the other, from its first.
@@ -34,12 +34,15 @@ a_stream_is_heard_so_far =
 abbrev pub NoPieceBegins : ℕ → List Piece → List ℕ → Type 0
 NoPieceBegins shortest pieces rest = (piece : Piece) (more : List ℕ) → IsStream shortest (pieces ++ piece ∷ []) → rest ≢ piece_bytes piece ++ more
 
--- A text is these pieces and a rest that none begins, and its messages are those of the pieces.
+-- A text is these pieces and a rest that none begins, and its messages are those of the pieces. A fault stands in the rest.
+-- Without one no whole piece is in the rest, not even one that the connection wouldn't take.
 pub record IsHeardAs (prefix : Bool) (text : List ℕ) (pieces : List Piece) (rest : List ℕ) : Type 0 where
   pub whole : text ≡ stream_of prefix pieces ++ rest
   pub stream : IsStream (shortest_start prefix) pieces
   pub messages : messages_of prefix text ≡ messages_in pieces
   pub complete : NoPieceBegins (shortest_start prefix) pieces rest
+  pub fault : (fault : Malformed) → fault_of prefix text ≡ Some fault → (length (stream_of prefix pieces) ≤ fault.at) × (fault.at < length text)
+  pub sound : fault_of prefix text ≡ None → (piece : Piece) (more : List ℕ) → All IsWithinLimits (piece_frames piece) → IsTrue (is_piece piece) → rest ≢ piece_bytes piece ++ more
 
 -- Of pieces and a rest that no further one begins exactly the messages of the pieces are heard.
 abbrev pub exactly_the_pieces_are_heard : Type 0

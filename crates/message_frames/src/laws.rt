@@ -12,7 +12,8 @@ pub fn the_grammar_is_heard()
 {}
 
 /// Whatever the bytes, what is heard of them are the messages of pieces that stand at their front, and the rest begins with no
-/// further piece that the connection takes. Without the prefix nothing is heard.
+/// further piece that the connection takes. A fault stands in the rest, and without one no whole piece begins it. Without the
+/// prefix nothing is heard.
 pub fn what_is_heard_is_in_the_grammar()
     ensures pieces { laws.what_is_heard_is_in_the_grammar }
     ensures prefix { laws.nothing_is_heard_without_the_prefix }

@@ -1,4 +1,5 @@
-use Rattle.message_frames.proofs.HeardPieces.{heard_pieces, unheard}
+use Rattle.message_frames.proofs.HeardPieces.{unheard}
+use Rattle.message_frames.proofs.HeardTexts.{heard_pieces}
 use Rattle.message_frames.proofs.laws.what_is_heard_is_in_the_grammar.Goals as goal
 
 pub returns-clause-pieces : goal.returns-clause-pieces
