@@ -1,0 +1,126 @@
+-- Reading a message from left to right: the message and the place behind it, or the first fault.
+use Rattle.std.specs.Prelude.{ℕ, zero, suc, ◌+◌, Bool, true, false, ◌&&◌, List, [], ◌∷◌, ◌++◌, length, map, Result, Ok, Err, nat_lt, nat_le, ◌==◌, if◌then◌else◌}
+use Rattle.std.specs.Int.{w32}
+use Rattle.partition_table.specs.declared.Row.{Row}
+use Rattle.partition_table.specs.declared.RowMember.{RowMember}
+use Rattle.partition_table.specs.Rows.{is_among, number_of}
+use Rattle.member_wire.specs.declared.message.MemberMessage.{MemberMessage}
+use Rattle.member_wire.specs.declared.message.MemberMessage.TheVariants as said
+use Rattle.member_wire.specs.declared.refusal.WireRefused.{WireRefused}
+use Rattle.member_wire.specs.declared.refusal.WireRefused.TheVariants.{Tag, Order}
+use Rattle.member_wire.specs.declared.kinds.TheConstants.{ROW, SYNC, EFFECT, ACK, JOINED, FREEZE, FROZEN, BRIDGE}
+use Rattle.member_wire.specs.Places.{Place, start}
+use Rattle.member_wire.specs.Parts.{◌>>=◌, byte_at, number_at, sized_at, mark_at, end_at}
+
+-- a lost row has no members, and another row has 1 to 8
+abbrev pub is_count : Bool → ℕ → Bool
+is_count true count = count == 0
+is_count false count = nat_lt 0 count && nat_le count 8
+
+-- No member stands twice in a row: its number is out of order where an earlier one has it.
+abbrev pub new_member_at : List RowMember → Place → Result (ℕ × Place) WireRefused
+new_member_at listed p = do
+  member ← byte_at p
+  if is_among (map number_of listed) member.0 then Err (Order p.at) else Ok member
+
+-- the next member of a row that has these already
+unfoldable pub member_at : List RowMember → Place → Result (RowMember × Place) WireRefused
+member_at listed p = do
+  member ← new_member_at listed p
+  eligible ← mark_at member.1
+  Ok (record { member = member.0; eligible = eligible.0 }, eligible.1)
+
+-- so many more members of a row that has these already
+unfoldable pub members_at : List RowMember → ℕ → Place → Result (List RowMember × Place) WireRefused
+members_at listed zero p = Ok (listed, p)
+members_at listed (suc count) p = do
+  member ← member_at listed p
+  members_at (listed ++ member.0 ∷ []) count member.1
+
+-- how many members the row has, which has to suit its lost mark
+abbrev pub count_at : Bool → Place → Result (ℕ × Place) WireRefused
+count_at lost p = do
+  count ← byte_at p
+  if is_count lost count.0 then Ok count else Err (Order p.at)
+
+unfoldable pub row_at : Place → Result (Row × Place) WireRefused
+row_at p = do
+  version ← number_at w32 p
+  reset ← number_at w32 version.1
+  lost ← mark_at reset.1
+  count ← count_at lost.0 lost.1
+  members ← members_at [] count.0 count.1
+  Ok (record { version = version.0; reset = reset.0; lost = lost.0; members = members.0 }, members.1)
+
+unfoldable pub row_message_at : Place → Result (MemberMessage × Place) WireRefused
+row_message_at p = do
+  row ← row_at p
+  Ok (said.Row row.0, row.1)
+
+unfoldable pub sync_at : Place → Result (MemberMessage × Place) WireRefused
+sync_at p = do
+  row ← row_at p
+  count ← number_at w32 row.1
+  snapshot ← sized_at count.1
+  Ok (said.Sync row.0 count.0 snapshot.0, snapshot.1)
+
+unfoldable pub effect_at : Place → Result (MemberMessage × Place) WireRefused
+effect_at p = do
+  version ← number_at w32 p
+  number ← number_at w32 version.1
+  effect ← sized_at number.1
+  Ok (said.Effect version.0 number.0 effect.0, effect.1)
+
+unfoldable pub ack_at : Place → Result (MemberMessage × Place) WireRefused
+ack_at p = do
+  version ← number_at w32 p
+  count ← number_at w32 version.1
+  Ok (said.Ack version.0 count.0, count.1)
+
+unfoldable pub joined_at : Place → Result (MemberMessage × Place) WireRefused
+joined_at p = do
+  version ← number_at w32 p
+  member ← byte_at version.1
+  Ok (said.Joined version.0 member.0, member.1)
+
+unfoldable pub freeze_at : Place → Result (MemberMessage × Place) WireRefused
+freeze_at p = do
+  version ← number_at w32 p
+  Ok (said.Freeze version.0, version.1)
+
+unfoldable pub frozen_at : Place → Result (MemberMessage × Place) WireRefused
+frozen_at p = do
+  version ← number_at w32 p
+  Ok (said.Frozen version.0, version.1)
+
+unfoldable pub bridge_at : Place → Result (MemberMessage × Place) WireRefused
+bridge_at p = do
+  row ← row_at p
+  base ← number_at w32 row.1
+  count ← number_at w32 base.1
+  Ok (said.Bridge row.0 base.0 count.0, count.1)
+
+-- the fields of a message of that kind, whose byte is at that place
+unfoldable pub fields_at : ℕ → ℕ → Place → Result (MemberMessage × Place) WireRefused
+fields_at at kind p =
+    if kind == ROW then row_message_at p
+    else if kind == SYNC then sync_at p
+    else if kind == EFFECT then effect_at p
+    else if kind == ACK then ack_at p
+    else if kind == JOINED then joined_at p
+    else if kind == FREEZE then freeze_at p
+    else if kind == FROZEN then frozen_at p
+    else if kind == BRIDGE then bridge_at p
+    else Err (Tag at)
+
+unfoldable pub message_at : Place → Result (MemberMessage × Place) WireRefused
+message_at p = do
+  kind ← byte_at p
+  fields_at p.at kind.0 kind.1
+
+-- the message that the bytes are, all of them
+unfoldable pub reading : List ℕ → Result MemberMessage WireRefused
+reading bytes = do
+  message ← message_at (start bytes)
+  place ← end_at message.1
+  Ok message.0

@@ -1,0 +1,33 @@
+use grid_base::{Bytes, MemberId};
+use partition_table::Row;
+
+/// What the members of a partition and the table service say to one another.
+///
+/// Contents travel as bytes, which only a shelf looks into.
+#[derive(Debug, Drop)]
+pub enum MemberMessage {
+    /// The service made this row.
+    Row { row: Row },
+    /// The primary's contents, whole, as they are in the row's version after so many effects.
+    Sync {
+        row: Row,
+        count: u32,
+        snapshot: Bytes,
+    },
+    /// The effect of that number in a version.
+    Effect {
+        version: u32,
+        number: u32,
+        effect: Bytes,
+    },
+    /// The sender has that version's contents after so many effects.
+    Ack { version: u32, count: u32 },
+    /// A joiner of that version has its contents.
+    Joined { version: u32, member: MemberId },
+    /// The primary of that version is to execute no more.
+    Freeze { version: u32 },
+    /// The primary of that version executes no more, and holds no answer.
+    Frozen { version: u32 },
+    /// The row's version began with what the base version had after so many effects.
+    Bridge { row: Row, base: u32, count: u32 },
+}

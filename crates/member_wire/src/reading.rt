@@ -1,0 +1,193 @@
+ghost use Rattle.std.specs.Prelude.{◌≡◌, map, []};
+ghost use Rattle.partition_table.specs.Rows.{is_among, number_of};
+ghost use Rattle.member_wire.specs.Places.{Place};
+ghost use Rattle.member_wire.specs.Parts.{Gives};
+ghost use Rattle.member_wire.specs.Reading.{is_count, member_at, members_at, row_at, sync_at, effect_at, ack_at, joined_at, freeze_at, frozen_at, bridge_at, fields_at, message_at, reading};
+
+use crate::cursor::Cursor;
+use crate::kinds;
+use crate::message::MemberMessage;
+use crate::refusal::WireRefused;
+use grid_base::{Bytes, MemberId};
+use partition_table::{Row, RowMember, RowMembers};
+use std::alloc::Global;
+
+/// The most members that a row can have.
+pub const MAX_MEMBERS: usize = 8;
+
+fn is_listed(listed: &[RowMember], member: MemberId) -> bool
+    ensures { result ≡ is_among (map number_of listed.now) member }
+{
+    listed
+        .iter()
+        .map(|earlier| earlier.member)
+        .any(|earlier| member == earlier)
+}
+
+/// A lost row has no members, and another row has some.
+fn is_count(lost: bool, count: u8) -> bool
+    ensures { result ≡ is_count lost count }
+{
+    if lost {
+        count == 0
+    } else {
+        0 < count && count as usize <= MAX_MEMBERS
+    }
+}
+
+/// The next member of a row that has these already.
+#[tactic(auto, unfolding(crate::specs::Reading::member_at))]
+fn read_row_member(
+    listed: &[RowMember],
+    from: &mut Cursor<'_>,
+) -> Result<RowMember, WireRefused>
+    ensures { Gives (λ member. (member, from.new)) result (member_at listed.now from.old) }
+{
+    let at = from.at();
+    let member = from.byte()?;
+    if is_listed(listed, member) {
+        return Err(WireRefused::Order { at });
+    }
+    let eligible = from.mark()?;
+    Ok(RowMember { member, eligible })
+}
+
+fn read_row_members(
+    alloc: Global,
+    count: u8,
+    from: &mut Cursor<'_>,
+) -> Result<RowMembers, WireRefused>
+    ensures { Gives (λ members. (members, from.new)) result (members_at [] count from.old) }
+{
+    let mut listed = Vec::with_capacity(alloc, count as usize)?;
+    for _ in 0..count {
+        let member = read_row_member(listed.as_slice(), from)?;
+        listed.push(member)?;
+    }
+    Ok(RowMembers::from_vec(listed))
+}
+
+#[tactic(auto, unfolding(crate::specs::Reading::row_at))]
+fn read_row(alloc: Global, from: &mut Cursor<'_>) -> Result<Row, WireRefused>
+    ensures { Gives (λ row. (row, from.new)) result (row_at from.old) }
+{
+    let version = from.number()?;
+    let reset = from.number()?;
+    let lost = from.mark()?;
+    let at = from.at();
+    let count = from.byte()?;
+    if !is_count(lost, count) {
+        return Err(WireRefused::Order { at });
+    }
+    let members = read_row_members(alloc, count, from)?;
+    Ok(Row {
+        version,
+        reset,
+        lost,
+        members,
+    })
+}
+
+#[tactic(auto, unfolding(crate::specs::Reading::sync_at))]
+fn read_sync(alloc: Global, from: &mut Cursor<'_>) -> Result<MemberMessage, WireRefused>
+    ensures { Gives (λ sync. (sync, from.new)) result (sync_at from.old) }
+{
+    let row = read_row(alloc, from)?;
+    let count = from.number()?;
+    let snapshot = Bytes::copied_from(alloc, from.sized()?)?;
+    Ok(MemberMessage::Sync {
+        row,
+        count,
+        snapshot,
+    })
+}
+
+#[tactic(auto, unfolding(crate::specs::Reading::effect_at))]
+fn read_effect(alloc: Global, from: &mut Cursor<'_>) -> Result<MemberMessage, WireRefused>
+    ensures { Gives (λ effect. (effect, from.new)) result (effect_at from.old) }
+{
+    let version = from.number()?;
+    let number = from.number()?;
+    let effect = Bytes::copied_from(alloc, from.sized()?)?;
+    Ok(MemberMessage::Effect {
+        version,
+        number,
+        effect,
+    })
+}
+
+#[tactic(auto, unfolding(crate::specs::Reading::ack_at))]
+fn read_ack(from: &mut Cursor<'_>) -> Result<MemberMessage, WireRefused>
+    ensures { Gives (λ ack. (ack, from.new)) result (ack_at from.old) }
+{
+    let version = from.number()?;
+    let count = from.number()?;
+    Ok(MemberMessage::Ack { version, count })
+}
+
+#[tactic(auto, unfolding(crate::specs::Reading::joined_at))]
+fn read_joined(from: &mut Cursor<'_>) -> Result<MemberMessage, WireRefused>
+    ensures { Gives (λ joined. (joined, from.new)) result (joined_at from.old) }
+{
+    let version = from.number()?;
+    let member = from.byte()?;
+    Ok(MemberMessage::Joined { version, member })
+}
+
+#[tactic(auto, unfolding(crate::specs::Reading::bridge_at))]
+fn read_bridge(alloc: Global, from: &mut Cursor<'_>) -> Result<MemberMessage, WireRefused>
+    ensures { Gives (λ bridge. (bridge, from.new)) result (bridge_at from.old) }
+{
+    let row = read_row(alloc, from)?;
+    let base = from.number()?;
+    let count = from.number()?;
+    Ok(MemberMessage::Bridge { row, base, count })
+}
+
+/// The fields of a message of that kind, whose byte is at that place.
+#[tactic(auto, unfolding(crate::specs::Reading::fields_at, crate::specs::Reading::row_message_at, crate::specs::Reading::freeze_at, crate::specs::Reading::frozen_at))]
+fn read_fields(
+    alloc: Global,
+    at: usize,
+    kind: u8,
+    from: &mut Cursor<'_>,
+) -> Result<MemberMessage, WireRefused>
+    ensures { Gives (λ message. (message, from.new)) result (fields_at at kind from.old) }
+{
+    match kind {
+        kinds::ROW => Ok(MemberMessage::Row {
+            row: read_row(alloc, from)?,
+        }),
+        kinds::SYNC => read_sync(alloc, from),
+        kinds::EFFECT => read_effect(alloc, from),
+        kinds::ACK => read_ack(from),
+        kinds::JOINED => read_joined(from),
+        kinds::FREEZE => Ok(MemberMessage::Freeze {
+            version: from.number()?,
+        }),
+        kinds::FROZEN => Ok(MemberMessage::Frozen {
+            version: from.number()?,
+        }),
+        kinds::BRIDGE => read_bridge(alloc, from),
+        _ => Err(WireRefused::Tag { at }),
+    }
+}
+
+#[tactic(auto, unfolding(crate::specs::Reading::message_at))]
+fn read_message(alloc: Global, from: &mut Cursor<'_>) -> Result<MemberMessage, WireRefused>
+    ensures { Gives (λ message. (message, from.new)) result (message_at from.old) }
+{
+    let at = from.at();
+    let kind = from.byte()?;
+    read_fields(alloc, at, kind, from)
+}
+
+#[tactic(auto, unfolding(crate::specs::Reading::reading))]
+fn read_all(alloc: Global, bytes: &[u8]) -> Result<MemberMessage, WireRefused>
+    ensures { Gives (λ message. message) result (reading bytes.now) }
+{
+    let mut from = Cursor::new(bytes);
+    let message = read_message(alloc, &mut from)?;
+    from.end()?;
+    Ok(message)
+}
