@@ -1,4 +1,5 @@
 pub mod Places
 pub mod Parts
+pub mod Kinds
 pub mod Reading
 pub mod Spelling

@@ -1,5 +1,5 @@
 -- Reading a message from left to right: the message and the place behind it, or the first fault.
-use Rattle.std.specs.Prelude.{ℕ, zero, suc, ◌+◌, Bool, true, false, ◌&&◌, List, [], ◌∷◌, ◌++◌, length, map, Result, Ok, Err, nat_lt, nat_le, ◌==◌, if◌then◌else◌}
+use Rattle.std.specs.Prelude.{ℕ, zero, suc, ◌+◌, Bool, true, false, ◌&&◌, List, [], ◌∷◌, ◌++◌, length, map, Option, Some, None, Result, Ok, Err, nat_lt, nat_le, ◌==◌, if◌then◌else◌}
 use Rattle.std.specs.Int.{w32}
 use Rattle.partition_table.specs.declared.Row.{Row}
 use Rattle.partition_table.specs.declared.RowMember.{RowMember}
@@ -8,14 +8,17 @@ use Rattle.member_wire.specs.declared.message.MemberMessage.{MemberMessage}
 use Rattle.member_wire.specs.declared.message.MemberMessage.TheVariants as said
 use Rattle.member_wire.specs.declared.refusal.WireRefused.{WireRefused}
 use Rattle.member_wire.specs.declared.refusal.WireRefused.TheVariants.{Tag, Order}
-use Rattle.member_wire.specs.declared.kinds.TheConstants.{ROW, SYNC, EFFECT, ACK, JOINED, FREEZE, FROZEN, BRIDGE}
+use Rattle.member_wire.specs.declared.kind.Kind.{Kind}
+use Rattle.member_wire.specs.declared.kind.Kind.TheVariants as kinds
+use Rattle.member_wire.specs.declared.reading.TheConstants.{MAX_MEMBERS}
+use Rattle.member_wire.specs.Kinds.{kind_of}
 use Rattle.member_wire.specs.Places.{Place, start}
 use Rattle.member_wire.specs.Parts.{◌>>=◌, byte_at, number_at, sized_at, mark_at, end_at}
 
 -- a lost row has no members, and another row has 1 to 8
 abbrev pub is_count : Bool → ℕ → Bool
 is_count true count = count == 0
-is_count false count = nat_lt 0 count && nat_le count 8
+is_count false count = nat_lt 0 count && nat_le count MAX_MEMBERS
 
 -- No member stands twice in a row: its number is out of order where an earlier one has it.
 abbrev pub new_member_at : List RowMember → Place → Result (ℕ × Place) WireRefused
@@ -100,27 +103,34 @@ bridge_at p = do
   count ← number_at w32 base.1
   Ok (said.Bridge row.0 base.0 count.0, count.1)
 
--- the fields of a message of that kind, whose byte is at that place
-unfoldable pub fields_at : ℕ → ℕ → Place → Result (MemberMessage × Place) WireRefused
-fields_at at kind p =
-    if kind == ROW then row_message_at p
-    else if kind == SYNC then sync_at p
-    else if kind == EFFECT then effect_at p
-    else if kind == ACK then ack_at p
-    else if kind == JOINED then joined_at p
-    else if kind == FREEZE then freeze_at p
-    else if kind == FROZEN then frozen_at p
-    else if kind == BRIDGE then bridge_at p
-    else Err (Tag at)
+-- the kind of a message, whose byte has to be that of one
+abbrev pub known_kind : ℕ → Option Kind → Place → Result (Kind × Place) WireRefused
+known_kind at None p = Err (Tag at)
+known_kind at (Some kind) p = Ok (kind, p)
+
+abbrev pub kind_at : Place → Result (Kind × Place) WireRefused
+kind_at p = do
+  byte ← byte_at p
+  known_kind p.at (kind_of byte.0) byte.1
+
+abbrev pub fields_at : Kind → Place → Result (MemberMessage × Place) WireRefused
+fields_at kinds.Row p = row_message_at p
+fields_at kinds.Sync p = sync_at p
+fields_at kinds.Effect p = effect_at p
+fields_at kinds.Ack p = ack_at p
+fields_at kinds.Joined p = joined_at p
+fields_at kinds.Freeze p = freeze_at p
+fields_at kinds.Frozen p = frozen_at p
+fields_at kinds.Bridge p = bridge_at p
 
 unfoldable pub message_at : Place → Result (MemberMessage × Place) WireRefused
 message_at p = do
-  kind ← byte_at p
-  fields_at p.at kind.0 kind.1
+  kind ← kind_at p
+  fields_at kind.0 kind.1
 
 -- the message that the bytes are, all of them
 unfoldable pub reading : List ℕ → Result MemberMessage WireRefused
 reading bytes = do
   message ← message_at (start bytes)
-  place ← end_at message.1
+  end ← end_at message.1
   Ok message.0

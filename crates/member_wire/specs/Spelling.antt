@@ -6,7 +6,9 @@ use Rattle.partition_table.specs.declared.RowMember.{RowMember}
 use Rattle.partition_table.specs.RowFacts.{HasDistinctMembers}
 use Rattle.member_wire.specs.declared.message.MemberMessage.{MemberMessage}
 use Rattle.member_wire.specs.declared.message.MemberMessage.TheVariants as said
-use Rattle.member_wire.specs.declared.kinds.TheConstants.{ROW, SYNC, EFFECT, ACK, JOINED, FREEZE, FROZEN, BRIDGE}
+use Rattle.member_wire.specs.declared.kind.Kind.{Kind}
+use Rattle.member_wire.specs.declared.kind.Kind.TheVariants as kinds
+use Rattle.member_wire.specs.Kinds.{kind_byte}
 use Rattle.member_wire.specs.Parts.{number, sized, mark}
 use Rattle.member_wire.specs.Reading.{is_count}
 
@@ -17,16 +19,29 @@ member_bytes r = r.member ∷ mark r.eligible
 abbrev pub row_bytes : Row → List ℕ
 row_bytes row = number row.version ++ number row.reset ++ mark row.lost ++ (length row.members ∷ flat_map member_bytes row.members)
 
--- a message's kind and its fields
+abbrev pub kind_of_message : MemberMessage → Kind
+kind_of_message (said.Row row) = kinds.Row
+kind_of_message (said.Sync row count snapshot) = kinds.Sync
+kind_of_message (said.Effect version number' effect) = kinds.Effect
+kind_of_message (said.Ack version count) = kinds.Ack
+kind_of_message (said.Joined version member) = kinds.Joined
+kind_of_message (said.Freeze version) = kinds.Freeze
+kind_of_message (said.Frozen version) = kinds.Frozen
+kind_of_message (said.Bridge row base count) = kinds.Bridge
+
+abbrev pub field_bytes : MemberMessage → List ℕ
+field_bytes (said.Row row) = row_bytes row
+field_bytes (said.Sync row count snapshot) = row_bytes row ++ number count ++ sized snapshot
+field_bytes (said.Effect version number' effect) = number version ++ number number' ++ sized effect
+field_bytes (said.Ack version count) = number version ++ number count
+field_bytes (said.Joined version member) = number version ++ member ∷ []
+field_bytes (said.Freeze version) = number version
+field_bytes (said.Frozen version) = number version
+field_bytes (said.Bridge row base count) = row_bytes row ++ number base ++ number count
+
+-- a message's kind, and then its fields
 abbrev pub spelling : MemberMessage → List ℕ
-spelling (said.Row row) = ROW ∷ row_bytes row
-spelling (said.Sync row count snapshot) = SYNC ∷ row_bytes row ++ number count ++ sized snapshot
-spelling (said.Effect version number' effect) = EFFECT ∷ number version ++ number number' ++ sized effect
-spelling (said.Ack version count) = ACK ∷ number version ++ number count
-spelling (said.Joined version member) = JOINED ∷ number version ++ member ∷ []
-spelling (said.Freeze version) = FREEZE ∷ number version
-spelling (said.Frozen version) = FROZEN ∷ number version
-spelling (said.Bridge row base count) = BRIDGE ∷ row_bytes row ++ number base ++ number count
+spelling m = kind_byte (kind_of_message m) ∷ field_bytes m
 
 -- What has a spelling: numbers within their ranges, and rows of 1 to 8 members, each once, or lost and of none.
 

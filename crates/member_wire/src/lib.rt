@@ -2,11 +2,15 @@
 #![tactic(auto)]
 
 mod cursor;
-pub mod kinds;
+mod kind;
 mod message;
 mod reading;
 mod refusal;
+mod writing;
 
 pub use cursor::Cursor;
+pub use kind::Kind;
 pub use message::MemberMessage;
+pub use reading::MAX_MEMBERS;
 pub use refusal::WireRefused;
+pub use writing::write_member;

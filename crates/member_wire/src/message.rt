@@ -1,3 +1,4 @@
+use crate::kind::Kind;
 use grid_base::{Bytes, MemberId};
 use partition_table::Row;
 
@@ -30,4 +31,24 @@ pub enum MemberMessage {
     Frozen { version: u32 },
     /// The row's version began with what the base version had after so many effects.
     Bridge { row: Row, base: u32, count: u32 },
+}
+
+impl MemberMessage {
+    ghost use Rattle.std.specs.Prelude.{◌≡◌};
+    ghost use Rattle.member_wire.specs.Spelling.{kind_of_message};
+
+    pub fn kind(&self) -> Kind
+        ensures { result ≡ kind_of_message self.now }
+    {
+        match self {
+            MemberMessage::Row { .. } => Kind::Row,
+            MemberMessage::Sync { .. } => Kind::Sync,
+            MemberMessage::Effect { .. } => Kind::Effect,
+            MemberMessage::Ack { .. } => Kind::Ack,
+            MemberMessage::Joined { .. } => Kind::Joined,
+            MemberMessage::Freeze { .. } => Kind::Freeze,
+            MemberMessage::Frozen { .. } => Kind::Frozen,
+            MemberMessage::Bridge { .. } => Kind::Bridge,
+        }
+    }
 }

@@ -2,10 +2,10 @@ ghost use Rattle.std.specs.Prelude.{◌≡◌, map, []};
 ghost use Rattle.partition_table.specs.Rows.{is_among, number_of};
 ghost use Rattle.member_wire.specs.Places.{Place};
 ghost use Rattle.member_wire.specs.Parts.{Gives};
-ghost use Rattle.member_wire.specs.Reading.{is_count, member_at, members_at, row_at, sync_at, effect_at, ack_at, joined_at, freeze_at, frozen_at, bridge_at, fields_at, message_at, reading};
+ghost use Rattle.member_wire.specs.Reading.{is_count, member_at, members_at, row_at, sync_at, effect_at, ack_at, joined_at, freeze_at, frozen_at, bridge_at, kind_at, fields_at, message_at, reading};
 
 use crate::cursor::Cursor;
-use crate::kinds;
+use crate::kind::Kind;
 use crate::message::MemberMessage;
 use crate::refusal::WireRefused;
 use grid_base::{Bytes, MemberId};
@@ -144,32 +144,39 @@ fn read_bridge(alloc: Global, from: &mut Cursor<'_>) -> Result<MemberMessage, Wi
     Ok(MemberMessage::Bridge { row, base, count })
 }
 
-/// The fields of a message of that kind, whose byte is at that place.
-#[tactic(auto, unfolding(crate::specs::Reading::fields_at, crate::specs::Reading::row_message_at, crate::specs::Reading::freeze_at, crate::specs::Reading::frozen_at))]
+#[tactic(auto, unfolding(crate::specs::Reading::row_message_at, crate::specs::Reading::freeze_at, crate::specs::Reading::frozen_at))]
 fn read_fields(
     alloc: Global,
-    at: usize,
-    kind: u8,
+    kind: Kind,
     from: &mut Cursor<'_>,
 ) -> Result<MemberMessage, WireRefused>
-    ensures { Gives (λ message. (message, from.new)) result (fields_at at kind from.old) }
+    ensures { Gives (λ message. (message, from.new)) result (fields_at kind from.old) }
 {
     match kind {
-        kinds::ROW => Ok(MemberMessage::Row {
+        Kind::Row => Ok(MemberMessage::Row {
             row: read_row(alloc, from)?,
         }),
-        kinds::SYNC => read_sync(alloc, from),
-        kinds::EFFECT => read_effect(alloc, from),
-        kinds::ACK => read_ack(from),
-        kinds::JOINED => read_joined(from),
-        kinds::FREEZE => Ok(MemberMessage::Freeze {
+        Kind::Sync => read_sync(alloc, from),
+        Kind::Effect => read_effect(alloc, from),
+        Kind::Ack => read_ack(from),
+        Kind::Joined => read_joined(from),
+        Kind::Freeze => Ok(MemberMessage::Freeze {
             version: from.number()?,
         }),
-        kinds::FROZEN => Ok(MemberMessage::Frozen {
+        Kind::Frozen => Ok(MemberMessage::Frozen {
             version: from.number()?,
         }),
-        kinds::BRIDGE => read_bridge(alloc, from),
-        _ => Err(WireRefused::Tag { at }),
+        Kind::Bridge => read_bridge(alloc, from),
+    }
+}
+
+fn read_kind(from: &mut Cursor<'_>) -> Result<Kind, WireRefused>
+    ensures { Gives (λ kind. (kind, from.new)) result (kind_at from.old) }
+{
+    let at = from.at();
+    match Kind::of_byte(from.byte()?) {
+        None => Err(WireRefused::Tag { at }),
+        Some(kind) => Ok(kind),
     }
 }
 
@@ -177,9 +184,8 @@ fn read_fields(
 fn read_message(alloc: Global, from: &mut Cursor<'_>) -> Result<MemberMessage, WireRefused>
     ensures { Gives (λ message. (message, from.new)) result (message_at from.old) }
 {
-    let at = from.at();
-    let kind = from.byte()?;
-    read_fields(alloc, at, kind, from)
+    let kind = read_kind(from)?;
+    read_fields(alloc, kind, from)
 }
 
 #[tactic(auto, unfolding(crate::specs::Reading::reading))]
