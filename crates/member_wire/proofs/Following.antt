@@ -1,11 +1,12 @@
 -- A format behind another: the second may depend on what the first read.
 use Rattle.std.proofs.Common.{◌≡◌, ℕ, ◌+◌, ◌≤◌, ◌<◌, List, [], ◌++◌, length, take, Result, Ok, Err, refl, sym, ap, subst, ◌∙◌, ◌⊎◌, ⊎_elim, inl, inr, append_assoc, length-append, add-zero, arith}
 use Rattle.std.proofs.Math.Seq.{take-append-add}
+use Rattle.std.proofs.lemmas.List.{append-nil}
 use Rattle.member_wire.specs.declared.refusal.WireRefused.{WireRefused}
 use Rattle.member_wire.specs.declared.refusal.WireRefused.TheVariants.{Short, Tag, Order, Rest, Memory}
 use Rattle.member_wire.specs.Places.{Place}
 use Rattle.member_wire.specs.Parts.{◌>>=◌}
-use Rattle.member_wire.proofs.Formats.{IsBytes, Reader, place, gives, ok_is, Begins, BeginsNone, EndsInside, FailsAt, Fault, Takes, IsFormat, one_text}
+use Rattle.member_wire.proofs.Formats.{IsBytes, Reader, place, gives, ok_is, Begins, BeginsNone, EndsInside, FailsAt, Fault, Takes, IsFormat, one_text, said_as}
 
 -- the value of a step that did not fail
 pub bind_ok : {A B : Type 0} (r : Result A WireRefused) (f : A → Result B WireRefused) (y : B) → (r >>= f) ≡ Ok y → (x : A) × (r ≡ Ok x) × (f x ≡ Ok y)
@@ -165,3 +166,23 @@ ended {C} is = record {
         let value : is ≡ c = ap (λ (got : C × Place). got.0) pair in
         let stays : p ≡ q = ap (λ (got : C × Place). got.1) pair in
         subst (λ (r : Place). Takes (IsDone is) p c r) stays (record { text = []; spells = record { value = sym value; empty = refl }; parts = refl; moved = sym (add-zero p.at); bytes = bytes })
+
+-- ---- a value is made of what is read
+
+pub record Made {A C : Type 0} (make : A → C) (SA : A → List ℕ → Type 0) (c : C) (text : List ℕ) : Type 0 where
+  pub first : A
+  pub spells : SA first text
+  pub value : c ≡ make first
+
+pub made : {A C : Type 0} (make : A → C) (RA : Reader A) (SA : A → List ℕ → Type 0) → IsFormat RA SA → IsFormat (λ p. RA p >>= λ x. Ok (make x.0, x.1)) (Made make SA)
+made {A} {C} make RA SA f =
+    said_as (λ p. RA p >>= λ x. Ok (make x.0, x.1)) (Follows SA (λ a. IsDone (make a))) (Made make SA) to from
+    (followed RA SA (λ a p. Ok (make a, p)) (λ a. IsDone (make a)) f (λ a text s. ended (make a)))
+  where
+    to : (c : C) (text : List ℕ) → Follows SA (λ a. IsDone (make a)) c text → Made make SA c text
+    to c text s =
+        let same : text ≡ s.front = s.whole ∙ ap (λ (t : List ℕ). s.front ++ t) s.is_back.empty ∙ append-nil s.front in
+        record { first = s.first; spells = subst (SA s.first) (sym same) s.is_front; value = s.is_back.value }
+
+    from : (c : C) (text : List ℕ) → Made make SA c text → Follows SA (λ a. IsDone (make a)) c text
+    from c text s = record { first = s.first; front = text; back = []; is_front = s.spells; is_back = record { value = s.value; empty = refl }; whole = sym (append-nil text) }

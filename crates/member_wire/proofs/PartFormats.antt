@@ -69,17 +69,17 @@ byte_taken at (b ∷ rest) q byte bytes e =
 byte_some : Begins SpellsByte []
 byte_some = record { value = 0; text = 0 ∷ []; spells = record { fits = omega arith; is = refl }; rest = 0 ∷ []; whole = refl }
 
-byte_fault : (at : ℕ) (rest : List ℕ) (e : WireRefused) → first_of at rest ≡ Err e → Fault SpellsByte (place at rest) e
-byte_fault at [] e is =
-    let same : Short at ≡ e = cc in subst (Fault SpellsByte (place at [])) same (record { from = omega arith; to = omega arith; begins = byte_some })
-byte_fault at (b ∷ rest) e is = absurd cc
+-- where there is no byte, some value begins
+pub no_byte : {C : Type 0} (S : C → List ℕ → Type 0) → Begins S [] → (at : ℕ) (rest : List ℕ) (e : WireRefused) → first_of at rest ≡ Err e → Fault S (place at rest) e
+no_byte S some at [] e is = let same : Short at ≡ e = cc in subst (Fault S (place at [])) same (record { from = omega arith; to = omega arith; begins = some })
+no_byte S some at (b ∷ rest) e is = absurd cc
 
 pub byte_format : IsFormat byte_at SpellsByte
 byte_format = record {
   takes = λ p q byte bytes e. byte_taken p.at p.rest q byte bytes e;
   again = λ at byte text rest s. rw s.is refl;
   some = byte_some;
-  faults = λ p e bytes is. byte_fault p.at p.rest e is;
+  faults = λ p e bytes is. no_byte SpellsByte byte_some p.at p.rest e is;
 }
 
 -- ---- a number
@@ -162,8 +162,7 @@ no_mark b true t u same = absurd (let first : suc (suc b) ≡ 1 = cc in omega (a
 no_mark b false t u same = absurd (let first : suc (suc b) ≡ 0 = cc in omega (arith, first))
 
 mark_fault : (at : ℕ) (rest : List ℕ) (e : WireRefused) → marking at rest ≡ Err e → Fault SpellsMark (place at rest) e
-mark_fault at [] e is =
-    let same : Short at ≡ e = cc in subst (Fault SpellsMark (place at [])) same (record { from = omega arith; to = omega arith; begins = mark_some })
+mark_fault at [] e is = no_byte SpellsMark mark_some at [] e (let same : Short at ≡ e = cc in ap Err same)
 mark_fault at (zero ∷ rest) e is = absurd cc
 mark_fault at (suc zero ∷ rest) e is = absurd cc
 mark_fault at (suc (suc b) ∷ rest) e is =

@@ -1,5 +1,5 @@
 -- Reading a message from left to right: the message and the place behind it, or the first fault.
-use Rattle.std.specs.Prelude.{ℕ, zero, suc, ◌+◌, Bool, true, false, ◌&&◌, List, [], ◌∷◌, ◌++◌, length, map, Option, Some, None, Result, Ok, Err, nat_lt, nat_le, ◌==◌, if◌then◌else◌}
+use Rattle.std.specs.Prelude.{ℕ, zero, suc, ◌+◌, Bool, true, false, ◌&&◌, not, List, [], ◌∷◌, ◌++◌, length, map, Option, Some, None, Result, Ok, Err, nat_lt, nat_le, ◌==◌, if◌then◌else◌}
 use Rattle.std.specs.Int.{w32}
 use Rattle.partition_table.specs.declared.Row.{Row}
 use Rattle.partition_table.specs.declared.RowMember.{RowMember}
@@ -20,16 +20,20 @@ abbrev pub is_count : Bool → ℕ → Bool
 is_count true count = count == 0
 is_count false count = nat_lt 0 count && nat_le count MAX_MEMBERS
 
--- No member stands twice in a row: its number is out of order where an earlier one has it.
-abbrev pub new_member_at : List RowMember → Place → Result (ℕ × Place) WireRefused
-new_member_at listed p = do
-  member ← byte_at p
-  if is_among (map number_of listed) member.0 then Err (Order p.at) else Ok member
+-- a byte that has to pass a test, and is out of order where it doesn't
+abbrev pub fitting_at : (ℕ → Bool) → Place → Result (ℕ × Place) WireRefused
+fitting_at fits p = do
+  byte ← byte_at p
+  if fits byte.0 then Ok byte else Err (Order p.at)
+
+-- no member stands twice in a row
+abbrev pub is_new : List RowMember → ℕ → Bool
+is_new listed member = not (is_among (map number_of listed) member)
 
 -- the next member of a row that has these already
 unfoldable pub member_at : List RowMember → Place → Result (RowMember × Place) WireRefused
 member_at listed p = do
-  member ← new_member_at listed p
+  member ← fitting_at (is_new listed) p
   eligible ← mark_at member.1
   Ok (record { member = member.0; eligible = eligible.0 }, eligible.1)
 
@@ -40,18 +44,12 @@ members_at listed (suc count) p = do
   member ← member_at listed p
   members_at (listed ++ member.0 ∷ []) count member.1
 
--- how many members the row has, which has to suit its lost mark
-abbrev pub count_at : Bool → Place → Result (ℕ × Place) WireRefused
-count_at lost p = do
-  count ← byte_at p
-  if is_count lost count.0 then Ok count else Err (Order p.at)
-
 unfoldable pub row_at : Place → Result (Row × Place) WireRefused
 row_at p = do
   version ← number_at w32 p
   reset ← number_at w32 version.1
   lost ← mark_at reset.1
-  count ← count_at lost.0 lost.1
+  count ← fitting_at (is_count lost.0) lost.1
   members ← members_at [] count.0 count.1
   Ok (record { version = version.0; reset = reset.0; lost = lost.0; members = members.0 }, members.1)
 
