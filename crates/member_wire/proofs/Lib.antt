@@ -2,6 +2,7 @@ pub mod Following
 pub mod Formats
 pub mod Lengths
 pub mod Loop
+pub mod Members
 pub mod NewNumbers
 pub mod PartFormats
 pub mod RowFormat
