@@ -3,6 +3,7 @@ pub mod Formats
 pub mod Lengths
 pub mod Loop
 pub mod Members
+pub mod MessageFormat
 pub mod NewNumbers
 pub mod PartFormats
 pub mod RowFormat

@@ -198,7 +198,7 @@ row_of version reset lost members = record { version = version; reset = reset; l
 abbrev RowParts : Row → List ℕ → Type 0
 RowParts = Follows SpellsNumber (λ v. Follows SpellsNumber (λ r. Follows SpellsMark (λ l. Follows (SpellsFitting (is_count l)) (λ n. Made (row_of v r l) (SpellsMembers n)))))
 
-both : {a b c d : List ℕ} → a ≡ b → c ≡ d → a ++ c ≡ b ++ d
+pub both : {a b c d : List ℕ} → a ≡ b → c ≡ d → a ++ c ≡ b ++ d
 both {a} {b} {c} {d} one two = ap (λ (x : List ℕ). x ++ c) one ∙ ap (λ (x : List ℕ). b ++ x) two
 
 some_count : (lost : Bool) → (n : ℕ) × IsByte n × (is_count lost n ≡ true)
