@@ -139,3 +139,130 @@ fields_format kinds.Bridge =
     (λ row. Follows SpellsNumber (λ base. Made (said.Bridge row base) SpellsNumber)) row_format
     (λ row text s. before_rest (λ base p. number_at w32 p >>= λ count. Ok (said.Bridge row base count.0, count.1)) (λ base. Made (said.Bridge row base) SpellsNumber)
       (λ base. made (said.Bridge row base) (number_at w32) SpellsNumber number_format))
+
+-- ---- a message
+
+-- what its fields are, of its kind
+record IsOfKind (kind : Kind) (m : MemberMessage) (text : List ℕ) : Type 0 where
+  kind_is : kind_of_message m ≡ kind
+  fits : IsSpelled m
+  is : text ≡ field_bytes m
+
+three : (text a b c d e f : List ℕ) → text ≡ a ++ b → a ≡ d → b ≡ c ++ e → c ≡ f → text ≡ (d ++ f) ++ e
+three text a b c d e f whole one rest two = whole ∙ both one (rest ∙ both two refl) ∙ sym (append_assoc d f e)
+
+to_fields : (kind : Kind) (m : MemberMessage) (text : List ℕ) → FieldsOf kind m text → IsOfKind kind m text
+to_fields kinds.Row m text s = subst (λ x. IsOfKind kinds.Row x text) (sym s.value) (record { kind_is = refl; fits = s.spells.fits; is = s.spells.is })
+to_fields kinds.Sync m text s =
+    let last = s.is_back.is_back in
+    subst (λ x. IsOfKind kinds.Sync x text) (sym last.value)
+    (record { kind_is = refl; fits = (s.is_front.fits, s.is_back.is_front.fits, last.spells.fits); is = three _ _ _ _ _ _ _ s.whole s.is_front.is (s.is_back.whole ∙ both refl last.spells.is) s.is_back.is_front.is })
+to_fields kinds.Effect m text s =
+    let last = s.is_back.is_back in
+    subst (λ x. IsOfKind kinds.Effect x text) (sym last.value)
+    (record { kind_is = refl; fits = (s.is_front.fits, s.is_back.is_front.fits, last.spells.fits); is = three _ _ _ _ _ _ _ s.whole s.is_front.is (s.is_back.whole ∙ both refl last.spells.is) s.is_back.is_front.is })
+to_fields kinds.Ack m text s =
+    subst (λ x. IsOfKind kinds.Ack x text) (sym s.is_back.value)
+    (record { kind_is = refl; fits = (s.is_front.fits, s.is_back.spells.fits); is = s.whole ∙ both s.is_front.is s.is_back.spells.is })
+to_fields kinds.Joined m text s =
+    subst (λ x. IsOfKind kinds.Joined x text) (sym s.is_back.value)
+    (record { kind_is = refl; fits = (s.is_front.fits, s.is_back.spells.fits); is = s.whole ∙ both s.is_front.is s.is_back.spells.is })
+to_fields kinds.Freeze m text s = subst (λ x. IsOfKind kinds.Freeze x text) (sym s.value) (record { kind_is = refl; fits = s.spells.fits; is = s.spells.is })
+to_fields kinds.Frozen m text s = subst (λ x. IsOfKind kinds.Frozen x text) (sym s.value) (record { kind_is = refl; fits = s.spells.fits; is = s.spells.is })
+to_fields kinds.Bridge m text s =
+    let last = s.is_back.is_back in
+    subst (λ x. IsOfKind kinds.Bridge x text) (sym last.value)
+    (record { kind_is = refl; fits = (s.is_front.fits, s.is_back.is_front.fits, last.spells.fits); is = three _ _ _ _ _ _ _ s.whole s.is_front.is (s.is_back.whole ∙ both refl last.spells.is) s.is_back.is_front.is })
+
+-- a value that fits, in its one spelling
+itself : {C : Type 0} {Fits : C → Type 0} (spelled : C → List ℕ) (c : C) → Fits c → Spells Fits spelled c (spelled c)
+itself spelled c fits = record { fits = fits; is = refl }
+
+from_fields : (m : MemberMessage) → IsSpelled m → FieldsOf (kind_of_message m) m (field_bytes m)
+from_fields (said.Row row) fits = record { first = row; spells = itself row_bytes row fits; value = refl }
+from_fields (said.Sync row count snapshot) fits = record {
+  first = row;
+  front = row_bytes row;
+  back = number count ++ sized snapshot;
+  is_front = itself row_bytes row fits.0;
+  is_back = record {
+    first = count;
+    front = number count;
+    back = sized snapshot;
+    is_front = itself number count fits.1;
+    is_back = record { first = snapshot; spells = itself sized snapshot fits.2; value = refl };
+    whole = refl;
+  };
+  whole = append_assoc (row_bytes row) (number count) (sized snapshot);
+}
+from_fields (said.Effect version number' effect) fits = record {
+  first = version;
+  front = number version;
+  back = number number' ++ sized effect;
+  is_front = itself number version fits.0;
+  is_back = record {
+    first = number';
+    front = number number';
+    back = sized effect;
+    is_front = itself number number' fits.1;
+    is_back = record { first = effect; spells = itself sized effect fits.2; value = refl };
+    whole = refl;
+  };
+  whole = append_assoc (number version) (number number') (sized effect);
+}
+from_fields (said.Ack version count) fits = record {
+  first = version;
+  front = number version;
+  back = number count;
+  is_front = itself number version fits.0;
+  is_back = record { first = count; spells = itself number count fits.1; value = refl };
+  whole = refl;
+}
+from_fields (said.Joined version member) fits = record {
+  first = version;
+  front = number version;
+  back = member ∷ [];
+  is_front = itself number version fits.0;
+  is_back = record { first = member; spells = itself (λ byte. byte ∷ []) member fits.1; value = refl };
+  whole = refl;
+}
+from_fields (said.Freeze version) fits = record { first = version; spells = itself number version fits; value = refl }
+from_fields (said.Frozen version) fits = record { first = version; spells = itself number version fits; value = refl }
+from_fields (said.Bridge row base count) fits = record {
+  first = row;
+  front = row_bytes row;
+  back = number base ++ number count;
+  is_front = itself row_bytes row fits.0;
+  is_back = record {
+    first = base;
+    front = number base;
+    back = number count;
+    is_front = itself number base fits.1;
+    is_back = record { first = count; spells = itself number count fits.2; value = refl };
+    whole = refl;
+  };
+  whole = append_assoc (row_bytes row) (number base) (number count);
+}
+
+abbrev pub SpellsMessage : MemberMessage → List ℕ → Type 0
+SpellsMessage = Spells IsSpelled spelling
+
+to_message : (m : MemberMessage) (text : List ℕ) → Follows SpellsKind FieldsOf m text → SpellsMessage m text
+to_message m text s =
+    let f = to_fields s.first m s.back s.is_back in
+    record { fits = f.fits; is = s.whole ∙ both (s.is_front.is ∙ ap (λ (k : Kind). kind_byte k ∷ []) (sym f.kind_is)) f.is }
+
+from_message : (m : MemberMessage) (text : List ℕ) → SpellsMessage m text → Follows SpellsKind FieldsOf m text
+from_message m text s = record {
+  first = kind_of_message m;
+  front = kind_byte (kind_of_message m) ∷ [];
+  back = field_bytes m;
+  is_front = record { fits = tt; is = refl };
+  is_back = from_fields m s.fits;
+  whole = s.is;
+}
+
+pub message_format : IsFormat message_at SpellsMessage
+unfolding message_at
+message_format =
+    said_as message_at (Follows SpellsKind FieldsOf) SpellsMessage to_message from_message (followed kind_at SpellsKind fields_at FieldsOf kind_format (λ k text s. fields_format k))
