@@ -8,3 +8,4 @@ pub mod NewNumbers
 pub mod PartFormats
 pub mod RowFormat
 pub mod SizedFormat
+pub mod WireLaws

@@ -3,6 +3,7 @@
 
 mod cursor;
 mod kind;
+pub mod laws;
 mod message;
 mod reading;
 mod refusal;
@@ -11,6 +12,6 @@ mod writing;
 pub use cursor::Cursor;
 pub use kind::Kind;
 pub use message::MemberMessage;
-pub use reading::MAX_MEMBERS;
+pub use reading::{MAX_MEMBERS, read_member};
 pub use refusal::WireRefused;
 pub use writing::write_member;

@@ -1,5 +1,8 @@
-ghost use Rattle.std.specs.Prelude.{◌≡◌, map, []};
+ghost use Rattle.std.specs.Prelude.{◌≡◌, map, [], Ok, IfOk, IfErr};
 ghost use Rattle.partition_table.specs.Rows.{is_among, number_of};
+ghost use Rattle.member_wire.specs.Faults.{IsFirstFault};
+ghost use Rattle.member_wire.specs.Spelling.{spelling, IsSpelled};
+ghost use Rattle.member_wire.specs.declared.message.MemberMessage.{MemberMessage as MemberMessageOf};
 ghost use Rattle.member_wire.specs.Places.{Place};
 ghost use Rattle.member_wire.specs.Parts.{Gives};
 ghost use Rattle.member_wire.specs.Reading.{is_count, member_at, members_at, row_at, sync_at, effect_at, ack_at, joined_at, freeze_at, frozen_at, bridge_at, kind_at, fields_at, message_at, reading};
@@ -196,4 +199,18 @@ fn read_all(alloc: Global, bytes: &[u8]) -> Result<MemberMessage, WireRefused>
     let message = read_message(alloc, &mut from)?;
     from.end()?;
     Ok(message)
+}
+
+/// The message that the bytes spell, all of them. Costs their length.
+pub fn read_member(alloc: Global, bytes: &[u8]) -> Result<MemberMessage, WireRefused>
+    // What is read is spelled so.
+    ensures found { IfOk result (λ m. IsSpelled m × (bytes.now ≡ spelling m)) }
+    // What is spelled so is read, unless memory runs out.
+    ensures only { (m : MemberMessageOf) → IsSpelled m → bytes.now ≡ spelling m → Gives (λ m. m) result (Ok m) }
+    // A refusal names the first place that fails.
+    ensures first { IfErr result (IsFirstFault bytes.now) }
+    // Which place and which fault it is.
+    ensures exact { Gives (λ m. m) result (reading bytes.now) }
+{
+    read_all(alloc, bytes)
 }
