@@ -139,8 +139,8 @@ module _ {A C : Type 0} (RA : Reader A) (SA : A → List ℕ → Type 0) (RB : A
   both_fault p e bytes is =
       ⊎_elim (λ first. first_fault p e (fa.faults p e bytes first))
       (λ second.
-        let one = fa.takes p second.0.1 second.0.0 bytes second.1 in
-        second_fault second.0.0 p second.0.1 one e ((fb second.0.0 one.text one.spells).faults second.0.1 e one.bytes second.2))
+      let one = fa.takes p second.0.1 second.0.0 bytes second.1 in
+      second_fault second.0.0 p second.0.1 one e ((fb second.0.0 one.text one.spells).faults second.0.1 e one.bytes second.2))
       (bind_err (RA p) (λ x. RB x.0 x.1) e is)
 
   pub followed : IsFormat (λ p. RA p >>= λ x. RB x.0 x.1) (Follows SA SB)

@@ -70,11 +70,12 @@ distinct_of_new listed [] new = (refl, λ m e. cc)
 distinct_of_new listed (r ∷ rs) new =
     let later = distinct_of_new (listed ++ r ∷ []) rs new.1 in
     let once : has rs r.member ≡ false =
-      ⊎_elim (λ there. absurd (false≢true (sym (out_of_pushed listed r r.member (later.1 r.member there)).1 ∙ same_number r.member))) (λ out. out) (true_or_false (has rs r.member)) in
-    (and_from _ _ (not_from_false _ once) later.0,
-    λ m there.
-      ⊎_elim (λ same. ap (has listed) (equal_numbers m r.member same) ∙ new.0.1)
-      (λ other. (out_of_pushed listed r m (later.1 m (rw other at there))).0) (true_or_false (m == r.member)))
+    ⊎_elim (λ there. absurd (false≢true (sym (out_of_pushed listed r r.member (later.1 r.member there)).1 ∙ same_number r.member))) (λ out. out) (true_or_false (has rs r.member)) in (
+      and_from _ _ (not_from_false _ once) later.0,
+      λ m there.
+          ⊎_elim (λ same. ap (has listed) (equal_numbers m r.member same) ∙ new.0.1)
+          (λ other. (out_of_pushed listed r m (later.1 m (rw other at there))).0) (true_or_false (m == r.member)),
+    )
 
 -- distinct ones that are apart from those listed are new
 pub new_of_distinct : (listed rs : List RowMember) → AllBytes rs → are_distinct (map number_of rs) ≡ true → Apart listed rs → AllNew listed rs
@@ -82,12 +83,13 @@ new_of_distinct listed [] bytes once apart = tt
 new_of_distinct listed (r ∷ rs) bytes once apart =
     let parts = and_parts (not (has rs r.member)) (are_distinct (map number_of rs)) once in
     let alone : has rs r.member ≡ false = not-true _ parts.0 in
-    let later = new_of_distinct (listed ++ r ∷ []) rs bytes.1 parts.1 in
-    ((bytes.0, apart r.member (has_first r rs r.member (same_number r.member))),
-    later (λ m there.
-      let other : (m == r.member) ≡ false =
-        ⊎_elim (λ same. absurd (false≢true (sym alone ∙ ap (has rs) (sym (equal_numbers m r.member same)) ∙ there))) (λ apart. apart) (true_or_false (m == r.member)) in
-      has-push listed r m ∙ or_from _ _ (apart m (has_later r rs m there)) other))
+    let later = new_of_distinct (listed ++ r ∷ []) rs bytes.1 parts.1 in (
+      (bytes.0, apart r.member (has_first r rs r.member (same_number r.member))),
+      later (λ m there.
+          let other : (m == r.member) ≡ false =
+          ⊎_elim (λ same. absurd (false≢true (sym alone ∙ ap (has rs) (sym (equal_numbers m r.member same)) ∙ there))) (λ apart. apart) (true_or_false (m == r.member)) in
+          has-push listed r m ∙ or_from _ _ (apart m (has_later r rs m there)) other),
+    )
 
 pub all_new : (rs : List RowMember) → AllBytes rs → are_distinct (map number_of rs) ≡ true → AllNew [] rs
 all_new rs bytes once = new_of_distinct [] rs bytes once (λ m there. refl)

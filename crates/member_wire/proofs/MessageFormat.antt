@@ -91,9 +91,9 @@ kind_fault : (p : Place) (e : WireRefused) → IsBytes p.rest → kind_at p ≡ 
 kind_fault p e are is =
     ⊎_elim (λ first. no_byte SpellsKind some_kind p.at p.rest e first)
     (λ second.
-      let t = byte_format.takes p second.0.1 second.0.0 are second.1 in
-      let known = known_err p.at (kind_of second.0.0) second.0.1 e second.2 in
-      subst (Fault SpellsKind p) known.1 (no_kind p second.0.1 second.0.0 known.0 t))
+    let t = byte_format.takes p second.0.1 second.0.0 are second.1 in
+    let known = known_err p.at (kind_of second.0.0) second.0.1 e second.2 in
+    subst (Fault SpellsKind p) known.1 (no_kind p second.0.1 second.0.0 known.0 t))
     (bind_err (byte_at p) (λ byte. known_kind p.at (kind_of byte.0) byte.1) e is)
 
 kind_format : IsFormat kind_at SpellsKind
@@ -122,12 +122,12 @@ fields_format kinds.Sync =
     followed row_at SpellsRow (λ row p. number_at w32 p >>= λ count. sized_at count.1 >>= λ bytes. Ok (said.Sync row count.0 bytes.0, bytes.1))
     (λ row. Follows SpellsNumber (λ count. Made (said.Sync row count) SpellsSized)) row_format
     (λ row text s. before_rest (λ count p. sized_at p >>= λ bytes. Ok (said.Sync row count bytes.0, bytes.1)) (λ count. Made (said.Sync row count) SpellsSized)
-      (λ count. made (said.Sync row count) sized_at SpellsSized sized_format))
+    (λ count. made (said.Sync row count) sized_at SpellsSized sized_format))
 fields_format kinds.Effect =
     before_rest (λ version p. number_at w32 p >>= λ number. sized_at number.1 >>= λ bytes. Ok (said.Effect version number.0 bytes.0, bytes.1))
     (λ version. Follows SpellsNumber (λ number. Made (said.Effect version number) SpellsSized))
     (λ version. before_rest (λ number p. sized_at p >>= λ bytes. Ok (said.Effect version number bytes.0, bytes.1)) (λ number. Made (said.Effect version number) SpellsSized)
-      (λ number. made (said.Effect version number) sized_at SpellsSized sized_format))
+    (λ number. made (said.Effect version number) sized_at SpellsSized sized_format))
 fields_format kinds.Ack =
     before_rest (λ version p. number_at w32 p >>= λ count. Ok (said.Ack version count.0, count.1)) (λ version. Made (said.Ack version) SpellsNumber) (λ version. made (said.Ack version) (number_at w32) SpellsNumber number_format)
 fields_format kinds.Joined =
@@ -138,7 +138,7 @@ fields_format kinds.Bridge =
     followed row_at SpellsRow (λ row p. number_at w32 p >>= λ base. number_at w32 base.1 >>= λ count. Ok (said.Bridge row base.0 count.0, count.1))
     (λ row. Follows SpellsNumber (λ base. Made (said.Bridge row base) SpellsNumber)) row_format
     (λ row text s. before_rest (λ base p. number_at w32 p >>= λ count. Ok (said.Bridge row base count.0, count.1)) (λ base. Made (said.Bridge row base) SpellsNumber)
-      (λ base. made (said.Bridge row base) (number_at w32) SpellsNumber number_format))
+    (λ base. made (said.Bridge row base) (number_at w32) SpellsNumber number_format))
 
 -- ---- a message
 

@@ -43,8 +43,8 @@ fresh (suc n) ms few =
     let later = fresh n (without n ms) in
     ⊎_elim
     (λ there.
-      let found = later (omega (arith, length-without_there n ms there, few)) in
-      let below : found.0 < n = found.1 in
-      (found.0, omega (arith, below), among-without n found.0 ms (ne_eqb _ _ (λ same. omega (arith, same, below))) found.2))
+    let found = later (omega (arith, length-without_there n ms there, few)) in
+    let below : found.0 < n = found.1 in
+    (found.0, omega (arith, below), among-without n found.0 ms (ne_eqb _ _ (λ same. omega (arith, same, below))) found.2))
     (λ out. (n, omega arith, out))
     (true_or_false (is_among ms n))

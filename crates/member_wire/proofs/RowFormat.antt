@@ -78,9 +78,9 @@ module _ (fits : ℕ → Bool) (some : (byte : ℕ) × IsByte byte × (fits byte
   fitting_fault p e are is =
       ⊎_elim (λ first. no_byte (SpellsFitting fits) some_fitting p.at p.rest e first)
       (λ second.
-        let t = byte_format.takes p second.0.1 second.0.0 are second.1 in
-        let g = test_err (fits second.0.0) (Order p.at) e second.0 second.2 in
-        subst (Fault (SpellsFitting fits) p) g.1 (out_of_order p second.0.1 second.0.0 g.0 t))
+      let t = byte_format.takes p second.0.1 second.0.0 are second.1 in
+      let g = test_err (fits second.0.0) (Order p.at) e second.0 second.2 in
+      subst (Fault (SpellsFitting fits) p) g.1 (out_of_order p second.0.1 second.0.0 g.0 t))
       (bind_err (byte_at p) (tested p) e is)
 
   pub fitting_format : IsFormat (fitting_at fits) (SpellsFitting fits)
@@ -116,8 +116,8 @@ member_format listed few =
     let new = fresh 256 (map number_of listed) (rw length-map few) in
     said_as (member_at listed) (MemberParts listed) (SpellsMember listed) (to_member listed) (from_member listed)
     (followed (fitting_at (is_new listed)) (SpellsFitting (is_new listed)) (λ m p. mark_at p >>= λ b. Ok (record { member = m; eligible = b.0 }, b.1)) (λ m. Made (λ b. record { member = m; eligible = b }) SpellsMark)
-      (fitting_format (is_new listed) (new.0, new.1, not_from_false _ new.2))
-      (λ m text s. made (λ b. record { member = m; eligible = b }) mark_at SpellsMark mark_format))
+    (fitting_format (is_new listed) (new.0, new.1, not_from_false _ new.2))
+    (λ m text s. made (λ b. record { member = m; eligible = b }) mark_at SpellsMark mark_format))
 
 -- ---- the members of a row
 
@@ -216,15 +216,15 @@ parts_format =
     (λ v p. number_at w32 p >>= λ r. mark_at r.1 >>= λ l. fitting_at (is_count l.0) l.1 >>= λ n. members_at [] n.0 n.1 >>= λ ms. Ok (row_of v r.0 l.0 ms.0, ms.1))
     (λ v. Follows SpellsNumber (λ r. Follows SpellsMark (λ l. Follows (SpellsFitting (is_count l)) (λ n. Made (row_of v r l) (SpellsMembers n))))) number_format
     (λ v tv sv. followed (number_at w32) SpellsNumber
-      (λ r p. mark_at p >>= λ l. fitting_at (is_count l.0) l.1 >>= λ n. members_at [] n.0 n.1 >>= λ ms. Ok (row_of v r l.0 ms.0, ms.1))
-      (λ r. Follows SpellsMark (λ l. Follows (SpellsFitting (is_count l)) (λ n. Made (row_of v r l) (SpellsMembers n)))) number_format
-      (λ r tr sr. followed mark_at SpellsMark
-        (λ l p. fitting_at (is_count l) p >>= λ n. members_at [] n.0 n.1 >>= λ ms. Ok (row_of v r l ms.0, ms.1))
-        (λ l. Follows (SpellsFitting (is_count l)) (λ n. Made (row_of v r l) (SpellsMembers n))) mark_format
-        (λ l tl sl. followed (fitting_at (is_count l)) (SpellsFitting (is_count l))
-          (λ n p. members_at [] n p >>= λ ms. Ok (row_of v r l ms.0, ms.1))
-          (λ n. Made (row_of v r l) (SpellsMembers n)) (fitting_format (is_count l) (some_count l))
-          (λ n tn sn. made (row_of v r l) (members_at [] n) (SpellsMembers n) (members_format n (omega (arith, sn.fits.0)))))))
+    (λ r p. mark_at p >>= λ l. fitting_at (is_count l.0) l.1 >>= λ n. members_at [] n.0 n.1 >>= λ ms. Ok (row_of v r l.0 ms.0, ms.1))
+    (λ r. Follows SpellsMark (λ l. Follows (SpellsFitting (is_count l)) (λ n. Made (row_of v r l) (SpellsMembers n)))) number_format
+    (λ r tr sr. followed mark_at SpellsMark
+    (λ l p. fitting_at (is_count l) p >>= λ n. members_at [] n.0 n.1 >>= λ ms. Ok (row_of v r l ms.0, ms.1))
+    (λ l. Follows (SpellsFitting (is_count l)) (λ n. Made (row_of v r l) (SpellsMembers n))) mark_format
+    (λ l tl sl. followed (fitting_at (is_count l)) (SpellsFitting (is_count l))
+    (λ n p. members_at [] n p >>= λ ms. Ok (row_of v r l ms.0, ms.1))
+    (λ n. Made (row_of v r l) (SpellsMembers n)) (fitting_format (is_count l) (some_count l))
+    (λ n tn sn. made (row_of v r l) (members_at [] n) (SpellsMembers n) (members_format n (omega (arith, sn.fits.0)))))))
 
 abbrev pub SpellsRow : Row → List ℕ → Type 0
 SpellsRow = Spells IsSpelledRow row_bytes
@@ -240,7 +240,7 @@ to_row row text v =
     let members : n.back ≡ flat_map member_bytes ms.first = ms.spells.is in
     let first : n.front ≡ length ms.first ∷ [] = n.is_front.is ∙ ap (λ (k : ℕ). k ∷ []) (sym ms.spells.fits.count) in
     let spelled : text ≡ number v.first ++ (number r.first ++ (mark l.first ++ ((length ms.first ∷ []) ++ flat_map member_bytes ms.first))) =
-      v.whole ∙ both v.is_front.is (r.whole ∙ both r.is_front.is (l.whole ∙ both l.is_front.is (n.whole ∙ both first members))) in
+    v.whole ∙ both v.is_front.is (r.whole ∙ both r.is_front.is (l.whole ∙ both l.is_front.is (n.whole ∙ both first members))) in
     subst (λ (x : Row). SpellsRow x text) (sym value)
     (record { fits = record { version = v.is_front.fits; reset = r.is_front.fits; count = count; members = ms.spells.fits.bytes; distinct = ms.spells.fits.distinct }; is = spelled })
 

@@ -79,11 +79,11 @@ sized_fault : (p : Place) (e : WireRefused) → IsBytes p.rest → sized_at p �
 unfolding sized_at
 sized_fault p e are is =
     ⊎_elim (λ first.
-      let g = guard_err (ltb (length p.rest) 4) (Short p.at) e _ first in
-      is_short p e g.1 (short_length p.rest are (ltb-true _ _ g.0)))
+    let g = guard_err (ltb (length p.rest) 4) (Short p.at) e _ first in
+    is_short p e g.1 (short_length p.rest are (ltb-true _ _ g.0)))
     (λ second.
-      let g = guard_err (ltb (length second.0.1.rest) second.0.0) (Short p.at) e _ second.2 in
-      is_short p e g.1 (short_bytes p second.0 (number_taken p second.0.1 second.0.0 are second.1) (ltb-true _ _ g.0)))
+    let g = guard_err (ltb (length second.0.1.rest) second.0.0) (Short p.at) e _ second.2 in
+    is_short p e g.1 (short_bytes p second.0 (number_taken p second.0.1 second.0.0 are second.1) (ltb-true _ _ g.0)))
     (bind_err (number_at w32 p) (behind p) e is)
 
 pub sized_format : IsFormat sized_at SpellsSized

@@ -80,13 +80,13 @@ unfolding reading
 reading_faults bytes e are is =
     ⊎_elim (λ first. message_fault bytes e is (message_format.faults (start bytes) e are first))
     (λ second.
-      ⊎_elim
-      (λ end.
-        let t = message_format.takes (start bytes) second.0.1 second.0.0 are second.1 in
-        let g = ended_err (eqb (length second.0.1.rest) 0) second.0.1.at second.0.1 e end in
-        subst (faults.IsFirstFault bytes) g.1 (goes_on bytes second.0.0 second.0.1 t g.0))
-      (λ past. let clash : Ok second.0.0 ≡ Err e = past.2 in absurd cc)
-      (bind_err (end_at second.0.1) (λ p. Ok second.0.0) e second.2))
+    ⊎_elim
+    (λ end.
+    let t = message_format.takes (start bytes) second.0.1 second.0.0 are second.1 in
+    let g = ended_err (eqb (length second.0.1.rest) 0) second.0.1.at second.0.1 e end in
+    subst (faults.IsFirstFault bytes) g.1 (goes_on bytes second.0.0 second.0.1 t g.0))
+    (λ past. let clash : Ok second.0.0 ≡ Err e = past.2 in absurd cc)
+    (bind_err (end_at second.0.1) (λ p. Ok second.0.0) e second.2))
     (bind_err (message_at (start bytes)) ending e is)
 
 -- ---- what the code's reader gives

@@ -4,3 +4,4 @@ pub mod Faults
 pub mod Kinds
 pub mod Reading
 pub mod Spelling
+pub mod TookWords

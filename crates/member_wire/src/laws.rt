@@ -8,5 +8,4 @@ ghost use Rattle.member_wire.specs.Spelling.{spelling, IsSpelled};
 pub fn spellings_stay_apart()
     ensures { (m n : MemberMessageOf) (x y : List ℕ) → IsSpelled m → IsSpelled n
         → spelling m ++ x ≡ spelling n ++ y → (m ≡ n) × (x ≡ y) }
-{
-}
+{}

@@ -5,13 +5,20 @@ mod cursor;
 mod kind;
 pub mod laws;
 mod message;
+mod outbox;
 mod reading;
 mod refusal;
+mod took;
 mod writing;
 
 pub use cursor::Cursor;
 pub use kind::Kind;
 pub use message::MemberMessage;
+pub use outbox::Outbox;
 pub use reading::{MAX_MEMBERS, read_member};
 pub use refusal::WireRefused;
+pub use took::Took;
 pub use writing::write_member;
+
+#[cfg(test)]
+mod tests;

@@ -8,7 +8,9 @@ use partition_table::Row;
 #[derive(Debug, Drop)]
 pub enum MemberMessage {
     /// The service made this row.
-    Row { row: Row },
+    Row {
+        row: Row,
+    },
     /// The primary's contents, whole, as they are in the row's version after so many effects.
     Sync {
         row: Row,
@@ -22,15 +24,29 @@ pub enum MemberMessage {
         effect: Bytes,
     },
     /// The sender has that version's contents after so many effects.
-    Ack { version: u32, count: u32 },
+    Ack {
+        version: u32,
+        count: u32,
+    },
     /// A joiner of that version has its contents.
-    Joined { version: u32, member: MemberId },
+    Joined {
+        version: u32,
+        member: MemberId,
+    },
     /// The primary of that version is to execute no more.
-    Freeze { version: u32 },
+    Freeze {
+        version: u32,
+    },
     /// The primary of that version executes no more, and holds no answer.
-    Frozen { version: u32 },
+    Frozen {
+        version: u32,
+    },
     /// The row's version began with what the base version had after so many effects.
-    Bridge { row: Row, base: u32, count: u32 },
+    Bridge {
+        row: Row,
+        base: u32,
+        count: u32,
+    },
 }
 
 impl MemberMessage {

@@ -40,10 +40,7 @@ fn is_count(lost: bool, count: u8) -> bool
 
 /// The next member of a row that has these already.
 #[tactic(auto, unfolding(crate::specs::Reading::member_at))]
-fn read_row_member(
-    listed: &[RowMember],
-    from: &mut Cursor<'_>,
-) -> Result<RowMember, WireRefused>
+fn read_row_member(listed: &[RowMember], from: &mut Cursor<'_>) -> Result<RowMember, WireRefused>
     ensures { Gives (λ member. (member, from.new)) result (member_at listed.now from.old) }
 {
     let at = from.at();
