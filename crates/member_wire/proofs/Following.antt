@@ -1,12 +1,12 @@
 -- A format behind another: the second may depend on what the first read.
-use Rattle.std.proofs.Common.{◌≡◌, ℕ, ◌+◌, ◌≤◌, ◌<◌, List, [], ◌++◌, length, take, Result, Ok, Err, refl, sym, ap, subst, ◌∙◌, ◌⊎◌, ⊎_elim, inl, inr, append_assoc, length-append, add-zero, arith}
+use Rattle.std.proofs.Common.{◌≡◌, ℕ, ◌+◌, List, [], ◌++◌, length, take, Result, Ok, Err, refl, sym, ap, subst, ◌∙◌, ◌⊎◌, ⊎_elim, inl, inr, append_assoc, length-append, add-zero, arith}
 use Rattle.std.proofs.Math.Seq.{take-append-add}
 use Rattle.std.proofs.lemmas.List.{append-nil}
 use Rattle.member_wire.specs.declared.refusal.WireRefused.{WireRefused}
 use Rattle.member_wire.specs.declared.refusal.WireRefused.TheVariants.{Short, Tag, Order, Rest, Memory}
 use Rattle.member_wire.specs.Places.{Place}
 use Rattle.member_wire.specs.Parts.{◌>>=◌}
-use Rattle.member_wire.proofs.Formats.{IsBytes, Reader, place, gives, ok_is, Begins, BeginsNone, EndsInside, FailsAt, Fault, Takes, IsFormat, one_text, said_as}
+use Rattle.member_wire.proofs.Formats.{IsBytes, Reader, place, gives, ok_is, Begins, BeginsNone, FailsAt, Fault, Takes, IsFormat, one_text, said_as}
 
 -- the value of a step that did not fail
 pub bind_ok : {A B : Type 0} (r : Result A WireRefused) (f : A → Result B WireRefused) (y : B) → (r >>= f) ≡ Ok y → (x : A) × (r ≡ Ok x) × (f x ≡ Ok y)

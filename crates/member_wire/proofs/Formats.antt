@@ -1,9 +1,8 @@
 -- Formats: what reading and spelling have to do with one another, and that formats may follow one another.
-use Rattle.std.proofs.Common.{◌≡◌, ℕ, ◌+◌, ◌≤◌, ◌<◌, List, [], ◌++◌, length, get_or, take, Result, Ok, Err, refl, sym, ap, subst, ◌∙◌, ◌⊎◌, inl, inr, append_assoc, length-append, arith}
+use Rattle.std.proofs.Common.{◌≡◌, ℕ, ◌+◌, ◌≤◌, ◌<◌, List, [], ◌++◌, length, get_or, take, Result, Ok, Err, sym, ap, ◌∙◌}
 use Rattle.member_wire.specs.declared.refusal.WireRefused.{WireRefused}
 use Rattle.member_wire.specs.declared.refusal.WireRefused.TheVariants.{Short, Tag, Order, Rest, Memory}
 use Rattle.member_wire.specs.Places.{Place}
-use Rattle.member_wire.specs.Parts.{◌>>=◌}
 
 abbrev pub IsBytes : List ℕ → Type 0
 IsBytes bytes = (i : ℕ) → get_or bytes i 0 < 256

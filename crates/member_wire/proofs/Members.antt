@@ -1,12 +1,12 @@
 -- The members of a row, each new behind those before it, are distinct.
-use Rattle.std.proofs.Common.{◌≡◌, ℕ, zero, suc, ◌+◌, ◌<◌, Bool, true, false, not, ◌==◌, ◌||◌, nat_eq, List, [], ◌∷◌, ◌++◌, length, map, refl, sym, ap, ◌∙◌, ⊎_elim, arith}
+use Rattle.std.proofs.Common.{◌≡◌, ℕ, Bool, true, false, not, ◌==◌, ◌||◌, List, [], ◌∷◌, ◌++◌, map, refl, sym, ap, ◌∙◌, ⊎_elim, arith}
 use Rattle.std.specs.List.{AllByRecursion}
 use Rattle.std.proofs.lemmas.Bool.{and_from, and_parts, or_from, or_parts, not-true, not_from_false, false≢true}
 use Rattle.std.proofs.lemmas.Bool.Decides.{nat_tests}
 use Rattle.partition_table.specs.declared.RowMember.{RowMember}
 use Rattle.partition_table.specs.Rows.{is_among, number_of}
 use Rattle.partition_table.specs.RowFacts.{are_distinct}
-use Rattle.member_wire.specs.Spelling.{IsByte}
+use Rattle.member_wire.specs.Parts.{IsByte}
 use Rattle.member_wire.proofs.NewNumbers.{true_or_false}
 
 abbrev pub has : List RowMember → ℕ → Bool

@@ -1,10 +1,9 @@
 -- Messages are a format: a kind, and the fields of that kind.
-use Rattle.std.proofs.Common.{◌≡◌, ℕ, zero, suc, ◌+◌, ◌<◌, ◌≤◌, Bool, true, false, ◌==◌, List, [], ◌∷◌, ◌++◌, length, take, Option, Some, None, Result, Ok, Err, refl, sym, ap, subst, ◌∙◌, ⊎_elim, append_assoc, length-append, add-zero, arith}
+use Rattle.std.proofs.Common.{◌≡◌, ℕ, ◌+◌, Bool, true, ◌==◌, List, [], ◌∷◌, ◌++◌, length, take, Option, Some, None, Result, Ok, Err, refl, sym, ap, subst, ◌∙◌, ⊎_elim, append_assoc, length-append, add-zero, arith}
 use Rattle.std.specs.List.{find}
 use Rattle.std.specs.Int.{w32}
 use Rattle.std.proofs.lemmas.Bool.{cond_both}
 use Rattle.std.proofs.lemmas.Bool.Decides.{nat_tests}
-use Rattle.partition_table.specs.declared.Row.{Row}
 use Rattle.member_wire.specs.declared.kind.Kind.{Kind}
 use Rattle.member_wire.specs.declared.kind.Kind.TheVariants as kinds
 use Rattle.member_wire.specs.declared.message.MemberMessage.{MemberMessage}
@@ -16,7 +15,7 @@ use Rattle.member_wire.specs.Parts.{◌>>=◌, byte_at, number_at, number, sized
 use Rattle.member_wire.specs.Kinds.{kind_byte, kind_of, all_kinds}
 use Rattle.member_wire.specs.Reading.{row_at, row_message_at, sync_at, effect_at, ack_at, joined_at, freeze_at, frozen_at, bridge_at, known_kind, kind_at, fields_at, message_at}
 use Rattle.member_wire.specs.Spelling.{row_bytes, kind_of_message, field_bytes, spelling, IsSpelled}
-use Rattle.member_wire.proofs.Formats.{IsBytes, place, gives, ok_is, Begins, BeginsNone, FailsAt, Fault, Takes, IsFormat, Spells, said_as}
+use Rattle.member_wire.proofs.Formats.{IsBytes, place, ok_is, Begins, BeginsNone, FailsAt, Fault, Takes, IsFormat, Spells, said_as}
 use Rattle.member_wire.proofs.Following.{bind_ok, bind_err, Follows, followed, Made, made}
 use Rattle.member_wire.proofs.PartFormats.{SpellsByte, byte_format, no_byte, SpellsNumber, number_format}
 use Rattle.member_wire.proofs.SizedFormat.{SpellsSized, sized_format}

@@ -1,17 +1,14 @@
 -- The parts of a message are formats: bytes, numbers, marks, and bytes behind their length.
-use Rattle.std.proofs.Common.{◌≡◌, ℕ, zero, suc, ◌+◌, ◌-◌, ◌^◌, ◌<◌, ◌≤◌, Bool, true, false, cond, ltb, List, [], ◌∷◌, ◌++◌, length, get_or, take, drop, Result, Ok, Err, refl, sym, ap, subst, ◌∙◌, inl, inr, ⊎_elim, append_assoc, length-append, add-zero, arith}
-use Rattle.std.specs.Int.{w32, from_le_bytes, to_le_bytes}
-use Rattle.std.specs.Prelude.{replicate}
-use Rattle.std.proofs.lemmas.Bool.{cases_lt, ltb-false, ltb-true, lt-ltb, le-ltb}
-use Rattle.std.proofs.lemmas.List.{take_at, drop_at, take-append-drop, length-take, length-drop, get_or-drop, get_or-take, get_or_past, append-nil}
+use Rattle.std.proofs.Common.{◌≡◌, ℕ, zero, suc, ◌+◌, ◌-◌, ◌<◌, ◌≤◌, Bool, true, false, cond, ltb, List, [], ◌∷◌, ◌++◌, length, take, drop, Result, Ok, Err, refl, sym, ap, subst, ◌∙◌, inl, inr, length-append, add-zero, arith}
+use Rattle.std.specs.Int.{w32, from_le_bytes}
+use Rattle.std.proofs.lemmas.Bool.{cases_lt, ltb-false, ltb-true, le-ltb}
+use Rattle.std.proofs.lemmas.List.{take_at, drop_at, take-append-drop, length-take, get_or-drop, get_or-take, get_or_past}
 use Rattle.std.proofs.lemmas.Nat.{le_bytes_4, from_le_bytes-to_le_bytes_4}
 use Rattle.member_wire.specs.declared.refusal.WireRefused.{WireRefused}
-use Rattle.member_wire.specs.declared.refusal.WireRefused.TheVariants.{Short, Tag, Order, Rest, Memory}
+use Rattle.member_wire.specs.declared.refusal.WireRefused.TheVariants.{Short, Tag}
 use Rattle.member_wire.specs.Places.{Place}
-use Rattle.member_wire.specs.Parts.{◌>>=◌, first_of, byte_at, number_at, number, sized, sized_at, mark, marked_by, mark_at}
-use Rattle.member_wire.specs.Spelling.{IsByte, IsNumber}
-use Rattle.member_wire.proofs.Formats.{IsBytes, Reader, place, gives, ok_is, Begins, BeginsNone, EndsInside, FailsAt, Fault, Takes, IsFormat, Spells}
-use Rattle.member_wire.proofs.Following.{bind_ok, bind_err}
+use Rattle.member_wire.specs.Parts.{◌>>=◌, IsByte, IsNumber, first_of, byte_at, number_at, number, mark, marked_by, mark_at}
+use Rattle.member_wire.proofs.Formats.{IsBytes, place, gives, ok_is, Begins, Fault, Takes, IsFormat, Spells}
 
 -- ---- bytes
 

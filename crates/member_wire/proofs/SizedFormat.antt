@@ -1,5 +1,5 @@
 -- Bytes behind their length are a format.
-use Rattle.std.proofs.Common.{◌≡◌, ℕ, ◌+◌, ◌-◌, ◌<◌, ◌≤◌, Bool, true, false, ltb, List, [], ◌++◌, length, take, drop, Result, Ok, Err, refl, sym, ap, subst, ◌∙◌, ⊎_elim, append_assoc, length-append, arith}
+use Rattle.std.proofs.Common.{◌≡◌, ℕ, ◌+◌, ◌-◌, ◌<◌, ◌≤◌, false, ltb, List, [], ◌++◌, length, take, drop, Result, Ok, Err, refl, sym, ap, subst, ◌∙◌, ⊎_elim, append_assoc, length-append, arith}
 use Rattle.std.specs.Prelude.{if◌then◌else◌}
 use Rattle.std.specs.Int.{w32}
 use Rattle.std.proofs.lemmas.Bool.{ltb-false, ltb-true, le-ltb}
@@ -7,9 +7,8 @@ use Rattle.std.proofs.lemmas.List.{take_at, drop_at, take-append-drop, length-ta
 use Rattle.member_wire.specs.declared.refusal.WireRefused.{WireRefused}
 use Rattle.member_wire.specs.declared.refusal.WireRefused.TheVariants.{Short}
 use Rattle.member_wire.specs.Places.{Place}
-use Rattle.member_wire.specs.Parts.{◌>>=◌, number_at, number, sized, sized_at}
-use Rattle.member_wire.specs.Spelling.{IsNumber}
-use Rattle.member_wire.proofs.Formats.{IsBytes, place, gives, Begins, EndsInside, Fault, Takes, IsFormat, Spells}
+use Rattle.member_wire.specs.Parts.{IsNumber, number_at, number, sized, sized_at}
+use Rattle.member_wire.proofs.Formats.{IsBytes, place, gives, Begins, Fault, Takes, IsFormat, Spells}
 use Rattle.member_wire.proofs.Following.{bind_ok, bind_err}
 use Rattle.member_wire.proofs.PartFormats.{IsBytes-drop, zeros, length-zeros, guard_ok, guard_err, SpellsNumber, number_begun, number_taken, number_again}
 

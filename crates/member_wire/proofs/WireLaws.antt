@@ -1,5 +1,5 @@
 -- What is read is spelled so, what is spelled so is read, and a refusal names the first place that fails.
-use Rattle.std.proofs.Common.{◌≡◌, ◌≢◌, ℕ, ◌+◌, ◌<◌, ◌≤◌, Bool, true, false, cond, eqb, List, [], ◌++◌, length, take, Result, Ok, Err, refl, sym, ap, subst, ◌∙◌, ◌⊎◌, inl, inr, ⊎_elim, length-append, arith}
+use Rattle.std.proofs.Common.{◌≡◌, ◌≢◌, ℕ, ◌+◌, ◌<◌, Bool, true, false, cond, eqb, List, [], ◌++◌, length, take, Result, Ok, Err, refl, sym, ap, subst, ◌∙◌, ⊎_elim, length-append, arith}
 use Rattle.std.specs.Prelude.{IfOk, IfErr}
 use Rattle.std.proofs.lemmas.Bool.{eqb-true, eqb-false}
 use Rattle.std.proofs.lemmas.List.{append-nil, nil_from_length, take_at}
@@ -7,7 +7,7 @@ use Rattle.member_wire.specs.declared.message.MemberMessage.{MemberMessage}
 use Rattle.member_wire.specs.declared.refusal.WireRefused.{WireRefused}
 use Rattle.member_wire.specs.declared.refusal.WireRefused.TheVariants.{Short, Tag, Order, Rest, Memory}
 use Rattle.member_wire.specs.Places.{Place, start}
-use Rattle.member_wire.specs.Parts.{◌>>=◌, end_at, Fails, Gives}
+use Rattle.member_wire.specs.Parts.{◌>>=◌, end_at, IsUnlessMemory}
 use Rattle.member_wire.specs.Reading.{message_at, reading}
 use Rattle.member_wire.specs.Spelling.{spelling, IsSpelled}
 use Rattle.member_wire.specs.Faults as faults
@@ -91,11 +91,11 @@ reading_faults bytes e are is =
 
 -- ---- what the code's reader gives
 
-pub is_found : (bytes : List ℕ) (r : Result MemberMessage WireRefused) → IsBytes bytes → Gives (λ m. m) r (reading bytes) → IfOk r (λ m. IsSpelled m × (bytes ≡ spelling m))
+pub is_found : (bytes : List ℕ) (r : Result MemberMessage WireRefused) → IsBytes bytes → IsUnlessMemory r (reading bytes) → IfOk r (λ m. IsSpelled m × (bytes ≡ spelling m))
 is_found bytes (Ok m) are given = reading_takes bytes m are given
 is_found bytes (Err e) are given = tt
 
-pub is_first : (bytes : List ℕ) (r : Result MemberMessage WireRefused) → IsBytes bytes → Gives (λ m. m) r (reading bytes) → IfErr r (faults.IsFirstFault bytes)
+pub is_first : (bytes : List ℕ) (r : Result MemberMessage WireRefused) → IsBytes bytes → IsUnlessMemory r (reading bytes) → IfErr r (faults.IsFirstFault bytes)
 is_first bytes (Ok m) are given = tt
 is_first bytes (Err (Short at)) are given = reading_faults bytes (Short at) are given
 is_first bytes (Err (Tag at)) are given = reading_faults bytes (Tag at) are given
@@ -103,8 +103,8 @@ is_first bytes (Err (Order at)) are given = reading_faults bytes (Order at) are 
 is_first bytes (Err (Rest at)) are given = reading_faults bytes (Rest at) are given
 is_first bytes (Err Memory) are given = tt
 
-pub is_only : (bytes : List ℕ) (r : Result MemberMessage WireRefused) → Gives (λ m. m) r (reading bytes) → (m : MemberMessage) → IsSpelled m → bytes ≡ spelling m → Gives (λ m. m) r (Ok m)
-is_only bytes r given m fits is = subst (Gives (λ m. m) r) (ap reading is ∙ reading_again m fits) given
+pub is_only : (bytes : List ℕ) (r : Result MemberMessage WireRefused) → IsUnlessMemory r (reading bytes) → (m : MemberMessage) → IsSpelled m → bytes ≡ spelling m → IsUnlessMemory r (Ok m)
+is_only bytes r given m fits is = subst (IsUnlessMemory r) (ap reading is ∙ reading_again m fits) given
 
 pub stay_apart : (m n : MemberMessage) (x y : List ℕ) → IsSpelled m → IsSpelled n → spelling m ++ x ≡ spelling n ++ y → (m ≡ n) × (x ≡ y)
 stay_apart m n x y one two same = one_text message_at SpellsMessage message_format m n (spelling m) (spelling n) x y (record { fits = one; is = refl }) (record { fits = two; is = refl }) same

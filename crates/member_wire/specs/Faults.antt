@@ -19,19 +19,19 @@ pub record FailsAt (bytes : List ℕ) (at : ℕ) : Type 0 where
   pub before : BeginsMessage (take at bytes)
   pub there : BeginsMessage (take (at + 1) bytes) → ⊥
 
--- They begin a message, of which the rest is missing from somewhere behind the place on.
-pub record EndsBehind (bytes : List ℕ) (at : ℕ) : Type 0 where
+-- The bytes begin a message and are none: its rest is missing.
+pub record EndsEarly (bytes : List ℕ) (at : ℕ) : Type 0 where
   pub within : at ≤ length bytes
   pub begins : BeginsMessage bytes
   pub ends : IsMessage bytes → ⊥
 
--- Those before the place are a message, and more follow.
+-- The bytes before the place are a message, and more follow.
 pub record GoesOnAt (bytes : List ℕ) (at : ℕ) : Type 0 where
   pub within : at < length bytes
   pub before : IsMessage (take at bytes)
 
 abbrev pub IsFirstFault : List ℕ → WireRefused → Type 0
-IsFirstFault bytes (Short at) = EndsBehind bytes at
+IsFirstFault bytes (Short at) = EndsEarly bytes at
 IsFirstFault bytes (Tag at) = FailsAt bytes at
 IsFirstFault bytes (Order at) = FailsAt bytes at
 IsFirstFault bytes (Rest at) = GoesOnAt bytes at

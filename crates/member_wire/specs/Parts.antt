@@ -1,12 +1,18 @@
 -- The parts of a message: numbers, marks, and bytes behind their length; how each is spelled, and how it is read at a place.
--- Reading gives the part and the place behind it, or the first fault.
-use Rattle.std.specs.Prelude.{◌≡◌, ℕ, zero, suc, ◌+◌, Bool, true, false, List, [], ◌∷◌, ◌++◌, length, take, drop, Result, Ok, Err, nat_lt, ◌==◌, if◌then◌else◌}
+-- Reading gives the part and the place behind it, or the first fault. Where the bytes end inside a part, the fault is where that part begins.
+use Rattle.std.specs.Prelude.{◌≡◌, ℕ, zero, suc, ◌+◌, ◌^◌, ◌<◌, Bool, true, false, List, [], ◌∷◌, ◌++◌, length, take, Result, Ok, Err, nat_lt, ◌==◌, if◌then◌else◌}
 use Rattle.std.specs.Int.{Width, w32, byte_len, to_le_bytes, from_le_bytes}
 use Rattle.member_wire.specs.declared.refusal.WireRefused.{WireRefused}
-use Rattle.member_wire.specs.declared.refusal.WireRefused.TheVariants.{Short, Tag, Order, Rest, Memory}
-use Rattle.member_wire.specs.Places.{Place, start, skipped}
+use Rattle.member_wire.specs.declared.refusal.WireRefused.TheVariants.{Short, Tag, Rest, Memory}
+use Rattle.member_wire.specs.Places.{Place, skipped}
 
--- Spelling. A number has its low byte first.
+-- Spelling. A byte and a number have their ranges, and a number has its low byte first.
+
+abbrev pub IsByte : ℕ → Type 0
+IsByte n = n < 2 ^ 8
+
+abbrev pub IsNumber : ℕ → Type 0
+IsNumber n = n < 2 ^ 32
 
 abbrev pub number : ℕ → List ℕ
 number n = to_le_bytes w32 n
@@ -66,3 +72,6 @@ Fails e read = read ≡ Err e
 abbrev pub Gives : {X Y : Type 0} → (X → Y) → Result X WireRefused → Result Y WireRefused → Type 0
 Gives view (Ok x) read = read ≡ Ok (view x)
 Gives view (Err e) read = Fails e read
+
+abbrev pub IsUnlessMemory : {X : Type 0} → Result X WireRefused → Result X WireRefused → Type 0
+IsUnlessMemory = Gives (λ x. x)

@@ -1,5 +1,5 @@
 -- A place in bytes that are read from left to right.
-use Rattle.std.specs.Prelude.{ℕ, ◌+◌, ◌<◌, ◌^◌, List, length, drop}
+use Rattle.std.specs.Prelude.{ℕ, ◌+◌, List, drop}
 
 -- how many bytes came before, and the bytes from there on
 pub record Place : Type 0 where

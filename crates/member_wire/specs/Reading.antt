@@ -1,5 +1,5 @@
 -- Reading a message from left to right: the message and the place behind it, or the first fault.
-use Rattle.std.specs.Prelude.{ℕ, zero, suc, ◌+◌, Bool, true, false, ◌&&◌, not, List, [], ◌∷◌, ◌++◌, length, map, Option, Some, None, Result, Ok, Err, nat_lt, nat_le, ◌==◌, if◌then◌else◌}
+use Rattle.std.specs.Prelude.{ℕ, zero, suc, Bool, not, List, [], ◌∷◌, ◌++◌, map, Option, Some, None, Result, Ok, Err, if◌then◌else◌}
 use Rattle.std.specs.Int.{w32}
 use Rattle.partition_table.specs.declared.Row.{Row}
 use Rattle.partition_table.specs.declared.RowMember.{RowMember}
@@ -10,15 +10,10 @@ use Rattle.member_wire.specs.declared.refusal.WireRefused.{WireRefused}
 use Rattle.member_wire.specs.declared.refusal.WireRefused.TheVariants.{Tag, Order}
 use Rattle.member_wire.specs.declared.kind.Kind.{Kind}
 use Rattle.member_wire.specs.declared.kind.Kind.TheVariants as kinds
-use Rattle.member_wire.specs.declared.reading.TheConstants.{MAX_MEMBERS}
 use Rattle.member_wire.specs.Kinds.{kind_of}
 use Rattle.member_wire.specs.Places.{Place, start}
+use Rattle.member_wire.specs.Spelling.{is_count}
 use Rattle.member_wire.specs.Parts.{◌>>=◌, byte_at, number_at, sized_at, mark_at, end_at}
-
--- a lost row has no members, and another row has 1 to 8
-abbrev pub is_count : Bool → ℕ → Bool
-is_count true count = count == 0
-is_count false count = nat_lt 0 count && nat_le count MAX_MEMBERS
 
 -- a byte that has to pass a test, and is out of order where it doesn't
 abbrev pub fitting_at : (ℕ → Bool) → Place → Result (ℕ × Place) WireRefused

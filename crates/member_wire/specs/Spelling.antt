@@ -1,5 +1,5 @@
 -- The one spelling of each message, and which messages have one.
-use Rattle.std.specs.Prelude.{ℕ, ◌^◌, ◌<◌, List, [], ◌∷◌, ◌++◌, length, IsTrue}
+use Rattle.std.specs.Prelude.{ℕ, Bool, true, false, ◌&&◌, ◌==◌, nat_lt, nat_le, List, [], ◌∷◌, ◌++◌, length, IsTrue}
 use Rattle.std.specs.List.{flat_map, AllByRecursion}
 use Rattle.partition_table.specs.declared.Row.{Row}
 use Rattle.partition_table.specs.declared.RowMember.{RowMember}
@@ -9,8 +9,8 @@ use Rattle.member_wire.specs.declared.message.MemberMessage.TheVariants as said
 use Rattle.member_wire.specs.declared.kind.Kind.{Kind}
 use Rattle.member_wire.specs.declared.kind.Kind.TheVariants as kinds
 use Rattle.member_wire.specs.Kinds.{kind_byte}
-use Rattle.member_wire.specs.Parts.{number, sized, mark}
-use Rattle.member_wire.specs.Reading.{is_count}
+use Rattle.member_wire.specs.declared.message.TheConstants.{MAX_MEMBERS}
+use Rattle.member_wire.specs.Parts.{IsByte, IsNumber, number, sized, mark}
 
 abbrev pub member_bytes : RowMember → List ℕ
 member_bytes r = r.member ∷ mark r.eligible
@@ -45,11 +45,10 @@ spelling m = kind_byte (kind_of_message m) ∷ field_bytes m
 
 -- What has a spelling: numbers within their ranges, and rows of 1 to 8 members, each once, or lost and of none.
 
-abbrev pub IsNumber : ℕ → Type 0
-IsNumber n = n < 2 ^ 32
-
-abbrev pub IsByte : ℕ → Type 0
-IsByte n = n < 2 ^ 8
+-- a lost row has no members, and another row has 1 to 8
+abbrev pub is_count : Bool → ℕ → Bool
+is_count true count = count == 0
+is_count false count = nat_lt 0 count && nat_le count MAX_MEMBERS
 
 pub record IsSpelledRow (row : Row) : Type 0 where
   pub version : IsNumber row.version

@@ -1,4 +1,4 @@
-ghost use Rattle.std.specs.Prelude.{◌≡◌, ℕ, List, OnErr};
+ghost use Rattle.std.specs.Prelude.{◌≡◌, ◌≢◌, ℕ, List, Err, OnErr};
 ghost use Rattle.std.specs.Borrow.{Bor};
 ghost use Rattle.std.specs.Int.{w32};
 ghost use Rattle.member_wire.specs.Places.{start};
@@ -7,9 +7,10 @@ ghost use Rattle.member_wire.specs.Parts.{Gives, byte_at, number_at, sized_at, m
 use crate::refusal::WireRefused;
 use std::marker::Model;
 
-/// A place in bytes that are read from left to right. Takes no memory.
+/// A place in bytes that are read from left to right.
 ///
-/// A refused read leaves the cursor where it stood.
+/// A refused read leaves the cursor where it stood. No read takes memory, and each costs no more than the
+/// few bytes that it looks at.
 #[derive(Drop)]
 pub struct Cursor<'a> {
     at: usize,
@@ -46,6 +47,7 @@ impl<'a> Cursor<'a> {
     pub fn byte(&mut self) -> Result<u8, WireRefused>
         ensures read { Gives (λ byte. (byte, self.new)) result (byte_at self.old) }
         ensures err { OnErr result (self.new ≡ self.old) }
+        ensures never_memory { result ≢ Err WireRefused.Memory }
     {
         match self.rest {
             [] => Err(WireRefused::Short { at: self.at }),
@@ -61,6 +63,7 @@ impl<'a> Cursor<'a> {
     pub fn number(&mut self) -> Result<u32, WireRefused>
         ensures read { Gives (λ n. (n, self.new)) result (number_at w32 self.old) }
         ensures err { OnErr result (self.new ≡ self.old) }
+        ensures never_memory { result ≢ Err WireRefused.Memory }
     {
         if self.rest.len() < 4 {
             return Err(WireRefused::Short { at: self.at });
@@ -75,6 +78,7 @@ impl<'a> Cursor<'a> {
     pub fn sized(&mut self) -> Result<&'a [u8], WireRefused>
         ensures read { Gives (λ (bytes : Bor (List ℕ)). (bytes.now, self.new)) result (sized_at self.old) }
         ensures err { OnErr result (self.new ≡ self.old) }
+        ensures never_memory { result ≢ Err WireRefused.Memory }
     {
         let at = self.at;
         let start = self.rest;
@@ -95,6 +99,7 @@ impl<'a> Cursor<'a> {
     pub fn mark(&mut self) -> Result<bool, WireRefused>
         ensures read { Gives (λ is. (is, self.new)) result (mark_at self.old) }
         ensures err { OnErr result (self.new ≡ self.old) }
+        ensures never_memory { result ≢ Err WireRefused.Memory }
     {
         match self.rest {
             [] => Err(WireRefused::Short { at: self.at }),
@@ -113,7 +118,8 @@ impl<'a> Cursor<'a> {
 
     /// The end: no byte may follow.
     pub fn end(&self) -> Result<(), WireRefused>
-        ensures { Gives (λ _. self.now) result (end_at self.now) }
+        ensures end { Gives (λ _. self.now) result (end_at self.now) }
+        ensures never_memory { result ≢ Err WireRefused.Memory }
     {
         if self.rest.is_empty() {
             Ok(())

@@ -13,9 +13,9 @@ mod writing;
 
 pub use cursor::Cursor;
 pub use kind::Kind;
-pub use message::MemberMessage;
+pub use message::{MAX_MEMBERS, MemberMessage};
 pub use outbox::Outbox;
-pub use reading::{MAX_MEMBERS, read_member};
+pub use reading::read_member;
 pub use refusal::WireRefused;
 pub use took::Took;
 pub use writing::write_member;

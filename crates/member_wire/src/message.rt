@@ -2,6 +2,9 @@ use crate::kind::Kind;
 use grid_base::{Bytes, MemberId};
 use partition_table::Row;
 
+/// The most members that a row has.
+pub const MAX_MEMBERS: usize = 8;
+
 /// What the members of a partition and the table service say to one another.
 ///
 /// Contents travel as bytes, which only a shelf looks into.

@@ -1,22 +1,18 @@
 ghost use Rattle.std.specs.Prelude.{◌≡◌, map, [], Ok, IfOk, IfErr};
 ghost use Rattle.partition_table.specs.Rows.{is_among, number_of};
 ghost use Rattle.member_wire.specs.Faults.{IsFirstFault};
-ghost use Rattle.member_wire.specs.Spelling.{spelling, IsSpelled};
+ghost use Rattle.member_wire.specs.Spelling.{is_count, spelling, IsSpelled};
 ghost use Rattle.member_wire.specs.declared.message.MemberMessage.{MemberMessage as MemberMessageOf};
-ghost use Rattle.member_wire.specs.Places.{Place};
-ghost use Rattle.member_wire.specs.Parts.{Gives};
-ghost use Rattle.member_wire.specs.Reading.{is_count, member_at, members_at, row_at, sync_at, effect_at, ack_at, joined_at, freeze_at, frozen_at, bridge_at, kind_at, fields_at, message_at, reading};
+ghost use Rattle.member_wire.specs.Parts.{Gives, IsUnlessMemory};
+ghost use Rattle.member_wire.specs.Reading.{member_at, members_at, row_at, sync_at, effect_at, ack_at, joined_at, freeze_at, frozen_at, bridge_at, kind_at, fields_at, message_at, reading};
 
 use crate::cursor::Cursor;
 use crate::kind::Kind;
-use crate::message::MemberMessage;
+use crate::message::{MAX_MEMBERS, MemberMessage};
 use crate::refusal::WireRefused;
 use grid_base::{Bytes, MemberId};
 use partition_table::{Row, RowMember, RowMembers};
 use std::alloc::Global;
-
-/// The most members that a row can have.
-pub const MAX_MEMBERS: usize = 8;
 
 fn is_listed(listed: &[RowMember], member: MemberId) -> bool
     ensures { result ≡ is_among (map number_of listed.now) member }
@@ -190,7 +186,7 @@ fn read_message(alloc: Global, from: &mut Cursor<'_>) -> Result<MemberMessage, W
 
 #[tactic(auto, unfolding(crate::specs::Reading::reading))]
 fn read_all(alloc: Global, bytes: &[u8]) -> Result<MemberMessage, WireRefused>
-    ensures { Gives (λ message. message) result (reading bytes.now) }
+    ensures { IsUnlessMemory result (reading bytes.now) }
 {
     let mut from = Cursor::new(bytes);
     let message = read_message(alloc, &mut from)?;
@@ -203,11 +199,11 @@ pub fn read_member(alloc: Global, bytes: &[u8]) -> Result<MemberMessage, WireRef
     // What is read is spelled so.
     ensures found { IfOk result (λ m. IsSpelled m × (bytes.now ≡ spelling m)) }
     // What is spelled so is read, unless memory runs out.
-    ensures only { (m : MemberMessageOf) → IsSpelled m → bytes.now ≡ spelling m → Gives (λ m. m) result (Ok m) }
+    ensures only { (m : MemberMessageOf) → IsSpelled m → bytes.now ≡ spelling m → IsUnlessMemory result (Ok m) }
     // A refusal names the first place that fails.
     ensures first { IfErr result (IsFirstFault bytes.now) }
     // Which place and which fault it is.
-    ensures exact { Gives (λ m. m) result (reading bytes.now) }
+    ensures exact { IsUnlessMemory result (reading bytes.now) }
 {
     read_all(alloc, bytes)
 }

@@ -1,4 +1,4 @@
-use Rattle.std.proofs.Common.{◌≡◌, ◌++◌, ◌∷◌, []}
+use Rattle.std.proofs.Common.{[]}
 use Rattle.std.proofs.lemmas.Result.{err_from_is_err_and}
 use Rattle.member_wire.specs.Reading.{members_at}
 use Rattle.member_wire.proofs.Loop.{goes_on, ends, is_done}
