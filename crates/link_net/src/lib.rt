@@ -1,0 +1,4 @@
+//! The messages in flight between members, a list for each link.
+#![tactic(auto)]
+
+mod lane;
