@@ -1,5 +1,5 @@
 -- The messages in flight. Each ordered pair of ends has a link, and a message on it is named by its place, from 0.
-use Rattle.std.specs.Prelude.{◌≡◌, ℕ, ◌+◌, ◌*◌, ◌≤◌, ◌<◌, Bool, ◌&&◌, ◌==◌, nat_lt, if◌then◌else◌, List, [], Option, Some, None, slice_get}
+use Rattle.std.specs.Prelude.{◌≡◌, ℕ, ◌+◌, ◌*◌, ◌≤◌, ◌<◌, Bool, ◌&&◌, ◌==◌, nat_lt, if◌then◌else◌, List, [], Option, Some, None, option_and_then, slice_get}
 
 -- the messages on a link in the order in which they were sent, and how many more can be sent without memory
 pub record Link : Type 0 where
@@ -11,8 +11,12 @@ pub record Net : Type 0 where
   pub ends : ℕ
   pub links : List Link
 
+-- where the link between two ends stands, if both are ends
+abbrev pub place_of : ℕ → ℕ → ℕ → Option ℕ
+place_of ends from to = if nat_lt from ends && nat_lt to ends then Some (from * ends + to) else None
+
 abbrev pub link_between : Net → ℕ → ℕ → Option Link
-link_between net from to = if nat_lt from net.ends && nat_lt to net.ends then slice_get net.links (from * net.ends + to) else None
+link_between net from to = option_and_then (slice_get net.links) (place_of net.ends from to)
 
 abbrev pub list_in : Option Link → List (List ℕ)
 list_in None = []
@@ -42,3 +46,7 @@ HasSpares net spares = (from to : ℕ) → spare_of net from to ≡ spares from 
 
 abbrev pub LowersNoSpare : Net → Net → Type 0
 LowersNoSpare old new = (from to : ℕ) → spare_of old from to ≤ spare_of new from to
+
+-- each link from that end has room for so many messages more
+abbrev pub HasRoom : Net → ℕ → ℕ → Type 0
+HasRoom net from extra = (to : ℕ) → from < net.ends → to < net.ends → extra ≤ spare_of net from to

@@ -2,3 +2,6 @@
 #![tactic(auto)]
 
 mod lane;
+mod links;
+
+pub use links::Links;
