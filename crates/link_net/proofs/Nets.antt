@@ -1,10 +1,10 @@
 -- One link of a net changes, and the others stay.
-use Rattle.std.proofs.Common.{◌≡◌, ◌≢◌, ℕ, zero, suc, ◌+◌, ◌*◌, ◌<◌, ◌≤◌, Bool, true, false, cond, ltb, ◌==◌, ◌&&◌, List, [], ◌∷◌, length, get_or, slice_get, slice_set, ◌++◌, ◌-◌, Option, Some, None, refl, sym, ap, subst, ◌∙◌, ◌⊎◌, inl, inr, ⊎_elim, eq-eqb, arith}
-use Rattle.std.specs.Prelude.{option_and_then, if◌then◌else◌}
-use Rattle.std.proofs.lemmas.Bool.{cases_lt, and_from, false≢true, and_parts, ltb-true, eqb-true, eqb-false, ne_eqb}
+use Rattle.std.proofs.Common.{◌≡◌, ◌≢◌, ℕ, zero, suc, ◌+◌, ◌*◌, ◌<◌, ◌≤◌, Bool, true, false, ltb, ◌==◌, ◌&&◌, List, [], ◌∷◌, length, get_or, slice_get, slice_set, ◌++◌, ◌-◌, Option, Some, None, refl, sym, ap, subst, ◌∙◌, ◌⊎◌, inl, inr, ⊎_elim, eq-eqb, arith}
+use Rattle.std.specs.Prelude.{option_and_then}
+use Rattle.std.proofs.lemmas.Bool.{cases_lt, and_from, false≢true, and_parts, ltb-true, eqb-true}
 use Rattle.std.proofs.lemmas.Option.{cond_some, slice_get_read}
 use Rattle.std.proofs.lemmas.Nat.{mul-add-lt, same_from_place}
-use Rattle.link_net.specs.Links.{Link, Net, place_of, link_between, list_in, spare_in, list_of, spare_of, except, HasLists, HasSpares, LowersNoSpare}
+use Rattle.link_net.specs.Links.{Link, Net, place_of, link_between, list_in, spare_in, list_of, spare_of, except, HasLists, HasSpares, LowersNoSpare, LowersByOneAtMost}
 
 -- ---- a pair, or another one
 
@@ -117,6 +117,11 @@ module _ (net : Net) (square : IsSquare net) (from to at : ℕ) (stands : place_
     lowers_none old is more f t =
         subst (λ n. spare_of net f t ≤ n) (sym (spares_changed f t))
         (except_each (λ f t n. spare_of net f t ≤ n) from to link.spare (spare_of net) (subst (λ n. n ≤ link.spare) (sym (ap spare_in (link_there old is))) more) (λ f t apart. omega arith) f t)
+
+    pub lowers_one : (old : Link) → old ≡ get_or net.links at old → old.spare ≤ link.spare + 1 → LowersByOneAtMost net (with_link net at link)
+    lowers_one old is more f t =
+        subst (λ n. spare_of net f t ≤ n + 1) (sym (spares_changed f t))
+        (except_each (λ f t n. spare_of net f t ≤ n + 1) from to link.spare (spare_of net) (subst (λ n. n ≤ link.spare + 1) (sym (ap spare_in (link_there old is))) more) (λ f t apart. omega arith) f t)
 
     -- the list is changed so
     pub list_put : (old : Link) → old ≡ get_or net.links at old → (change : List (List ℕ) → List (List ℕ)) → link.list ≡ change old.list

@@ -1,5 +1,5 @@
 -- The messages in flight. Each ordered pair of ends has a link, and a message on it is named by its place, from 0.
-use Rattle.std.specs.Prelude.{◌≡◌, ℕ, ◌+◌, ◌*◌, ◌≤◌, ◌<◌, Bool, ◌&&◌, ◌==◌, nat_lt, if◌then◌else◌, List, [], Option, Some, None, option_and_then, slice_get}
+use Rattle.std.specs.Prelude.{◌≡◌, ℕ, ◌+◌, ◌*◌, ◌≤◌, ◌<◌, ◌&&◌, ◌==◌, nat_lt, if◌then◌else◌, List, [], Option, Some, None, option_and_then, slice_get}
 
 -- the messages on a link in the order in which they were sent, and how many more can be sent without memory
 pub record Link : Type 0 where
@@ -46,6 +46,9 @@ HasSpares net spares = (from to : ℕ) → spare_of net from to ≡ spares from 
 
 abbrev pub LowersNoSpare : Net → Net → Type 0
 LowersNoSpare old new = (from to : ℕ) → spare_of old from to ≤ spare_of new from to
+
+abbrev pub LowersByOneAtMost : Net → Net → Type 0
+LowersByOneAtMost old new = (from to : ℕ) → spare_of old from to ≤ spare_of new from to + 1
 
 -- each link from that end has room for so many messages more
 abbrev pub HasRoom : Net → ℕ → ℕ → Type 0

@@ -62,6 +62,7 @@ impl Lane {
         self.messages.push_reserved(bytes);
     }
     /// Puts a copy of the message at a place last, if there is one. Costs the message's length.
+    #[tactic(auto, using(crate::proofs::Lists::none_repeated, crate::proofs::Lists::one_repeated))]
     pub fn repeat(&mut self, alloc: Global, place: usize) -> Result<bool, Memory>
         ensures there { IfOk result (λ there. IsTrue there ↔ (place < length self.old.list)) }
         ensures ok { OnOk result (self.new.list ≡ self.old.list ++ option_to_list (slice_get self.old.list place)) }
@@ -79,6 +80,7 @@ impl Lane {
 
     /// Takes the message at a place out, if there is one. The first is taken in constant time over many takings;
     /// another at the cost of those behind it. Takes no memory.
+    #[tactic(auto, using(crate::proofs::Lists::drop_remove))]
     pub fn take(&mut self, place: usize) -> Option<Bytes>
         ensures taken { result ≡ slice_get self.old.list place }
         ensures list { self.new.list ≡ remove self.old.list place }

@@ -5,3 +5,6 @@ mod lane;
 mod links;
 
 pub use links::Links;
+
+#[cfg(test)]
+mod tests;

@@ -1,6 +1,6 @@
 ghost use Rattle.std.specs.Prelude.{◌≡◌, ◌↔◌, ◌+◌, ◌-◌, ◌*◌, ◌≤◌, ◌<◌, ◌++◌, ◌∷◌, [], length, remove, slice_get, IsTrue, IfOk, IfSome, OnOk, OnErr};
 ghost use Rattle.std.specs.Option.{option_to_list};
-ghost use Rattle.link_net.specs.Links.{place_of, list_of, spare_of, except, HasLists, HasSpares, LowersNoSpare, HasRoom};
+ghost use Rattle.link_net.specs.Links.{place_of, list_of, spare_of, except, HasLists, HasSpares, LowersNoSpare, LowersByOneAtMost, HasRoom};
 
 use crate::lane::Lane;
 use grid_base::{Bytes, Memory};
@@ -68,7 +68,8 @@ impl Links {
     /// time over many takings; another at the cost of those behind it.
     pub fn deliver(&mut self, from: u8, to: u8, place: usize) -> Option<Bytes>
         ensures taken { result ≡ slice_get (list_of self.old from to) place }
-        ensures lists { HasLists self.new (except from to (remove (list_of self.old from to) place) (list_of self.old)) }
+        ensures lists { let left = remove (list_of self.old from to) place in
+            HasLists self.new (except from to left (list_of self.old)) }
         ensures spare { LowersNoSpare self.old self.new }
         ensures ends { self.new.ends ≡ self.old.ends }
     {
@@ -78,7 +79,8 @@ impl Links {
     /// Drops the message at a place, if there is one. Takes no memory, at the cost of a delivery.
     pub fn lose(&mut self, from: u8, to: u8, place: usize) -> bool
         ensures lost { IsTrue result ↔ (place < length (list_of self.old from to)) }
-        ensures lists { HasLists self.new (except from to (remove (list_of self.old from to) place) (list_of self.old)) }
+        ensures lists { let left = remove (list_of self.old from to) place in
+            HasLists self.new (except from to left (list_of self.old)) }
         ensures spare { LowersNoSpare self.old self.new }
         ensures ends { self.new.ends ≡ self.old.ends }
     {
@@ -87,17 +89,14 @@ impl Links {
 
     /// Puts a copy of the message at a place last on its link, if there is one, at the cost of its length.
     /// It may take the room of one spare message. Want of memory leaves the lists as they were.
-    pub fn repeat(
-        &mut self,
-        alloc: Global,
-        from: u8,
-        to: u8,
-        place: usize,
-    ) -> Result<bool, Memory>
-        ensures repeated { IfOk result (λ repeated. IsTrue repeated ↔ (place < length (list_of self.old from to))) }
+    pub fn repeat(&mut self, alloc: Global, from: u8, to: u8, place: usize) -> Result<bool, Memory>
+        ensures repeated { let list = list_of self.old from to in
+            IfOk result (λ repeated. IsTrue repeated ↔ (place < length list)) }
         ensures ok { let list = list_of self.old from to in
-            OnOk result (HasLists self.new (except from to (list ++ option_to_list (slice_get list place)) (list_of self.old))) }
+            let repeated = list ++ option_to_list (slice_get list place) in
+            OnOk result (HasLists self.new (except from to repeated (list_of self.old))) }
         ensures err { OnErr result (HasLists self.new (list_of self.old)) }
+        ensures spare { LowersByOneAtMost self.old self.new }
         ensures ends { self.new.ends ≡ self.old.ends }
     {
         match place_of(self.ends, from, to) {
@@ -123,7 +122,8 @@ impl Links {
     fn reserve_link(&mut self, from: u8, to: u8, extra: usize) -> Result<(), Memory>
         ensures lists { HasLists self.new (list_of self.old) }
         ensures spare { LowersNoSpare self.old self.new }
-        ensures ok { OnOk result (from < self.new.ends → to < self.new.ends → extra ≤ spare_of self.new from to) }
+        ensures ok { let ends = self.new.ends in
+            OnOk result (from < ends → to < ends → extra ≤ spare_of self.new from to) }
         ensures ends { self.new.ends ≡ self.old.ends }
     {
         match place_of(self.ends, from, to) {
@@ -135,8 +135,10 @@ impl Links {
     /// Puts a message last on a link, in constant time and with no memory: it takes the room of a spare one.
     pub fn send(&mut self, from: u8, to: u8, bytes: Bytes)
         requires { 1 ≤ spare_of self.old from to }
-        ensures lists { HasLists self.new (except from to (list_of self.old from to ++ bytes ∷ []) (list_of self.old)) }
-        ensures spare { HasSpares self.new (except from to (spare_of self.old from to - 1) (spare_of self.old)) }
+        ensures lists { let sent = list_of self.old from to ++ bytes ∷ [] in
+            HasLists self.new (except from to sent (list_of self.old)) }
+        ensures spare { let less = spare_of self.old from to - 1 in
+            HasSpares self.new (except from to less (spare_of self.old)) }
         ensures ends { self.new.ends ≡ self.old.ends }
     {
         let at = from as usize * self.ends as usize + to as usize;
