@@ -1,4 +1,4 @@
-ghost use Rattle.std.specs.Prelude.{◌≡◌, ◌↔◌, ◌+◌, ◌-◌, ◌≤◌, ◌<◌, ◌++◌, ◌∷◌, [], length, remove, slice_get, IsTrue, IfOk, OnOk, OnErr};
+ghost use Rattle.std.specs.Prelude.{◌≡◌, Some, IfSome, ◌↔◌, ◌+◌, ◌-◌, ◌≤◌, ◌<◌, ◌++◌, ◌∷◌, [], length, drop, remove, slice_get, IsTrue, IfOk, OnOk, OnErr};
 ghost use Rattle.std.specs.Option.{option_to_list};
 
 use grid_base::{Bytes, Memory};
@@ -21,9 +21,20 @@ impl Model for Lane {
 
     ghost Value = { Link };
 
-    ghost view = { λ l. record { list = drop l.left l.messages.items; spare = vec_capacity l.messages - vec_len l.messages } };
+    ghost view = { λ l. record {
+        list = drop l.left l.messages.items;
+        spare = vec_capacity l.messages - vec_len l.messages } };
 
     ghost invariant = { λ l. (vec_len l.messages ≡ length l.messages.items) × (l.left ≤ vec_len l.messages) };
+}
+
+/// Puts the message at a place behind the first `left` before all others there, at the cost of those it passes.
+fn rotate_to_front(messages: &mut [Bytes], left: usize, place: usize)
+    requires { left + place < length messages.old }
+    ensures { let list = drop left messages.old in
+        IfSome (slice_get list place) (λ first. drop left messages.new ≡ first ∷ remove list place) }
+{
+    messages[left..left + place + 1].rotate_right(1);
 }
 
 impl Lane {
@@ -61,11 +72,13 @@ impl Lane {
     {
         self.messages.push_reserved(bytes);
     }
+
     /// Puts a copy of the message at a place last, if there is one. Costs the message's length.
     #[tactic(auto, using(crate::proofs::Lists::none_repeated, crate::proofs::Lists::one_repeated))]
     pub fn repeat(&mut self, alloc: Global, place: usize) -> Result<bool, Memory>
         ensures there { IfOk result (λ there. IsTrue there ↔ (place < length self.old.list)) }
-        ensures ok { OnOk result (self.new.list ≡ self.old.list ++ option_to_list (slice_get self.old.list place)) }
+        ensures ok { let repeated = option_to_list (slice_get self.old.list place) in
+            OnOk result (self.new.list ≡ self.old.list ++ repeated) }
         ensures err { OnErr result (self.new.list ≡ self.old.list) }
         ensures spare { self.old.spare ≤ self.new.spare + 1 }
     {
@@ -78,21 +91,50 @@ impl Lane {
         Ok(true)
     }
 
-    /// Takes the message at a place out, if there is one. The first is taken in constant time over many takings;
-    /// another at the cost of those behind it. Takes no memory.
-    #[tactic(auto, using(crate::proofs::Lists::drop_remove))]
+    /// Takes the message at a place out, if there is one, at the cost of those before it or of those behind it,
+    /// whichever are fewer; the first in constant time over many takings. Takes no memory.
     pub fn take(&mut self, place: usize) -> Option<Bytes>
         ensures taken { result ≡ slice_get self.old.list place }
         ensures list { self.new.list ≡ remove self.old.list place }
         ensures spare { self.old.spare ≤ self.new.spare }
     {
-        if place >= self.messages.len() - self.left {
+        let count = self.as_slice().len();
+        if place >= count {
             None
-        } else if place == 0 {
-            Some(self.take_first())
+        } else if place > count / 2 {
+            Some(self.take_from_behind(place))
         } else {
-            Some(self.messages.remove(self.left + place))
+            Some(self.take_from_before(place))
         }
+    }
+
+    #[tactic(auto, using(crate::proofs::Lists::drop_remove))]
+    fn take_from_behind(&mut self, place: usize) -> Bytes
+        requires { place < length self.old.list }
+        ensures taken { slice_get self.old.list place ≡ Some result }
+        ensures list { self.new.list ≡ remove self.old.list place }
+        ensures spare { self.old.spare ≤ self.new.spare }
+    {
+        self.messages.remove(self.left + place)
+    }
+
+    fn take_from_before(&mut self, place: usize) -> Bytes
+        requires { place < length self.old.list }
+        ensures taken { slice_get self.old.list place ≡ Some result }
+        ensures list { self.new.list ≡ remove self.old.list place }
+        ensures spare { self.old.spare ≤ self.new.spare }
+    {
+        self.bring_to_front(place);
+        self.take_first()
+    }
+
+    fn bring_to_front(&mut self, place: usize)
+        requires { place < length self.old.list }
+        ensures list { let others = remove self.old.list place in
+            IfSome (slice_get self.old.list place) (λ first. self.new.list ≡ first ∷ others) }
+        ensures spare { self.new.spare ≡ self.old.spare }
+    {
+        rotate_to_front(&mut self.messages, self.left, place);
     }
 
     fn take_first(&mut self) -> Bytes

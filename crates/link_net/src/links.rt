@@ -64,8 +64,10 @@ impl Links {
         }
     }
 
-    /// Takes the message at a place out, if there is one. Takes no memory. The first of a link is taken in constant
-    /// time over many takings; another at the cost of those behind it.
+    /// Takes the message at a place out, if there is one. Takes no memory.
+    ///
+    /// The first of a link is taken in constant time over many takings, and another at the cost of the messages
+    /// before it or of those behind it, whichever are fewer.
     pub fn deliver(&mut self, from: u8, to: u8, place: usize) -> Option<Bytes>
         ensures taken { result ≡ slice_get (list_of self.old from to) place }
         ensures lists { let left = remove (list_of self.old from to) place in
@@ -76,7 +78,8 @@ impl Links {
         let at = place_of(self.ends, from, to)?;
         self.lanes[at].take(place)
     }
-    /// Drops the message at a place, if there is one. Takes no memory, at the cost of a delivery.
+
+    /// Drops the message at a place, if there is one. Takes no memory, and costs what a delivery does.
     pub fn lose(&mut self, from: u8, to: u8, place: usize) -> bool
         ensures lost { IsTrue result ↔ (place < length (list_of self.old from to)) }
         ensures lists { let left = remove (list_of self.old from to) place in
@@ -105,8 +108,9 @@ impl Links {
         }
     }
 
-    /// Makes room for so many messages more on each link from an end, at the cost of the ends and, where a link's
-    /// messages have to move, of their number. Want of memory leaves the lists as they were.
+    /// Makes room for so many messages more on each link from an end. Want of memory leaves the lists as they were.
+    ///
+    /// Costs the number of ends; a link whose room has to grow costs its messages, which is rare as it doubles.
     pub fn reserve(&mut self, from: u8, extra: usize) -> Result<(), Memory>
         ensures lists { HasLists self.new (list_of self.old) }
         ensures spare { LowersNoSpare self.old self.new }

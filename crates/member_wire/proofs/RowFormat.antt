@@ -30,7 +30,7 @@ some_count : (lost : Bool) → (n : ℕ) × IsByte n × (is_count lost n ≡ tru
 some_count true = (0, omega arith, refl)
 some_count false = (1, omega arith, refl)
 
-few_members : (lost : Bool) (n : ℕ) → is_count lost n ≡ true → IsByte n
+pub few_members : (lost : Bool) (n : ℕ) → is_count lost n ≡ true → IsByte n
 few_members true n e = let none : n ≡ 0 = grind (arith, nat_tests) in omega (arith, none)
 few_members false n e = let few = and_parts (ltb 0 n) (leb n 8) e in let most : n ≤ 8 = leb-true _ _ few.1 in omega (arith, most)
 

@@ -3,16 +3,19 @@ use Rattle.std.proofs.Common.{◌≡◌, ◌≢◌, ℕ, ◌+◌, ◌<◌, Bool,
 use Rattle.std.specs.Prelude.{IfOk, IfErr}
 use Rattle.std.proofs.lemmas.Bool.{eqb-true, eqb-false}
 use Rattle.std.proofs.lemmas.List.{append-nil, nil_from_length, take_at}
+use Rattle.partition_table.specs.declared.Row.{Row}
 use Rattle.member_wire.specs.declared.message.MemberMessage.{MemberMessage}
+use Rattle.member_wire.specs.declared.message.MemberMessage.TheVariants as said
 use Rattle.member_wire.specs.declared.refusal.WireRefused.{WireRefused}
 use Rattle.member_wire.specs.declared.refusal.WireRefused.TheVariants.{Short, Tag, Order, Rest, Memory}
 use Rattle.member_wire.specs.Places.{Place, start}
-use Rattle.member_wire.specs.Parts.{◌>>=◌, end_at, IsUnlessMemory}
+use Rattle.member_wire.specs.Parts.{◌>>=◌, end_at, IsByte, IsUnlessMemory}
 use Rattle.member_wire.specs.Reading.{message_at, reading}
-use Rattle.member_wire.specs.Spelling.{spelling, IsSpelled}
+use Rattle.member_wire.specs.Spelling.{spelling, IsSpelledRow, IsSpelled, LengthsFit}
 use Rattle.member_wire.specs.Faults as faults
 use Rattle.member_wire.proofs.Formats.{IsBytes, place, ok_is, Begins, FailsAt, Fault, Takes, one_text}
 use Rattle.member_wire.proofs.Following.{bind_ok, bind_err}
+use Rattle.member_wire.proofs.RowFormat.{few_members}
 use Rattle.member_wire.proofs.MessageFormat.{SpellsMessage, message_format}
 
 abbrev ending : MemberMessage × Place → Result MemberMessage WireRefused
@@ -108,3 +111,16 @@ is_only bytes r given m fits is = subst (IsUnlessMemory r) (ap reading is ∙ re
 
 pub stay_apart : (m n : MemberMessage) (x y : List ℕ) → IsSpelled m → IsSpelled n → spelling m ++ x ≡ spelling n ++ y → (m ≡ n) × (x ≡ y)
 stay_apart m n x y one two same = one_text message_at SpellsMessage message_format m n (spelling m) (spelling n) x y (record { fits = one; is = refl }) (record { fits = two; is = refl }) same
+
+few_in_row : (row : Row) → IsSpelledRow row → IsByte (length row.members)
+few_in_row row fits = few_members row.lost (length row.members) fits.count
+
+pub lengths_fit : (m : MemberMessage) → IsSpelled m → LengthsFit m
+lengths_fit (said.Row row) fits = few_in_row row fits
+lengths_fit (said.Sync row count snapshot) fits = (few_in_row row fits.0, fits.2)
+lengths_fit (said.Effect version number effect) fits = fits.2
+lengths_fit (said.Ack version count) fits = tt
+lengths_fit (said.Joined version member) fits = tt
+lengths_fit (said.Freeze version) fits = tt
+lengths_fit (said.Frozen version) fits = tt
+lengths_fit (said.Bridge row base count) fits = few_in_row row fits.0

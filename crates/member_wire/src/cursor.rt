@@ -9,8 +9,7 @@ use std::marker::Model;
 
 /// A place in bytes that are read from left to right.
 ///
-/// A refused read leaves the cursor where it stood. No read takes memory, and each costs no more than the
-/// few bytes that it looks at.
+/// A refused read leaves the cursor where it stood. No read takes memory, and each costs constant time.
 #[derive(Drop)]
 pub struct Cursor<'a> {
     at: usize,
@@ -73,10 +72,12 @@ impl<'a> Cursor<'a> {
         self.rest = rest;
         Ok(u32::from_le_bytes([number[0], number[1], number[2], number[3]]))
     }
+
     /// Bytes behind their length, which is a number. Where they end early, the fault is at the length.
     #[tactic(auto, unfolding(crate::specs::Parts::sized_at))]
     pub fn sized(&mut self) -> Result<&'a [u8], WireRefused>
-        ensures read { Gives (λ (bytes : Bor (List ℕ)). (bytes.now, self.new)) result (sized_at self.old) }
+        ensures read { Gives (λ (bytes : Bor (List ℕ)). (bytes.now, self.new))
+            result (sized_at self.old) }
         ensures err { OnErr result (self.new ≡ self.old) }
         ensures never_memory { result ≢ Err WireRefused.Memory }
     {

@@ -199,7 +199,8 @@ pub fn read_member(alloc: Global, bytes: &[u8]) -> Result<MemberMessage, WireRef
     // What is read is spelled so.
     ensures found { IfOk result (λ m. IsSpelled m × (bytes.now ≡ spelling m)) }
     // What is spelled so is read, unless memory runs out.
-    ensures only { (m : MemberMessageOf) → IsSpelled m → bytes.now ≡ spelling m → IsUnlessMemory result (Ok m) }
+    ensures only { (m : MemberMessageOf) → IsSpelled m → bytes.now ≡ spelling m
+        → IsUnlessMemory result (Ok m) }
     // A refusal names the first place that fails.
     ensures first { IfErr result (IsFirstFault bytes.now) }
     // Which place and which fault it is.
