@@ -22,8 +22,9 @@ impl Model for Lane {
     ghost Value = { Link };
 
     ghost view = { λ l. record {
-        list = drop l.left l.messages.items;
-        spare = vec_capacity l.messages - vec_len l.messages } };
+      list = drop l.left l.messages.items;
+      spare = vec_capacity l.messages - vec_len l.messages;
+    } };
 
     ghost invariant = { λ l. (vec_len l.messages ≡ length l.messages.items) × (l.left ≤ vec_len l.messages) };
 }
