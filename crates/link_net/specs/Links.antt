@@ -1,0 +1,55 @@
+-- The messages in flight. Each ordered pair of ends has a link, and a message on it is named by its place, from 0.
+use Rattle.std.specs.Prelude.{◌≡◌, ℕ, ◌+◌, ◌*◌, ◌≤◌, ◌<◌, ◌&&◌, ◌==◌, nat_lt, if◌then◌else◌, List, [], Option, Some, None, option_and_then, slice_get}
+
+-- the messages on a link in the order in which they were sent, and how many more can be sent without memory
+pub record Link : Type 0 where
+  pub list : List (List ℕ)
+  pub spare : ℕ
+
+-- how many ends there are, and the links: those from the first end, to each end in order, and then those from the next
+pub record Net : Type 0 where
+  pub ends : ℕ
+  pub links : List Link
+
+-- where the link between two ends stands, if both are ends
+abbrev pub place_of : ℕ → ℕ → ℕ → Option ℕ
+place_of ends from to = if nat_lt from ends && nat_lt to ends then Some (from * ends + to) else None
+
+abbrev pub link_between : Net → ℕ → ℕ → Option Link
+link_between net from to = option_and_then (slice_get net.links) (place_of net.ends from to)
+
+abbrev pub list_in : Option Link → List (List ℕ)
+list_in None = []
+list_in (Some link) = link.list
+
+abbrev pub spare_in : Option Link → ℕ
+spare_in None = 0
+spare_in (Some link) = link.spare
+
+-- the messages from one end to another; for a number that is no end there are none
+abbrev pub list_of : Net → ℕ → ℕ → List (List ℕ)
+list_of net from to = list_in (link_between net from to)
+
+abbrev pub spare_of : Net → ℕ → ℕ → ℕ
+spare_of net from to = spare_in (link_between net from to)
+
+-- the same for each pair but one
+abbrev pub except : {X : Type 0} → ℕ → ℕ → X → (ℕ → ℕ → X) → ℕ → ℕ → X
+except from to x others f t = if (f == from) && (t == to) then x else others f t
+
+-- each pair of numbers has this list
+abbrev pub HasLists : Net → (ℕ → ℕ → List (List ℕ)) → Type 0
+HasLists net lists = (from to : ℕ) → list_of net from to ≡ lists from to
+
+abbrev pub HasSpares : Net → (ℕ → ℕ → ℕ) → Type 0
+HasSpares net spares = (from to : ℕ) → spare_of net from to ≡ spares from to
+
+abbrev pub LowersNoSpare : Net → Net → Type 0
+LowersNoSpare old new = (from to : ℕ) → spare_of old from to ≤ spare_of new from to
+
+abbrev pub LowersByOneAtMost : Net → Net → Type 0
+LowersByOneAtMost old new = (from to : ℕ) → spare_of old from to ≤ spare_of new from to + 1
+
+-- each link from that end has room for so many messages more
+abbrev pub HasRoom : Net → ℕ → ℕ → Type 0
+HasRoom net from extra = (to : ℕ) → from < net.ends → to < net.ends → extra ≤ spare_of net from to

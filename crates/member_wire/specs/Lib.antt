@@ -1,0 +1,7 @@
+pub mod Places
+pub mod Parts
+pub mod Kinds
+pub mod Spelling
+pub mod Reading
+pub mod Faults
+pub mod TookWords
