@@ -1,1 +1,3 @@
-mod Numbered
+mod Forms
+mod NumberValues
+mod Outcomes

@@ -1,2 +1,4 @@
-pub mod Numbers
+pub mod NumberValues
+pub mod OutcomeFacts
+pub mod Places
 pub mod Processors

@@ -1,8 +1,10 @@
 -- What a processor makes of an entry's value, or of none, with an argument.
 use Rattle.std.specs.Prelude.{ℕ, ◌-◌, ℤ, pos, negsuc, ◌+ℤ◌, zero, suc, List, [], ◌++◌, length, nat_le, slice_get, Option, Some, None, unwrap_or, option_and_then, if◌then◌else◌}
+use Rattle.std.specs.Option.{option_map}
 use Rattle.std.specs.Int.Signed.{lt_z, le_z}
 use Rattle.entry_processors.specs.declared.processor.Outcome.{Outcome}
-use Rattle.entry_processors.specs.Numbers.{number_value, number_in, number_of_argument, fits_64_bits}
+use Rattle.entry_processors.specs.Places.{item_at}
+use Rattle.entry_processors.specs.NumberValues.{number_value, number_in, number_of_argument, fits_64_bits}
 
 -- the rule that a processor follows
 pub data ProcessorForm : Type 0 where
@@ -62,11 +64,6 @@ outcome SetIfGreater None argument = set_number (number_of_argument argument) No
 outcome SetIfGreater (Some value) argument = set_if_greater (number_of_argument argument) (number_in value) value
 outcome Clear old argument = record { value = None; answer = old }
 
--- Processors are numbered from 1, in their order.
-abbrev pub place_of : ℤ → Option ℕ
-place_of (pos (suc place)) = Some place
-place_of (pos zero) = None
-place_of (negsuc n) = None
-
-abbrev pub form_at : List ProcessorForm → ℤ → Option ProcessorForm
-form_at forms number = option_and_then (slice_get forms) (place_of number)
+-- what the processor of a number makes; none where there is no such number
+abbrev pub outcome_at : List ProcessorForm → ℤ → Option (List ℕ) → List ℕ → Option Outcome
+outcome_at forms number old argument = option_map (λ form. outcome form old argument) (item_at forms number)

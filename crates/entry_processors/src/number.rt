@@ -1,5 +1,5 @@
 ghost use Rattle.std.specs.Prelude.{◌≡◌, IfOk};
-ghost use Rattle.entry_processors.specs.Numbers.{number_value, number_in, number_of_argument};
+ghost use Rattle.entry_processors.specs.NumberValues.{number_value, number_in, number_of_argument};
 
 use grid_base::{Bytes, Memory};
 use std::alloc::Global;

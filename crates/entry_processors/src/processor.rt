@@ -23,11 +23,6 @@ pub trait Processor: Drop + Send + Sync {
     ghost form: { Self → ProcessorForm };
 
     /// Costs as much as the bytes of the value, the argument and the outcome.
-    fn run(
-        &self,
-        alloc: Global,
-        old: Option<&Bytes>,
-        argument: &Bytes,
-    ) -> Result<Outcome, Memory>
+    fn run(&self, alloc: Global, old: Option<&Bytes>, argument: &Bytes) -> Result<Outcome, Memory>
         ensures { IfOk result (λ made. made ≡ outcome (form self.now) (option_copied old.entry) argument.now) };
 }

@@ -1,6 +1,6 @@
 ghost use Rattle.std.specs.Prelude.{◌≡◌, ◌+◌, ◌≤◌, [], ◌++◌, length, Some, IfOk, unwrap_or};
 ghost use Rattle.std.specs.Option.{option_copied};
-ghost use Rattle.entry_processors.specs.Numbers.{number_value as value_of_number, number_in as number_of, number_of_argument as number_of_bytes};
+ghost use Rattle.entry_processors.specs.NumberValues.{number_value as value_of_number, number_in as number_of, number_of_argument as number_of_bytes};
 ghost use Rattle.entry_processors.specs.Processors.{counted as counted_as, sum_of, at_most, set_to as set_to_value, kept as kept_as, refused as refused_as, set_number as number_set};
 
 use crate::number::{number_in, number_of_argument, number_value};
@@ -39,12 +39,7 @@ impl Processor for Add {
 
     ghost form = { λ _. Adds };
 
-    fn run(
-        &self,
-        alloc: Global,
-        old: Option<&Bytes>,
-        argument: &Bytes,
-    ) -> Result<Outcome, Memory> {
+    fn run(&self, alloc: Global, old: Option<&Bytes>, argument: &Bytes) -> Result<Outcome, Memory> {
         let sum = sum(counted(old), number_of_argument(argument.as_slice()));
         set_number(alloc, sum, old)
     }
@@ -55,12 +50,7 @@ impl Processor for AddUpTo {
 
     ghost form = { λ rule. AddsUpTo rule.0 };
 
-    fn run(
-        &self,
-        alloc: Global,
-        old: Option<&Bytes>,
-        argument: &Bytes,
-    ) -> Result<Outcome, Memory> {
+    fn run(&self, alloc: Global, old: Option<&Bytes>, argument: &Bytes) -> Result<Outcome, Memory> {
         let sum = sum(counted(old), number_of_argument(argument.as_slice()));
         set_number(alloc, sum.filter(|sum| *sum <= self.0), old)
     }
@@ -71,12 +61,7 @@ impl Processor for Append {
 
     ghost form = { λ _. Appends };
 
-    fn run(
-        &self,
-        alloc: Global,
-        old: Option<&Bytes>,
-        argument: &Bytes,
-    ) -> Result<Outcome, Memory> {
+    fn run(&self, alloc: Global, old: Option<&Bytes>, argument: &Bytes) -> Result<Outcome, Memory> {
         let before = bytes_of(old);
         if before.len().saturating_add(argument.len()) > MOST_BYTES {
             return refused(alloc, old);
@@ -90,12 +75,7 @@ impl Processor for SetIfGreater {
 
     ghost form = { λ _. SetsIfGreater };
 
-    fn run(
-        &self,
-        alloc: Global,
-        old: Option<&Bytes>,
-        argument: &Bytes,
-    ) -> Result<Outcome, Memory> {
+    fn run(&self, alloc: Global, old: Option<&Bytes>, argument: &Bytes) -> Result<Outcome, Memory> {
         let number = number_of_argument(argument.as_slice());
         let Some(value) = old else {
             return set_number(alloc, number, old);
