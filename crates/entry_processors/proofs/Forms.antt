@@ -1,10 +1,10 @@
 -- The processor of a number has the form of that number.
-use Rattle.std.proofs.Common.{◌≡◌, ℕ, zero, suc, ℤ, pos, negsuc, List, map, Option, Some, None, Result, Ok, Err, IfOk, IfErr, slice_get, refl, ap, sym, ◌∙◌}
-use Rattle.std.specs.Option.{option_map, option_and_then}
+use Rattle.std.proofs.Common.{◌≡◌, zero, suc, ℤ, pos, negsuc, List, map, Option, Some, None, Result, Ok, Err, IfOk, IfErr, refl, ap, sym, ◌∙◌}
+use Rattle.std.specs.Option.{option_map}
 use Rattle.std.proofs.lemmas.Option.{slice_get-map}
 use Rattle.entry_processors.specs.declared.registry.ProcessorRefused.{ProcessorRefused}
 use Rattle.entry_processors.specs.declared.registry.ProcessorRefused.TheVariants.{Unknown, Memory}
-use Rattle.entry_processors.specs.Places.{place_of, item_at}
+use Rattle.entry_processors.specs.Places.{item_at}
 use Rattle.entry_processors.specs.Processors.{ProcessorForm}
 
 item_at-map : {X : Type 0} (form : X → ProcessorForm) (xs : List X) (number : ℤ) → item_at (map form xs) number ≡ option_map form (item_at xs number)

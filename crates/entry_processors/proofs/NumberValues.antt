@@ -1,5 +1,5 @@
 -- A number is read from its value, and from nothing else.
-use Rattle.std.proofs.Common.{◌≡◌, ℕ, ◌+◌, ◌-◌, ◌^◌, ◌<◌, ◌≤◌, Bool, true, false, ◌&&◌, ◌⊎◌, inl, inr, ℤ, pos, negsuc, List, [], ◌∷◌, ◌++◌, length, get_or, take, drop, All, Option, Some, None, if◌then◌else◌, refl, ap, sym, ◌∙◌, subst, arith, FitsSigned, w64, length-drop}
+use Rattle.std.proofs.Common.{◌≡◌, ℕ, ◌+◌, ◌^◌, ◌<◌, Bool, true, false, ◌&&◌, ℤ, pos, negsuc, List, ◌++◌, length, get_or, take, drop, All, Some, None, refl, ap, sym, ◌∙◌, arith, FitsSigned, w64, length-drop}
 use Rattle.std.proofs.lemmas.Bool.Decides.{nat_tests, Decides-eqb}
 use Rattle.std.proofs.lemmas.Int.{ints, to_z-of_z, of_z-to_z}
 use Rattle.std.proofs.lemmas.Nat.{from_be_bytes-to_be_bytes_8, be_bytes_8}
@@ -7,7 +7,7 @@ use Rattle.std.proofs.lemmas.List.{take-append-drop, get_or_past, get_or-drop}
 use Rattle.std.specs.Prelude.{nat_eq, ◌==◌}
 use Rattle.std.specs.Int.{from_be_bytes, to_be_bytes, cast_signed, cast_unsigned}
 use Rattle.std.specs.Cmp.Lexicographic.{pointwise, same_text}
-use Rattle.entry_processors.specs.NumberValues.{number_header, number_value, is_number_value, number_in, fits_64_bits}
+use Rattle.entry_processors.specs.NumberValues.{number_header, number_value, is_number_value, fits_64_bits}
 use Rattle.entry_processors.specs.OutcomeFacts.{IsReadAsSpelled, IsSpelledOneWay}
 
 fits_where_tested : (number : ℤ) → fits_64_bits number ≡ true → FitsSigned w64 number

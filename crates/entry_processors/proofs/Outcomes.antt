@@ -1,5 +1,5 @@
 -- What holds of every outcome.
-use Rattle.std.proofs.Common.{◌≡◌, ℕ, ◌+◌, ◌-◌, ◌^◌, ◌<◌, ◌≤◌, Bool, true, false, ◌⊎◌, inl, inr, ℤ, pos, negsuc, ◌+ℤ◌, ◌≤ℤ◌, List, [], ◌∷◌, ◌++◌, length, Option, Some, None, IfSome, if◌then◌else◌, refl, ap, sym, ◌∙◌, subst, arith}
+use Rattle.std.proofs.Common.{◌≡◌, ℕ, ◌≤◌, Bool, true, false, ◌⊎◌, inl, inr, ℤ, ◌+ℤ◌, ◌≤ℤ◌, List, length, Option, Some, None, if◌then◌else◌, refl, ap, sym, ◌∙◌, subst, arith}
 use Rattle.std.proofs.lemmas.Bool.Decides.{nat_tests}
 use Rattle.std.proofs.lemmas.Int.{ints}
 use Rattle.std.specs.Prelude.{nat_le}
@@ -7,7 +7,7 @@ use Rattle.std.specs.Int.Signed.{lt_z, le_z}
 use Rattle.entry_processors.specs.declared.processor.Outcome.{Outcome}
 use Rattle.entry_processors.specs.NumberValues.{number_value, number_in, number_of_argument, fits_64_bits}
 use Rattle.entry_processors.specs.OutcomeFacts.{IsWithin, StaysWithin, KeepsToItsLimit}
-use Rattle.entry_processors.specs.Processors.{ProcessorForm, Add, AddUpTo, Append, SetIfGreater, Clear, outcome, counted, sum_of, at_most, set_number, set_if_greater, set_in_limit, set_to, refused, kept}
+use Rattle.entry_processors.specs.Processors.{ProcessorForm, Add, AddUpTo, Append, SetIfGreater, Clear, counted, sum_of, at_most, set_number, set_if_greater, set_in_limit, set_to, refused, kept}
 use Rattle.entry_processors.proofs.NumberValues.{is_read_as_spelled}
 
 -- both parts are within

@@ -1,5 +1,5 @@
 -- What a processor makes of an entry's value, or of none, with an argument.
-use Rattle.std.specs.Prelude.{ℕ, ◌-◌, ℤ, pos, negsuc, ◌+ℤ◌, zero, suc, List, [], ◌++◌, length, nat_le, slice_get, Option, Some, None, unwrap_or, option_and_then, if◌then◌else◌}
+use Rattle.std.specs.Prelude.{ℕ, ℤ, pos, ◌+ℤ◌, List, [], ◌++◌, length, nat_le, Option, Some, None, unwrap_or, if◌then◌else◌}
 use Rattle.std.specs.Option.{option_map}
 use Rattle.std.specs.Int.Signed.{lt_z, le_z}
 use Rattle.entry_processors.specs.declared.processor.Outcome.{Outcome}
@@ -46,13 +46,13 @@ abbrev pub set_number : Option ℤ → Option (List ℕ) → Outcome
 set_number (Some number) old = set_to (number_value number)
 set_number None old = refused old
 
--- a number against a value that has the second one
+-- The first number, an argument's, is set where the second one, that of the value, is less.
 abbrev pub set_if_greater : Option ℤ → Option ℤ → List ℕ → Outcome
 set_if_greater (Some number) (Some before) old = if lt_z before number then set_to (number_value number) else kept (Some old)
 set_if_greater None before old = refused (Some old)
 set_if_greater (Some number) None old = refused (Some old)
 
--- a value, where it isn't longer than 1,000,000 bytes
+-- A value of at most 1,000,000 bytes is set.
 abbrev pub set_in_limit : List ℕ → Option (List ℕ) → Outcome
 set_in_limit value old = if nat_le (length value) 1000000 then set_to value else refused old
 

@@ -18,7 +18,7 @@ pub enum ProcessorRefused {
     Memory,
 }
 
-/// Processors by number. To contracts it is the list of their forms, `map form registry`.
+/// Processors by number. Contracts see the list of its boxes, and name their forms `map form registry`.
 pub type Registry = Numbered<Box<dyn Processor>>;
 
 impl Numbered<Box<dyn Processor>> {

@@ -1,4 +1,4 @@
-ghost use Rattle.std.specs.Prelude.{◌≡◌, ◌+◌, ◌≤◌, [], ◌++◌, length, Some, IfOk, unwrap_or};
+ghost use Rattle.std.specs.Prelude.{◌≡◌, ◌+◌, ◌^◌, ◌<◌, [], ◌++◌, length, Some, IfOk, unwrap_or};
 ghost use Rattle.std.specs.Option.{option_copied};
 ghost use Rattle.entry_processors.specs.NumberValues.{number_value as value_of_number, number_in as number_of, number_of_argument as number_of_bytes};
 ghost use Rattle.entry_processors.specs.Processors.{counted as counted_as, sum_of, at_most, set_to as set_to_value, kept as kept_as, refused as refused_as, set_number as number_set};
@@ -122,7 +122,7 @@ fn bytes_of(old: Option<&Bytes>) -> &[u8]
 }
 
 fn joined(alloc: Global, first: &[u8], second: &[u8]) -> Result<Bytes, Memory>
-    requires { length first.now + length second.now ≤ 1000000 }
+    requires { length first.now + length second.now < 2 ^ 64 }
     ensures { IfOk result (λ bytes. bytes ≡ first.now ++ second.now) }
 {
     let mut bytes = Vec::with_capacity(alloc, first.len() + second.len())?;
