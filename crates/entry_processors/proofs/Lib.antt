@@ -1,0 +1,3 @@
+mod Forms
+mod NumberValues
+mod Outcomes

@@ -1,0 +1,4 @@
+pub mod NumberValues
+pub mod OutcomeFacts
+pub mod Places
+pub mod Processors

@@ -1,0 +1,14 @@
+//! Entry processors: rules that make a new value of an entry's value where it is kept, and a registry of them by number.
+#![tactic(auto)]
+
+pub mod laws;
+mod number;
+mod numbered;
+mod processor;
+mod registry;
+mod rules;
+
+pub use numbered::Numbered;
+pub use processor::{Outcome, Processor};
+pub use registry::{ProcessorRefused, Registry};
+pub use rules::{Add, AddUpTo, Append, Clear, SetIfGreater};
