@@ -1,3 +1,5 @@
+pub mod Counting
+pub mod Fitting
 pub mod Composition
 pub mod Shown
 pub mod Chains
