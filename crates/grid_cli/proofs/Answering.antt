@@ -1,6 +1,5 @@
 -- A call keeps what holds of answers: what it releases is answered once, and nothing that was answered before.
-use Rattle.std.proofs.Common.{◌≡◌, ℕ, ◌+◌, ◌≤◌, true, false, cond, List, [], ◌∷◌, ◌++◌, map, filter, length, take, drop, Option, Some, None, slice_get, refl, ap, sym, ◌∙◌, subst, ◌⊎◌, ⊎_elim, inl, inr, arith, append-nil}
-use Rattle.std.proofs.lemmas.List.{take-append-drop}
+use Rattle.std.proofs.Common.{◌≡◌, ℕ, ◌+◌, ◌≤◌, true, false, cond, List, [], ◌∷◌, ◌++◌, map, filter, length, drop, Option, Some, None, slice_get, refl, ap, sym, ◌∙◌, subst, ◌⊎◌, ⊎_elim, inl, inr, arith, append-nil}
 use Rattle.std.proofs.lemmas.List.Elements.{filter-append}
 use Rattle.std.proofs.lemmas.Bool.Decides.{nat_tests}
 use Rattle.std.proofs.Math.Seq.{drop-append_seam}
@@ -18,14 +17,14 @@ use Rattle.partition_protocol.specs.Answers.{answered_call}
 use Rattle.partition_protocol.specs.Arrivals.{name}
 use Rattle.partition_protocol.specs.Sequences.{IsFrontOf}
 use Rattle.partition_protocol.specs.Claims.{is_reset}
-use Rattle.partition_protocol.proofs.Lists.{In, in_left, in_right, in_cases, cases, on_if}
+use Rattle.partition_protocol.proofs.Lists.{In, in_left, in_cases, cases, on_if}
 use Rattle.partition_protocol.proofs.Extends.{run_append, front_trans, same}
 use Rattle.partition_protocol.proofs.Theorem.{every_run_extends}
 use Rattle.partition_world.specs.Answers.{id_of}
-use Rattle.grid_cli.specs.Runs.{Run, Arrival, Appended, Connection, At, world_at, events_at, executed_for, released_by, answer_to, refusal, refused_by, call_of, happening, arrived}
+use Rattle.grid_cli.specs.Runs.{Run, Arrival, Appended, At, world_at, events_at, executed_for, released_by, answer_to, refusal, refused_by, call_of, happening, arrived}
 use Rattle.grid_cli.specs.Replies.{want_of_memory}
 use Rattle.grid_cli.specs.Printing.{is_answer_to}
-use Rattle.grid_cli.proofs.Parts.{in_map, in_mapped}
+use Rattle.grid_cli.proofs.Parts.{in_map, in_mapped, in_drop}
 use Rattle.grid_cli.proofs.Counts.{count, count-append, count_none, count_in, count_cases}
 use Rattle.grid_cli.proofs.Releases.{one, times_in, answers, answers-append, released_once}
 use Rattle.grid_cli.proofs.Places.{same_number}
@@ -45,9 +44,6 @@ in_filter_map {X} {Y} f (x ∷ xs) y i = go (f x) refl (λ j. in_filter_map f xs
     go None e g j = let k = g j in (k.0, inr k.1, k.2)
     go (Some v) e g (inl s) = (x, inl refl, e ∙ ap (λ u. Some u) s)
     go (Some v) e g (inr j) = let k = g j in (k.0, inr k.1, k.2)
-
-pub in_drop : {X : Type 0} (n : ℕ) (xs : List X) (x : X) → In x (drop n xs) → In x xs
-in_drop n xs x i = subst (λ ys. In x ys) (take-append-drop n xs) (in_right x (take n xs) (drop n xs) i)
 
 pub answers_count : (w : World Request) (line : ℕ) (id : CallId) (hs : List Held)
     → count (is_answer_to id) (map (answer_to line) (filter_map (executed_for w) hs)) ≤ answers (id_name id) hs
@@ -114,19 +110,19 @@ given_longer log more released since come arrivals m id f g h given = record {
   arrived = λ x i. let k = given.arrived x i in (k.0, h k.0 k.1, k.2, k.3);
 }
 
-module _ {State : Type 0} (o : Object Request State) (r : Run) (ok : RunOk o r) (k : Connection) (a : Arrival) where
+module _ {State : Type 0} (o : Object Request State) (r : Run) (ok : RunOk o r) (a : Arrival) where
   -- with more events the log and the answers go on
   pub run_extends : (events : List At) (appended : List Appended) (p : ℕ)
-      → IsFrontOf (world_at o r p).recorded.log (world_at o (arrived r k a events appended) p).recorded.log × IsFrontOf (world_at o r p).released (world_at o (arrived r k a events appended) p).released
+      → IsFrontOf (world_at o r p).recorded.log (world_at o (arrived r a events appended) p).recorded.log × IsFrontOf (world_at o r p).released (world_at o (arrived r a events appended) p).released
   run_extends events appended p =
       subst (λ es. IsFrontOf (world_at o r p).recorded.log (run o (start p r.members r.backups) es).recorded.log × IsFrontOf (world_at o r p).released (run o (start p r.members r.backups) es).released)
       (sym (events_at-append p r.events events)) (every_run_extends o p r.members r.backups (events_at p r.events) (events_at p events))
 
   pub given_still : (events : List At) (appended : List Appended) (m : Appended) (id : CallId) → In m r.appended → m.answers ≡ Some id
-      → (p : ℕ) × IsGivenIn o r p m id × IsGivenIn o (arrived r k a events appended) p m id
+      → (p : ℕ) × IsGivenIn o r p m id × IsGivenIn o (arrived r a events appended) p m id
   given_still events appended m id i e =
       let q = ok.of_answers.given m id i e in
-      let next = arrived r k a events appended in
+      let next = arrived r a events appended in
       let more = run_extends events appended q.0 in (
         q.0,
         q.1,
@@ -137,7 +133,7 @@ module _ {State : Type 0} (o : Object Request State) (r : Run) (ok : RunOk o r) 
   -- a call that found no memory
 
   abbrev pub skipped : Run
-  skipped = arrived r k a [] (refusal a.line a.request want_of_memory 0 ∷ [])
+  skipped = arrived r a [] (refusal a.line a.request want_of_memory 0 ∷ [])
 
   pub skipped_answers : AnswersOk o skipped
   skipped_answers = record {
@@ -163,7 +159,7 @@ module _ {State : Type 0} (o : Object Request State) (r : Run) (ok : RunOk o r) 
   after = (happens o before (call_of a)).world
 
   abbrev pub next : Run
-  next = arrived r k a (its_event a ∷ []) (happening o r a)
+  next = arrived r a (its_event a ∷ []) (happening o r a)
 
   pub world_here : world_at o next p ≡ after
   world_here =
@@ -175,7 +171,7 @@ module _ {State : Type 0} (o : Object Request State) (r : Run) (ok : RunOk o r) 
   world_elsewhere q e =
       ap (run o (start q r.members r.backups)) (events_of_more q r.events a ∙ ap (λ b. events_at q r.events ++ maybe_one b (call_of a)) e ∙ append-nil (events_at q r.events))
 
-  module _ (arrivals : ArrivalsOk next) where
+  module _ (line_now : a.line ≡ r.lines) (arrivals : ArrivalsOk next) where
     -- an answer that the event released
     pub given_now : (m : Appended) (id : CallId) → In m (map (answer_to a.line) (released_by before after)) → m.answers ≡ Some id → IsGivenIn o next p m id
     given_now m id i e =
@@ -203,7 +199,7 @@ module _ {State : Type 0} (o : Object Request State) (r : Run) (ok : RunOk o r) 
         arrived_by_now line x j =
             let origin_of = origin o next ok.members arrivals p x (subst (λ (w : World Request). In x (executed w.recorded.log)) (sym world_here) j) in
             let now = arrivals.by_now origin_of.0 origin_of.1 in
-            (origin_of.0, origin_of.1, ap name origin_of.3, omega (arith, now, line))
+            (origin_of.0, origin_of.1, ap name origin_of.3, omega (arith, now, line, line_now))
 
     pub given_after : (m : Appended) (id : CallId) → In m next.appended → m.answers ≡ Some id → (q : ℕ) × IsGivenIn o next q m id
     given_after m id i e = ⊎_elim (λ j. let g = given_still (its_event a ∷ []) (happening o r a) m id j e in (g.0, g.2)) new (in_cases m r.appended (happening o r a) i)

@@ -7,7 +7,7 @@ use Rattle.partition_world.proofs.Places.{read_there}
 use Rattle.grid_cli.specs.declared.grid.Grid.{Grid}
 use Rattle.grid_cli.specs.Runs.{Run, At, is_at, events_at}
 use Rattle.grid_cli.specs.Printing.{partitions}
-use Rattle.grid_cli.specs.Grids.{MapWorld, IsWorld, Stands}
+use Rattle.grid_cli.specs.Grids.{MapWorld, IsWorld, Holds}
 use Rattle.grid_cli.proofs.HistoryTexts.{indexed_world}
 
 -- what follows of three facts on a result
@@ -24,18 +24,18 @@ few_events p (e ∷ es) = go (is_at p e) (few_events p es)
     go true h = omega (arith, h)
     go false h = omega (arith, h)
 
-module _ (grid : Grid) (r : Run) (s : Stands grid r) (p i : ℕ) (low : p < partitions) (same : i ≡ p) where
+module _ (grid : Grid) (r : Run) (h : Holds grid r) (p i : ℕ) (low : p < partitions) (same : i ≡ p) where
   -- it is there
   pub world_within : i < length grid.worlds.items
-  world_within = let within = slice_get_within grid.worlds.items p (s.holds.worlds p low).world (s.holds.worlds p low).there in omega (arith, within, same)
+  world_within = let within = slice_get_within grid.worlds.items p (h.worlds p low).world (h.worlds p low).there in omega (arith, within, same)
 
   module _ (world : MapWorld) (read : world ≡ get_or grid.worlds.items i world) where
     pub world_there : slice_get grid.worlds.items p ≡ Some world
-    world_there = (s.holds.worlds p low).there ∙ ap Some (sym (read_there grid.worlds.items p i (s.holds.worlds p low).world world same (s.holds.worlds p low).there read))
+    world_there = (h.worlds p low).there ∙ ap Some (sym (read_there grid.worlds.items p i (h.worlds p low).world world same (h.worlds p low).there read))
 
     pub world_is : IsWorld world r p
-    world_is = indexed_world grid.worlds.items r p i world (s.holds.worlds p low) same read
+    world_is = indexed_world grid.worlds.items r p i world (h.worlds p low) same read
 
     -- it has room for one event more
-    pub world_room : grid.lines + 1 < 2 ^ 32 - 1 → steps_of world + 1 < 2 ^ 32 - 1
-    world_room room = omega (arith, room, world_is.stands.steps, few_events p r.events, s.holds.events, s.holds.lines)
+    pub world_room : length r.events + 1 < 2 ^ 32 - 1 → steps_of world + 1 < 2 ^ 32 - 1
+    world_room room = omega (arith, room, world_is.stands.steps, few_events p r.events)

@@ -1,13 +1,14 @@
 -- The grid after the first line.
-use Rattle.std.proofs.Common.{◌≡◌, ◌≢◌, ℕ, zero, suc, ◌+◌, ◌<◌, ◌≤◌, List, [], ◌∷◌, ◌++◌, length, Some, None, slice_get, refl, ap, sym, ◌∙◌, subst, ⊎_elim, arith}
-use Rattle.std.specs.Option.{option_map, option_and_then}
+use Rattle.std.proofs.Common.{◌≡◌, ◌≢◌, ℕ, zero, suc, ◌+◌, ◌<◌, ◌≤◌, List, [], ◌∷◌, ◌++◌, length, None, slice_get, refl, ap, sym, ◌∙◌, subst, ⊎_elim, arith}
+use Rattle.std.specs.Option.{option_and_then}
 use Rattle.std.proofs.lemmas.Bool.{cases_eq}
 use Rattle.partition_world.specs.Worlds.{waiting}
 use Rattle.grid_cli.specs.declared.grid.Grid.{Grid}
 use Rattle.grid_cli.specs.Runs.{Run, begun}
 use Rattle.grid_cli.specs.Printing.{partitions}
 use Rattle.grid_cli.specs.Tables.{most_connections, unopened, no_connections, opened_at}
-use Rattle.grid_cli.specs.Grids.{MapWorld, IsWorld, HasTable, HasWorld, Stands, first, connection_as}
+use Rattle.grid_cli.specs.ScriptRuns.{grid_begun}
+use Rattle.grid_cli.specs.Grids.{MapWorld, IsWorld, Matches, HasTable, IsSettled, HasWorld, Stands}
 use Rattle.grid_cli.proofs.TableChanges.{got_last, got_before, line_at}
 
 -- one world more
@@ -33,14 +34,17 @@ begun_table : (members backups : ℕ) → HasTable no_connections (begun members
 unfolding no_connections
 begun_table members backups = record {
   size = sized most_connections;
-  connections = λ c. sym (ap (option_map (connection_as c)) (none_at most_connections c));
+  connections = λ c. subst (λ slot. Matches slot None) (sym (none_at most_connections c)) tt;
   calls = λ id. ap (option_and_then (line_at id.number)) (none_at most_connections id.conn);
-  counted = λ c o e. absurd (let clash : None ≡ Some o = sym (none_at most_connections c) ∙ e in cc);
 }
+
+begun_settled : (members backups : ℕ) → IsSettled no_connections (begun members backups)
+begun_settled members backups c o k at there = absurd cc
 
 pub begun_stands : (grid : Grid) (members backups : ℕ) → 1 ≤ members → grid.lines ≡ 1 → grid.connections ≡ no_connections → ((p : ℕ) → p < partitions → HasWorld grid.worlds.items (begun members backups) p)
     → Stands grid (begun members backups)
 begun_stands grid members backups some lines table worlds = record {
-  run = first members backups some;
-  holds = record { lines = lines; table = subst (λ t. HasTable t (begun members backups)) (sym table) (begun_table members backups); worlds = worlds; events = omega arith };
+  run = grid_begun members backups some;
+  holds = record { lines = lines; table = subst (λ t. HasTable t (begun members backups)) (sym table) (begun_table members backups); worlds = worlds };
+  settled = subst (λ t. IsSettled t (begun members backups)) (sym table) (begun_settled members backups);
 }

@@ -45,14 +45,14 @@ later_close skips too_long r (text ∷ texts) e = by_run (λ next. later_close s
     by_end : Rest → (x : Line × Run) → ran partition_object skips r text ≡ Some x → (b : Bool) → is_end x.0 ≡ b → Closes skips r (text ∷ texts) all
     by_end go x runs true ends = (1, [], rw (runs, ends, later_lines, run_after) refl)
     by_end go x runs false ends =
-        let shown : all ≡ following (line_text r x.1) (later_lines partition_object skips too_long x.1 texts) = rw (runs, ends, later_lines) refl in
+        let shown : all ≡ following (line_text r x.0 x.1) (later_lines partition_object skips too_long x.1 texts) = rw (runs, ends, later_lines) refl in
         let rest = go x.1 (sym (ap ended_in shown) ∙ e) in
         let after : run_after partition_object skips r (text ∷ take rest.0 texts) ≡ run_after partition_object skips x.1 (take rest.0 texts) = rw (runs, run_after) refl in (
           suc rest.0,
-          line_text r x.1 ++ rest.1,
-          ap (λ (t : Transcript). t.text) shown ∙ ap (λ t. line_text r x.1 ++ t) rest.2
-              ∙ sym (append_assoc (line_text r x.1) rest.1 (end_text partition_object (run_after partition_object skips x.1 (take rest.0 texts))))
-              ∙ ap (λ next. (line_text r x.1 ++ rest.1) ++ end_text partition_object next) (sym after),
+          line_text r x.0 x.1 ++ rest.1,
+          ap (λ (t : Transcript). t.text) shown ∙ ap (λ t. line_text r x.0 x.1 ++ t) rest.2
+              ∙ sym (append_assoc (line_text r x.0 x.1) rest.1 (end_text partition_object (run_after partition_object skips x.1 (take rest.0 texts))))
+              ∙ ap (λ next. (line_text r x.0 x.1 ++ rest.1) ++ end_text partition_object next) (sym after),
         )
 
     by_run : Rest → (o : Option (Line × Run)) → ran partition_object skips r text ≡ o → Closes skips r (text ∷ texts) all

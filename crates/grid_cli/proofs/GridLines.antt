@@ -1,25 +1,30 @@
 -- The grid after each line: it stands for the run after the line, and the line's text was added.
-use Rattle.std.proofs.Common.{◌≡◌, ℕ, ◌+◌, ◌<◌, true, false, cond, List, [], ◌∷◌, ◌++◌, Option, Some, None, refl, ap, sym, ◌∙◌, subst, append_assoc, arith}
-use Rattle.std.specs.Option.{option_map, option_and_then, is_some}
+use Rattle.std.proofs.Common.{◌≡◌, ℕ, ◌+◌, ◌<◌, true, cond, List, [], ◌++◌, length, Option, Some, None, refl, ap, sym, ◌∙◌, subst, ⊎_elim, append-nil, append_assoc, arith}
+use Rattle.std.specs.Option.{is_some}
 use Rattle.std.specs.List.{flat_map}
-use Rattle.grid_base.specs.declared.names.CallId.{CallId}
+use Rattle.std.proofs.lemmas.Bool.{cases_eq}
 use Rattle.grid_base.specs.declared.calls.Request.{Request}
+use Rattle.frame_codec.specs.declared.malformed.Malformed.{Malformed}
+use Rattle.message_frames.specs.MessageReaders.{standing}
 use Rattle.partition_protocol.proofs.Lists.{in_contains}
 use Rattle.grid_cli.specs.declared.grid.Grid.{Grid}
 use Rattle.grid_cli.specs.declared.script.Line.{Line}
 use Rattle.grid_cli.specs.declared.script.Line.TheVariants.{OpenConn, Arrive, End}
 use Rattle.grid_cli.specs.PartitionObjects.{partition_object}
-use Rattle.grid_cli.specs.Words.{are_same}
-use Rattle.grid_cli.specs.Requests.{request_of}
-use Rattle.grid_cli.specs.Runs.{Run, Connection, Arrival, connection_of, after_line, opened, next_line, next_id, updated, greeting, prefix, requested, bytes_arrived, asked, arrival_at}
-use Rattle.grid_cli.specs.Printing.{ok_text, line_text, end_text, entry_text, all_entries}
-use Rattle.grid_cli.specs.Transcripts.{is_end}
-use Rattle.grid_cli.specs.Skips.{arrival_on, call_at}
-use Rattle.grid_cli.specs.Tables.{Table, most_connections, opened_at, with_opened, with_greeting}
-use Rattle.grid_cli.specs.Grids.{HasTable, Holds, Stands, HasRun, IsRun, later, connection_as, text_at}
-use Rattle.grid_cli.specs.WorldCalls.{HasAsked}
-use Rattle.grid_cli.proofs.LineTexts.{text_without}
-use Rattle.grid_cli.proofs.TableRuns.{opened_table, greeted_table}
+use Rattle.grid_cli.specs.Runs.{Run, Connection, is_connection, connection_of, fault_on, messages_on, with_bytes, took_bytes, opened, next_line}
+use Rattle.grid_cli.specs.Printing.{ok_text, nothing_text, close_text, entry_text, all_entries, new_messages}
+use Rattle.grid_cli.specs.Skips.{AreOfLine}
+use Rattle.grid_cli.specs.ScriptRuns.{line_counted, connection_opened}
+use Rattle.grid_cli.specs.Tables.{Table, most_connections, opened_at, with_opened, with_reader}
+use Rattle.grid_cli.specs.Grids.{HasTable, IsSettled, IsCounting, Holds, Stands, HasRun, text_at}
+use Rattle.grid_cli.specs.WorldCalls.{texts_of, Brings, HasAskedSome}
+use Rattle.grid_cli.proofs.Lines.{requests_room}
+use Rattle.grid_cli.proofs.LineTexts.{text_nothing, text_without, new_with}
+use Rattle.grid_cli.proofs.Midway.{begun_midway, midway_come, closed_line, closed_does_nothing, open_does_something, ended_line, ended_skips}
+use Rattle.grid_cli.proofs.Places.{same_number}
+use Rattle.grid_cli.proofs.Trails.{find_some}
+use Rattle.grid_cli.proofs.TableRuns.{none_opened, opened_table, fed_table}
+use Rattle.grid_cli.proofs.TableCounts.{settled_opened, counting_fed}
 
 -- the grid after a line that made no event
 abbrev pub after_quiet : Grid → Table → Grid
@@ -31,105 +36,129 @@ quiet_holds grid r t ks h table = record {
   lines = ap (λ n. n + 1) h.lines;
   table = table;
   worlds = λ p low. let w = h.worlds p low in record { world = w.world; there = w.there; is = record { stands = w.is.stands; setup = w.is.setup }; given = w.given };
-  events = omega (arith, h.events);
 }
 
--- the grid before the entries are printed
+-- the grid once the line is counted
 pub next_stands : (grid : Grid) (r : Run) → Stands grid r → Stands (after_quiet grid grid.connections) (next_line r)
 next_stands grid r s = record {
-  run = later [] End r (next_line r) s.run refl;
-  holds = quiet_holds grid r grid.connections r.connections s.holds
-      (record { size = s.holds.table.size; connections = s.holds.table.connections; calls = s.holds.table.calls; counted = λ c o e. let k = s.holds.table.counted c o e in omega (arith, k) });
+  run = line_counted r s.run;
+  holds = quiet_holds grid r grid.connections r.connections s.holds (record { size = s.holds.table.size; connections = s.holds.table.connections; calls = s.holds.table.calls });
+  settled = s.settled;
 }
 
--- A line that makes no call, and whose text is its outcome alone, has run.
-pub quiet_line : (grid new : Grid) (r : Run) (line : Line) (t : Table) (ks : List Connection) (written text : List ℕ) → Stands grid r → is_end line ≡ false
-    → after_line partition_object [] r line ≡ Some (record r { lines = r.lines + 1; connections = ks }) → HasTable t (record r { lines = r.lines + 1; connections = ks })
-    → new ≡ after_quiet grid t → text ≡ written ++ ok_text (grid.lines + 1) → HasRun new r line written text
-quiet_line grid new r line t ks written text s not_end runs table made is = (
-  [],
-  record r { lines = r.lines + 1; connections = ks },
-  (λ id there. absurd (in_contains id [] there)),
-  runs,
-  subst (λ g. Stands g (record r { lines = r.lines + 1; connections = ks })) (sym made)
-      (record { run = later [] line r (record r { lines = r.lines + 1; connections = ks }) s.run runs; holds = quiet_holds grid r t ks s.holds table }),
-  is ∙ ap (λ xs. written ++ xs) (sym (at_line ∙ text_without r (record r { lines = r.lines + 1; connections = ks }) (grid.lines + 1) refl (ap (λ n. n + 1) (sym s.holds.lines)))),
-)
-  where
-    at_line : text_at r line (record r { lines = r.lines + 1; connections = ks }) ≡ line_text r (record r { lines = r.lines + 1; connections = ks })
-    at_line = ap (λ b. cond b (end_text partition_object (record r { lines = r.lines + 1; connections = ks })) (line_text r (record r { lines = r.lines + 1; connections = ks }))) not_end
+-- a line that brings no call skips none
+no_skips : (r : Run) (line : Line) → AreOfLine r line []
+no_skips r line id there = absurd (in_contains id [] there)
 
 -- `open`
 
-pub none_opened : (t : Table) (r : Run) → HasTable t r → (c : ℕ) → opened_at t c ≡ None → connection_of r c ≡ None
-none_opened t r h c e = h.connections c ∙ ap (option_map (connection_as c)) e
-
 pub opened_line : (grid new : Grid) (r : Run) (c member : ℕ) (written text : List ℕ) → Stands grid r → c < most_connections → opened_at grid.connections c ≡ None
     → new ≡ after_quiet grid (with_opened grid.connections c member) → text ≡ written ++ ok_text (grid.lines + 1) → HasRun new r (OpenConn c member) written text
-opened_line grid new r c member written text s within closed made is =
-    quiet_line grid new r (OpenConn c member) (with_opened grid.connections c member) (r.connections ++ record { conn = c; member = member; greeted = false; messages = 0 } ∷ []) written text s refl
-    (ap (λ o. cond (is_some o) None (Some (opened r c member))) (none_opened grid.connections r s.holds.table c closed))
-    (opened_table grid.connections r s.holds.table c member within closed) made is
-
--- the prefix of a connection
-
-pub greeted_line : (grid new : Grid) (r : Run) (c : ℕ) (k : Connection) (bytes written text : List ℕ) → Stands grid r → connection_of r c ≡ Some k → k.greeted ≡ false → are_same bytes prefix ≡ true
-    → new ≡ after_quiet grid (with_greeting grid.connections c) → text ≡ written ++ ok_text (grid.lines + 1) → HasRun new r (Arrive c bytes) written text
-greeted_line grid new r c k bytes written text s there silent same made is =
-    quiet_line grid new r (Arrive c bytes) (with_greeting grid.connections c) (updated (record k { greeted = true }) r.connections) written text s refl
-    (ap (option_and_then (bytes_arrived partition_object [] r bytes)) there ∙ ap (λ b. cond b (requested partition_object [] r k bytes) (greeting r k bytes)) silent
-    ∙ ap (λ b. cond b (Some (record r { lines = r.lines + 1; connections = updated (record k { greeted = true }) r.connections })) None) same)
-    (greeted_table grid.connections r s.holds.table c k there) made is
-
--- lines that are refused
-
-pub unopened_refused : (r : Run) (c : ℕ) (bytes : List ℕ) → connection_of r c ≡ None → (skips : List CallId) → after_line partition_object skips r (Arrive c bytes) ≡ None
-unopened_refused r c bytes none skips = ap (option_and_then (bytes_arrived partition_object skips r bytes)) none
-
-pub unprefixed_refused : (r : Run) (c : ℕ) (k : Connection) (bytes : List ℕ) → connection_of r c ≡ Some k → k.greeted ≡ false → are_same bytes prefix ≡ false
-    → (skips : List CallId) → after_line partition_object skips r (Arrive c bytes) ≡ None
-unprefixed_refused r c k bytes there silent other skips =
-    ap (option_and_then (bytes_arrived partition_object skips r bytes)) there ∙ ap (λ b. cond b (requested partition_object skips r k bytes) (greeting r k bytes)) silent
-    ∙ ap (λ b. cond b (Some (record r { lines = r.lines + 1; connections = updated (record k { greeted = true }) r.connections })) None) other
-
--- what later bytes on a connection make
-pub requested_line : (skips : List CallId) (r : Run) (c : ℕ) (k : Connection) (bytes : List ℕ) → connection_of r c ≡ Some k → k.greeted ≡ true
-    → after_line partition_object skips r (Arrive c bytes) ≡ option_map (λ request. asked partition_object skips r k (arrival_at r k request)) (request_of (next_id k) bytes)
-requested_line skips r c k bytes there spoken =
-    ap (option_and_then (bytes_arrived partition_object skips r bytes)) there ∙ ap (λ b. cond b (requested partition_object skips r k bytes) (greeting r k bytes)) spoken
-
-pub unread_refused : (r : Run) (c : ℕ) (k : Connection) (bytes : List ℕ) → connection_of r c ≡ Some k → k.greeted ≡ true → request_of (next_id k) bytes ≡ None
-    → (skips : List CallId) → after_line partition_object skips r (Arrive c bytes) ≡ None
-unread_refused r c k bytes there spoken unread skips = requested_line skips r c k bytes there spoken ∙ ap (option_map (λ request. asked partition_object skips r k (arrival_at r k request))) unread
-
--- a request
-
-pub asked_line : (new : Grid) (r : Run) (c : ℕ) (k : Connection) (bytes : List ℕ) (request : Request) (written text : List ℕ) → IsRun r → connection_of r c ≡ Some k → k.greeted ≡ true
-    → request_of (next_id k) bytes ≡ Some request → HasAsked new r k request written text → HasRun new r (Arrive c bytes) written text
-asked_line new r c k bytes request written text is there spoken read did = (
-  did.skips,
-  asked partition_object did.skips r k (arrival_at r k request),
-  (λ id skipped. its_call ∙ ap Some (did.its_own id skipped)),
-  runs,
-  record { run = later did.skips (Arrive c bytes) r (asked partition_object did.skips r k (arrival_at r k request)) is runs; holds = did.holds },
-  did.added,
+opened_line grid new r c member written text s within closed made is = (
+  [],
+  opened r c member,
+  no_skips r (OpenConn c member),
+  ap (λ o. cond (is_some o) None (Some (opened r c member))) free,
+  subst (λ g. Stands g (opened r c member)) (sym made) (record {
+    run = connection_opened r c member s.run free;
+    holds = quiet_holds grid r (with_opened grid.connections c member) (opened r c member).connections s.holds (opened_table grid.connections r s.holds.table c member within closed);
+    settled = settled_opened grid.connections r s.holds.table c member within closed s.settled;
+  }),
+  is ∙ ap (λ xs. written ++ xs) (sym (text_without r (opened r c member) (OpenConn c member) (grid.lines + 1) refl refl refl (ap (λ n. n + 1) (sym s.holds.lines)))),
 )
   where
-    its_call : call_at r (Arrive c bytes) ≡ Some request.id
-    its_call = ap (λ (a : Option Arrival). option_map (λ (x : Arrival). x.id) a)
-        (ap (option_and_then (arrival_on r bytes)) there ∙ ap (λ b. cond b (option_map (arrival_at r k) (request_of (next_id k) bytes)) None) spoken ∙ ap (option_map (arrival_at r k)) read)
+    free : connection_of r c ≡ None
+    free = none_opened grid.connections r s.holds.table c closed
 
-    runs : after_line partition_object did.skips r (Arrive c bytes) ≡ Some (asked partition_object did.skips r k (arrival_at r k request))
-    runs = requested_line did.skips r c k bytes there spoken ∙ ap (option_map (λ q. asked partition_object did.skips r k (arrival_at r k q))) read
+-- bytes on a closed connection
+
+pub passed_line : (grid new : Grid) (r : Run) (c : ℕ) (k : Connection) (fault : Malformed) (bytes written text : List ℕ) → Stands grid r → connection_of r c ≡ Some k → fault_on k ≡ Some fault
+    → new ≡ after_quiet grid grid.connections → text ≡ written ++ nothing_text (grid.lines + 1) → HasRun new r (Arrive c bytes) written text
+passed_line grid new r c k fault bytes written text s there closed made is = (
+  [],
+  next_line r,
+  no_skips r (Arrive c bytes),
+  closed_line r c bytes k there [] fault closed,
+  subst (λ g. Stands g (next_line r)) (sym made) (next_stands grid r s),
+  is ∙ ap (λ n. written ++ nothing_text (n + 1)) s.holds.lines ∙ ap (λ xs. written ++ xs) (sym (text_nothing r (next_line r) (Arrive c bytes) (closed_does_nothing r c bytes k there fault closed))),
+)
+
+-- bytes on an open connection
+
+its_number : (r : Run) (c : ℕ) (k : Connection) → connection_of r c ≡ Some k → k.conn ≡ c
+its_number r c k there = same_number k.conn c (find_some (is_connection c) r.connections k there).1
+
+-- The line is counted and the connection has its bytes.
+pub begun_some : (grid new : Grid) (r : Run) (s : Stands grid r) (c : ℕ) (k : Connection) → connection_of r c ≡ Some k → connection_of r k.conn ≡ Some k → (bytes text : List ℕ)
+    → new ≡ after_quiet grid (with_reader grid.connections c (standing true (k.bytes ++ bytes))) → HasAskedSome new r k bytes [] text text
+begun_some grid new r s c k there itself bytes text made = record {
+  skips = [];
+  now = took_bytes r k bytes;
+  midway = begun_midway r s.run k itself bytes;
+  holds = subst (λ g. Holds g (took_bytes r k bytes)) (sym made)
+      (quiet_holds grid r (with_reader grid.connections c (standing true (k.bytes ++ bytes))) (took_bytes r k bytes).connections s.holds (fed_table grid.connections r s.holds.table c k there bytes));
+  counting = subst (λ (g : Grid). IsCounting g.connections (took_bytes r k bytes) k.conn (length (messages_on k) + 0)) (sym made)
+      (subst (λ n. IsCounting (with_reader grid.connections c (standing true (k.bytes ++ bytes))) (took_bytes r k bytes) n (length (messages_on k) + 0)) (sym (its_number r c k there))
+      (subst (λ n. IsCounting (with_reader grid.connections c (standing true (k.bytes ++ bytes))) (took_bytes r k bytes) c n) none_yet (counting_fed grid.connections r s.holds.table c k there bytes s.settled)));
+  added = sym (ap (λ ms. text ++ texts_of ms) (new_with r (took_bytes r k bytes) [] (sym (append-nil r.appended))) ∙ append-nil text);
+}
+  where
+    none_yet : length (messages_on k) ≡ length (messages_on k) + 0
+    none_yet = omega arith
+
+module _ (r : Run) (c : ℕ) (k : Connection) (there : connection_of r c ≡ Some k) (bytes : List ℕ) (requests : List Request) (brings : Brings r k bytes requests)
+    (new : Grid) (start mid : List ℕ) (did : HasAskedSome new r k bytes requests start mid) where
+  -- all calls were asked
+  all_settled : IsSettled new.connections did.now
+  all_settled d o j at found = ⊎_elim here (λ apart. did.counting.others d o j apart at found) (cases_eq d k.conn)
+    where
+      here : d ≡ k.conn → length o.calls ≡ length (messages_on j)
+      here e =
+          let both : Some (with_bytes k bytes) ≡ Some j = sym did.midway.may.there ∙ ap (connection_of did.now) (sym e) ∙ found in
+          let same : with_bytes k bytes ≡ j = cc in
+          did.counting.here o (ap (opened_at new.connections) (sym e) ∙ at) ∙ (requests_room k bytes requests brings.come).1 ∙ ap (λ (x : Connection). length (messages_on x)) same
+
+  now_lines : did.now.lines ≡ r.lines + 1
+  now_lines = (midway_come r brings.run k brings.there bytes requests did.skips did.now did.midway).lines
+
+  now_there : connection_of did.now c ≡ Some (with_bytes k bytes)
+  now_there = ap (connection_of did.now) (sym (its_number r c k there)) ∙ did.midway.may.there
+
+  module _ (sound : fault_on k ≡ None) where
+    its_text : text_at r (Arrive c bytes) did.now ≡ (ok_text (r.lines + 1) ++ texts_of (new_messages r did.now)) ++ close_text (r.lines + 1) c (fault_on (with_bytes k bytes))
+    its_text = rw (open_does_something r c bytes k there sound, now_there, now_lines) refl
+
+    pub bytes_line : (fault : Option Malformed) (line : ℕ) (written text : List ℕ) → start ≡ written ++ ok_text line → line ≡ r.lines + 1 → fault ≡ fault_on (with_bytes k bytes)
+        → text ≡ mid ++ close_text new.lines c fault → HasRun new r (Arrive c bytes) written text
+    bytes_line fault line written text began at_line shown is = (
+      did.skips,
+      did.now,
+      ended_skips r c bytes k there requests did.skips did.now sound brings.come did.midway,
+      ended_line r c bytes k there requests did.skips did.now sound brings.come did.midway,
+      record { run = did.midway.run; holds = did.holds; settled = all_settled },
+      is ∙ (λ i. whole i ++ close_text (new_lines i) c (shown i)) ∙ grouped ∙ ap (λ xs. written ++ xs) (sym its_text),
+    )
+      where
+        new_lines : new.lines ≡ r.lines + 1
+        new_lines = did.holds.lines ∙ now_lines
+
+        whole : mid ≡ (written ++ ok_text (r.lines + 1)) ++ texts_of (new_messages r did.now)
+        whole = did.added ∙ ap (λ xs. xs ++ texts_of (new_messages r did.now)) (began ∙ ap (λ n. written ++ ok_text n) at_line)
+
+        grouped : ((written ++ ok_text (r.lines + 1)) ++ texts_of (new_messages r did.now)) ++ close_text (r.lines + 1) c (fault_on (with_bytes k bytes))
+            ≡ written ++ ((ok_text (r.lines + 1) ++ texts_of (new_messages r did.now)) ++ close_text (r.lines + 1) c (fault_on (with_bytes k bytes)))
+        grouped =
+            ap (λ xs. xs ++ close_text (r.lines + 1) c (fault_on (with_bytes k bytes))) (append_assoc written (ok_text (r.lines + 1)) (texts_of (new_messages r did.now)))
+            ∙ append_assoc written (ok_text (r.lines + 1) ++ texts_of (new_messages r did.now)) (close_text (r.lines + 1) c (fault_on (with_bytes k bytes)))
 
 -- `end`
 
-pub ended_line : (grid new : Grid) (r : Run) (written text : List ℕ) → Stands grid r → new ≡ after_quiet grid grid.connections
+pub end_line : (grid new : Grid) (r : Run) (written text : List ℕ) → Stands grid r → new ≡ after_quiet grid grid.connections
     → text ≡ (written ++ ok_text (grid.lines + 1)) ++ flat_map (entry_text (next_line r).lines) (all_entries partition_object (next_line r)) → HasRun new r End written text
-ended_line grid new r written text s made is = (
+end_line grid new r written text s made is = (
   [],
   next_line r,
-  (λ id there. absurd (in_contains id [] there)),
+  no_skips r End,
   refl,
   subst (λ g. Stands g (next_line r)) (sym made) (next_stands grid r s),
   is ∙ append_assoc written (ok_text (grid.lines + 1)) (flat_map (entry_text (next_line r).lines) (all_entries partition_object (next_line r)))

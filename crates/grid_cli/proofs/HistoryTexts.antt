@@ -14,7 +14,8 @@ use Rattle.grid_cli.specs.PartitionObjects.{partition_object}
 use Rattle.grid_cli.specs.Runs.{Run, Arrival, Appended}
 use Rattle.grid_cli.specs.Printing.{printed, printed_from, entry_text, entries_of, arrival_of, answer_of}
 use Rattle.grid_cli.specs.PrintedEntries.{arrived_in, answered_in, printed_as}
-use Rattle.grid_cli.specs.Grids.{MapWorld, IsWorld, HasWorld, IsRun, lines_in}
+use Rattle.grid_cli.specs.ScriptRuns.{IsRun}
+use Rattle.grid_cli.specs.Grids.{MapWorld, IsWorld, HasWorld, lines_in}
 use Rattle.grid_cli.proofs.RunsOfLines.{unheard_unanswered}
 
 -- the world that the code reads is a partition's

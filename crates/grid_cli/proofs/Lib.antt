@@ -5,11 +5,14 @@ pub mod Entries
 pub mod Slots
 pub mod TableChanges
 pub mod TableRuns
+pub mod TableCounts
 pub mod RunsOfLines
 pub mod LineTexts
 pub mod WorldRuns
 pub mod GridLines
 pub mod GridCalls
+pub mod LineCalls
+pub mod LineFacts
 pub mod GivingOut
 pub mod Refusing
 pub mod Refusals
@@ -18,11 +21,10 @@ pub mod Beginning
 pub mod Asking
 pub mod Spelling
 pub mod Readers
-pub mod FrameReading
+pub mod RequestFields
 pub mod RequestParts
 pub mod RequestReading
 pub mod RequestSpelling
-pub mod ShortHeads
 pub mod Progress
 pub mod SkipLaws
 pub mod LineEnds
@@ -30,6 +32,9 @@ pub mod Parts
 pub mod Counts
 pub mod Releases
 pub mod Places
+pub mod Hearing
+pub mod Bounds
+pub mod Midway
 pub mod Trails
 pub mod RunFacts
 pub mod Arriving
@@ -45,3 +50,5 @@ pub mod ReplaySteps
 pub mod ReplayEnds
 pub mod ReplayRuns
 pub mod CommandLaws
+pub mod RequestLists
+pub mod LineSizes

@@ -1,28 +1,57 @@
 -- The text of a line, by what it appended.
-use Rattle.std.proofs.Common.{◌≡◌, ℕ, List, [], ◌∷◌, ◌++◌, length, map, drop, refl, ap, sym, ◌∙◌, append-nil}
+use Rattle.std.proofs.Common.{◌≡◌, ℕ, true, false, List, [], ◌∷◌, ◌++◌, length, map, drop, refl, ap, sym, ◌∙◌, append_assoc, append-nil}
 use Rattle.std.specs.List.{filter_map, cons_option}
 use Rattle.std.specs.Option.{option_map}
 use Rattle.std.specs.Prelude.{Option, Some, None}
 use Rattle.std.proofs.lemmas.List.{drop_at}
 use Rattle.std.proofs.lemmas.List.Concat.{flat_map-append}
 use Rattle.grid_base.specs.declared.calls.Request.{Request}
+use Rattle.partition_protocol.specs.Sequences.{IsFrontOf}
 use Rattle.partition_protocol.specs.Node.{Held}
 use Rattle.partition_protocol.specs.History.{Executed}
 use Rattle.partition_protocol.specs.World.{World}
 use Rattle.partition_world.specs.Answers.{answer_of, held_answer, newest_call}
 use Rattle.grid_cli.specs.PartitionObjects.{partition_object}
 use Rattle.grid_cli.specs.Runs.{Run, Appended, answer_to, executed_for}
-use Rattle.grid_cli.specs.Printing.{appended_text, ok_text, line_text}
+use Rattle.grid_cli.specs.Printing.{appended_text, ok_text, nothing_text, does_nothing, line_close, line_text, new_messages}
+use Rattle.grid_cli.specs.declared.script.Line.{Line}
 use Rattle.grid_cli.specs.WorldCalls.{no_change, message_of, texts_of}
 
-pub text_with : (r next : Run) (ms : List Appended) → next.appended ≡ r.appended ++ ms → line_text r next ≡ ok_text next.lines ++ texts_of ms
-text_with r next ms e = ap (λ (xs : List Appended). ok_text next.lines ++ texts_of xs) (ap (drop (length r.appended)) e ∙ drop_at r.appended ms (length r.appended) refl)
-
-pub text_without : (r next : Run) (line : ℕ) → next.appended ≡ r.appended → next.lines ≡ line → line_text r next ≡ ok_text line
-text_without r next line e lines = text_with r next [] (e ∙ sym (append-nil r.appended)) ∙ append-nil (ok_text next.lines) ∙ ap ok_text lines
+-- what was appended since
 
 pub texts-append : (xs ys : List Appended) → texts_of (xs ++ ys) ≡ texts_of xs ++ texts_of ys
 texts-append xs ys = flat_map-append appended_text xs ys
+
+pub new_with : (r next : Run) (ms : List Appended) → next.appended ≡ r.appended ++ ms → new_messages r next ≡ ms
+new_with r next ms e = ap (drop (length r.appended)) e ∙ drop_at r.appended ms (length r.appended) refl
+
+-- in two parts, as of one call and then another
+pub new_more : (r mid next : Run) (ms : List Appended) → IsFrontOf r.appended mid.appended → next.appended ≡ mid.appended ++ ms → new_messages r next ≡ new_messages r mid ++ ms
+new_more r mid next ms (first, e) more =
+    new_with r next (first ++ ms) (more ∙ ap (λ xs. xs ++ ms) (sym e) ∙ append_assoc r.appended first ms)
+    ∙ ap (λ xs. xs ++ ms) (sym (new_with r mid first (sym e)))
+
+pub texts_more : (r mid next : Run) (ms : List Appended) → IsFrontOf r.appended mid.appended → next.appended ≡ mid.appended ++ ms
+    → texts_of (new_messages r next) ≡ texts_of (new_messages r mid) ++ texts_of ms
+texts_more r mid next ms front more = ap texts_of (new_more r mid next ms front more) ∙ texts-append (new_messages r mid) ms
+
+-- the text of a line
+
+-- a line of bytes on a closed connection
+pub text_nothing : (r next : Run) (line : Line) → does_nothing r line ≡ true → line_text r line next ≡ nothing_text next.lines
+text_nothing r next line closed = rw closed refl
+
+-- another line: its outcome, its messages, and the connection that it closed
+pub text_with : (r next : Run) (line : Line) (ms : List Appended) → does_nothing r line ≡ false → next.appended ≡ r.appended ++ ms
+    → line_text r line next ≡ ok_text next.lines ++ texts_of ms ++ line_close next line
+text_with r next line ms goes e = rw goes (ap (λ (xs : List Appended). ok_text next.lines ++ texts_of xs ++ line_close next line) (new_with r next ms e))
+
+-- a line that appends nothing and closes nothing
+pub text_without : (r next : Run) (line : Line) (number : ℕ) → does_nothing r line ≡ false → line_close next line ≡ [] → next.appended ≡ r.appended → next.lines ≡ number
+    → line_text r line next ≡ ok_text number
+text_without r next line number goes none e lines =
+    text_with r next line [] goes (e ∙ sym (append-nil r.appended))
+    ∙ ap (λ xs. ok_text next.lines ++ [] ++ xs) none ∙ append-nil (ok_text next.lines ++ []) ∙ append-nil (ok_text next.lines) ∙ ap ok_text lines
 
 -- The answers that an event released are messages that the code gives out.
 pub answers_given : (line : ℕ) (w : World Request) (hs : List Held) → map (message_of line) (filter_map (held_answer partition_object no_change w) hs) ≡ map (answer_to line) (filter_map (executed_for w) hs)

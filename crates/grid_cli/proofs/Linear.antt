@@ -1,5 +1,5 @@
 -- What is printed for an object fits the run: it is the history of that object, used by one thread.
-use Rattle.std.proofs.Common.{◌≡◌, ◌≢◌, ℕ, ◌≤◌, ◌<◌, true, false, nat_lt, List, [], map, Option, Some, Contains, refl, ap, sym, ◌∙◌, subst, ⊎_elim, arith}
+use Rattle.std.proofs.Common.{◌≡◌, ◌≢◌, ℕ, ◌≤◌, ◌<◌, true, List, [], map, Option, Some, Contains, refl, ap, sym, ◌∙◌, subst, arith}
 use Rattle.std.specs.Prelude.{unwrap_or, option_map}
 use Rattle.grid_base.specs.Histories.{IsLegal}
 use Rattle.grid_base.specs.MapEntries.{empty_entry}
@@ -9,21 +9,22 @@ use Rattle.grid_base.specs.declared.calls.Request.{Request}
 use Rattle.partition_protocol.specs.History.{Executed}
 use Rattle.partition_protocol.specs.World.{World, trail}
 use Rattle.partition_protocol.specs.Arrivals.{Asked}
-use Rattle.partition_protocol.proofs.Lists.{In, in_contains, contains_in, cases}
-use Rattle.partition_protocol.proofs.RowFacts.{less, not_less}
+use Rattle.partition_protocol.proofs.Lists.{In, in_contains, contains_in}
 use Rattle.partition_protocol.proofs.Faithful.{part_in}
 use Rattle.partition_world.specs.Answers.{id_of}
 use Rattle.grid_cli.specs.PartitionObjects.{target_of, map_entry, partition_object}
 use Rattle.grid_cli.specs.Runs.{Run, begun, Arrival, Appended, world_at}
-use Rattle.grid_cli.specs.Printing.{Printed, partitions, entries_of, all_entries, printed_from, arrival_of, is_answer_to, answer_of}
+use Rattle.grid_cli.specs.Printing.{Printed, partitions, entries_of, printed_from, arrival_of, is_answer_to, answer_of}
 use Rattle.grid_cli.specs.Linearizability.{is_on, history_of, Before, answered_call, IsOf, Fits, IsLinearizable, run_after, EveryRunIsLinearizable}
 use Rattle.grid_cli.specs.SameNames.{same_name}
 use Rattle.grid_cli.proofs.Parts.{before_first, before_second, part_filter, before_part, named_apart, in_filter, in_filtered}
-use Rattle.grid_cli.proofs.Places.{home, same_number}
+use Rattle.grid_cli.specs.ScriptRuns.{home, grid_begun}
+use Rattle.grid_cli.proofs.Places.{home_below, same_number}
 use Rattle.grid_cli.proofs.Trails.{executed, asked, executed_name, Prints, printed_in, in_printed, printed_before}
 use Rattle.grid_cli.proofs.RunFacts.{RunOk, asked_of, arrival_name, id_name, safe, log_once, origin, origins, arrival_found, IsGivenIn, given_executed, asked_as}
-use Rattle.grid_cli.proofs.Lines.{run_after_ok, begun_ok}
-use Rattle.grid_cli.proofs.Locality.{legal_on, history_elsewhere, history_at, history_past}
+use Rattle.grid_cli.proofs.RunsOfLines.{run_ok}
+use Rattle.grid_cli.proofs.Lines.{run_after_run}
+use Rattle.grid_cli.proofs.Locality.{legal_on, history_elsewhere, history_at}
 use Rattle.grid_cli.proofs.Counts.{count_before}
 use Rattle.grid_cli.proofs.Answers.{trail_part, answer_named, given_at, printed_answer, answer_stands, answer_found, arrived_before}
 
@@ -134,7 +135,7 @@ module _ (r : Run) (ok : RunOk partition_object r) (p : ℕ) where
     answered at a m c on d s =
         let i = in_contains a r.arrivals c in
         let j = in_contains m r.appended d in
-        let there : a.request.partition ≡ p = sym (ok.of_arrivals.placed a i).there ∙ ap home (same_name (target_of a.request) name on) ∙ at in
+        let there : a.request.partition ≡ p = sym (ok.of_arrivals.placed a i) ∙ ap home (same_name (target_of a.request) name on) ∙ at in
         answered_there a m (subst (λ k. IsGivenIn partition_object r k m a.id) there (given_at partition_object r ok a m i j s)) i on (answer_found partition_object r ok m a.id j s)
 
     pub given : (e : Printed) (line : ℕ) → Contains h e → e.answered ≡ Some line → (m : Appended) × Contains r.appended m × (m.answers ≡ Some e.id) × (m.line ≡ line) × (m.bytes ≡ e.reply)
@@ -163,7 +164,9 @@ module _ (r : Run) (ok : RunOk partition_object r) (p : ℕ) where
         let from = origins partition_object r ok.members ok.of_arrivals p k.first k.second k.before in
         let first = is_of_arrival from.0 k.first a (before_first r.arrivals from.0 from.1.0 from.1.1) from.1.2 k.prints_first in
         let second = is_of_arrival from.1.0 k.second b (before_second r.arrivals from.0 from.1.0 from.1.1) from.1.3 k.prints_second in
-        let apart = (ok.of_arrivals.in_order from.0 from.1.0 from.1.1).1 (sym first.line ∙ s ∙ second.line) in
+        let one_line : from.0.line ≡ from.1.0.line = sym first.line ∙ s ∙ second.line in
+        let one_conn = ok.of_arrivals.of_line from.0 from.1.0 (before_first r.arrivals from.0 from.1.0 from.1.1) (before_second r.arrivals from.0 from.1.0 from.1.1) one_line in
+        let apart = ok.of_arrivals.rising from.0 from.1.0 from.1.1 one_conn in
         let left = ap (λ (c : CallId). c.number) first.id in
         let right = ap (λ (c : CallId). c.number) second.id in
         omega (arith, apart, left, right)
@@ -181,51 +184,23 @@ module _ (r : Run) (ok : RunOk partition_object r) (p : ℕ) where
       same_line = same_line;
     }
 
--- nothing is printed of an object that is nowhere
-pub nothing_fits : (r : Run) → RunOk partition_object r → (name : ObjectName) → partitions ≤ home name → Fits map_entry name r []
-nothing_fits r ok name far = record {
-  legal = tt;
-  arrived = λ e c. absurd (in_contains e [] c);
-  unrefused = λ e m c d. absurd (in_contains e [] c);
-  once = λ a b before. absurd before;
-  answered = λ a m c on d s. absurd (nowhere a (in_contains a r.arrivals c) on);
-  answered_once = answered_once r ok;
-  given = λ e line c s. absurd (in_contains e [] c);
-  ordered = λ a b line before s. absurd before;
-  same_line = λ a b before s. absurd before;
-}
-  where
-    nowhere : (a : Arrival) → In a r.arrivals → is_same (target_of a.request) name ≡ true → ⊥
-    nowhere a i on =
-        let placed = ok.of_arrivals.placed a i in
-        let there : home name ≡ a.request.partition = ap home (sym (same_name (target_of a.request) name on)) ∙ placed.there in
-        omega (arith, there, placed.below, far)
-
 -- each call of a partition's trail is on an object of the partition
 pub trail_at_home : (r : Run) → RunOk partition_object r → (p : ℕ) (x : Executed Request) → In x (executed (trail (world_at partition_object r p))) → home (target_of x.call) ≡ p
 trail_at_home r ok p x i =
     let from = origin partition_object r ok.members ok.of_arrivals p x (part_in (executed (trail (world_at partition_object r p))) (log r ok p) x (trail_part partition_object r ok p) i) in
-    ap (λ (k : Asked Request). home (target_of k.call)) (sym from.3) ∙ (ok.of_arrivals.placed from.0 from.1).there ∙ same_number from.0.request.partition p from.2
+    ap (λ (k : Asked Request). home (target_of k.call)) (sym from.3) ∙ ok.of_arrivals.placed from.0 from.1 ∙ same_number from.0.request.partition p from.2
 
 -- so one thread that used one map entry could have seen each history of the run
 pub linear : (r : Run) → RunOk partition_object r → IsLinearizable r
-linear r ok name = ⊎_elim below past (cases (nat_lt (home name) partitions))
+linear r ok name =
+    subst (λ es. Fits map_entry name r es)
+    (sym (history_at name (entries_of partition_object r) (home name) elsewhere partitions (home_below name)))
+    (fits r ok (home name) name refl)
   where
     elsewhere : (q : ℕ) → home name ≢ q → history_of name (entries_of partition_object r q) ≡ []
     elsewhere q other = history_elsewhere r q 0 name (trail (world_at partition_object r q)) (trail_at_home r ok q) other
 
-    below : nat_lt (home name) partitions ≡ true → Fits map_entry name r (history_of name (all_entries partition_object r))
-    below e =
-        subst (λ es. Fits map_entry name r es)
-        (sym (history_at name (entries_of partition_object r) (home name) elsewhere partitions (less (home name) partitions e)))
-        (fits r ok (home name) name refl)
-
-    past : nat_lt (home name) partitions ≡ false → Fits map_entry name r (history_of name (all_entries partition_object r))
-    past e =
-        let far = not_less (home name) partitions e in
-        subst (λ es. Fits map_entry name r es) (sym (history_past name (entries_of partition_object r) (home name) elsewhere partitions far)) (nothing_fits r ok name far)
-
 pub every_run_is_linearizable : EveryRunIsLinearizable
 every_run_is_linearizable members backups skips texts grid =
     linear (run_after partition_object skips (begun members backups) texts)
-    (run_after_ok partition_object skips (begun members backups) texts (begun_ok partition_object members backups grid))
+    (run_ok (run_after_run skips (begun members backups) texts (grid_begun members backups grid)))

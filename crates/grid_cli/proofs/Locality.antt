@@ -17,7 +17,8 @@ use Rattle.grid_cli.specs.Runs.{Run}
 use Rattle.grid_cli.specs.Printing.{Printed, printed, printed_from}
 use Rattle.grid_cli.specs.Linearizability.{is_on, history_of, answered_call}
 use Rattle.grid_cli.specs.SameNames.{same_name, is_same_self}
-use Rattle.grid_cli.proofs.Places.{home, same_name_sym}
+use Rattle.grid_cli.specs.ScriptRuns.{home}
+use Rattle.grid_cli.proofs.Places.{same_name_sym}
 use Rattle.grid_cli.proofs.Trails.{executed}
 
 -- what a call leaves at a name

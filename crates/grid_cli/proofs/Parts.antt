@@ -1,5 +1,6 @@
 -- The order of a list's elements: which stands before which, in a part of it and in what is made of each.
-use Rattle.std.proofs.Common.{◌≡◌, ◌≢◌, Bool, true, false, cond, List, [], ◌∷◌, ◌++◌, map, filter, refl, ap, sym, ◌∙◌, subst, ◌⊎◌, ⊎_elim, inl, inr}
+use Rattle.std.proofs.Common.{◌≡◌, ◌≢◌, ℕ, take, drop, Bool, true, false, cond, List, [], ◌∷◌, ◌++◌, map, filter, refl, ap, sym, ◌∙◌, subst, ◌⊎◌, ⊎_elim, inl, inr}
+use Rattle.std.proofs.lemmas.List.{take-append-drop}
 use Rattle.partition_protocol.specs.Sequences.{IsSubsequence, picked}
 use Rattle.partition_protocol.specs.Arrivals.{CallName, NamedOnce}
 use Rattle.partition_protocol.proofs.Lists.{In, in_right, in_cases, in_contains, contains_in, IsPart, part_nil, cases}
@@ -34,6 +35,9 @@ in_filtered t (y ∷ ys) x i = ⊎_elim (λ e. yes e (λ j. in_filtered t ys x j
     yes : t y ≡ true → (In x (filter t ys) → In x ys × (t x ≡ true)) → In x (y ∷ filter t ys) → In x (y ∷ ys) × (t x ≡ true)
     yes e f (inl s) = (inl s, ap t (sym s) ∙ e)
     yes e f (inr j) = let r = f j in (inr r.0, r.1)
+
+pub in_drop : {X : Type 0} (n : ℕ) (xs : List X) (x : X) → In x (drop n xs) → In x xs
+in_drop n xs x i = subst (λ ys. In x ys) (take-append-drop n xs) (in_right x (take n xs) (drop n xs) i)
 
 -- parts
 

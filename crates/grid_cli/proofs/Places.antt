@@ -1,25 +1,48 @@
--- A request that is read has the name of its call, and its key says which partition it is for.
-use Rattle.std.proofs.Common.{◌≡◌, ℕ, ◌≤◌, Bool, true, false, cond, ◌&&◌, ◌==◌, nat_le, nat_lt, List, take, length, Option, Some, None, refl, ap, sym, ◌∙◌, subst, arith, true≢false}
+-- A request that is read has the name of its call, is for the partition of its key, and fits frames as the message does that it was.
+use Rattle.std.proofs.Common.{◌≡◌, ℕ, ◌+◌, ◌^◌, ◌<◌, ◌%◌, Bool, true, false, cond, ◌==◌, List, [], ◌∷◌, drop, Option, Some, None, Result, Ok, Err, ℤ, pos, refl, ap, sym, ◌∙◌, subst, inl, arith, true≢false}
+use Rattle.std.proofs.Math.Nat.{mod-lt}
 use Rattle.std.proofs.lemmas.Bool.Decides.{nat_tests}
+use Rattle.std.specs.Prelude.{int_le, negsuc, unsigned_abs}
+use Rattle.std.specs.Ordering.{int_eq}
 use Rattle.std.specs.Str.{is_utf8}
-use Rattle.std.specs.Int.{w32, w64, from_be_bytes, cast_signed}
 use Rattle.grid_base.specs.Names.{ObjectName, is_same, is_same_call}
 use Rattle.grid_base.specs.declared.names.CallId.{CallId}
-use Rattle.grid_base.specs.declared.calls.Request.{Request}
+use Rattle.grid_base.specs.declared.calls.MapCall.{MapCall}
 use Rattle.grid_base.specs.declared.calls.MapCall.TheVariants.{Put, Get}
+use Rattle.grid_base.specs.declared.names.Owner.{Owner}
+use Rattle.grid_base.specs.declared.calls.Request.{Request}
+use Rattle.frame_codec.specs.declared.frames.Frame.{Frame}
+use Rattle.fixed_fields.specs.Fields.{int64_at}
+use Rattle.frame_codec.specs.declared.flags.TheConstants.{NULL}
+use Rattle.grid_base.specs.declared.TheConstants.{PARTITIONS}
+use Rattle.fixed_fields.specs.declared.refusal.FieldRefused.{FieldRefused}
+use Rattle.fixed_fields.specs.declared.refusal.FieldRefused.TheVariants.{NoFrame, NotUtf8}
+use Rattle.fixed_fields.specs.Structures.{has_flag, is_plain}
+use Rattle.fixed_fields.specs.Frames.{not_null, next_data, as_text, next_text}
+use Rattle.message_frames.specs.Assembly.{first_payload}
+use Rattle.message_frames.specs.declared.message.Message.{Message}
+use Rattle.murmur_partition.specs.Keys.{key_hash_of}
+use Rattle.partition_protocol.proofs.Lists.{In}
 use Rattle.partition_protocol.proofs.RowFacts.{both_left, both_right, false_or_not, both}
 use Rattle.grid_cli.specs.SameNames.{same_name, is_same_self}
-use Rattle.grid_cli.specs.PartitionObjects.{target_of}
-use Rattle.grid_cli.specs.Requests.{◌>>=◌, request_of, payload_at, put_at, get_at, request_with, owner_of, is_placed, is_none_left, never_ends, u32_at, u64_at, put_kind, get_kind, final, unfragmented, most_bytes_of_message}
+use Rattle.grid_cli.specs.Printing.{partitions}
+use Rattle.grid_cli.specs.Effects.{FitsFrame, CallFits, RequestFits}
+use Rattle.grid_cli.specs.Requests.{◌>>=◌, read_part, head_of, name_in, key_in, value_in, partition_of_key, is_placed, key_of, owner_of, request_with, put_in, get_in, call_in, request_of, put_kind, get_kind}
+use Rattle.grid_cli.specs.ScriptRuns.{home, IsPlaced}
+use Rattle.grid_cli.proofs.Parts.{in_drop}
 
--- the partition that an object's key names
-abbrev pub home : ObjectName → ℕ
-home name = from_be_bytes w32 (take 4 name.key)
+-- partitions
 
--- a request is for the partition of its object
-pub record IsPlaced (r : Request) : Type 0 where
-  pub there : home (target_of r) ≡ r.partition
-  pub below : r.partition ≤ 270
+-- Each key names one of the partitions.
+pub below_partitions : (key : List ℕ) → partition_of_key key < partitions
+below_partitions key = go (int_eq (key_hash_of key) (negsuc 0x7fff_ffff))
+  where
+    go : (b : Bool) → cond b 0 (unsigned_abs (key_hash_of key) % PARTITIONS) < partitions
+    go true = omega arith
+    go false = mod-lt (unsigned_abs (key_hash_of key)) (omega arith)
+
+pub home_below : (name : ObjectName) → home name < partitions
+home_below name = below_partitions name.key
 
 -- names
 
@@ -36,91 +59,109 @@ same_call_refl a = both (a.conn == a.conn) (a.number == a.number) (grind (arith,
 pub same_name_sym : (a b : ObjectName) → is_same a b ≡ false → is_same b a ≡ false
 same_name_sym a b e = false_or_not (is_same b a) (λ s. true≢false (sym (subst (λ c. is_same a c ≡ true) (sym (same_name b a s)) (is_same_self a)) ∙ e))
 
+pub same_number : (a b : ℕ) → (a == b) ≡ true → a ≡ b
+same_number a b e = grind (arith, nat_tests, e)
+
 -- parts that were read
 
 pub if_some : {B : Type 0} (b : Bool) (x y : B) → cond b (Some x) None ≡ Some y → (b ≡ true) × (x ≡ y)
 if_some true x y e = (refl, cc)
 if_some false x y e = absurd cc
 
--- the request has that name, and is placed
-abbrev pub IsRead : CallId → Request → Type 0
-IsRead id r = (r.id ≡ id) × IsPlaced r
+pub bind_some : {A B : Type 0} (o : Option A) (f : A → Option B) (y : B) → (o >>= f) ≡ Some y → (x : A) × (o ≡ Some x) × (f x ≡ Some y)
+bind_some None f y e = absurd cc
+bind_some (Some x) f y e = (x, refl, e)
 
-pub same_number : (a b : ℕ) → (a == b) ≡ true → a ≡ b
-same_number a b e = grind (arith, nat_tests, e)
+-- a request of a message whose frames have these payloads
+abbrev pub AllFit : List Frame → Type 0
+AllFit frames = (frame : Frame) → In frame frames → FitsFrame frame.payload
 
-pub at_most : (a b : ℕ) → nat_le a b ≡ true → a ≤ b
-at_most a b e = grind (arith, nat_tests, e)
+-- The request has that name, is for its key's partition, and fits frames if its message's frames do.
+pub record IsRead (id : CallId) (message : Message) (r : Request) : Type 0 where
+  pub named : r.id ≡ id
+  pub placed : IsPlaced r
+  pub fits : AllFit message.frames → RequestFits r
 
-pub third_and_fifth : (a b c d f : Bool) → (a && b && c && d && f) ≡ true → (c ≡ true) × (f ≡ true)
-third_and_fifth a b c d f e = (both_right (a && b) c (both_left (a && b && c) d (both_left (a && b && c && d) f e)), both_right (a && b && c && d) f e)
+-- data is the payload of a frame
+data_payload : (frames : List Frame) (bytes : List ℕ) → read_part (next_data frames) ≡ Some bytes → (frame : Frame) × In frame frames × (frame.payload ≡ bytes)
+data_payload [] bytes e = absurd cc
+data_payload (frame ∷ frames) bytes e = go (is_plain frame) (has_flag NULL frame) e
+  where
+    go : (plain null : Bool) → read_part (not_null (cond plain (Ok (cond null None (Some frame.payload))) (Err NoFrame))) ≡ Some bytes
+        → (found : Frame) × In found (frame ∷ frames) × (found.payload ≡ bytes)
+    go true false s = (frame, inl refl, cc)
+    go true true s = absurd cc
+    go false null s = absurd cc
 
-pub placed : (head name key : List ℕ) → is_placed head name key ≡ true → (from_be_bytes w32 (take 4 key) ≡ u32_at 12 head) × (u32_at 12 head ≤ 270)
-placed head name key e =
-    let r = third_and_fifth (is_utf8 name) (nat_le 8 (length key)) (from_be_bytes w32 (take 4 key) == u32_at 12 head) (nat_le 1 (u32_at 12 head)) (nat_le (u32_at 12 head) 270) e in
-    (same_number (from_be_bytes w32 (take 4 key)) (u32_at 12 head) r.0, at_most (u32_at 12 head) 270 r.1)
+text_payload : (frames : List Frame) (bytes : List ℕ) → read_part (next_text frames) ≡ Some bytes → (frame : Frame) × In frame frames × (frame.payload ≡ bytes)
+text_payload frames bytes e = data_payload frames bytes (go (next_data frames) e)
+  where
+    text_of : (text : List ℕ) (b : Bool) → read_part (cond b (Ok text) (Err NotUtf8)) ≡ Some bytes → Some text ≡ Some bytes
+    text_of text true s = s
+    text_of text false s = absurd cc
 
--- a put: its key was read, its value, and then the tests
-module _ (id : CallId) (head name : List ℕ) (r : Request) where
-  abbrev pub put_test : List ℕ × List ℕ → List ℕ × List ℕ → Option Request
-  put_test key value =
-      cond (is_none_left value.1 && (length head == 32) && never_ends (u64_at 24 head) && is_placed head name key.0)
-      (Some (request_with id head (Put name key.0 (owner_of id head) value.0 (cast_signed w64 (u64_at 24 head))))) None
+    go : (found : Result (List ℕ) FieldRefused) → read_part (as_text found) ≡ Some bytes → read_part found ≡ Some bytes
+    go (Err why) s = absurd cc
+    go (Ok text) s = text_of text (is_utf8 text) s
 
-  put_tested : (key value : List ℕ × List ℕ) → put_test key value ≡ Some r → IsRead id r
-  put_tested key value e =
-      let test = if_some (is_none_left value.1 && (length head == 32) && never_ends (u64_at 24 head) && is_placed head name key.0) (request_with id head (Put name key.0 (owner_of id head) value.0 (cast_signed w64 (u64_at 24 head)))) r e in
-      let at = placed head name key.0 (both_right (is_none_left value.1 && (length head == 32) && never_ends (u64_at 24 head)) (is_placed head name key.0) test.0) in
-      subst (IsRead id) test.1 (refl, record { there = at.0; below = at.1 })
+module _ (frames : List Frame) (fit : AllFit frames) where
+  fits_in : (n : ℕ) (bytes : List ℕ) → (frame : Frame) × In frame (drop n frames) × (frame.payload ≡ bytes) → FitsFrame bytes
+  fits_in n bytes (frame, i, e) = subst FitsFrame e (fit frame (in_drop n frames frame i))
 
-  put_valued : (key : List ℕ × List ℕ) (value : Option (List ℕ × List ℕ)) → (value >>= put_test key) ≡ Some r → IsRead id r
-  put_valued key None e = absurd cc
-  put_valued key (Some value) e = put_tested key value e
+  name_fits : (bytes : List ℕ) → name_in frames ≡ Some bytes → FitsFrame bytes
+  name_fits bytes e = first (text_payload frames bytes e)
+    where
+      first : (frame : Frame) × In frame frames × (frame.payload ≡ bytes) → FitsFrame bytes
+      first (frame, i, same) = subst FitsFrame same (fit frame i)
 
-  pub put_keyed : (key : Option (List ℕ × List ℕ)) → (key >>= (λ k. payload_at final k.1 >>= put_test k)) ≡ Some r → IsRead id r
-  put_keyed None e = absurd cc
-  put_keyed (Some key) e = put_valued key (payload_at final key.1) e
+  key_fits : (bytes : List ℕ) → key_in frames ≡ Some bytes → FitsFrame bytes
+  key_fits bytes e = fits_in 1 bytes (data_payload (drop 1 frames) bytes e)
 
-  -- a get: its key was read, and then the tests
-  abbrev pub get_test : List ℕ × List ℕ → Option Request
-  get_test key = cond (is_none_left key.1 && (length head == 24) && is_placed head name key.0) (Some (request_with id head (Get name key.0 (owner_of id head)))) None
+  value_fits : (bytes : List ℕ) → value_in frames ≡ Some bytes → FitsFrame bytes
+  value_fits bytes e = behind (data_payload (drop 1 (drop 1 frames)) bytes e)
+    where
+      behind : (frame : Frame) × In frame (drop 1 (drop 1 frames)) × (frame.payload ≡ bytes) → FitsFrame bytes
+      behind (frame, i, same) = subst FitsFrame same (fit frame (in_drop 1 frames frame (in_drop 1 (drop 1 frames) frame i)))
 
-  pub get_keyed : (key : Option (List ℕ × List ℕ)) → (key >>= get_test) ≡ Some r → IsRead id r
-  get_keyed None e = absurd cc
-  get_keyed (Some key) e =
-      let test = if_some (is_none_left key.1 && (length head == 24) && is_placed head name key.0) (request_with id head (Get name key.0 (owner_of id head))) r e in
-      let at = placed head name key.0 (both_right (is_none_left key.1 && (length head == 24)) (is_placed head name key.0) test.0) in
-      subst (IsRead id) test.1 (refl, record { there = at.0; below = at.1 })
+  module _ (owner : Owner) (payload : List ℕ) (call : MapCall) where
+    abbrev put_with : ℤ → List ℕ → List ℕ → List ℕ → Option MapCall
+    put_with ttl name key value = cond (int_le ttl (pos 0)) (Some (Put name key owner value ttl)) None
 
-pub put_read : (id : CallId) (head name bytes : List ℕ) (r : Request) → put_at id head name bytes ≡ Some r → IsRead id r
-unfolding put_at
-put_read id head name bytes r e = put_keyed id head name r (payload_at 0 bytes) e
+    put_fits : put_in owner payload frames ≡ Some call → CallFits call
+    put_fits e =
+        let ttl = bind_some (int64_at payload 24) (λ ttl. name_in frames >>= (λ name. key_in frames >>= (λ key. value_in frames >>= put_with ttl name key))) call e in
+        let name = bind_some (name_in frames) (λ name. key_in frames >>= (λ key. value_in frames >>= put_with ttl.0 name key)) call ttl.2 in
+        let key = bind_some (key_in frames) (λ key. value_in frames >>= put_with ttl.0 name.0 key) call name.2 in
+        let value = bind_some (value_in frames) (put_with ttl.0 name.0 key.0) call key.2 in
+        let is = if_some (int_le ttl.0 (pos 0)) (Put name.0 key.0 owner value.0 ttl.0) call value.2 in
+        subst CallFits is.1 (name_fits name.0 name.1, key_fits key.0 key.1, value_fits value.0 value.1)
 
-pub get_read : (id : CallId) (head name bytes : List ℕ) (r : Request) → get_at id head name bytes ≡ Some r → IsRead id r
-unfolding get_at
-get_read id head name bytes r e = get_keyed id head name r (payload_at final bytes) e
+    get_fits : get_in owner frames ≡ Some call → CallFits call
+    get_fits e =
+        let name = bind_some (name_in frames) (λ name. key_in frames >>= (λ key. Some (Get name key owner))) call e in
+        let key = bind_some (key_in frames) (λ key. Some (Get name.0 key owner)) call name.2 in
+        let is : Get name.0 key.0 owner ≡ call = cc in
+        subst CallFits is (name_fits name.0 name.1, key_fits key.0 key.1)
 
--- a request: its head and its name were read, and then it is of one kind
-module _ (id : CallId) (bytes : List ℕ) (r : Request) where
-  abbrev pub by_kind : List ℕ × List ℕ → List ℕ × List ℕ → Option Request
-  by_kind head name =
-      cond (nat_lt most_bytes_of_message (length bytes)) None
-      (cond (u32_at 0 head.0 == put_kind) (put_at id head.0 name.0 name.1) (cond (u32_at 0 head.0 == get_kind) (get_at id head.0 name.0 name.1) None))
+    call_fits : (kind : ℕ) → call_in owner kind payload frames ≡ Some call → CallFits call × (kind + 1 < 2 ^ 32)
+    call_fits kind e = go (kind == put_kind) (kind == get_kind) refl refl e
+      where
+        go : (a b : Bool) → (kind == put_kind) ≡ a → (kind == get_kind) ≡ b → cond a (put_in owner payload frames) (cond b (get_in owner frames) None) ≡ Some call
+            → CallFits call × (kind + 1 < 2 ^ 32)
+        go true b p q s = let is = same_number kind put_kind p in (put_fits s, omega (arith, is))
+        go false true p q s = let is = same_number kind get_kind q in (get_fits s, omega (arith, is))
+        go false false p q s = absurd cc
 
-  kind_read : (head name : List ℕ × List ℕ) (a b c : Bool) → cond a None (cond b (put_at id head.0 name.0 name.1) (cond c (get_at id head.0 name.0 name.1) None)) ≡ Some r → IsRead id r
-  kind_read head name true b c e = absurd cc
-  kind_read head name false true c e = put_read id head.0 name.0 name.1 r e
-  kind_read head name false false true e = get_read id head.0 name.0 name.1 r e
-  kind_read head name false false false e = absurd cc
-
-  name_read : (head : List ℕ × List ℕ) (name : Option (List ℕ × List ℕ)) → (name >>= by_kind head) ≡ Some r → IsRead id r
-  name_read head None e = absurd cc
-  name_read head (Some name) e = kind_read head name (nat_lt most_bytes_of_message (length bytes)) (u32_at 0 head.0 == put_kind) (u32_at 0 head.0 == get_kind) e
-
-  pub head_read : (head : Option (List ℕ × List ℕ)) → (head >>= (λ h. payload_at 0 h.1 >>= by_kind h)) ≡ Some r → IsRead id r
-  head_read None e = absurd cc
-  head_read (Some head) e = name_read head (payload_at 0 head.1) e
-
-pub request_read : (id : CallId) (bytes : List ℕ) (r : Request) → request_of id bytes ≡ Some r → IsRead id r
+pub request_read : (id : CallId) (message : Message) (r : Request) → request_of id message ≡ Some r → IsRead id message r
 unfolding request_of
-request_read id bytes r e = head_read id bytes r (payload_at unfragmented bytes) e
+request_read id message r e =
+    let payload = first_payload message.frames in
+    let frames = drop 1 message.frames in
+    let head = bind_some (head_of payload) (λ head. call_in (owner_of id head) head.kind payload frames >>= (λ call. cond (is_placed head.partition (key_of call)) (Some (request_with id head call)) None)) r e in
+    let call = bind_some (call_in (owner_of id head.0) head.0.kind payload frames) (λ call. cond (is_placed head.0.partition (key_of call)) (Some (request_with id head.0 call)) None) r head.2 in
+    let is = if_some (is_placed head.0.partition (key_of call.0)) (request_with id head.0 call.0) r call.2 in
+    subst (IsRead id message) is.1 (record {
+      named = refl;
+      placed = refl;
+      fits = λ fit. call_fits frames (λ frame i. fit frame (in_drop 1 message.frames frame i)) (owner_of id head.0) payload call.0 head.0.kind call.1;
+    })

@@ -11,10 +11,11 @@ use Rattle.partition_protocol.specs.World.{World, start, is_live, map_or, pair_s
 use Rattle.partition_protocol.specs.Events.{Happened, entry_of, Outcome, NothingDone, Done, HeldAt, ReleasedAt, Refused, TookMessage, RowMadeAt, MoveIsRefused, ReopenIsRefused, nothing, if_executes, calling, executes, happens, run}
 use Rattle.partition_protocol.specs.Arrivals.{name}
 use Rattle.partition_protocol.proofs.Lists.{In, in_left, in_right, in_cases, cases, on_if}
-use Rattle.grid_cli.specs.Runs.{Run, Arrival, Appended, Connection, At, world_at, events_at, connection_of, next_id, arrival_at, answer_to, refusal, refused_by, released_by, call_of, happening, arrived}
+use Rattle.grid_cli.specs.Runs.{Run, Arrival, Appended, At, world_at, events_at, arrival_at, answer_to, refusal, refused_by, released_by, call_of, happening, arrived}
 use Rattle.grid_cli.specs.Replies.{want_of_memory}
 use Rattle.grid_cli.proofs.Parts.{in_mapped}
-use Rattle.grid_cli.proofs.Places.{IsPlaced, same_number}
+use Rattle.grid_cli.specs.ScriptRuns.{IsNext}
+use Rattle.grid_cli.proofs.Places.{same_number}
 use Rattle.grid_cli.proofs.Trails.{executed, executed-append, executed_name}
 use Rattle.grid_cli.proofs.RunFacts.{id_name, arrival_name, is_of, RefusalsOk, RunOk, origin}
 use Rattle.grid_cli.proofs.Arriving.{its_event, fresh}
@@ -75,22 +76,22 @@ call_log o w a =
     at None = inl refl
     at (Some node) = by node (reached a.member node)
 
-module _ {State : Type 0} (o : Object Request State) (r : Run) (ok : RunOk o r) (k : Connection) (there : connection_of r k.conn ≡ Some k) (request : Request) (named : request.id ≡ next_id k) (placed : IsPlaced request) where
+module _ {State : Type 0} (o : Object Request State) (r : Run) (ok : RunOk o r) (member : ℕ) (request : Request) (is_next : IsNext r request) where
   abbrev a : Arrival
-  a = arrival_at r k request
+  a = arrival_at r member request
 
   -- a call that is new was executed nowhere
   not_yet : (p : ℕ) (x : Executed Request) → In x (executed (world_at o r p).recorded.log) → executed_name x ≢ arrival_name a
   not_yet p x i e =
       let from = origin o r ok.members ok.of_arrivals p x i in
-      fresh r ok.of_arrivals k there request named placed from.0 from.1 (ap name from.3 ∙ e)
+      fresh r ok.of_arrivals member request is_next from.0 from.1 (ap name from.3 ∙ e)
 
   -- Where nothing is executed but the new call, and that only if it isn't refused, what was refused stays so.
   refused_more : (events : List At) (appended : List Appended)
-      → ((p : ℕ) (x : Executed Request) → In x (executed (world_at o (arrived r k a events appended) p).recorded.log) → In x (executed (world_at o r p).recorded.log) ⊎ (executed_name x ≡ arrival_name a))
+      → ((p : ℕ) (x : Executed Request) → In x (executed (world_at o (arrived r a events appended) p).recorded.log) → In x (executed (world_at o r p).recorded.log) ⊎ (executed_name x ≡ arrival_name a))
       → ((m : Appended) (id : CallId) → In m appended → m.refuses ≡ Some id
-      → (id ≡ a.id) × ((p : ℕ) (x : Executed Request) → In x (executed (world_at o (arrived r k a events appended) p).recorded.log) → executed_name x ≢ arrival_name a))
-      → RefusalsOk o (arrived r k a events appended)
+      → (id ≡ a.id) × ((p : ℕ) (x : Executed Request) → In x (executed (world_at o (arrived r a events appended) p).recorded.log) → executed_name x ≢ arrival_name a))
+      → RefusalsOk o (arrived r a events appended)
   refused_more events appended only new = record {
     arrived = λ m id i e. ⊎_elim (earlier m id e) (λ j. (a, in_right a r.arrivals (a ∷ []) (inl refl), sym (new m id j e).0)) (in_cases m r.appended appended i);
     unexecuted = λ m id i e p x j. ⊎_elim (λ l. still m id l e p x (only p x j)) (λ l s. (new m id l e).1 p x j (s ∙ ap id_name (new m id l e).0)) (in_cases m r.appended appended i);
@@ -104,17 +105,17 @@ module _ {State : Type 0} (o : Object Request State) (r : Run) (ok : RunOk o r) 
       still m id i e p x (inl j) = ok.of_refusals.unexecuted m id i e p x j
       still m id i e p x (inr s) =
           let from = ok.of_refusals.arrived m id i e in
-          λ t. fresh r ok.of_arrivals k there request named placed from.0 from.1 (ap id_name from.2 ∙ sym t ∙ s)
+          λ t. fresh r ok.of_arrivals member request is_next from.0 from.1 (ap id_name from.2 ∙ sym t ∙ s)
 
   -- the call found no memory
-  pub skipped_refusals : RefusalsOk o (skipped o r ok k a)
+  pub skipped_refusals : RefusalsOk o (skipped o r ok a)
   skipped_refusals = refused_more [] (refusal a.line request want_of_memory 0 ∷ []) (λ p x i. inl (as_before p x i)) refused
     where
-      as_before : (p : ℕ) (x : Executed Request) → In x (executed (world_at o (skipped o r ok k a) p).recorded.log) → In x (executed (world_at o r p).recorded.log)
+      as_before : (p : ℕ) (x : Executed Request) → In x (executed (world_at o (skipped o r ok a) p).recorded.log) → In x (executed (world_at o r p).recorded.log)
       as_before p x i = subst (λ es. In x (executed (run o (start p r.members r.backups) (events_at p es)).recorded.log)) (append-nil r.events) i
 
       refused : (m : Appended) (id : CallId) → In m (refusal a.line request want_of_memory 0 ∷ []) → m.refuses ≡ Some id
-          → (id ≡ a.id) × ((p : ℕ) (x : Executed Request) → In x (executed (world_at o (skipped o r ok k a) p).recorded.log) → executed_name x ≢ arrival_name a)
+          → (id ≡ a.id) × ((p : ℕ) (x : Executed Request) → In x (executed (world_at o (skipped o r ok a) p).recorded.log) → executed_name x ≢ arrival_name a)
       refused m id (inl s) e =
           let whose : Some request.id ≡ Some id = ap (λ (n : Appended). n.refuses) s ∙ e in
           let its : id ≡ request.id = cc in
@@ -127,7 +128,7 @@ module _ {State : Type 0} (o : Object Request State) (r : Run) (ok : RunOk o r) 
   p = request.partition
 
   abbrev after : Run
-  after = next o r ok k a
+  after = next o r ok a
 
   executed_in : ℕ → List (Executed Request)
   executed_in q = executed (world_at o after q).recorded.log
@@ -150,16 +151,16 @@ module _ {State : Type 0} (o : Object Request State) (r : Run) (ok : RunOk o r) 
 
   executed_after : (q : ℕ) (x : Executed Request) → In x (executed (world_at o after q).recorded.log)
       → In x (executed (world_at o r q).recorded.log) ⊎ ((executed_name x ≡ arrival_name a) × (refused_by a.line request (happens o (world_at o r p) (call_of a)).outcome ≡ []))
-  executed_after q x i = ⊎_elim here (λ e. inl (subst (λ (w : World Request). In x (executed w.recorded.log)) (world_elsewhere o r ok k a q e) i)) (cases (is_of q a))
+  executed_after q x i = ⊎_elim here (λ e. inl (subst (λ (w : World Request). In x (executed w.recorded.log)) (world_elsewhere o r ok a q e) i)) (cases (is_of q a))
     where
       here : is_of q a ≡ true → In x (executed (world_at o r q).recorded.log) ⊎ ((executed_name x ≡ arrival_name a) × (refused_by a.line request (happens o (world_at o r p) (call_of a)).outcome ≡ []))
       here e =
           let same : p ≡ q = same_number request.partition q e in
           let now = subst (λ v. In x (executed (world_at o after v).recorded.log)) (sym same) i in
           subst (λ v. In x (executed (world_at o r v).recorded.log) ⊎ ((executed_name x ≡ arrival_name a) × (refused_by a.line request (happens o (world_at o r p) (call_of a)).outcome ≡ []))) same
-          (executed_now x (subst (λ (w : World Request). In x (executed w.recorded.log)) (world_here o r ok k a) now))
+          (executed_now x (subst (λ (w : World Request). In x (executed w.recorded.log)) (world_here o r ok a) now))
 
-  pub refusals_after : RefusalsOk o (next o r ok k a)
+  pub refusals_after : RefusalsOk o (next o r ok a)
   refusals_after = refused_more (its_event a ∷ []) (happening o r a) (λ q x i. ⊎_elim (λ j. inl j) (λ j. inr j.0) (executed_after q x i)) refused
     where
       given : (m : Appended) (id : CallId) → In m (map (answer_to a.line) (released_by (world_at o r p) (happens o (world_at o r p) (call_of a)).world)) → m.refuses ≡ Some id → ⊥

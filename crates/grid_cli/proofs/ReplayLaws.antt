@@ -1,5 +1,7 @@
 -- Reading a script piece by piece: which lines are whole, how many there are, and where the run stops within them.
-use Rattle.std.proofs.Common.{◌≡◌, ℕ, suc, ◌+◌, ◌≤◌, ◌<◌, ◌==◌, Bool, true, false, cond, List, [], ◌∷◌, ◌++◌, length, Option, Some, None, refl, ap, sym, ◌∙◌, subst, arith, append-nil, append_assoc}
+use Rattle.std.proofs.Common.{◌≡◌, ℕ, suc, ◌+◌, ◌≤◌, ◌<◌, ◌==◌, Bool, true, false, cond, List, [], ◌∷◌, ◌++◌, length, Option, Some, None, refl, ap, sym, ◌∙◌, subst, arith, append-nil, append_assoc, length-append}
+use Rattle.std.specs.Prelude.{sum_by}
+use Rattle.std.proofs.lemmas.List.Sums.{sum_by-cons}
 use Rattle.grid_base.specs.declared.names.CallId.{CallId}
 use Rattle.partition_protocol.specs.Sequences.{IsFrontOf}
 use Rattle.grid_cli.specs.Words.{newline, pieces_at, onto_first, fronts, last_piece, whole_lines, unfinished}
@@ -7,7 +9,7 @@ use Rattle.grid_cli.specs.Pieces.{IsOnePiece}
 use Rattle.grid_cli.specs.PartitionObjects.{partition_object}
 use Rattle.grid_cli.specs.Transcripts.{Transcript, Ended, Refused, first_line, later_lines}
 use Rattle.grid_cli.specs.Statuses.{whole}
-use Rattle.grid_cli.specs.Transcribing.{Follows, Continues, StopsAs, lines_of}
+use Rattle.grid_cli.specs.Transcribing.{Follows, HasRoomFor, Continues, StopsAs, lines_of}
 use Rattle.grid_cli.specs.Replays.{HasRead, OfLines, StopsWithin, ended_line}
 use Rattle.grid_cli.specs.declared.grid.Grid.{Grid}
 use Rattle.grid_cli.specs.declared.replay.Replay.{Replay}
@@ -41,6 +43,54 @@ few_lines xs =
     let fronts_are : length (whole_lines xs) ≡ length p.1 = ap (λ ps. length (fronts ps)) p.2 ∙ length-fronts p.0 p.1 in
     let pieces_are : length (pieces_at newline xs) ≡ length p.1 + 1 = ap length p.2 ∙ omega arith in
     omega (arith, few_pieces newline xs, fronts_are, pieces_are)
+
+-- how many bytes they have
+
+exact_size : (separator : ℕ) (xs : List ℕ) → sum_by length (pieces_at separator xs) + length (pieces_at separator xs) ≡ length xs + 1
+exact_size separator [] = let one = sum_by-cons (length {A = ℕ}) [] [] in omega (arith, one)
+exact_size separator (x ∷ xs) = go (x == separator) (exact_size separator xs)
+  where
+    onto : (pieces : List (List ℕ)) → 1 ≤ length pieces → sum_by length (onto_first x pieces) + length (onto_first x pieces) ≡ sum_by length pieces + length pieces + 1
+    onto [] some = absurd (omega arith)
+    onto (piece ∷ pieces) some =
+        let more = sum_by-cons length (x ∷ piece) pieces in
+        let less = sum_by-cons length piece pieces in
+        omega (arith, more, less)
+
+    go : (same : Bool) → sum_by length (pieces_at separator xs) + length (pieces_at separator xs) ≡ length xs + 1
+        → sum_by length (cond same ([] ∷ pieces_at separator xs) (onto_first x (pieces_at separator xs))) + length (cond same ([] ∷ pieces_at separator xs) (onto_first x (pieces_at separator xs))) ≡ length (x ∷ xs) + 1
+    go true h = let more = sum_by-cons length [] (pieces_at separator xs) in omega (arith, h, more)
+    go false h =
+        let some : 1 ≤ length (pieces_at separator xs) = let p = first_piece separator xs in let e = ap length p.2 in omega (arith, e) in
+        let e = onto (pieces_at separator xs) some in
+        omega (arith, h, e)
+
+split_size : (p : List ℕ) (ps : List (List ℕ)) → sum_by length (fronts (p ∷ ps)) + length (last_piece (p ∷ ps)) ≡ sum_by length (p ∷ ps)
+split_size p [] = let one = sum_by-cons length p [] in omega (arith, one)
+split_size p (q ∷ qs) =
+    let e = split_size q qs in
+    let front = sum_by-cons length p (fronts (q ∷ qs)) in
+    let whole = sum_by-cons length p (q ∷ qs) in
+    let last : length (last_piece (p ∷ q ∷ qs)) ≡ length (last_piece (q ∷ qs)) = refl in
+    omega (arith, e, front, whole, last)
+
+-- The lines that are whole, their newlines, and what is left are the bytes.
+pub lines_size : (xs : List ℕ) → length (whole_lines xs) + sum_by length (whole_lines xs) + length (unfinished xs) ≡ length xs
+lines_size xs =
+    let p = first_piece newline xs in
+    let fronts_are : length (whole_lines xs) ≡ length p.1 = ap (λ ps. length (fronts ps)) p.2 ∙ length-fronts p.0 p.1 in
+    let pieces_are : length (pieces_at newline xs) ≡ length p.1 + 1 = ap length p.2 ∙ omega arith in
+    let parts : sum_by length (whole_lines xs) + length (unfinished xs) ≡ sum_by length (pieces_at newline xs) =
+    ap (λ ps. sum_by length (fronts ps) + length (last_piece ps)) p.2 ∙ split_size p.0 p.1 ∙ ap (λ ps. sum_by length ps) (sym p.2) in
+    let all = exact_size newline xs in
+    omega (arith, fronts_are, pieces_are, parts, all)
+
+-- There is room for a line that begins with what is left.
+pub room_for_text : (read end : List ℕ) → length read + length end ≤ 16777216 → HasRoomFor (whole_lines read) (unfinished read ++ end)
+room_for_text read end few =
+    let size = lines_size read in
+    let text = length-append (unfinished read) end in
+    omega (arith, few, size, text)
 
 pub has_room : (replay : Replay) (skips : List CallId) (read written : List ℕ) → HasRead replay skips read written → length read ≤ 16777216 → lines_of replay.transcriber.grid + 1 < 4294967295
 has_room replay skips read written has few = omega (arith, few_lines read, lines_followed replay.transcriber.grid skips (whole_lines read) written has.follows)

@@ -1,5 +1,5 @@
 -- Taking a piece of a script line by line.
-use Rattle.std.proofs.Common.{◌≡◌, ℕ, zero, suc, ◌+◌, ◌≤◌, ◌<◌, ◌==◌, Bool, true, false, cond, List, [], ◌∷◌, ◌++◌, length, get_or, take, drop, Option, refl, ap, sym, ◌∙◌, subst, arith, append-nil, append_assoc, length-append, add-one}
+use Rattle.std.proofs.Common.{◌≡◌, ℕ, zero, suc, ◌+◌, ◌≤◌, ◌<◌, ◌==◌, Bool, true, false, cond, List, [], ◌∷◌, ◌++◌, length, get_or, take, drop, Option, refl, ap, sym, ◌∙◌, subst, arith, append-nil, append_assoc, length-append, length-take, add-one}
 use Rattle.std.specs.Io.KnownBytes.{append_known}
 use Rattle.std.proofs.lemmas.Bool.Decides.{nat_tests}
 use Rattle.memchr.specs.Find.{Nowhere, NoneBefore, Passes, is_byte}
@@ -149,12 +149,12 @@ taken_without_memory start now before after piece rest has none skips read writt
 -- there is room for what is left
 pub room_left : (start now : Replay) (before after : Option (List ℕ)) (piece rest : List ℕ) (k limit : ℕ) → HasTaken start now before after piece rest → k < length rest
     → (skips : List CallId) × (read written : List ℕ) × HasRead start skips read written × (length read + length piece ≤ limit)
-    → (skips : List CallId) × (read written : List ℕ) × HasRead now skips read written × (length read < limit)
+    → (skips : List CallId) × (read written : List ℕ) × HasRead now skips read written × (length read + length (take k rest) < limit)
 room_left start now before after piece rest k limit has within given =
     let first = has.reads given.0 given.1 given.2 given.3 in (
       first.0 ++ given.0,
       given.1 ++ has.front,
       given.2 ++ first.1,
       first.2,
-      omega (arith, given.4, length-append given.1 has.front, length-append has.front rest, ap length has.is_front),
+      omega (arith, given.4, within, length-take k rest, length-append given.1 has.front, length-append has.front rest, ap length has.is_front),
     )

@@ -1,5 +1,5 @@
 -- What holds of a run after every line: what its arrivals, its events and its answers have to do with one another.
-use Rattle.std.proofs.Common.{◌≡◌, ◌≢◌, ℕ, ◌≤◌, ◌<◌, Bool, true, false, ◌==◌, List, [], ◌∷◌, ◌++◌, map, filter, Some, refl, ap, sym, ◌∙◌, subst, inl, inr}
+use Rattle.std.proofs.Common.{◌≡◌, ◌≢◌, ℕ, ◌≤◌, ◌<◌, Bool, true, false, ◌==◌, List, [], ◌∷◌, ◌++◌, length, map, filter, Some, refl, ap, sym, ◌∙◌, subst, inl, inr}
 use Rattle.std.specs.List.{find}
 use Rattle.grid_base.specs.Objects.{Object}
 use Rattle.grid_base.specs.Names.{is_same_call}
@@ -16,12 +16,13 @@ use Rattle.partition_protocol.proofs.RowFacts.{false_or_not}
 use Rattle.partition_protocol.proofs.Faithful.{part_in, part_map, part_once}
 use Rattle.partition_protocol.proofs.Theorem.{every_run_is_safe}
 use Rattle.partition_world.specs.Answers.{id_of}
-use Rattle.grid_cli.specs.Runs.{Run, Arrival, Appended, Connection, world_at, events_at, connection_of}
+use Rattle.grid_cli.specs.Runs.{Run, Arrival, Appended, Connection, world_at, events_at, connection_of, messages_on}
+use Rattle.grid_cli.specs.ScriptRuns.{IsPlaced}
 use Rattle.grid_cli.specs.Printing.{arrival_of, is_answer_to}
 use Rattle.grid_cli.specs.Linearizability.{Before}
 use Rattle.grid_cli.proofs.Parts.{in_map, before_map, subsequence_part, part_filter, part_trans, before_part, before_mapped, in_mapped, in_filtered, named_same}
 use Rattle.grid_cli.proofs.Counts.{count}
-use Rattle.grid_cli.proofs.Places.{IsPlaced, same_call, same_call_refl, same_number}
+use Rattle.grid_cli.proofs.Places.{same_call, same_call_refl, same_number}
 use Rattle.grid_cli.proofs.Trails.{executed, executed-append, asked, executed_name, calls_executed, names_executed}
 
 -- arrivals
@@ -43,13 +44,18 @@ pub record ArrivalsOk (r : Run) : Type 0 where
   pub placed : (a : Arrival) → In a r.arrivals → IsPlaced a.request
   -- no two have one name
   pub once : NamedOnce (map arrival_name r.arrivals)
-  -- its connection has counted it
-  pub counted : (a : Arrival) → In a r.arrivals → (k : Connection) × (connection_of r a.id.conn ≡ Some k) × (a.id.number < k.messages)
-  -- they stand by line, and those of one line by number
-  pub in_order : (a b : Arrival) → Before r.arrivals a b → (a.line ≤ b.line) × (a.line ≡ b.line → a.id.number < b.id.number)
+  -- it is one of the messages of its connection
+  pub counted : (a : Arrival) → In a r.arrivals → (k : Connection) × (connection_of r a.id.conn ≡ Some k) × (a.id.number < length (messages_on k))
+  -- they stand by line, and those of one connection by number
+  pub in_order : (a b : Arrival) → Before r.arrivals a b → a.line ≤ b.line
+  pub rising : (a b : Arrival) → Before r.arrivals a b → a.id.conn ≡ b.id.conn → a.id.number < b.id.number
+  -- those of one line are of one connection
+  pub of_line : (a b : Arrival) → In a r.arrivals → In b r.arrivals → a.line ≡ b.line → a.id.conn ≡ b.id.conn
   pub by_now : (a : Arrival) → In a r.arrivals → a.line ≤ r.lines
   -- the calls that reach a partition's members are arrivals of that partition, in order
   pub calls : (p : ℕ) → IsPart (arrivals (events_at p r.events)) (map asked_of (filter (is_of p) r.arrivals))
+  -- a call makes at most one event
+  pub events : length r.events ≤ length r.arrivals
 
 -- answers
 
@@ -85,8 +91,14 @@ pub record RefusalsOk {State : Type 0} (o : Object Request State) (r : Run) : Ty
   -- and is executed nowhere
   pub unexecuted : (m : Appended) (id : CallId) → In m r.appended → m.refuses ≡ Some id → (p : ℕ) (x : Executed Request) → In x (executed (world_at o r p).recorded.log) → executed_name x ≢ id_name id
 
+-- no two connections have one number
+abbrev pub AreApart : List Connection → Type 0
+AreApart [] = Unit {0}
+AreApart (k ∷ ks) = ((j : Connection) → In j ks → j.conn ≢ k.conn) × AreApart ks
+
 pub record RunOk {State : Type 0} (o : Object Request State) (r : Run) : Type 0 where
   pub members : 1 ≤ r.members
+  pub connections : AreApart r.connections
   pub of_arrivals : ArrivalsOk r
   pub of_answers : AnswersOk o r
   pub of_refusals : RefusalsOk o r

@@ -1,18 +1,78 @@
 -- What holds of every run that lines can make.
-use Rattle.std.proofs.Common.{◌≡◌, Option, Some, None, refl, ap, sym, ◌∙◌}
+use Rattle.std.proofs.Common.{◌≡◌, ℕ, ◌≤◌, Bool, true, false, cond, List, [], ◌∷◌, ◌++◌, Option, Some, None, refl, ap, sym, ◌∙◌, inl, inr, arith}
+use Rattle.grid_base.specs.Objects.{Object}
 use Rattle.grid_base.specs.declared.names.CallId.{CallId}
+use Rattle.grid_base.specs.declared.calls.Request.{Request}
 use Rattle.grid_cli.specs.PartitionObjects.{partition_object}
-use Rattle.grid_cli.specs.Runs.{Run, Appended}
+use Rattle.grid_cli.specs.Replies.{want_of_memory}
+use Rattle.grid_cli.specs.Runs.{Run, Connection, Arrival, Appended, begun, updated, with_bytes, refusal, arrival_at, happening, arrived, is_skipped, asked}
 use Rattle.grid_cli.specs.Printing.{arrival_of, answer_of, is_answer_to}
-use Rattle.grid_cli.specs.Grids.{IsRun, first, later}
-use Rattle.grid_cli.proofs.RunFacts.{RunOk, arrival_found}
-use Rattle.grid_cli.proofs.Answers.{id_of_name, named_answer}
+use Rattle.grid_cli.specs.ScriptRuns.{IsNext, IsRun, grid_begun, line_counted, connection_opened, bytes_taken, call_asked}
+use Rattle.grid_cli.proofs.Hearing.{no_fewer}
 use Rattle.grid_cli.proofs.Trails.{find_some}
-use Rattle.grid_cli.proofs.Lines.{line_ok, begun_ok}
+use Rattle.grid_cli.proofs.RunFacts.{RunOk, arrival_found}
+use Rattle.grid_cli.proofs.Arriving.{apart_opened, apart_updated, opened_grows, updated_grows, quiet, arrivals_with, its_event}
+use Rattle.grid_cli.proofs.Answering.{skipped_answers, answers_after}
+use Rattle.grid_cli.proofs.Refusals.{skipped_refusals, refusals_after}
+use Rattle.grid_cli.proofs.Answers.{id_of_name, named_answer}
+
+-- the first line has made nothing
+pub begun_ok : {State : Type 0} (o : Object Request State) (members backups : ℕ) → 1 ≤ members → RunOk o (begun members backups)
+begun_ok o members backups grid = record {
+  members = grid;
+  connections = tt;
+  of_arrivals = record {
+    placed = λ a i. absurd i;
+    once = tt;
+    counted = λ a i. absurd i;
+    in_order = λ a b h. absurd h;
+    rising = λ a b h. absurd h;
+    of_line = λ a b i. absurd i;
+    by_now = λ a i. absurd i;
+    calls = λ p. refl;
+    events = omega arith;
+  };
+  of_answers = record { given = λ m id i e. absurd i; once = λ id. omega arith; resets = λ p. refl };
+  of_refusals = record { arrived = λ m id i e. absurd i; unexecuted = λ m id i e. absurd i };
+}
+
+-- a call, with an event or none
+pub asked_ok : {State : Type 0} (o : Object Request State) (skips : List CallId) (r : Run) (member : ℕ) (request : Request) → RunOk o r → IsNext r request → RunOk o (asked o skips r (arrival_at r member request))
+asked_ok o skips r member request ok next = go (is_skipped skips request.id)
+  where
+    a : Arrival
+    a = arrival_at r member request
+
+    go : (b : Bool) → RunOk o (cond b (arrived r a [] (refusal r.lines request want_of_memory 0 ∷ [])) (arrived r a (its_event a ∷ []) (happening o r a)))
+    go true = record {
+      members = ok.members;
+      connections = ok.connections;
+      of_arrivals = arrivals_with r ok.of_arrivals member request next [] (refusal r.lines request want_of_memory 0 ∷ []) (inl refl);
+      of_answers = skipped_answers o r ok a;
+      of_refusals = skipped_refusals o r ok member request next;
+    }
+    go false =
+        let come = arrivals_with r ok.of_arrivals member request next (its_event a ∷ []) (happening o r a) (inr refl) in
+        record {
+          members = ok.members;
+          connections = ok.connections;
+          of_arrivals = come;
+          of_answers = answers_after o r ok a refl come;
+          of_refusals = refusals_after o r ok member request next;
+        }
 
 pub run_ok : {r : Run} → IsRun r → RunOk partition_object r
-run_ok (first members backups grid) = begun_ok partition_object members backups grid
-run_ok (later skips line r next is after) = line_ok partition_object skips r next (run_ok is) line after
+run_ok (grid_begun members backups grid) = begun_ok partition_object members backups grid
+run_ok (line_counted r is) = let ok = run_ok is in quiet partition_object r r.connections ok ok.connections (λ c k s. (k, s, omega arith))
+run_ok (connection_opened r c member is free) =
+    let ok = run_ok is in
+    let new : Connection = record { conn = c; member = member; bytes = [] } in
+    quiet partition_object r (r.connections ++ new ∷ []) ok (apart_opened r.connections new ok.connections free) (opened_grows r new)
+run_ok (bytes_taken r connection bytes is there) =
+    let ok = run_ok is in
+    let new : Connection = with_bytes connection bytes in
+    quiet partition_object r (updated new r.connections) ok (apart_updated r.connections new ok.connections) (updated_grows r connection new there refl (no_fewer connection.bytes bytes))
+run_ok (call_asked skips r member request is next) = asked_ok partition_object skips r member request (run_ok is) next
 
 -- A call that did not arrive was not answered.
 pub unheard_unanswered : (r : Run) → IsRun r → (id : CallId) → arrival_of r id ≡ None → answer_of r id ≡ None

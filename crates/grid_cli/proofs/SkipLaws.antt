@@ -1,89 +1,127 @@
--- A line asks of the skips only whether its own call is among them, and adds its own call to the arrivals.
-use Rattle.std.proofs.Common.{◌≡◌, ℕ, ◌+◌, Bool, true, false, cond, List, ◌++◌, Option, Some, None, refl, ap, sym, ◌∙◌, append-nil, subst}
-use Rattle.std.specs.Prelude.{option_map, option_and_then, is_some}
-use Rattle.std.specs.Option.{option_to_list}
+-- A line asks of the skips only which of its own calls are among them, and adds its own calls to the arrivals.
+use Rattle.std.proofs.Common.{◌≡◌, ◌≢◌, ℕ, ◌+◌, Bool, true, false, ◌||◌, cond, List, [], ◌∷◌, ◌++◌, map, Option, Some, None, refl, ap, sym, ◌∙◌, inl, inr, append-nil, subst, arith}
+use Rattle.std.specs.Prelude.{option_map, option_and_then, is_some, unwrap_or}
+use Rattle.grid_base.specs.Objects.{Object}
 use Rattle.grid_base.specs.declared.names.CallId.{CallId}
 use Rattle.grid_base.specs.declared.calls.Request.{Request}
-use Rattle.grid_cli.specs.Words.{are_same}
+use Rattle.grid_base.specs.Names.{is_same_call}
+use Rattle.partition_protocol.proofs.Lists.{In}
+use Rattle.partition_protocol.proofs.RowFacts.{false_or_not}
 use Rattle.grid_cli.specs.PartitionObjects.{partition_object}
-use Rattle.grid_cli.specs.Requests.{request_of}
-use Rattle.grid_cli.specs.Runs.{Run, Connection, Arrival, connection_of, next_id, arrival_at, after_line, bytes_arrived, requested, greeting, asked, is_skipped, opened, next_line, updated, prefix}
-use Rattle.grid_cli.specs.Skips.{arrival_on, arrival_of_line, call_at}
+use Rattle.grid_cli.specs.Runs.{Run, Connection, Arrival, connection_of, fault_on, requests_by, took_bytes, next_line, after_line, bytes_arrived, asked, asked_all, arrival_at, is_skipped, opened}
+use Rattle.grid_cli.specs.Skips.{requests_at, calls_at}
 use Rattle.grid_cli.specs.declared.script.Line.{Line}
 use Rattle.grid_cli.specs.declared.script.Line.TheVariants.{Grid, OpenConn, Arrive, End}
+use Rattle.grid_cli.proofs.Places.{same_call}
+use Rattle.grid_cli.proofs.Lines.{arriving, asked_all_come}
 
--- two lists of skips say the same of a call
-abbrev pub Alike : List CallId → List CallId → Option CallId → Type 0
-Alike s k call = (id : CallId) → call ≡ Some id → is_skipped s id ≡ is_skipped k id
+-- who is skipped
 
-abbrev call_of : Option Arrival → Option CallId
-call_of a = option_map (λ (x : Arrival). x.id) a
+pub skipped_by_either : (k skips : List CallId) (id : CallId) → is_skipped (k ++ skips) id ≡ is_skipped k id || is_skipped skips id
+skipped_by_either [] skips id = refl
+skipped_by_either (x ∷ k) skips id = ap (λ b. is_same_call id x || b) (skipped_by_either k skips id) ∙ grind (arith)
 
-same_choice : {X : Type 0} (b d : Bool) (x y : X) → b ≡ d → cond b x y ≡ cond d x y
-same_choice b d x y e = ap (λ t. cond t x y) e
+pub not_skipped : (k : List CallId) (id : CallId) → ((x : CallId) → In x k → is_same_call id x ≡ false) → is_skipped k id ≡ false
+not_skipped [] id h = refl
+not_skipped (x ∷ k) id h = rw (h x (inl refl)) (not_skipped k id (λ y i. h y (inr i)))
 
-on_request : (s k : List CallId) (r : Run) (c : Connection) (q : Option Request) → Alike s k (call_of (option_map (arrival_at r c) q))
-    → option_map (λ request. asked partition_object s r c (arrival_at r c request)) q ≡ option_map (λ request. asked partition_object k r c (arrival_at r c request)) q
-on_request s k r c None h = refl
-on_request s k r c (Some q) h = ap Some (same_choice (is_skipped s q.id) (is_skipped k q.id) _ _ (h q.id refl))
+pub unless_same : (a b : CallId) → a ≢ b → is_same_call a b ≡ false
+unless_same a b different = false_or_not (is_same_call a b) (λ e. different (same_call a b e))
 
-on_prefix : (s k : List CallId) (r : Run) (bytes : List ℕ) (c : Connection) (greeted : Bool) → Alike s k (call_of (cond greeted (option_map (arrival_at r c) (request_of (next_id c) bytes)) None))
-    → cond greeted (requested partition_object s r c bytes) (greeting r c bytes) ≡ cond greeted (requested partition_object k r c bytes) (greeting r c bytes)
-on_prefix s k r bytes c true h = on_request s k r c (request_of (next_id c) bytes) h
-on_prefix s k r bytes c false h = refl
+-- two lists of skips say the same of these calls
+abbrev pub Alike : List CallId → List CallId → List CallId → Type 0
+Alike s k calls = (id : CallId) → In id calls → is_skipped s id ≡ is_skipped k id
 
-on_connection : (s k : List CallId) (r : Run) (bytes : List ℕ) (c : Option Connection) → Alike s k (call_of (option_and_then (arrival_on r bytes) c))
+abbrev pub names_of : List Request → List CallId
+names_of requests = map (λ (q : Request). q.id) requests
+
+pub names_arriving : (line member : ℕ) (requests : List Request) → map (λ (a : Arrival). a.id) (map (arriving line member) requests) ≡ names_of requests
+names_arriving line member [] = refl
+names_arriving line member (q ∷ qs) = ap (λ ids. q.id ∷ ids) (names_arriving line member qs)
+
+pub asked_alike : {State : Type 0} (o : Object Request State) (s k : List CallId) (r : Run) (a : Arrival) → is_skipped s a.id ≡ is_skipped k a.id → asked o s r a ≡ asked o k r a
+asked_alike o s k r a e = same_choice (is_skipped s a.id) (is_skipped k a.id) _ _ e
+  where
+    same_choice : (b d : Bool) (x y : Run) → b ≡ d → cond b x y ≡ cond d x y
+    same_choice b d x y h = ap (λ t. cond t x y) h
+
+pub asked_all_alike : {State : Type 0} (o : Object Request State) (s k : List CallId) (r : Run) (member : ℕ) (requests : List Request) → Alike s k (names_of requests)
+    → asked_all o s r member requests ≡ asked_all o k r member requests
+asked_all_alike o s k r member [] h = refl
+asked_all_alike o s k r member (request ∷ requests) h =
+    ap (λ next. asked_all o s next member requests) (asked_alike o s k r (arrival_at r member request) (h request.id (inl refl)))
+    ∙ asked_all_alike o s k (asked o k r (arrival_at r member request)) member requests (λ id i. h id (inr i))
+
+-- the calls of a front, and then the others
+pub asked_all-append : {State : Type 0} (o : Object Request State) (skips : List CallId) (r : Run) (member : ℕ) (first then : List Request)
+    → asked_all o skips r member (first ++ then) ≡ asked_all o skips (asked_all o skips r member first) member then
+asked_all-append o skips r member [] then = refl
+asked_all-append o skips r member (request ∷ requests) then = asked_all-append o skips (asked o skips r (arrival_at r member request)) member requests then
+
+-- lines
+
+on_requests : (s k : List CallId) (r : Run) (member : ℕ) (found : Option (List Request)) → Alike s k (names_of (unwrap_or found []))
+    → option_map (asked_all partition_object s r member) found ≡ option_map (asked_all partition_object k r member) found
+on_requests s k r member None h = refl
+on_requests s k r member (Some requests) h = ap Some (asked_all_alike partition_object s k r member requests h)
+
+on_open : (s k : List CallId) (r : Run) (bytes : List ℕ) (c : Connection) (closed : Bool) → Alike s k (names_of (cond closed [] (unwrap_or (requests_by c bytes) [])))
+    → cond closed (Some (next_line r)) (option_map (asked_all partition_object s (took_bytes r c bytes) c.member) (requests_by c bytes))
+    ≡ cond closed (Some (next_line r)) (option_map (asked_all partition_object k (took_bytes r c bytes) c.member) (requests_by c bytes))
+on_open s k r bytes c true h = refl
+on_open s k r bytes c false h = on_requests s k (took_bytes r c bytes) c.member (requests_by c bytes) h
+
+on_connection : (s k : List CallId) (r : Run) (bytes : List ℕ) (c : Option Connection) → Alike s k (names_of (requests_at c bytes))
     → option_and_then (bytes_arrived partition_object s r bytes) c ≡ option_and_then (bytes_arrived partition_object k r bytes) c
 on_connection s k r bytes None h = refl
-on_connection s k r bytes (Some c) h = on_prefix s k r bytes c c.greeted h
+on_connection s k r bytes (Some c) h = on_open s k r bytes c (is_some (fault_on c)) h
 
-pub skips_alike : (s k : List CallId) (r : Run) (line : Line) → Alike s k (call_at r line) → after_line partition_object s r line ≡ after_line partition_object k r line
+pub skips_alike : (s k : List CallId) (r : Run) (line : Line) → Alike s k (calls_at r line) → after_line partition_object s r line ≡ after_line partition_object k r line
 skips_alike s k r (Grid members backups capacity) h = refl
 skips_alike s k r (OpenConn c member) h = refl
 skips_alike s k r (Arrive c bytes) h = on_connection s k r bytes (connection_of r c) h
 skips_alike s k r End h = refl
 
 -- what a line does to the lines and the arrivals
-pub record Counts (r next : Run) (a : Option Arrival) : Type 0 where
+pub record Counts (r next : Run) (calls : List CallId) : Type 0 where
   pub lines : next.lines ≡ r.lines + 1
-  pub arrivals : next.arrivals ≡ r.arrivals ++ option_to_list a
+  pub come : List Arrival
+  pub arrivals : next.arrivals ≡ r.arrivals ++ come
+  pub names : map (λ (a : Arrival). a.id) come ≡ calls
 
-quiet : (r next : Run) → next.lines ≡ r.lines + 1 → next.arrivals ≡ r.arrivals → Counts r next None
-quiet r next lines arrivals = record { lines = lines; arrivals = arrivals ∙ sym (append-nil r.arrivals) }
+quiet : (r next : Run) → next.lines ≡ r.lines + 1 → next.arrivals ≡ r.arrivals → Counts r next []
+quiet r next lines arrivals = record { lines = lines; come = []; arrivals = arrivals ∙ sym (append-nil r.arrivals); names = refl }
 
-asked_counts : (k : List CallId) (r : Run) (c : Connection) (a : Arrival) (skipped : Bool) (x y : Run) → Counts r x (Some a) → Counts r y (Some a) → Counts r (cond skipped x y) (Some a)
-asked_counts k r c a true x y p q = p
-asked_counts k r c a false x y p q = q
+request_counts : (k : List CallId) (r next : Run) (c : Connection) (bytes : List ℕ) (found : Option (List Request))
+    → option_map (asked_all partition_object k (took_bytes r c bytes) c.member) found ≡ Some next → Counts r next (names_of (unwrap_or found []))
+request_counts k r next c bytes None e = absurd (cc e)
+request_counts k r next c bytes (Some requests) e =
+    let is : asked_all partition_object k (took_bytes r c bytes) c.member requests ≡ next = cc in
+    let come = asked_all_come partition_object k (took_bytes r c bytes) c.member requests in
+    subst (λ (x : Run). Counts r x (names_of requests)) is (record {
+      lines = come.lines;
+      come = map (arriving (r.lines + 1) c.member) requests;
+      arrivals = come.arrivals;
+      names = names_arriving (r.lines + 1) c.member requests;
+    })
 
-request_counts : (k : List CallId) (r next : Run) (c : Connection) (q : Option Request) → option_map (λ request. asked partition_object k r c (arrival_at r c request)) q ≡ Some next
-    → Counts r next (option_map (arrival_at r c) q)
-request_counts k r next c None e = absurd (cc e)
-request_counts k r next c (Some q) e =
-    let is : asked partition_object k r c (arrival_at r c q) ≡ next = cc in
-    let P : Run → Type 0 = λ x. Counts r x (Some (arrival_at r c q)) in
-    subst P is (asked_counts k r c (arrival_at r c q) (is_skipped k q.id) _ _ (record { lines = refl; arrivals = refl }) (record { lines = refl; arrivals = refl }))
-
-prefix_counts : (k : List CallId) (r next : Run) (bytes : List ℕ) (c : Connection) (greeted : Bool) → cond greeted (requested partition_object k r c bytes) (greeting r c bytes) ≡ Some next
-    → Counts r next (cond greeted (option_map (arrival_at r c) (request_of (next_id c) bytes)) None)
-prefix_counts k r next bytes c true e = request_counts k r next c (request_of (next_id c) bytes) e
-prefix_counts k r next bytes c false e = greeted_counts (are_same bytes prefix) e
-  where
-    greeted_counts : (b : Bool) → cond b (Some (record r { lines = r.lines + 1; connections = updated (record c { greeted = true }) r.connections })) None ≡ Some next → Counts r next None
-    greeted_counts true e = let is : (record r { lines = r.lines + 1; connections = updated (record c { greeted = true }) r.connections }) ≡ next = cc in
-        quiet r next (sym (ap (λ (x : Run). x.lines) is)) (sym (ap (λ (x : Run). x.arrivals) is))
-    greeted_counts false e = absurd (cc e)
+open_counts : (k : List CallId) (r next : Run) (bytes : List ℕ) (c : Connection) (closed : Bool)
+    → cond closed (Some (next_line r)) (option_map (asked_all partition_object k (took_bytes r c bytes) c.member) (requests_by c bytes)) ≡ Some next
+    → Counts r next (names_of (cond closed [] (unwrap_or (requests_by c bytes) [])))
+open_counts k r next bytes c true e = let is : next_line r ≡ next = cc in quiet r next (sym (ap (λ (x : Run). x.lines) is)) (sym (ap (λ (x : Run). x.arrivals) is))
+open_counts k r next bytes c false e = request_counts k r next c bytes (requests_by c bytes) e
 
 connection_counts : (k : List CallId) (r next : Run) (bytes : List ℕ) (c : Option Connection) → option_and_then (bytes_arrived partition_object k r bytes) c ≡ Some next
-    → Counts r next (option_and_then (arrival_on r bytes) c)
+    → Counts r next (names_of (requests_at c bytes))
 connection_counts k r next bytes None e = absurd (cc e)
-connection_counts k r next bytes (Some c) e = prefix_counts k r next bytes c c.greeted e
+connection_counts k r next bytes (Some c) e = open_counts k r next bytes c (is_some (fault_on c)) e
 
-open_counts : (r next : Run) (c member : ℕ) (there : Bool) → cond there None (Some (opened r c member)) ≡ Some next → Counts r next None
-open_counts r next c member true e = absurd (cc e)
-open_counts r next c member false e = let is : opened r c member ≡ next = cc in quiet r next (sym (ap (λ (x : Run). x.lines) is)) (sym (ap (λ (x : Run). x.arrivals) is))
+opened_counts : (r next : Run) (c member : ℕ) (there : Bool) → cond there None (Some (opened r c member)) ≡ Some next → Counts r next []
+opened_counts r next c member true e = absurd (cc e)
+opened_counts r next c member false e = let is : opened r c member ≡ next = cc in quiet r next (sym (ap (λ (x : Run). x.lines) is)) (sym (ap (λ (x : Run). x.arrivals) is))
 
-pub line_counts : (k : List CallId) (r next : Run) (line : Line) → after_line partition_object k r line ≡ Some next → Counts r next (arrival_of_line r line)
+pub line_counts : (k : List CallId) (r next : Run) (line : Line) → after_line partition_object k r line ≡ Some next → Counts r next (calls_at r line)
 line_counts k r next (Grid members backups capacity) e = absurd (cc e)
-line_counts k r next (OpenConn c member) e = open_counts r next c member (is_some (connection_of r c)) e
+line_counts k r next (OpenConn c member) e = opened_counts r next c member (is_some (connection_of r c)) e
 line_counts k r next (Arrive c bytes) e = connection_counts k r next bytes (connection_of r c) e
 line_counts k r next End e = let is : next_line r ≡ next = cc in quiet r next (sym (ap (λ (x : Run). x.lines) is)) (sym (ap (λ (x : Run). x.arrivals) is))

@@ -3,7 +3,7 @@ use Rattle.std.proofs.Common.{◌≡◌, ℕ, true, zero, suc, ◌≤◌, List, 
 use Rattle.std.specs.Option.{option_map, is_some}
 use Rattle.std.proofs.lemmas.List.{map-set}
 use Rattle.grid_cli.specs.declared.connections.Connection.{Connection}
-use Rattle.grid_cli.specs.Tables.{Opened, Table, unopened, opened_as, slots_as, silent, with_opened, changed_at, with_change, or_line}
+use Rattle.grid_cli.specs.Tables.{Opened, Table, unopened, opened_as, slots_as, silent, opened_at, with_opened, changed_at, with_change, or_line}
 
 -- An element that was read is replaced by one that stands for what a change makes of it.
 set_changed : {X Y : Type 0} (v : X → Y) (change : Y → Y) (xs : List X) (i : ℕ) (old new : X) → old ≡ get_or xs i old → v new ≡ change (v old) → map v (set xs i new) ≡ changed_at (map v xs) i change
@@ -48,6 +48,12 @@ no_slot table slots i change is past = is ∙ sym (changed_past (option_map chan
 
     beyond : (t : Table) → slots_as slots ≡ t → length t ≤ i
     beyond t e = omega (arith, ap length e, same_length slots, past)
+
+-- what a slot has that was read
+pub slot_read : (slots : List (Option Connection)) (i : ℕ) (slot : Option Connection) (opened : Opened) → slot ≡ get_or slots i slot → opened_at (slots_as slots) i ≡ Some opened → option_map opened_as slot ≡ Some opened
+slot_read [] i slot opened read at = absurd cc
+slot_read (x ∷ xs) zero slot opened read at = ap (option_map opened_as) read ∙ at
+slot_read (x ∷ xs) (suc i) slot opened read at = slot_read xs i slot opened read at
 
 pub slot_opened : (table : Table) (slots : List (Option Connection)) (i member : ℕ) (new : Connection) → slots_as slots ≡ table → opened_as new ≡ silent member → slots_as (set slots i (Some new)) ≡ with_opened table i member
 slot_opened table slots i member new is made = map-set (option_map opened_as) slots i (Some new) ∙ ap (λ (o : Opened). set (slots_as slots) i (Some o)) made ∙ ap (λ (t : Table). with_opened t i member) is

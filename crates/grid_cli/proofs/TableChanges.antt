@@ -70,17 +70,6 @@ opened_anew t c member within = ap present (set_get_same t c (Some (silent membe
 pub opened_before : (t : Table) (c d member : ℕ) → d ≢ c → opened_at (with_opened t c member) d ≡ opened_at t d
 opened_before t c d member apart = ap present (set_get_other t c d (Some (silent member)) apart)
 
--- What a property of a connection that a change keeps says of the table: it is as before.
-pub seen_kept : {Y : Type 0} (see : Opened → Y) (t : Table) (c d : ℕ) (change : Opened → Opened) → ((o : Opened) → see (change o) ≡ see o) → option_map see (opened_at (with_change t c change) d) ≡ option_map see (opened_at t d)
-seen_kept {Y} see t c d change kept = ⊎_elim here (λ apart. ap (option_map see) (opened_unchanged t c d change apart)) (cases_eq d c)
-  where
-    at : (o : Option Opened) → option_map see (option_map change o) ≡ option_map see o
-    at None = refl
-    at (Some o) = ap Some (kept o)
-
-    here : d ≡ c → option_map see (opened_at (with_change t c change) d) ≡ option_map see (opened_at t d)
-    here e = subst (λ n. option_map see (opened_at (with_change t c change) n) ≡ option_map see (opened_at t n)) (sym e) (ap (option_map see) (opened_changed t c change) ∙ at (opened_at t c))
-
 -- the lines of calls
 
 abbrev pub line_at : ℕ → Opened → Option CallLines

@@ -12,31 +12,21 @@ use Rattle.grid_cli.specs.Printing.{ok_text, refused_text, limit_text, line_text
 use Rattle.grid_cli.specs.Transcripts.{Transcript, Ending, Ended, Refused, TooLong, first_line, later_lines, following, stopped, ran, refused, why_text, is_end}
 use Rattle.grid_cli.specs.Skips.{AreOfLine}
 use Rattle.grid_cli.specs.Statuses.{whole}
-use Rattle.grid_cli.specs.Grids.{Stands, lines_run, text_at}
-use Rattle.grid_cli.specs.Progress.{IsAt, run_of}
-use Rattle.grid_cli.specs.Transcribing.{HasRun, HasRunNone, Follows, RanAs, Continues, lines_of}
+use Rattle.grid_cli.specs.Grids.{Stands, HasRoom, lines_run, text_at}
+use Rattle.grid_cli.specs.Progress.{IsAt}
+use Rattle.grid_cli.specs.Transcribing.{HasRun, HasRunNone, Follows, HasRoomFor, RanAs, Continues, lines_of}
 use Rattle.grid_cli.specs.declared.grid.Grid.{Grid}
 use Rattle.grid_cli.specs.declared.script.Line.{Line}
 use Rattle.grid_cli.specs.declared.script.Line.TheVariants.{Grid as GridLine}
 use Rattle.grid_cli.specs.declared.script.LineWhy.TheVariants.{NotBuilt, NoEnd}
 use Rattle.grid_cli.specs.declared.transcriber.Ran.{Ran}
 use Rattle.grid_cli.specs.declared.transcriber.Ran.TheVariants.{Goes, Ended as IsEnded, Refused as IsRefused}
-use Rattle.grid_cli.proofs.RunFacts.{RunOk}
-use Rattle.grid_cli.proofs.Lines.{begun_ok, run_after_ok}
-use Rattle.grid_cli.proofs.Fresh.{call_is_new}
+use Rattle.grid_cli.proofs.Fresh.{calls_are_new}
 use Rattle.grid_cli.proofs.Progress.{at_first, refused_first, at_next, at_end, at_refused, at_stop}
 
--- the facts of every run hold of the run that is reached
-pub run_ok : (r : Run) (skips : List CallId) (done : List (List ℕ)) (written : List ℕ) → IsAt r skips done written → RunOk partition_object r
-run_ok r skips done written at =
-    subst (λ x. RunOk partition_object x) (ap (run_of skips) (sym (append-nil done)) ∙ at.runs skips (λ a c. refl) []) (of_lines done)
-  where
-    start : RunOk partition_object (begun 1 0)
-    start = begun_ok partition_object 1 0 (omega arith)
-
-    of_lines : (lines : List (List ℕ)) → RunOk partition_object (run_of skips lines)
-    of_lines [] = start
-    of_lines (first ∷ texts) = run_after_ok partition_object skips (begun 1 0) texts start
+-- There is room for a line after these.
+pub room_for_line : (grid : Grid) (skips : List CallId) (done : List (List ℕ)) (written text : List ℕ) (follows : HasRun grid skips done written) → HasRoomFor done text → HasRoom follows.run (length text)
+room_for_line grid skips done written text follows room = omega (arith, room, follows.at.count, follows.at.size)
 
 -- what the grid's call for a line says
 abbrev pub HasRunLine : Grid → Grid → Line → List ℕ → Type 0
@@ -48,13 +38,13 @@ module _ (old new : Grid) (skips : List CallId) (done : List (List ℕ)) (writte
   line_goes going =
       let r : Run = follows.run in
       let h = has r follows.stands in
-      let shown : added ≡ line_text r h.1 = h.5 ∙ ap (λ b. if b then end_text partition_object h.1 else line_text r h.1) going in (
+      let shown : added ≡ line_text r line h.1 = h.5 ∙ ap (λ b. if b then end_text partition_object h.1 else line_text r line h.1) going in (
         h.0,
         record {
           run = h.1;
           stands = h.4;
           at = subst (λ t. IsAt h.1 (h.0 ++ skips) (done ++ text ∷ []) (written ++ t)) (sym shown)
-              (at_next r skips done written text follows.at line read h.0 h.2 h.1 h.3 (λ b id i c. call_is_new r (run_ok r skips done written follows.at) b i id line c) going);
+              (at_next r skips done written text follows.at line read h.0 h.2 h.1 h.3 follows.stands.run (λ b id i c. calls_are_new r follows.stands.run b i id line c) going);
         },
       )
 
@@ -62,10 +52,10 @@ module _ (old new : Grid) (skips : List CallId) (done : List (List ℕ)) (writte
   line_ends ending =
       let r : Run = follows.run in
       let h = has r follows.stands in
-      let shown : added ≡ end_text partition_object h.1 = h.5 ∙ ap (λ b. if b then end_text partition_object h.1 else line_text r h.1) ending in (
+      let shown : added ≡ end_text partition_object h.1 = h.5 ∙ ap (λ b. if b then end_text partition_object h.1 else line_text r line h.1) ending in (
         h.0,
         λ too_long texts.
-            at_end r skips done written text follows.at line read h.0 h.2 h.1 h.3 (λ b id i c. call_is_new r (run_ok r skips done written follows.at) b i id line c) ending too_long texts
+            at_end r skips done written text follows.at line read h.0 h.2 h.1 h.3 follows.stands.run (λ b id i c. calls_are_new r follows.stands.run b i id line c) ending too_long texts
             ∙ ap (λ t. whole (written ++ t) Ended) (sym shown),
       )
 

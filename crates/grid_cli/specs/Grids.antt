@@ -1,5 +1,5 @@
 -- The grid of the code stands for a run: its worlds for the events of their partitions, its table for the connections and the calls.
-use Rattle.std.specs.Prelude.{◌≡◌, ℕ, ◌<◌, ◌≤◌, if◌then◌else◌, List, [], ◌++◌, length, Option, Some, None, option_map, slice_get}
+use Rattle.std.specs.Prelude.{◌≡◌, ◌≢◌, ℕ, ◌+◌, ◌-◌, ◌^◌, ◌<◌, true, if◌then◌else◌, List, [], ◌++◌, length, Option, Some, None, option_map, slice_get}
 use Rattle.grid_base.specs.declared.names.CallId.{CallId}
 use Rattle.grid_base.specs.declared.calls.Request.{Request}
 use Rattle.partition_world.specs.declared.world.World.{World}
@@ -7,26 +7,29 @@ use Rattle.partition_world.specs.Worlds.{StandsFor, setup_of, waiting}
 use Rattle.grid_cli.specs.declared.connections.CallLines.{CallLines}
 use Rattle.grid_cli.specs.declared.grid.Grid.{Grid}
 use Rattle.grid_cli.specs.declared.script.Line.{Line}
-use Rattle.grid_cli.specs.declared.script.Line.TheVariants.{OpenConn}
+use Rattle.grid_cli.specs.declared.script.Line.TheVariants.{OpenConn, Arrive}
 use Rattle.grid_cli.specs.declared.shelf.MapList.{MapList}
 use Rattle.grid_cli.specs.MapLists.{partition_of}
 use Rattle.grid_cli.specs.PartitionObjects.{partition_object}
-use Rattle.grid_cli.specs.Runs.{Run, Connection, Arrival, Appended, begun, connection_of, events_at, after_line}
+use Rattle.grid_cli.specs.Runs.{Run, Connection, Arrival, Appended, connection_of, messages_on, bytes_of, events_at, after_line}
 use Rattle.grid_cli.specs.Printing.{partitions, arrival_of, answer_of, line_text, end_text}
 use Rattle.grid_cli.specs.Transcripts.{is_end}
+use Rattle.grid_cli.specs.ScriptRuns.{IsRun}
 use Rattle.grid_cli.specs.Skips.{AreOfLine}
+use Rattle.message_frames.specs.MessageReaders as MessageReaders
 use Rattle.grid_cli.specs.Tables.{Table, Opened, most_connections, opened_at, lines_of}
-
--- the runs of scripts: that after the first line, and that which a line makes of another
-pub data IsRun : Run → Type 0 where
-  first : (members backups : ℕ) → 1 ≤ members → IsRun (begun members backups)
-  later : (skips : List CallId) (line : Line) (r next : Run) → IsRun r → after_line partition_object skips r line ≡ Some next → IsRun next
 
 -- the table
 
--- as the run has it
-abbrev pub connection_as : ℕ → Opened → Connection
-connection_as c opened = record { conn = c; member = opened.member; greeted = opened.greeted; messages = length opened.calls }
+-- A slot has its connection's member, and a reader that stands for all the connection's bytes.
+pub record IsConnection (opened : Opened) (k : Connection) : Type 0 where
+  pub member : opened.member ≡ k.member
+  pub hears : MessageReaders.StandsFor opened.reader true k.bytes
+
+abbrev pub Matches : Option Opened → Option Connection → Type 0
+Matches None None = Unit {0}
+Matches (Some opened) (Some k) = IsConnection opened k
+Matches _ _ = ⊥
 
 -- the lines of a call, where it arrived
 abbrev pub lines_in : Run → CallId → Option CallLines
@@ -34,10 +37,17 @@ lines_in r id = option_map (λ (a : Arrival). record { arrived = a.line; answere
 
 pub record HasTable (table : Table) (r : Run) : Type 0 where
   pub size : length table ≡ most_connections
-  pub connections : (c : ℕ) → connection_of r c ≡ option_map (connection_as c) (opened_at table c)
+  pub connections : (c : ℕ) → Matches (opened_at table c) (connection_of r c)
   pub calls : (id : CallId) → lines_of table id ≡ lines_in r id
-  -- a line makes at most one call
-  pub counted : (c : ℕ) (opened : Opened) → opened_at table c ≡ Some opened → length opened.calls ≤ r.lines
+
+-- Every message of a connection is a call that arrived.
+abbrev pub IsSettled : Table → Run → Type 0
+IsSettled table r = (c : ℕ) (opened : Opened) (k : Connection) → opened_at table c ≡ Some opened → connection_of r c ≡ Some k → length opened.calls ≡ length (messages_on k)
+
+-- This connection has so many calls, and all others are settled.
+pub record IsCounting (table : Table) (r : Run) (conn number : ℕ) : Type 0 where
+  pub here : (opened : Opened) → opened_at table conn ≡ Some opened → length opened.calls ≡ number
+  pub others : (c : ℕ) (opened : Opened) (k : Connection) → c ≢ conn → opened_at table c ≡ Some opened → connection_of r c ≡ Some k → length opened.calls ≡ length (messages_on k)
 
 -- the worlds
 
@@ -61,18 +71,27 @@ pub record Holds (grid : Grid) (r : Run) : Type 0 where
   pub lines : grid.lines ≡ r.lines
   pub table : HasTable grid.connections r
   pub worlds : (p : ℕ) → p < partitions → HasWorld grid.worlds.items r p
-  -- a line makes at most one event
-  pub events : length r.events ≤ r.lines
 
+-- between two lines
 pub record Stands (grid : Grid) (r : Run) : Type 0 where
   pub run : IsRun r
   pub holds : Holds grid r
+  pub settled : IsSettled grid.connections r
 
 -- how many lines were run
 abbrev pub lines_run : Grid → ℕ
 lines_run grid = grid.lines
 
 -- lines
+
+-- the bytes that a line brings
+abbrev pub bytes_in : Line → List ℕ
+bytes_in (Arrive c bytes) = bytes
+bytes_in line = []
+
+-- Numbers of four bytes count the lines and the calls, of which there are no more than bytes, with so many bytes more.
+abbrev pub HasRoom : Run → ℕ → Type 0
+HasRoom r more = r.lines + bytes_of r + more + 1 < 2 ^ 32 - 1
 
 -- what reading a line gives
 abbrev pub IsRead : Line → Type 0
@@ -81,13 +100,13 @@ IsRead line = Unit {0}
 
 -- the text of a line, with the run before it and after it
 abbrev pub text_at : Run → Line → Run → List ℕ
-text_at before line after = if is_end line then end_text partition_object after else line_text before after
+text_at before line after = if is_end line then end_text partition_object after else line_text before line after
 
 -- The line ran: the grid stands for the run after it, and its text was added. Its call was skipped if it found no memory.
 abbrev pub HasRun : Grid → Run → Line → List ℕ → List ℕ → Type 0
 HasRun new r line written text = (skips : List CallId) × (next : Run) × AreOfLine r line skips
     × (after_line partition_object skips r line ≡ Some next) × Stands new next × (text ≡ written ++ text_at r line next)
 
--- The line runs in no part, and changed nothing.
-abbrev pub HasRefused : Grid → Run → Line → List ℕ → List ℕ → Type 0
-HasRefused new r line written text = ((skips : List CallId) → after_line partition_object skips r line ≡ None) × Stands new r × (text ≡ written)
+-- The line runs in no part, and the grid is given up.
+abbrev pub HasRefused : Run → Line → List ℕ → List ℕ → Type 0
+HasRefused r line written text = ((skips : List CallId) → after_line partition_object skips r line ≡ None) × (text ≡ written)

@@ -2,9 +2,11 @@ pub mod Words
 pub mod Lines
 pub mod Requests
 pub mod StageRequests
+pub mod RequestExamples
 pub mod Replies
 pub mod PartitionObjects
 pub mod Runs
+pub mod ScriptRuns
 pub mod Printing
 pub mod Transcripts
 pub mod Linearizability

@@ -1,5 +1,5 @@
 -- The text of a line's outcome and of what happened at it.
-use Rattle.std.specs.Prelude.{ℕ, ◌+◌, Bool, false, List, [], ◌∷◌, ◌++◌, length, drop, Option, Some, None, option_map, unwrap_or, codes, decimal}
+use Rattle.std.specs.Prelude.{ℕ, ◌+◌, Bool, false, List, [], ◌∷◌, ◌++◌, length, drop, Option, Some, None, option_map, unwrap_or, is_some, if◌then◌else◌, codes, decimal}
 use Rattle.std.specs.List.{find, flat_map}
 use Rattle.hex.specs.Hex.{encode_lower}
 use Rattle.grid_base.specs.Objects.{Object}
@@ -13,7 +13,12 @@ use Rattle.partition_protocol.specs.World.{trail}
 use Rattle.partition_protocol.specs.Service.{numbers_below}
 use Rattle.grid_cli.specs.PartitionObjects.{map_call_of, target_of}
 use Rattle.partition_world.specs.Answers.{id_of}
-use Rattle.grid_cli.specs.Runs.{Run, Arrival, Appended, world_at}
+use Rattle.grid_cli.specs.Runs.{Run, Connection, Arrival, Appended, world_at, connection_of, fault_on}
+use Rattle.grid_cli.specs.declared.script.Line.{Line}
+use Rattle.grid_cli.specs.declared.script.Line.TheVariants.{Arrive}
+use Rattle.frame_codec.specs.declared.malformed.Malformed.{Malformed}
+use Rattle.frame_codec.specs.declared.malformed.Why.{Why}
+use Rattle.frame_codec.specs.declared.malformed.Why.TheVariants.{Prefix, TooShort, TooLong, BadFragment, OpenFragments, ManyFrames, LongMessage, ShortStart, Spent}
 
 -- an entry of a trail: its place there, its call, the lines at which the call arrived and was answered, and the reply
 pub record Printed : Type 0 where
@@ -108,9 +113,50 @@ entry_text line e =
 abbrev pub new_messages : Run → Run → List Appended
 new_messages before after = drop (length before.appended) after.appended
 
--- The text of a line: its outcome, then each message that it appended.
-abbrev pub line_text : Run → Run → List ℕ
-line_text before after = ok_text after.lines ++ flat_map appended_text (new_messages before after)
+-- the word of a fault
+abbrev pub fault_word : Why → List ℕ
+fault_word Prefix = codes "prefix"
+fault_word TooShort = codes "tooshort"
+fault_word TooLong = codes "toolong"
+fault_word BadFragment = codes "badfragment"
+fault_word OpenFragments = codes "openfragments"
+fault_word ManyFrames = codes "manyframes"
+fault_word LongMessage = codes "longmessage"
+fault_word ShortStart = codes "shortstart"
+fault_word Spent = codes "spent"
+
+-- `I close C AT WHY`
+abbrev pub close_text : ℕ → ℕ → Option Malformed → List ℕ
+close_text line c None = []
+close_text line c (Some fault) = number line ++ codes "close " ++ number c ++ number fault.at ++ fault_word fault.why ++ line_end
+
+abbrev pub nothing_text : ℕ → List ℕ
+nothing_text line = number line ++ codes "nothing" ++ line_end
+
+-- whether a line is of bytes on a closed connection
+abbrev pub is_closed : Option Connection → Bool
+is_closed None = false
+is_closed (Some connection) = is_some (fault_on connection)
+
+abbrev pub does_nothing : Run → Line → Bool
+does_nothing before (Arrive c bytes) = is_closed (connection_of before c)
+does_nothing before line = false
+
+-- the fault of a connection, which closes it
+abbrev pub closing_text : ℕ → ℕ → Option Connection → List ℕ
+closing_text line c None = []
+closing_text line c (Some connection) = close_text line c (fault_on connection)
+
+-- Bytes that show their connection's fault close it.
+abbrev pub line_close : Run → Line → List ℕ
+line_close after (Arrive c bytes) = closing_text after.lines c (connection_of after c)
+line_close after line = []
+
+-- The text of a line: its outcome, then each message that it appended, and the connection that it closed.
+abbrev pub line_text : Run → Line → Run → List ℕ
+line_text before line after =
+    if does_nothing before line then nothing_text after.lines
+    else ok_text after.lines ++ flat_map appended_text (new_messages before after) ++ line_close after line
 
 -- The line `end` prints the entries of all trails.
 abbrev pub end_text : {State : Type 0} → Object Request State → Run → List ℕ

@@ -1,8 +1,8 @@
 -- How far a script was run: the lines so far, what was written of its transcript, and the run from which it goes on.
-use Rattle.std.specs.Prelude.{◌≡◌, ℕ, Bool, List, [], ◌∷◌, ◌++◌, length, Contains}
+use Rattle.std.specs.Prelude.{◌≡◌, ℕ, ◌≤◌, Bool, List, [], ◌∷◌, ◌++◌, length, sum_by, Contains}
 use Rattle.grid_base.specs.declared.names.CallId.{CallId}
 use Rattle.grid_cli.specs.PartitionObjects.{partition_object}
-use Rattle.grid_cli.specs.Runs.{Run, Arrival, begun}
+use Rattle.grid_cli.specs.Runs.{Run, Arrival, begun, bytes_of}
 use Rattle.grid_cli.specs.Transcripts.{first_line, later_lines, following}
 use Rattle.grid_cli.specs.Linearizability.{run_after}
 use Rattle.grid_cli.specs.Skips.{AgreeOn}
@@ -20,3 +20,5 @@ pub record IsAt (r : Run) (skips : List CallId) (done : List (List ℕ)) (writte
   -- the skips are calls that arrived
   pub skipped : (id : CallId) → Contains skips id → (a : Arrival) × Contains r.arrivals a × (a.id ≡ id)
   pub count : r.lines ≡ length done
+  -- the lines brought no more bytes than they have
+  pub size : bytes_of r ≤ sum_by length done

@@ -1,8 +1,11 @@
 -- The run of a script: what its lines so far have made. The worlds of the partitions are not kept: each is the protocol's run of its events.
-use Rattle.std.specs.Prelude.{ℕ, ◌+◌, ◌==◌, Bool, true, false, if◌then◌else◌, List, [], ◌∷◌, ◌++◌, length, map, filter, drop, Option, Some, None, option_map, option_and_then, is_some}
+use Rattle.std.specs.Prelude.{ℕ, ◌+◌, ◌==◌, Bool, true, if◌then◌else◌, List, [], ◌∷◌, ◌++◌, length, map, filter, drop, sum_by, Option, Some, None, option_map, option_and_then, is_some}
 use Rattle.std.specs.List.{list_any, find, filter_map}
 use Rattle.grid_base.specs.Objects.{Object}
 use Rattle.grid_base.specs.Names.{is_same_call}
+use Rattle.frame_codec.specs.declared.malformed.Malformed.{Malformed}
+use Rattle.message_frames.specs.Messages.{messages_of, fault_of}
+use Rattle.message_frames.specs.declared.message.Message.{Message}
 use Rattle.grid_base.specs.declared.names.CallId.{CallId}
 use Rattle.grid_base.specs.declared.calls.Request.{Request}
 use Rattle.partition_protocol.specs.Node.{Held}
@@ -11,18 +14,16 @@ use Rattle.partition_protocol.specs.Execution.{Reached, Executes, PartitionLost,
 use Rattle.partition_protocol.specs.World.{World, start}
 use Rattle.partition_protocol.specs.Events.{Event, Call, Outcome, Refused, happens, run}
 use Rattle.partition_world.specs.Answers.{id_of, newest_call}
-use Rattle.grid_cli.specs.Words.{are_same}
 use Rattle.grid_cli.specs.Requests.{request_of}
 use Rattle.grid_cli.specs.Replies.{error_bytes, partition_lost, wrong_target, migrating, want_of_memory}
 use Rattle.grid_cli.specs.declared.script.Line.{Line}
 use Rattle.grid_cli.specs.declared.script.Line.TheVariants.{Grid, OpenConn, Arrive, End}
 
--- a connection: its number, the member that it is to, whether it began with its prefix, and how many messages are complete
+-- a connection: its number, the member that it is to, and all the bytes that arrived on it, however they were cut
 pub record Connection : Type 0 where
   pub conn : ℕ
   pub member : ℕ
-  pub greeted : Bool
-  pub messages : ℕ
+  pub bytes : List ℕ
 
 -- an event of one partition
 pub record At : Type 0 where
@@ -74,6 +75,17 @@ is_connection c connection = connection.conn == c
 abbrev pub connection_of : Run → ℕ → Option Connection
 connection_of r c = find (is_connection c) r.connections
 
+-- the messages that are complete on a connection, and its fault, which closed it
+abbrev pub messages_on : Connection → List Message
+messages_on connection = messages_of true connection.bytes
+
+abbrev pub fault_on : Connection → Option Malformed
+fault_on connection = fault_of true connection.bytes
+
+-- how many bytes arrived on all connections
+abbrev pub bytes_of : Run → ℕ
+bytes_of r = sum_by (λ (connection : Connection). length connection.bytes) r.connections
+
 abbrev pub updated : Connection → List Connection → List Connection
 updated new connections = map (λ (old : Connection). if old.conn == new.conn then new else old) connections
 
@@ -106,8 +118,8 @@ refused_by line request _ = []
 
 -- A message is complete and is a call: it arrives at the connection's member, at that member's moment, which is 0 at first.
 
-abbrev pub arrival_at : Run → Connection → Request → Arrival
-arrival_at r connection request = record { id = request.id; line = r.lines + 1; member = connection.member; now = 0; request = request }
+abbrev pub arrival_at : Run → ℕ → Request → Arrival
+arrival_at r member request = record { id = request.id; line = r.lines; member = member; now = 0; request = request }
 
 abbrev pub call_of : Arrival → Event Request
 call_of a = Call a.member a.id.conn a.id.number a.request a.now
@@ -119,12 +131,8 @@ happening o r a =
     let next = happens o before (call_of a) in
     refused_by a.line a.request next.outcome ++ map (answer_to a.line) (released_by before next.world)
 
-abbrev pub arrived : Run → Connection → Arrival → List At → List Appended → Run
-arrived r connection a events appended = record {
-  members = r.members;
-  backups = r.backups;
-  lines = a.line;
-  connections = updated (record connection { messages = connection.messages + 1 }) r.connections;
+abbrev pub arrived : Run → Arrival → List At → List Appended → Run
+arrived r a events appended = record r {
   events = r.events ++ events;
   arrivals = r.arrivals ++ a ∷ [];
   appended = r.appended ++ appended;
@@ -134,10 +142,15 @@ arrived r connection a events appended = record {
 abbrev pub is_skipped : List CallId → CallId → Bool
 is_skipped skips id = list_any (is_same_call id) skips
 
-abbrev pub asked : {State : Type 0} → Object Request State → List CallId → Run → Connection → Arrival → Run
-asked o skips r connection a =
-    if is_skipped skips a.id then arrived r connection a [] (refusal a.line a.request want_of_memory 0 ∷ [])
-    else arrived r connection a (record { partition = a.request.partition; event = call_of a } ∷ []) (happening o r a)
+abbrev pub asked : {State : Type 0} → Object Request State → List CallId → Run → Arrival → Run
+asked o skips r a =
+    if is_skipped skips a.id then arrived r a [] (refusal a.line a.request want_of_memory 0 ∷ [])
+    else arrived r a (record { partition = a.request.partition; event = call_of a } ∷ []) (happening o r a)
+
+-- several calls in a row, at one member
+abbrev pub asked_all : {State : Type 0} → Object Request State → List CallId → Run → ℕ → List Request → Run
+asked_all o skips r member [] = r
+asked_all o skips r member (request ∷ requests) = asked_all o skips (asked o skips r (arrival_at r member request)) member requests
 
 -- Lines after the first. Each has a condition: where it is false the line is refused, at this stage.
 
@@ -145,27 +158,34 @@ abbrev pub next_line : Run → Run
 next_line r = record r { lines = r.lines + 1 }
 
 abbrev pub opened : Run → ℕ → ℕ → Run
-opened r c member = record r { lines = r.lines + 1; connections = r.connections ++ record { conn = c; member = member; greeted = false; messages = 0 } ∷ [] }
+opened r c member = record r { lines = r.lines + 1; connections = r.connections ++ record { conn = c; member = member; bytes = [] } ∷ [] }
 
--- the first bytes of a connection
-abbrev pub prefix : List ℕ
-prefix = 67 ∷ 80 ∷ 50 ∷ []
+-- The messages of a connection are numbered from 0. At this stage each is a request.
+abbrev pub requests_of : ℕ → ℕ → List Message → Option (List Request)
+requests_of conn number [] = Some []
+requests_of conn number (message ∷ messages) =
+    option_and_then (λ request. option_map (λ requests. request ∷ requests) (requests_of conn (number + 1) messages))
+    (request_of (record { conn = conn; number = number }) message)
 
-abbrev pub greeting : Run → Connection → List ℕ → Option Run
-greeting r connection bytes =
-    if are_same bytes prefix then Some (record r { lines = r.lines + 1; connections = updated (record connection { greeted = true }) r.connections })
-    else None
+abbrev pub with_bytes : Connection → List ℕ → Connection
+with_bytes connection bytes = record connection { bytes = connection.bytes ++ bytes }
 
-abbrev pub next_id : Connection → CallId
-next_id connection = record { conn = connection.conn; number = connection.messages }
+-- the messages that bytes complete
+abbrev pub completed_by : Connection → List ℕ → List Message
+completed_by connection bytes = drop (length (messages_on connection)) (messages_on (with_bytes connection bytes))
 
-abbrev pub requested : {State : Type 0} → Object Request State → List CallId → Run → Connection → List ℕ → Option Run
-requested o skips r connection bytes =
-    option_map (λ request. asked o skips r connection (arrival_at r connection request)) (request_of (next_id connection) bytes)
+-- the requests that bytes bring
+abbrev pub requests_by : Connection → List ℕ → Option (List Request)
+requests_by connection bytes = requests_of connection.conn (length (messages_on connection)) (completed_by connection bytes)
 
--- The first bytes on a connection are its prefix alone, and later ones are one whole request.
+abbrev pub took_bytes : Run → Connection → List ℕ → Run
+took_bytes r connection bytes = record r { lines = r.lines + 1; connections = updated (with_bytes connection bytes) r.connections }
+
+-- Bytes on a closed connection do nothing. Others may complete messages, which arrive in order.
 abbrev pub bytes_arrived : {State : Type 0} → Object Request State → List CallId → Run → List ℕ → Connection → Option Run
-bytes_arrived o skips r bytes connection = if connection.greeted then requested o skips r connection bytes else greeting r connection bytes
+bytes_arrived o skips r bytes connection =
+    if is_some (fault_on connection) then Some (next_line r)
+    else option_map (asked_all o skips (took_bytes r connection bytes) connection.member) (requests_by connection bytes)
 
 -- the run after a line, where it may run; the line `end` leaves it to be printed
 abbrev pub after_line : {State : Type 0} → Object Request State → List CallId → Run → Line → Option Run

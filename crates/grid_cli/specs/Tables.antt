@@ -1,13 +1,16 @@
--- The table of connections: what each had, and at which lines each of its calls arrived and was answered.
-use Rattle.std.specs.Prelude.{ℕ, zero, suc, Bool, true, false, List, [], ◌∷◌, ◌++◌, Option, Some, None, map, option_map, option_and_then, slice_get, slice_set, replicate}
+-- The table of connections: what each has heard, and at which lines each of its calls arrived and was answered.
+use Rattle.std.specs.Prelude.{◌≡◌, ℕ, zero, suc, true, List, [], ◌∷◌, ◌++◌, Option, Some, None, map, option_map, option_and_then, slice_get, slice_set, replicate}
+use Rattle.message_frames.specs.MessageReaders.{Hearing, standing}
+use Rattle.message_frames.specs.Messages.{messages_of, fault_of}
+use Rattle.message_frames.specs.declared.reader.FedMessages.{FedMessages}
 use Rattle.grid_base.specs.declared.names.CallId.{CallId}
 use Rattle.grid_cli.specs.declared.connections.CallLines.{CallLines}
 use Rattle.grid_cli.specs.declared.connections.Connection.{Connection}
 
--- a connection that was opened: its member, whether its prefix came, and the lines of its calls by their numbers
+-- a connection that was opened: its member, what its reader stands at, and the lines of its calls by their numbers
 pub record Opened : Type 0 where
   pub member : ℕ
-  pub greeted : Bool
+  pub reader : Hearing
   pub calls : List CallLines
 
 -- a slot for each number; none where the connection wasn't opened
@@ -26,7 +29,7 @@ no_connections = unopened most_connections
 -- as the code has it
 
 abbrev pub opened_as : Connection → Opened
-opened_as connection = record { member = connection.member; greeted = connection.greeted; calls = connection.calls.items }
+opened_as connection = record { member = connection.member; reader = connection.reader; calls = connection.calls.items }
 
 abbrev pub slots_as : List (Option Connection) → Table
 slots_as slots = map (option_map opened_as) slots
@@ -47,7 +50,7 @@ lines_of table id = option_and_then (λ (opened : Opened). slice_get opened.call
 
 -- a connection on which nothing has arrived
 abbrev pub silent : ℕ → Opened
-silent member = record { member = member; greeted = false; calls = [] }
+silent member = record { member = member; reader = standing true []; calls = [] }
 
 abbrev pub with_opened : Table → ℕ → ℕ → Table
 with_opened table c member = slice_set table c (Some (silent member))
@@ -62,11 +65,21 @@ changed_at (x ∷ xs) (suc place) change = x ∷ changed_at xs place change
 abbrev pub with_change : Table → ℕ → (Opened → Opened) → Table
 with_change table c change = changed_at table c (option_map change)
 
-abbrev pub greeted : Opened → Opened
-greeted opened = record opened { greeted = true }
+-- the reader was handed bytes and stands so
+abbrev pub heard : Hearing → Opened → Opened
+heard reader opened = record opened { reader = reader }
 
-abbrev pub with_greeting : Table → ℕ → Table
-with_greeting table c = with_change table c greeted
+abbrev pub with_reader : Table → ℕ → Hearing → Table
+with_reader table c reader = with_change table c (heard reader)
+
+-- What was given of bytes that came after others, of which nothing was given twice.
+pub record FeedGives (fed : FedMessages) (text bytes : List ℕ) : Type 0 where
+  pub messages : messages_of true text ++ fed.messages.items ≡ messages_of true (text ++ bytes)
+  pub fault : fed.fault ≡ fault_of true (text ++ bytes)
+
+abbrev pub Gives : Option FedMessages → List ℕ → List ℕ → Type 0
+Gives None text bytes = ⊥
+Gives (Some fed) text bytes = FeedGives fed text bytes
 
 -- one call more, which arrived at a line
 abbrev pub called : ℕ → Opened → Opened

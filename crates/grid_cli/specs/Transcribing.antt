@@ -1,5 +1,5 @@
 -- What the code that runs a script's lines has done: it follows the transcript, and stops where the transcript does.
-use Rattle.std.specs.Prelude.{◌≡◌, ℕ, Bool, List, [], ◌∷◌, ◌++◌, Option, Some, None}
+use Rattle.std.specs.Prelude.{◌≡◌, ℕ, ◌+◌, ◌-◌, ◌^◌, ◌<◌, length, sum_by, Bool, List, [], ◌∷◌, ◌++◌, Option, Some, None}
 use Rattle.grid_base.specs.declared.names.CallId.{CallId}
 use Rattle.partition_protocol.specs.Sequences.{IsFrontOf}
 use Rattle.grid_cli.specs.declared.grid.Grid.{Grid}
@@ -38,6 +38,10 @@ pub record HasRunNone (skips : List CallId) (done : List (List ℕ)) (written : 
 abbrev pub Follows : Option Grid → List CallId → List (List ℕ) → List ℕ → Type 0
 Follows None skips done written = HasRunNone skips done written
 Follows (Some grid) skips done written = HasRun grid skips done written
+
+-- Numbers of four bytes count these lines and their bytes, and one line more with its bytes.
+abbrev pub HasRoomFor : List (List ℕ) → List ℕ → Type 0
+HasRoomFor done text = length done + sum_by length done + length text + 1 < 2 ^ 32 - 1
 
 -- the transcripts of these lines and any that follow
 abbrev pub Continues : List CallId → List (List ℕ) → List ℕ → (Transcript → Type 0) → Type 0

@@ -71,7 +71,7 @@ later_lines o skips too_long r (text ∷ texts) =
       | None ↦ refused (r.lines + 1) NotBuilt
       | Some x ↦
           if is_end x.0 then (record { text = end_text o x.1; ending = Ended })
-          else following (line_text r x.1) (later_lines o skips too_long x.1 texts)
+          else following (line_text r x.0 x.1) (later_lines o skips too_long x.1 texts)
     ]
 
 -- The first line is the grid's.

@@ -65,6 +65,6 @@ number_of word = if is_decimal word then Some (decimal_value word) else None
 abbrev pub number_below : ℕ → List ℕ → Option ℕ
 number_below limit word = option_and_then (λ n. if nat_lt n limit then Some n else None) (number_of word)
 
--- the bytes that a hexadecimal word spells, in either case
+-- the bytes that a hexadecimal word spells, in either case; an empty word is none
 abbrev pub bytes_of : List ℕ → Option (List ℕ)
-bytes_of word = result_ok (decode_of word)
+bytes_of word = if length word == 0 then None else result_ok (decode_of word)

@@ -1,5 +1,5 @@
 -- What a call does to its partition's world, and the messages that it makes.
-use Rattle.std.specs.Prelude.{◌≡◌, ◌≢◌, ℕ, List, [], ◌∷◌, ◌++◌, Option, Some, None, Contains}
+use Rattle.std.specs.Prelude.{◌≡◌, ◌≢◌, ℕ, ◌+◌, List, length, [], ◌∷◌, ◌++◌, Option, Some, None, Contains}
 use Rattle.std.specs.List.{flat_map}
 use Rattle.grid_base.specs.declared.names.CallId.{CallId}
 use Rattle.grid_base.specs.declared.calls.Change.{Change}
@@ -13,10 +13,12 @@ use Rattle.grid_cli.specs.declared.grid.Grid.{Grid}
 use Rattle.grid_cli.specs.MapLists.{partition_of}
 use Rattle.grid_cli.specs.PartitionObjects.{Partition, partition_object}
 use Rattle.grid_cli.specs.Replies.{want_of_memory}
-use Rattle.grid_cli.specs.Runs.{Run, Connection, Arrival, Appended, refusal, refused_by, call_of, arrival_at, asked}
-use Rattle.grid_cli.specs.Printing.{appended_text, line_text}
+use Rattle.grid_cli.specs.Runs.{Run, Connection, Arrival, Appended, connection_of, messages_on, refusal, refused_by, call_of, arrival_at, requests_by, asked}
+use Rattle.grid_cli.specs.Printing.{appended_text, new_messages}
+use Rattle.grid_cli.specs.Effects.{RequestFits}
+use Rattle.grid_cli.specs.ScriptRuns.{IsRun, IsMidway}
 use Rattle.grid_cli.specs.Tables.{Table, with_answer}
-use Rattle.grid_cli.specs.Grids.{MapWorld, Holds}
+use Rattle.grid_cli.specs.Grids.{MapWorld, IsCounting, Holds}
 
 -- A shelf of map entries tells of no changes at this stage.
 abbrev pub no_change : Partition → Request → ℕ → Option Change
@@ -63,9 +65,26 @@ pub record GivesOut (old new : MapWorld) (member : ℕ) : Type 0 where
   pub given : waiting new member ≡ []
   pub others : (other : ℕ) → other ≢ member → waiting new other ≡ waiting old other
 
--- The call of a request was run, or skipped for want of memory, and its text was added.
-pub record HasAsked (new : Grid) (r : Run) (connection : Connection) (request : Request) (written text : List ℕ) : Type 0 where
+-- The call of a request was run, or skipped for want of memory, and the messages that it appended were printed.
+pub record HasAsked (new : Grid) (r : Run) (member : ℕ) (request : Request) (written text : List ℕ) : Type 0 where
   pub skips : List CallId
   pub its_own : (id : CallId) → Contains skips id → request.id ≡ id
-  pub holds : Holds new (asked partition_object skips r connection (arrival_at r connection request))
-  pub added : text ≡ written ++ line_text r (asked partition_object skips r connection (arrival_at r connection request))
+  pub holds : Holds new (asked partition_object skips r (arrival_at r member request))
+  pub counting : IsCounting new.connections (asked partition_object skips r (arrival_at r member request)) request.id.conn (request.id.number + 1)
+  pub added : text ≡ written ++ texts_of (new_messages r (asked partition_object skips r (arrival_at r member request)))
+
+-- Bytes bring these requests on a connection of a run, and each can be answered.
+pub record Brings (r : Run) (k : Connection) (bytes : List ℕ) (requests : List Request) : Type 0 where
+  pub run : IsRun r
+  pub there : connection_of r k.conn ≡ Some k
+  pub come : requests_by k bytes ≡ Some requests
+  pub fit : (q : Request) → Contains requests q → RequestFits q
+
+-- In the midst of a line of bytes: these of its requests were asked, and the messages that they appended were printed.
+pub record HasAskedSome (grid : Grid) (r : Run) (k : Connection) (bytes : List ℕ) (done : List Request) (written text : List ℕ) : Type 0 where
+  pub skips : List CallId
+  pub now : Run
+  pub midway : IsMidway r k bytes done skips now
+  pub holds : Holds grid now
+  pub counting : IsCounting grid.connections now k.conn (length (messages_on k) + length done)
+  pub added : text ≡ written ++ texts_of (new_messages r now)

@@ -1,7 +1,9 @@
-ghost use Rattle.std.specs.Prelude.{◌≡◌, ◌<◌, None, IfOk, OnOk, OnErr, option_map, option_copied};
-ghost use Rattle.grid_cli.specs.Tables.{most_connections, no_connections, opened_as, opened_at, lines_of, changed_at, lines_answered, greeted, called, answered, with_opened, with_greeting, with_arrival, with_answer};
+ghost use Rattle.message_frames.specs.MessageReaders.{StandsFor, standing};
+ghost use Rattle.std.specs.Prelude.{◌≡◌, ◌<◌, ◌++◌, ℕ, List, true, None, Some, IfOk, OnOk, OnErr, option_map, option_copied};
+ghost use Rattle.grid_cli.specs.Tables.{Opened, Gives, most_connections, no_connections, opened_as, opened_at, lines_of, changed_at, lines_answered, heard, called, answered, with_opened, with_reader, with_arrival, with_answer};
 
 use grid_base::{CallId, MemberId, Memory};
+use message_frames::{FedMessages, MessageReader};
 use std::alloc::Global;
 use std::marker::Model;
 
@@ -19,18 +21,27 @@ pub(crate) struct CallLines {
 #[derive(Debug, Drop)]
 pub(crate) struct Connection {
     pub(crate) member: MemberId,
-    /// Its prefix came.
-    pub(crate) greeted: bool,
+    /// Reads the bytes that arrive.
+    pub(crate) reader: MessageReader,
     /// Its calls, by their numbers.
     pub(crate) calls: Vec<CallLines>,
 }
 
-/// The prefix came, if the slot is a connection's.
-fn greet_at(slot: &mut Option<Connection>)
-    ensures { option_map opened_as slot.new ≡ option_map greeted (option_map opened_as slot.old) }
+/// Hands bytes to the reader of the connection, if the slot is one's. Want of memory changes nothing.
+fn feed_at(
+    alloc: Global,
+    slot: &mut Option<Connection>,
+    bytes: &[u8],
+) -> Result<Option<FedMessages>, Memory>
+    ensures gives { (opened : Opened) (text : List ℕ) → option_map opened_as slot.old ≡ Some opened → StandsFor opened.reader true text
+        → IfOk result (λ fed. Gives fed text bytes.now) }
+    ensures stands { (opened : Opened) (text : List ℕ) → option_map opened_as slot.old ≡ Some opened → StandsFor opened.reader true text
+        → OnOk result (option_map opened_as slot.new ≡ Some (heard (standing true (text ++ bytes.now)) opened)) }
+    ensures err { OnErr result (option_map opened_as slot.new ≡ option_map opened_as slot.old) }
 {
-    if let Some(connection) = slot {
-        connection.greeted = true;
+    match slot {
+        Some(connection) => Ok(Some(connection.reader.feed(alloc, bytes)?)),
+        None => Ok(None),
     }
 }
 
@@ -120,19 +131,28 @@ impl Connections {
     {
         self.slots[conn as usize] = Some(Connection {
             member,
-            greeted: false,
+            reader: MessageReader::new(alloc, true),
             calls: Vec::new(alloc),
         });
     }
 
-    /// The prefix of a connection came, if it was opened.
-    pub(crate) fn greet(&mut self, conn: u32)
-        ensures { self.new ≡ with_greeting self.old conn }
+    /// Hands bytes to the reader of a connection, if that was opened. Want of memory changes nothing.
+    pub(crate) fn feed(
+        &mut self,
+        alloc: Global,
+        conn: u32,
+        bytes: &[u8],
+    ) -> Result<Option<FedMessages>, Memory>
+        ensures gives { (opened : Opened) (text : List ℕ) → opened_at self.old conn ≡ Some opened → StandsFor opened.reader true text
+            → IfOk result (λ fed. Gives fed text bytes.now) }
+        ensures stands { (opened : Opened) (text : List ℕ) → opened_at self.old conn ≡ Some opened → StandsFor opened.reader true text
+            → OnOk result (self.new ≡ with_reader self.old conn (standing true (text ++ bytes.now))) }
+        ensures err { OnErr result (self.new ≡ self.old) }
     {
         let Some(slot) = self.slots.get_mut(conn as usize) else {
-            return;
+            return Ok(None);
         };
-        greet_at(slot);
+        feed_at(alloc, slot, bytes)
     }
 
     /// Counts a call that arrived at a line on a connection, if that was opened.

@@ -8,24 +8,22 @@ ghost use Rattle.partition_world.specs.Worlds.{StandsFor, run_of, steps_of, wait
 ghost use Rattle.grid_cli.specs.Effects.{RequestFits};
 ghost use Rattle.grid_cli.specs.MapLists.{partition_of};
 ghost use Rattle.grid_cli.specs.PartitionObjects.{partition_object};
-ghost use Rattle.grid_cli.specs.Runs.{Run, Connection as RunConnection, begun, connection_of, next_id, refused_by};
-ghost use Rattle.grid_cli.specs.Printing.{partitions, appended_text, entry_text, entries_of, all_entries, ok_text};
+ghost use Rattle.grid_cli.specs.Runs.{Run, Connection as RunConnection, begun, refused_by};
+ghost use Rattle.grid_cli.specs.Printing.{partitions, appended_text, entry_text, entries_of, all_entries, ok_text, nothing_text};
 ghost use Rattle.grid_cli.specs.Tables.{with_answer};
-ghost use Rattle.grid_cli.specs.Grids.{Stands, Holds, HasWorld, HasRun, HasRefused, lines_run, IsRead};
-ghost use Rattle.grid_cli.specs.WorldCalls.{arrival_to, refusals, texts_of, message_of, with_answers, IsCalled, IsSkipped, GivesOut, HasAsked};
+ghost use Rattle.grid_cli.specs.ScriptRuns.{IsRun, IsNext};
+ghost use Rattle.grid_cli.specs.Grids.{Stands, Holds, IsCounting, HasRoom, HasRun, HasRefused, bytes_in, lines_run, IsRead};
+ghost use Rattle.grid_cli.specs.WorldCalls.{arrival_to, refusals, texts_of, message_of, with_answers, IsCalled, IsSkipped, GivesOut, HasAsked, Brings, HasAskedSome};
 
 use crate::connections::Connections;
-use crate::print::{EntryPlace, push_appended, push_entry, push_ok};
+use crate::print::{EntryPlace, push_appended, push_close, push_entry, push_nothing, push_ok};
 use crate::replies::{MIGRATING, PARTITION_LOST, WANT_OF_MEMORY, WRONG_TARGET, write_error};
-use crate::requests::read_request;
+use crate::requests::read_requests;
 use crate::script::Line;
 use crate::shelf::MapList;
 use grid_base::{CallId, MemberId, Memory, PARTITIONS, PartitionId, Request};
 use partition_world::{CallOutcome, Event, Happened, Released, World};
 use std::alloc::{AllocError, Global};
-
-/// The three bytes that a connection begins with.
-const PREFIX: &[u8] = b"CP2";
 
 /// Why a run ends at a line.
 #[derive(Clone, Copy, Debug, PartialEq, Eq)]
@@ -220,11 +218,10 @@ impl Grid {
         line: Line,
         out: &mut Vec<u8>,
     ) -> Result<(), RunEnd>
-        requires room { lines_run self.old + 1 < 2 ^ 32 - 1 }
         requires read { IsRead line }
-        requires stands { (r : Run) × Stands self.old r }
+        requires stands { (r : Run) × Stands self.old r × HasRoom r (length (bytes_in line)) }
         ensures ran { (r : Run) → Stands self.old r → OnOk result (HasRun self.new r line out.old.items out.new.items) }
-        ensures refused { (r : Run) → Stands self.old r → IsErrOf result RunEnd.NotBuilt → HasRefused self.new r line out.old.items out.new.items }
+        ensures refused { (r : Run) → Stands self.old r → IsErrOf result RunEnd.NotBuilt → HasRefused r line out.old.items out.new.items }
     {
         match line {
             Line::Grid { .. } => Err(RunEnd::NotBuilt),
@@ -245,7 +242,7 @@ impl Grid {
         requires room { lines_run self.old + 1 < 2 ^ 32 - 1 }
         requires read { IsRead (Line.OpenConn conn member) }
         ensures ran { (r : Run) → Stands self.old r → OnOk result (HasRun self.new r (Line.OpenConn conn member) out.old.items out.new.items) }
-        ensures refused { (r : Run) → Stands self.old r → IsErrOf result RunEnd.NotBuilt → HasRefused self.new r (Line.OpenConn conn member) out.old.items out.new.items }
+        ensures refused { (r : Run) → Stands self.old r → IsErrOf result RunEnd.NotBuilt → HasRefused r (Line.OpenConn conn member) out.old.items out.new.items }
     {
         if self.connections.get(conn).is_some() {
             return Err(RunEnd::NotBuilt);
@@ -264,8 +261,8 @@ impl Grid {
         push_ok(out, self.lines)
     }
 
-    /// `bytes C HEX`: the first bytes on a connection are its prefix alone, and later ones are one
-    /// whole request.
+    /// `bytes C HEX`: the messages that the bytes complete arrive in order, and a fault closes the
+    /// connection. On a closed connection nothing happens.
     fn arrive(
         &mut self,
         alloc: Global,
@@ -273,41 +270,57 @@ impl Grid {
         bytes: &[u8],
         out: &mut Vec<u8>,
     ) -> Result<(), RunEnd>
-        requires room { lines_run self.old + 1 < 2 ^ 32 - 1 }
-        requires stands { (r : Run) × Stands self.old r }
+        requires { (r : Run) × Stands self.old r × HasRoom r (length bytes.now) }
         ensures ran { (r : Run) → Stands self.old r → OnOk result (HasRun self.new r (Line.Arrive conn bytes.now) out.old.items out.new.items) }
-        ensures refused { (r : Run) → Stands self.old r → IsErrOf result RunEnd.NotBuilt → HasRefused self.new r (Line.Arrive conn bytes.now) out.old.items out.new.items }
+        ensures refused { (r : Run) → Stands self.old r → IsErrOf result RunEnd.NotBuilt → HasRefused r (Line.Arrive conn bytes.now) out.old.items out.new.items }
     {
         let Some(connection) = self.connections.get(conn) else {
             return Err(RunEnd::NotBuilt);
         };
-        if !connection.greeted {
-            return self.greet(conn, bytes, out);
+        if connection.reader.fault().is_some() {
+            return Ok(self.pass_line(out)?);
         }
         let member = connection.member;
-        let id = CallId {
-            conn,
-            number: connection.calls.len() as u32,
-        };
-        let Some(request) = read_request(alloc, id, bytes)? else {
+        let number = connection.calls.len() as u32;
+        let Some(fed) = self.connections.feed(alloc, conn, bytes)? else {
             return Err(RunEnd::NotBuilt);
         };
-        Ok(self.ask(alloc, member, request, out)?)
+        let next = CallId { conn, number };
+        let Some(requests) = read_requests(alloc, next, fed.messages.as_slice())? else {
+            return Err(RunEnd::NotBuilt);
+        };
+        self.next_line(out)?;
+        self.ask_all(alloc, member, requests, out)?;
+        Ok(push_close(out, self.lines, conn, fed.fault)?)
     }
 
-    /// The first bytes on a connection.
-    fn greet(&mut self, conn: u32, bytes: &[u8], out: &mut Vec<u8>) -> Result<(), RunEnd>
+    /// Counts a line that did nothing.
+    fn pass_line(&mut self, out: &mut Vec<u8>) -> Result<(), Memory>
         requires { lines_run self.old + 1 < 2 ^ 32 - 1 }
-        ensures ran { (r : Run) (connection : RunConnection) → Stands self.old r → connection_of r conn ≡ Some connection → connection.greeted ≡ false
-            → OnOk result (HasRun self.new r (Line.Arrive conn bytes.now) out.old.items out.new.items) }
-        ensures refused { (r : Run) (connection : RunConnection) → Stands self.old r → connection_of r conn ≡ Some connection → connection.greeted ≡ false
-            → IsErrOf result RunEnd.NotBuilt → HasRefused self.new r (Line.Arrive conn bytes.now) out.old.items out.new.items }
+        ensures grid { self.new ≡ record self.old { lines = self.old.lines + 1 } }
+        ensures text { OnOk result (out.new.items ≡ out.old.items ++ nothing_text (self.old.lines + 1)) }
     {
-        if bytes != PREFIX {
-            return Err(RunEnd::NotBuilt);
+        self.lines += 1;
+        push_nothing(out, self.lines)
+    }
+
+    /// Calls arrive at their connection's member, one after the other.
+    fn ask_all(
+        &mut self,
+        alloc: Global,
+        member: MemberId,
+        requests: Vec<Request>,
+        out: &mut Vec<u8>,
+    ) -> Result<(), Memory>
+        requires { (r : Run) × (k : RunConnection) × (bytes : List ℕ) × Brings r k bytes requests.items × HasAskedSome self.old r k bytes [] out.old.items out.old.items × (k.member ≡ member) × HasRoom r (length bytes) }
+        ensures { (r : Run) (k : RunConnection) (bytes : List ℕ) → Brings r k bytes requests.items → k.member ≡ member
+            → HasAskedSome self.old r k bytes [] out.old.items out.old.items
+            → OnOk result (HasAskedSome self.new r k bytes requests.items out.old.items out.new.items) }
+    {
+        for request in requests {
+            self.ask(alloc, member, request, out)?;
         }
-        self.connections.greet(conn);
-        Ok(self.next_line(out)?)
+        Ok(())
     }
 
     /// A call arrives at its connection's member.
@@ -318,15 +331,12 @@ impl Grid {
         request: Request,
         out: &mut Vec<u8>,
     ) -> Result<(), Memory>
-        requires room { lines_run self.old + 1 < 2 ^ 32 - 1 }
         requires limits { RequestFits request }
         requires placed { request.partition < partitions }
-        requires stands { (r : Run) × Stands self.old r }
-        ensures { (r : Run) (connection : RunConnection) → Stands self.old r → connection_of r request.id.conn ≡ Some connection
-            → next_id connection ≡ request.id → connection.member ≡ member
-            → OnOk result (HasAsked self.new r connection request out.old.items out.new.items) }
+        requires stands { (r : Run) × Holds self.old r × (length r.events + 1 < 2 ^ 32 - 1) }
+        ensures { (r : Run) → IsRun r → Holds self.old r → IsNext r request → IsCounting self.old.connections r request.id.conn request.id.number
+            → OnOk result (HasAsked self.new r member request out.old.items out.new.items) }
     {
-        self.next_line(out)?;
         self.connections.arrive(request.id.conn, self.lines)?;
         let world = &mut self.worlds[usize::from(request.partition)];
         call(alloc, world, member, request, self.lines, out)?;

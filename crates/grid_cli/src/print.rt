@@ -2,12 +2,13 @@ ghost use Rattle.std.specs.Prelude.{◌≡◌, ◌++◌, ◌∷◌, OnOk, Option
 ghost use Rattle.hex.specs.Hex.{encode_lower};
 ghost use Rattle.grid_base.specs.declared.names.CallId.{CallId};
 ghost use Rattle.grid_cli.specs.PartitionObjects.{map_call_of, target_of};
-ghost use Rattle.grid_cli.specs.Printing.{number, number_or_dash, hex_word, word, ok_text, appended_text, call_name, entry_text, refused_text, limit_text};
+ghost use Rattle.grid_cli.specs.Printing.{number, number_or_dash, hex_word, word, ok_text, nothing_text, fault_word, close_text, appended_text, call_name, entry_text, refused_text, limit_text};
 ghost use Rattle.grid_cli.specs.PrintedEntries.{arrived_in, answered_in, printed_as};
 ghost use Rattle.grid_cli.specs.Transcripts.{why_text};
 
 use crate::connections::CallLines;
 use crate::script::LineWhy;
+use frame_codec::{Malformed, Why};
 use grid_base::{GridCall, MapCall, Memory, PartitionId, Request};
 use itoa::Buffer;
 use partition_world::Entry;
@@ -59,6 +60,51 @@ pub(crate) fn push_hex_word(alloc: Global, out: &mut Vec<u8>, bytes: &[u8]) -> R
 {
     push_text(out, b"x")?;
     push_hex(alloc, out, bytes)
+}
+
+/// Appends the outcome of a line that did nothing.
+pub(crate) fn push_nothing(out: &mut Vec<u8>, line: u32) -> Result<(), Memory>
+    ensures { OnOk result (out.new.items ≡ out.old.items ++ nothing_text line) }
+{
+    push_number(out, u64::from(line))?;
+    push_text(out, b"nothing\n")
+}
+
+/// The word of a fault.
+fn fault_word(why: Why) -> &'static str
+    ensures { result.now ≡ fault_word why }
+{
+    match why {
+        Why::Prefix => "prefix",
+        Why::TooShort => "tooshort",
+        Why::TooLong => "toolong",
+        Why::BadFragment => "badfragment",
+        Why::OpenFragments => "openfragments",
+        Why::ManyFrames => "manyframes",
+        Why::LongMessage => "longmessage",
+        Why::ShortStart => "shortstart",
+        Why::Spent => "spent",
+    }
+}
+
+/// Appends that a connection closed, if a fault closed it.
+pub(crate) fn push_close(
+    out: &mut Vec<u8>,
+    line: u32,
+    conn: u32,
+    fault: Option<Malformed>,
+) -> Result<(), Memory>
+    ensures { OnOk result (out.new.items ≡ out.old.items ++ close_text line conn fault) }
+{
+    let Some(Malformed { at, why }) = fault else {
+        return Ok(());
+    };
+    push_number(out, u64::from(line))?;
+    push_word(out, b"close")?;
+    push_number(out, u64::from(conn))?;
+    push_number(out, at)?;
+    push_text(out, fault_word(why).as_bytes())?;
+    push_text(out, b"\n")
 }
 
 /// Appends the outcome of a line that ran.

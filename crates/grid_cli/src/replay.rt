@@ -42,7 +42,7 @@ impl Replay {
 
     /// Runs the line that ends with these bytes and a newline.
     fn complete<K: Sink>(&mut self, alloc: Global, end: &[u8], out: &mut K) -> Result<(), Status>
-        requires read { (skips : List CallId) × (read written : List ℕ) × HasRead self.old skips read written × (length read < MOST_BYTES) }
+        requires read { (skips : List CallId) × (read written : List ℕ) × HasRead self.old skips read written × (length read + length end.now < MOST_BYTES) }
         requires one { IsOnePiece end.now }
         ensures goes { (skips : List CallId) (read written : List ℕ) → HasRead self.old skips read written
             → OnOk result ((more : List CallId) × (added : List ℕ) × HasRead self.new (more ++ skips) (read ++ ended_line end.now) (written ++ added)

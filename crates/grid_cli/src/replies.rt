@@ -4,7 +4,7 @@ ghost use Rattle.grid_cli.specs.Replies.{response_head, nullable_frame, reply_by
 ghost use Rattle.grid_cli.specs.Effects.{FitsFrame};
 
 use frame_codec::flags::{FINAL, NULL, UNFRAGMENTED};
-use frame_codec::write_frame_of;
+use frame_codec::write_payload;
 use grid_base::{Bytes, Memory};
 use std::alloc::Global;
 
@@ -39,8 +39,8 @@ fn write_nullable(value: Option<&Bytes>, out: &mut Vec<u8>) -> Result<(), Memory
     ensures { OnOk result (out.new.items ≡ out.old.items ++ nullable_frame (option_copied value.entry)) }
 {
     match value {
-        Some(value) => write_frame_of(FINAL, value.as_slice(), out),
-        None => write_frame_of(FINAL | NULL, &[], out),
+        Some(value) => write_payload(FINAL, value.as_slice(), out),
+        None => write_payload(FINAL | NULL, &[], out),
     }
 }
 
@@ -58,7 +58,7 @@ pub(crate) fn write_reply(
 {
     let head = head_of(alloc, kind + 1, correlation)?;
     let mut reply = Vec::new(alloc);
-    write_frame_of(UNFRAGMENTED, head.as_slice(), &mut reply)?;
+    write_payload(UNFRAGMENTED, head.as_slice(), &mut reply)?;
     write_nullable(value, &mut reply)?;
     Ok(Bytes::from_vec(reply))
 }
@@ -78,6 +78,6 @@ pub(crate) fn write_error(
     payload.extend_from_slice(&first.to_le_bytes())?;
     payload.extend_from_slice(&second.to_le_bytes())?;
     let mut error = Vec::new(alloc);
-    write_frame_of(UNFRAGMENTED | FINAL, payload.as_slice(), &mut error)?;
+    write_payload(UNFRAGMENTED | FINAL, payload.as_slice(), &mut error)?;
     Ok(Bytes::from_vec(error))
 }

@@ -1,15 +1,13 @@
-ghost use Rattle.std.specs.Prelude.{◌≡◌, ◌+◌, ◌≤◌, ◌==◌, length, take, IfOk, IfSome};
+ghost use Rattle.std.specs.Prelude.{◌≡◌, ◌+◌, ◌<◌, ◌^◌, false, None, length, vec_items, IfOk, IfSome, IsTrue};
 ghost use Rattle.std.specs.Option.{option_map};
-ghost use Rattle.std.specs.Str.{is_utf8};
-ghost use Rattle.std.specs.Int.{w32, w64, from_be_bytes, cast_signed};
-ghost use Rattle.grid_cli.specs.Effects.{parts_of};
-ghost use Rattle.grid_cli.specs.Requests.{frame_found, frame_at, payload_at, u32_at, u64_at, is_placed, never_ends, owner_of, request_with, put_at, get_at, request_of};
-ghost use Rattle.grid_cli.specs.StageRequests.{IsWithinLimits};
+ghost use Rattle.grid_cli.specs.Runs.{requests_of};
+ghost use Rattle.grid_cli.specs.Requests.{head_of, put_in, get_in, call_in, is_placed, owner_of, key_of, request_in, request_of, partition_of_key};
 
-use frame_codec::flags::{FINAL, UNFRAGMENTED};
-use frame_codec::{HEADER_LENGTH, MAX_FRAME_LENGTH};
-use grid_base::{Bytes, CallId, ClientKey, GridCall, MapCall, Memory, Owner, PARTITIONS, Request};
-use simdutf8::basic::from_utf8;
+use fixed_fields::{Cursor, int32_at, int64_at};
+use frame_codec::Frame;
+use grid_base::{Bytes, CallId, ClientKey, GridCall, MapCall, Memory, Owner, PartitionId, Request};
+use message_frames::Message;
+use murmur_partition::{key_hash, partition_of};
 use std::alloc::Global;
 
 /// The message type of a put.
@@ -33,229 +31,173 @@ const THREAD_OFFSET: usize = 16;
 /// Where a put's has the time to live.
 const TTL_OFFSET: usize = 24;
 
-/// How many bytes the first payload of a put has.
-const PUT_HEAD_LENGTH: usize = TTL_OFFSET + 8;
-
-/// How many bytes the first payload of a get has.
-const GET_HEAD_LENGTH: usize = THREAD_OFFSET + 8;
-
-/// The least length of a key, whose first four bytes are its partition.
-const MIN_KEY_LENGTH: usize = 8;
-
-/// The greatest length of a message.
-const MAX_MESSAGE_LENGTH: usize = 2_097_152;
-
-/// A frame where it lies in a message.
+/// The fields with which the first payload of each request begins.
 #[derive(Clone, Copy)]
-struct FoundFrame<'a> {
-    flags: u16,
-    payload: &'a [u8],
-    /// The bytes after the frame.
-    rest: &'a [u8],
+struct Head {
+    kind: u32,
+    correlation: i64,
+    partition: i32,
+    thread: i64,
 }
 
-fn u32_at(at: usize, payload: &[u8]) -> u32
-    requires { at + 4 ≤ length payload.now }
-    ensures { result ≡ u32_at at payload.now }
+/// The fields of a request's first frame, if they are all there.
+fn head_of(first: &Frame) -> Option<Head>
+    ensures { result ≡ head_of first.now.payload }
 {
-    let (_, rest) = payload.split_at(at);
-    let (field, _) = rest.split_at(4);
-    u32::from_le_bytes([field[0], field[1], field[2], field[3]])
-}
-
-fn i64_at(at: usize, payload: &[u8]) -> i64
-    requires { at + 8 ≤ length payload.now }
-    ensures { result ≡ cast_signed w64 (u64_at at payload.now) }
-{
-    let (_, rest) = payload.split_at(at);
-    let (field, _) = rest.split_at(8);
-    u64::from_le_bytes([
-        field[0], field[1], field[2], field[3], field[4], field[5], field[6], field[7],
-    ])
-    .cast_signed()
-}
-
-/// The frame at the front of these bytes, if all of it is there.
-#[tactic(auto, unfolding(crate::specs::Requests::frame_at))]
-fn frame_at(bytes: &[u8]) -> Option<FoundFrame<'_>>
-    ensures { option_map frame_found result ≡ frame_at bytes.now }
-{
-    if bytes.len() < HEADER_LENGTH {
-        return None;
-    }
-    let length = u32_at(0, bytes) as usize;
-    if length < HEADER_LENGTH || length > MAX_FRAME_LENGTH || length > bytes.len() {
-        return None;
-    }
-    let (_, flags) = bytes.split_at(4);
-    let (frame, rest) = bytes.split_at(length);
-    let (_, payload) = frame.split_at(HEADER_LENGTH);
-    Some(FoundFrame {
-        flags: u16::from_le_bytes([flags[0], flags[1]]),
-        payload,
-        rest,
+    Some(Head {
+        kind: int32_at(first, KIND_OFFSET).ok()?.cast_unsigned(),
+        correlation: int64_at(first, CORRELATION_OFFSET).ok()?,
+        partition: int32_at(first, PARTITION_OFFSET).ok()?,
+        thread: int64_at(first, THREAD_OFFSET).ok()?,
     })
 }
 
-/// The payload of the frame at the front, if it has exactly these flags, and the bytes after the frame.
-#[tactic(auto, unfolding(crate::specs::Requests::payload_at))]
-fn payload_at(flags: u16, bytes: &[u8]) -> Option<(&[u8], &[u8])>
-    ensures { option_map parts_of result ≡ payload_at flags bytes.now }
+/// The put that a first frame and the frames behind it are.
+fn put_in(
+    alloc: Global,
+    owner: Owner,
+    first: &Frame,
+    frames: &[Frame],
+) -> Result<Option<MapCall>, Memory>
+    ensures { IfOk result (λ call. call ≡ put_in owner first.now.payload frames.now) }
 {
-    let frame = frame_at(bytes)?;
-    if frame.flags == flags {
-        Some((frame.payload, frame.rest))
+    let mut cursor = Cursor::new(frames);
+    let Ok(ttl) = int64_at(first, TTL_OFFSET) else {
+        return Ok(None);
+    };
+    let Ok(name) = cursor.text() else {
+        return Ok(None);
+    };
+    let Ok(key) = cursor.data() else {
+        return Ok(None);
+    };
+    let Ok(value) = cursor.data() else {
+        return Ok(None);
+    };
+    if ttl > 0 {
+        return Ok(None);
+    }
+    Ok(Some(MapCall::Put {
+        name: name.copied(alloc)?,
+        key: key.copied(alloc)?,
+        owner,
+        value: value.copied(alloc)?,
+        ttl,
+    }))
+}
+
+/// The get that the frames behind a first one are.
+fn get_in(alloc: Global, owner: Owner, frames: &[Frame]) -> Result<Option<MapCall>, Memory>
+    ensures { IfOk result (λ call. call ≡ get_in owner frames.now) }
+{
+    let mut cursor = Cursor::new(frames);
+    let Ok(name) = cursor.text() else {
+        return Ok(None);
+    };
+    let Ok(key) = cursor.data() else {
+        return Ok(None);
+    };
+    Ok(Some(MapCall::Get {
+        name: name.copied(alloc)?,
+        key: key.copied(alloc)?,
+        owner,
+    }))
+}
+
+/// The call of that type which a first frame and the frames behind it are.
+fn call_in(
+    alloc: Global,
+    owner: Owner,
+    kind: u32,
+    first: &Frame,
+    frames: &[Frame],
+) -> Result<Option<MapCall>, Memory>
+    ensures { IfOk result (λ call. call ≡ call_in owner kind first.now.payload frames.now) }
+{
+    match kind {
+        PUT_KIND => put_in(alloc, owner, first, frames),
+        GET_KIND => get_in(alloc, owner, frames),
+        _ => Ok(None),
+    }
+}
+
+/// The key of a call.
+fn key_of(call: &MapCall) -> &Bytes
+    ensures { result.now ≡ key_of call.now }
+{
+    match call {
+        MapCall::Put { key, .. } | MapCall::Get { key, .. } => key,
+    }
+}
+
+/// The partition of a key, if it is the stated one and the key has its eight bytes before the content.
+fn partition_if_stated(stated: i32, key: &[u8]) -> Option<PartitionId>
+    ensures some { IfSome result (λ partition. (partition ≡ partition_of_key key.now) × IsTrue (is_placed stated key.now)) }
+    ensures none { result ≡ None → is_placed stated key.now ≡ false }
+{
+    let partition = partition_of(key_hash(key).ok()?);
+    if stated == i32::from(partition) {
+        Some(partition)
     } else {
         None
     }
 }
 
-fn is_text(bytes: &[u8]) -> bool
-    ensures { result ≡ is_utf8 bytes.now }
-{
-    from_utf8(bytes).is_ok()
-}
-
-/// The partition that a key begins with.
-fn partition_of(key: &[u8]) -> u32
-    requires { 4 ≤ length key.now }
-    ensures { result ≡ from_be_bytes w32 (take 4 key.now) }
-{
-    let (front, _) = key.split_at(4);
-    u32::from_be_bytes([front[0], front[1], front[2], front[3]])
-}
-
-/// Is the name a text, and the key one of the partition that the request states?
-fn is_placed(head: &[u8], name: &[u8], key: &[u8]) -> bool
-    requires { 16 ≤ length head.now }
-    ensures { result ≡ is_placed head.now name.now key.now }
-{
-    let partition = u32_at(PARTITION_OFFSET, head);
-    is_text(name)
-        && key.len() >= MIN_KEY_LENGTH
-        && partition_of(key) == partition
-        && partition >= 1
-        && partition < u32::from(PARTITIONS)
-}
-
-fn owner_of(id: CallId, head: &[u8]) -> Owner
-    requires { 24 ≤ length head.now }
-    ensures { result ≡ owner_of id head.now }
-{
-    Owner {
-        client: ClientKey::OfConn(id.conn),
-        thread: i64_at(THREAD_OFFSET, head),
-    }
-}
-
-fn request_with(id: CallId, head: &[u8], call: MapCall) -> Request
-    requires head { 24 ≤ length head.now }
-    requires partition { u32_at 12 head.now ≤ 270 }
-    ensures { result ≡ request_with id head.now call }
-{
-    Request {
-        id,
-        correlation: i64_at(CORRELATION_OFFSET, head),
-        kind: u32_at(KIND_OFFSET, head),
-        partition: u32_at(PARTITION_OFFSET, head) as u16,
-        call: GridCall::Map(call),
-    }
-}
-
-/// Is the time to live 0 or less?
-fn never_ends(head: &[u8]) -> bool
-    requires { 32 ≤ length head.now }
-    ensures { result ≡ never_ends (u64_at 24 head.now) }
-{
-    i64_at(TTL_OFFSET, head) <= 0
-}
-
-/// The put whose first payload is `head`, if its key and its value are all of these bytes.
-#[tactic(auto, unfolding(crate::specs::Requests::put_at))]
-fn put_at(
-    alloc: Global,
-    id: CallId,
-    head: &[u8],
-    name: &[u8],
-    bytes: &[u8],
-) -> Result<Option<Request>, Memory>
-    ensures { IfOk result (λ request. request ≡ put_at id head.now name.now bytes.now) }
-{
-    let Some((key, rest)) = payload_at(0, bytes) else {
-        return Ok(None);
-    };
-    let Some((value, rest)) = payload_at(FINAL, rest) else {
-        return Ok(None);
-    };
-    if !rest.is_empty() || head.len() != PUT_HEAD_LENGTH {
-        return Ok(None);
-    }
-    if !never_ends(head) || !is_placed(head, name, key) {
-        return Ok(None);
-    }
-    let call = MapCall::Put {
-        name: Bytes::copied_from(alloc, name)?,
-        key: Bytes::copied_from(alloc, key)?,
-        owner: owner_of(id, head),
-        value: Bytes::copied_from(alloc, value)?,
-        ttl: i64_at(TTL_OFFSET, head),
-    };
-    Ok(Some(request_with(id, head, call)))
-}
-
-/// The get whose first payload is `head`, if its key is all of these bytes.
-#[tactic(auto, unfolding(crate::specs::Requests::get_at))]
-fn get_at(
-    alloc: Global,
-    id: CallId,
-    head: &[u8],
-    name: &[u8],
-    bytes: &[u8],
-) -> Result<Option<Request>, Memory>
-    ensures { IfOk result (λ request. request ≡ get_at id head.now name.now bytes.now) }
-{
-    let Some((key, rest)) = payload_at(FINAL, bytes) else {
-        return Ok(None);
-    };
-    if !rest.is_empty() || head.len() != GET_HEAD_LENGTH || !is_placed(head, name, key) {
-        return Ok(None);
-    }
-    let call = MapCall::Get {
-        name: Bytes::copied_from(alloc, name)?,
-        key: Bytes::copied_from(alloc, key)?,
-        owner: owner_of(id, head),
-    };
-    Ok(Some(request_with(id, head, call)))
-}
-
-/// The request that these bytes spell, all of them; `None` where they spell none of this stage.
-/// Costs the length of the name, and copies each payload once; what is refused is not copied.
+/// The request that a message is; `None` where it is none of this stage. Costs its name, its key and
+/// its value, each copied once.
 #[tactic(auto, unfolding(crate::specs::Requests::request_of))]
 pub(crate) fn read_request(
     alloc: Global,
     id: CallId,
-    bytes: &[u8],
+    message: &Message,
 ) -> Result<Option<Request>, Memory>
-    ensures exact { IfOk result (λ request. request ≡ request_of id bytes.now) }
-    ensures limits { IfOk result (λ request. IfSome request IsWithinLimits) }
+    ensures exact { IfOk result (λ request. request ≡ request_of id message.now) }
 {
-    let Some((head, rest)) = payload_at(UNFRAGMENTED, bytes) else {
+    let Some((first, frames)) = message.frames.as_slice().split_first() else {
         return Ok(None);
     };
-    let Some((name, rest)) = payload_at(0, rest) else {
+    let Some(head) = head_of(first) else {
         return Ok(None);
     };
-    if bytes.len() > MAX_MESSAGE_LENGTH {
+    let owner = Owner {
+        client: ClientKey::OfConn(id.conn),
+        thread: head.thread,
+    };
+    let Some(call) = call_in(alloc, owner, head.kind, first, frames)? else {
         return Ok(None);
-    }
-    if head.len() < GET_HEAD_LENGTH {
+    };
+    let Some(partition) = partition_if_stated(head.partition, key_of(&call).as_slice()) else {
         return Ok(None);
+    };
+    Ok(Some(Request {
+        id,
+        correlation: head.correlation,
+        kind: head.kind,
+        partition,
+        call: GridCall::Map(call),
+    }))
+}
+
+/// The requests that messages are, of which the first has that name and each other one the next number;
+/// `None` where one of them is none of this stage.
+pub(crate) fn read_requests(
+    alloc: Global,
+    first: CallId,
+    messages: &[Message],
+) -> Result<Option<Vec<Request>>, Memory>
+    requires { first.number + length messages.now < 2 ^ 32 }
+    ensures { IfOk result (λ requests. option_map vec_items requests ≡ requests_of first.conn first.number messages.now) }
+{
+    let mut requests = Vec::with_capacity(alloc, messages.len())?;
+    let mut id = first;
+    for message in messages {
+        let Some(request) = read_request(alloc, id, message)? else {
+            return Ok(None);
+        };
+        requests.push(request)?;
+        id.number += 1;
     }
-    match u32_at(KIND_OFFSET, head) {
-        PUT_KIND => put_at(alloc, id, head, name, rest),
-        GET_KIND => get_at(alloc, id, head, name, rest),
-        _ => Ok(None),
-    }
+    Ok(Some(requests))
 }
 
 #[cfg(test)]

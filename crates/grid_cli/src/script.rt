@@ -63,10 +63,13 @@ impl Line {
 /// The greatest number of a connection, and one.
 const CONNECTIONS: u32 = 64;
 
-/// The bytes that a word of hexadecimal digits spells.
+/// The bytes that a word of hexadecimal digits spells; `None` for an empty word too.
 fn hex_bytes(alloc: Global, word: &[u8]) -> Result<Option<Bytes>, Memory>
     ensures { IfOk result (λ bytes. bytes ≡ bytes_of word.now) }
 {
+    if word.is_empty() {
+        return Ok(None);
+    }
     match hex::decode(alloc, word) {
         Ok(bytes) => Ok(Some(Bytes::from_vec(bytes))),
         Err(FromHexError::OutOfMemory) => Err(AllocError),

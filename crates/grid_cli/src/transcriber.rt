@@ -1,4 +1,4 @@
-ghost use Rattle.std.specs.Prelude.{◌≡◌, ◌+◌, ◌-◌, ◌<◌, ◌≤◌, ◌^◌, ◌++◌, ◌∷◌, [], List, ℕ, OnOk, IfOk, IfErr, IsErrOf, MatchOption, true, false, Some, None};
+ghost use Rattle.std.specs.Prelude.{◌≡◌, ◌+◌, ◌-◌, ◌<◌, ◌≤◌, ◌^◌, ◌++◌, ◌∷◌, [], List, ℕ, length, OnOk, IfOk, IfErr, IsErrOf, MatchOption, true, false, Some, None};
 ghost use Rattle.std.specs.Io.KnownBytes.{append_known};
 ghost use Rattle.grid_base.specs.declared.names.CallId.{CallId};
 ghost use Rattle.grid_edge.specs.Faults.{Rose};
@@ -6,8 +6,8 @@ ghost use Rattle.grid_cli.specs.Lines.{line_of};
 ghost use Rattle.grid_cli.specs.Runs.{Run, begun};
 ghost use Rattle.grid_cli.specs.Printing.{ok_text, refused_text};
 ghost use Rattle.grid_cli.specs.Transcripts.{why_text};
-ghost use Rattle.grid_cli.specs.Grids.{Stands, lines_run};
-ghost use Rattle.grid_cli.specs.Transcribing.{Follows, RanAs, StopsAs, Concludes, lines_done, lines_of};
+ghost use Rattle.grid_cli.specs.Grids.{Stands, HasRoom};
+ghost use Rattle.grid_cli.specs.Transcribing.{Follows, HasRoomFor, RanAs, StopsAs, Concludes, lines_done, lines_of};
 
 use crate::grid::{Grid, RunEnd};
 use crate::print::{push_limit, push_ok, push_refused};
@@ -51,9 +51,8 @@ fn begin(alloc: Global, text: &[u8], out: &mut Vec<u8>) -> Result<Option<Grid>, 
 
 /// Runs a line after the first.
 fn go_on(alloc: Global, grid: &mut Grid, text: &[u8], out: &mut Vec<u8>) -> Result<Ran, Memory>
-    requires room { lines_run grid.old + 1 < 2 ^ 32 - 1 }
     requires empty { out.old.items ≡ [] }
-    requires stands { (r : Run) × Stands grid.old r }
+    requires stands { (r : Run) × Stands grid.old r × HasRoom r (length text.now) }
     ensures { (skips : List CallId) (done : List (List ℕ)) (written : List ℕ) → Follows (Some grid.old) skips done written
         → IfOk result (λ ran. RanAs ran (Some grid.new) skips done text.now written out.new.items) }
 {
@@ -96,8 +95,7 @@ impl Transcriber {
 
     /// Runs a line and leaves its text.
     fn run(&mut self, alloc: Global, text: &[u8]) -> Result<Ran, Memory>
-        requires room { lines_done self.old + 1 < 2 ^ 32 - 1 }
-        requires follows { (skips : List CallId) × (done : List (List ℕ)) × (written : List ℕ) × Follows self.old.grid skips done written }
+        requires follows { (skips : List CallId) × (done : List (List ℕ)) × (written : List ℕ) × Follows self.old.grid skips done written × HasRoomFor done text.now }
         ensures { (skips : List CallId) (done : List (List ℕ)) (written : List ℕ) → Follows self.old.grid skips done written
             → IfOk result (λ ran. RanAs ran self.new.grid skips done text.now written self.new.text.items) }
     {
@@ -122,8 +120,7 @@ impl Transcriber {
         text: &[u8],
         out: &mut K,
     ) -> Result<(), Status>
-        requires room { lines_done self.old + 1 < 2 ^ 32 - 1 }
-        requires follows { (skips : List CallId) × (done : List (List ℕ)) × (written : List ℕ) × Follows self.old.grid skips done written }
+        requires follows { (skips : List CallId) × (done : List (List ℕ)) × (written : List ℕ) × Follows self.old.grid skips done written × HasRoomFor done text.now }
         ensures goes { (skips : List CallId) (done : List (List ℕ)) (written : List ℕ) → Follows self.old.grid skips done written
             → OnOk result ((more : List CallId) × (added : List ℕ) × Follows self.new.grid (more ++ skips) (done ++ text.now ∷ []) (written ++ added)
             × (K.taken out.new ≡ append_known (K.taken out.old) added)) }

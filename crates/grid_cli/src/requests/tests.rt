@@ -1,19 +1,17 @@
 use super::*;
+use frame_codec::flags::{FINAL, NULL, UNFRAGMENTED};
+use message_frames::Frames;
 use std::test::Fail;
 
-// A put and a get of the key 00000005fffffff56b in the map "m", frame by frame.
-const PUT_HEAD: &str =
-    "2600000000c00001010001000000000000000500000001000000000000000000000000000000";
+// The first payload of a put in partition 5, by thread 1 of its connection.
+const PUT: &str = "0001010001000000000000000500000001000000000000000000000000000000";
 
-const GET_HEAD: &str = "1e00000000c0000201000200000000000000050000000100000000000000";
+// The map "m", a key that states the hash 5, and a value.
+const NAME: (u16, &str) = (0, "6d");
 
-const NAME: &str = "0700000000006d";
+const KEY: (u16, &str) = (0, "00000005fffffff56b");
 
-const KEY: &str = "0f000000000000000005fffffff56b";
-
-const LAST_KEY: &str = "0f000000002000000005fffffff56b";
-
-const VALUE: &str = "0f000000002000000000fffffff576";
+const VALUE: (u16, &str) = (FINAL, "00000000fffffff576");
 
 const ID: CallId = CallId { conn: 3, number: 7 };
 
@@ -22,17 +20,25 @@ const CALLER: Owner = Owner {
     thread: 1,
 };
 
-fn read(alloc: Global, frames: [&str; 4]) -> Result<Option<Request>, Fail> {
-    let mut bytes = Vec::new(alloc);
-    for frame in frames {
-        bytes.extend_from_slice(&hex::decode(alloc, frame.as_bytes())?)?;
+/// The request that the message of these frames is, each given by its flags and its payload.
+fn read(alloc: Global, frames: &[(u16, &str)]) -> Result<Option<Request>, Fail> {
+    let mut list = Vec::new(alloc);
+    for (flags, payload) in frames {
+        list.push(Frame {
+            flags: *flags,
+            payload: Bytes::from_vec(hex::decode(alloc, payload.as_bytes())?),
+        })?;
     }
-    Ok(read_request(alloc, ID, &bytes)?)
+    let message = Message {
+        frames: Frames::from_vec(list),
+    };
+    Ok(read_request(alloc, ID, &message)?)
 }
 
 #[test]
 fn reads_a_put(rt: HostRuntime) -> Result<(), Fail> {
-    let request = read(rt.alloc(), [PUT_HEAD, NAME, KEY, VALUE])?.ok_or("refused")?;
+    let frames = [(UNFRAGMENTED, PUT), NAME, KEY, VALUE];
+    let request = read(rt.alloc(), &frames)?.ok_or("refused")?;
     assert_eq!(rt; request.id, ID);
     assert_eq!(rt; request.correlation, 1);
     assert_eq!(rt; request.kind, 0x010100);
@@ -58,8 +64,16 @@ fn reads_a_put(rt: HostRuntime) -> Result<(), Fail> {
 }
 
 #[test]
-fn reads_a_get(rt: HostRuntime) -> Result<(), Fail> {
-    let request = read(rt.alloc(), [GET_HEAD, NAME, LAST_KEY, ""])?.ok_or("refused")?;
+fn reads_a_get_with_more_bytes_and_frames(rt: HostRuntime) -> Result<(), Fail> {
+    let first = "000201000200000000000000050000000100000000000000ff";
+    let frames = [
+        (UNFRAGMENTED, first),
+        NAME,
+        KEY,
+        (NULL, "00"),
+        (FINAL, "ff"),
+    ];
+    let request = read(rt.alloc(), &frames)?.ok_or("refused")?;
     assert_eq!(rt; request.id, ID);
     assert_eq!(rt; request.correlation, 2);
     assert_eq!(rt; request.kind, 0x010200);
@@ -77,96 +91,43 @@ fn reads_a_get(rt: HostRuntime) -> Result<(), Fail> {
 }
 
 #[test]
-fn refuses_other_bytes(rt: HostRuntime) -> Result<(), Fail> {
-    for (what, head, name, key, value) in [
+fn refuses_other_messages(rt: HostRuntime) -> Result<(), Fail> {
+    for (what, first, name, key, value) in [
         (
             "a time to live of 1",
-            "2600000000c00001010001000000000000000500000001000000000000000100000000000000",
+            "0001010001000000000000000500000001000000000000000100000000000000",
             NAME,
             KEY,
-            VALUE,
-        ),
-        (
-            "partition 0",
-            "2600000000c00001010001000000000000000000000001000000000000000000000000000000",
-            NAME,
-            "0f000000000000000000fffffff56b",
-            VALUE,
-        ),
-        (
-            "partition 271",
-            "2600000000c00001010001000000000000000f01000001000000000000000000000000000000",
-            NAME,
-            "0f00000000000000010ffffffff56b",
             VALUE,
         ),
         (
             "another partition than the key's",
-            "2600000000c00001010001000000000000000600000001000000000000000000000000000000",
+            "0001010001000000000000000600000001000000000000000000000000000000",
             NAME,
             KEY,
             VALUE,
         ),
-        (
-            "a key of 7 bytes",
-            PUT_HEAD,
-            NAME,
-            "0d000000000000000005fffffff5",
-            VALUE,
-        ),
-        (
-            "a name that is no text",
-            PUT_HEAD,
-            "070000000000ff",
-            KEY,
-            VALUE,
-        ),
-        (
-            "a byte more",
-            PUT_HEAD,
-            NAME,
-            KEY,
-            "0f000000002000000000fffffff57600",
-        ),
-        (
-            "a byte less",
-            PUT_HEAD,
-            NAME,
-            KEY,
-            "0f000000002000000000fffffff5",
-        ),
-        (
-            "no final flag",
-            PUT_HEAD,
-            NAME,
-            KEY,
-            "0f000000000000000000fffffff576",
-        ),
-        ("other flags", PUT_HEAD, "0700000000086d", KEY, VALUE),
         (
             "another type",
-            "2600000000c00003010001000000000000000500000001000000000000000000000000000000",
+            "0003010001000000000000000500000001000000000000000000000000000000",
             NAME,
             KEY,
             VALUE,
         ),
         (
-            "a get's type before a put",
-            "2600000000c00002010001000000000000000500000001000000000000000000000000000000",
+            "a put without a time to live",
+            "000101000200000000000000050000000100000000000000",
             NAME,
             KEY,
             VALUE,
         ),
-        (
-            "a length of the payload alone",
-            PUT_HEAD,
-            "0100000000006d",
-            KEY,
-            VALUE,
-        ),
+        ("a key of 7 bytes", PUT, NAME, (0, "00000005fffff5"), VALUE),
+        ("a name that is no text", PUT, (0, "ff"), KEY, VALUE),
+        ("a null value", PUT, NAME, KEY, (FINAL | NULL, "")),
     ] {
-        let read = read(rt.alloc(), [head, name, key, value])?;
-        assert!(rt; read.is_none(), "{what}");
+        let frames = [(UNFRAGMENTED, first), name, key, value];
+        let request = read(rt.alloc(), &frames)?;
+        assert!(rt; request.is_none(), "{what}");
     }
     Ok(())
 }

@@ -4,6 +4,7 @@ use Rattle.grid_cli.specs.Printing.{refused_text}
 use Rattle.grid_cli.specs.Transcripts.{why_text}
 use Rattle.grid_cli.specs.declared.script.LineWhy.TheVariants.{NotBuilt}
 use Rattle.grid_cli.proofs.TranscriberLaws.{line_goes, line_ends, line_refused, ran_none}
+use Rattle.grid_cli.proofs.LineSizes.{room_for_bytes}
 use Rattle.grid_cli.proofs.transcriber.go_on.Goals as goal
 
 pub returns-in-Ok : goal.returns-in-Ok
@@ -26,4 +27,9 @@ returns-in_ok-push_refused-in-Err-NotBuilt c = λ skips done written follows.
     line_refused c.args.grid.now (Some c.run_line.new.self) skips done written c.args.text.now c.push_refused-in-Err-NotBuilt.new.out.items (c.lines-number.result + 1) follows
     (λ r stands. ran_none c.args.text.now c.in-Some.line skips r (sym c.in_ok-line.ensures ∙ c.in-Some.is) ((c.in-Err-NotBuilt.ensures.refused r stands (ap Err c.in-Err-NotBuilt.field-0-is)).0 skips))
     (ap (λ n. n + 1) c.lines-number.ensures)
-    (c.in_ok-push_refused-in-Err-NotBuilt.ensures ∙ ap (λ xs. xs ++ refused_text (c.lines-number.result + 1) (why_text NotBuilt)) (same.2 ∙ c.requires.empty))
+    (c.in_ok-push_refused-in-Err-NotBuilt.ensures ∙ ap (λ xs. xs ++ refused_text (c.lines-number.result + 1) (why_text NotBuilt)) (same.1 ∙ c.requires.empty))
+
+pub run_line-requires-clause-stands : goal.run_line-requires-clause-stands
+run_line-requires-clause-stands c =
+    let r = c.requires.stands in
+    (r.0, r.1, room_for_bytes r.0 c.args.text.now c.in-Some.line (sym c.in_ok-line.ensures ∙ c.in-Some.is) r.2)

@@ -1,15 +1,19 @@
-use Rattle.std.proofs.Common.{[], ◌++◌, sym, ◌∙◌, ap, arith}
+use Rattle.std.proofs.Common.{[], ◌++◌, sym, ◌∙◌, ap, subst, arith}
 use Rattle.grid_edge.proofs.Told.{append_known-nil}
 use Rattle.grid_cli.specs.Words.{whole_lines}
-use Rattle.grid_cli.proofs.ReplayLaws.{has_room, line_read, line_stops, line_without_memory}
+use Rattle.grid_cli.specs.Transcribing.{HasRoomFor}
+use Rattle.grid_cli.proofs.ReplayLaws.{room_for_text, line_read, line_stops, line_without_memory}
 use Rattle.grid_cli.proofs.replay.Replay.complete.Goals as goal
 
 pub returns-in_default-clause-stops : goal.returns-in_default-clause-stops
 returns-in_default-clause-stops g c = λ skips read written has.
     ([], [], line_without_memory c.args.self.now skips read written c.args.end.now has c.requires.one, sym (append_known-nil (g.K.Sink.taken c.args.out.now)))
 
-pub transcribe-transcribed-requires-clause-room : goal.transcribe-transcribed-requires-clause-room
-transcribe-transcribed-requires-clause-room g c = has_room c.args.self.now c.requires.read.0 c.requires.read.1 c.requires.read.2 c.requires.read.3 (omega (arith, c.requires.read.4))
+pub transcribe-transcribed-requires : goal.transcribe-transcribed-requires
+transcribe-transcribed-requires g c =
+    let r = c.requires.read in
+    let is = c.as_slice.ensures.value ∙ c.in-Ok.ensures.items ∙ ap (λ u. u ++ c.args.end.now) r.3.rest in
+    record { follows = (r.0, whole_lines r.1, r.2, r.3.follows, subst (HasRoomFor (whole_lines r.1)) (sym is) (room_for_text r.1 c.args.end.now (omega (arith, r.4)))) }
 
 pub returns-in-Ok-transcribed-clause-goes : goal.returns-in-Ok-transcribed-clause-goes
 returns-in-Ok-transcribed-clause-goes g c = λ skips read written has.

@@ -1,10 +1,10 @@
-use Rattle.std.proofs.Common.{◌≡◌, ◌==◌, List, [], ◌∷◌, ℕ, ◌++◌, length, sym, ◌∙◌, ap, subst, arith, false, length-append, append_assoc}
+use Rattle.std.proofs.Common.{◌≡◌, ◌==◌, List, [], ◌∷◌, ℕ, ◌++◌, length, sym, ◌∙◌, ap, subst, arith, false, length-append, append_assoc, append-nil}
 use Rattle.grid_edge.proofs.Told.{more_taken}
 use Rattle.grid_cli.specs.Words.{whole_lines, unfinished}
 use Rattle.grid_cli.specs.Transcripts.{last_line}
-use Rattle.grid_cli.specs.Transcribing.{Concludes}
+use Rattle.grid_cli.specs.Transcribing.{Concludes, HasRoomFor}
 use Rattle.grid_cli.proofs.TranscriberLaws.{lines_followed}
-use Rattle.grid_cli.proofs.ReplayLaws.{has_room, few_lines}
+use Rattle.grid_cli.proofs.ReplayLaws.{has_room, few_lines, room_for_text}
 use Rattle.grid_cli.proofs.ReplayEnds.{no_last_line, last_line_is, lines_without_last, stopped_at_last}
 use Rattle.grid_cli.proofs.replay.Replay.finish.Goals as goal
 
@@ -17,8 +17,11 @@ returns-then-is_empty-clause-concludes g c = λ skips read written has.
     let none : last_line (unfinished read) ≡ [] = ap last_line (sym has.rest) ∙ no_last_line c.args.self.now.unfinished.items (ap (λ (xs : List ℕ). length xs == 0) (sym c.as_slice-last.ensures.value) ∙ sym c.is_empty.ensures ∙ c.if-is_empty.true) in
     ([], e.0, subst (λ ls. Concludes false c.refuse_end.result skips ls (written ++ e.0)) (lines_without_last (whole_lines read) (unfinished read) none) e.1, e.2)
 
-pub transcribe-requires-clause-room : goal.transcribe-requires-clause-room
-transcribe-requires-clause-room g c = has_room c.args.self.now c.requires.read.0 c.requires.read.1 c.requires.read.2 c.requires.read.3 c.requires.read.4
+pub transcribe-requires : goal.transcribe-requires
+transcribe-requires g c =
+    let r = c.requires.read in
+    let is = c.as_slice-last.ensures.value ∙ r.3.rest ∙ sym (append-nil (unfinished r.1)) in
+    record { follows = (r.0, whole_lines r.1, r.2, r.3.follows, subst (HasRoomFor (whole_lines r.1)) (sym is) (room_for_text r.1 [] (omega (arith, r.4)))) }
 
 pub refuse_end-requires-in-Ok : goal.refuse_end-requires-in-Ok
 refuse_end-requires-in-Ok g c =
