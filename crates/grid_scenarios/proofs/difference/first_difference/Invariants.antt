@@ -1,0 +1,13 @@
+use Rattle.std.proofs.Common.{◌≡◌, ◌+◌, ◌≤◌, length}
+use Rattle.grid_cli.specs.Words.{pieces_at, newline}
+use Rattle.grid_scenarios.specs.Differences.{difference_from, first_difference}
+use Rattle.grid_scenarios.proofs.difference.first_difference.Given as goal
+
+-- The lines before these are the same.
+abbrev pub invariant-lines : goal.invariant-lines
+invariant-lines l =
+    (difference_from l.number (pieces_at newline l.left) (pieces_at newline l.wanted_left) ≡ first_difference l.fn.printed.now l.fn.wanted.now)
+    × (l.number + length l.left ≤ length l.fn.printed.now + 1)
+
+abbrev pub decreases-lines : goal.decreases-lines
+decreases-lines l = length l.left
