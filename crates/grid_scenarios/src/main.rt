@@ -1,6 +1,8 @@
 //! Runs each script of `data/` in memory and compares what it prints with the transcript beside it.
 #![tactic(auto)]
 
+ghost use Rattle.std.specs.Prelude.{◌<◌};
+
 mod codec;
 mod difference;
 
