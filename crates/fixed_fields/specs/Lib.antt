@@ -1,4 +1,5 @@
 pub mod Fields
 pub mod Frames
+pub mod Responses
 pub mod Structures
 pub mod Examples

@@ -1,3 +1,4 @@
+pub mod Errors
 pub mod Histories
 pub mod MapEntries
 pub mod Names

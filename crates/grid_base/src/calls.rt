@@ -20,6 +20,23 @@ pub enum MapCall {
     },
 }
 
+/// A call on a queue.
+#[derive(Debug, Drop)]
+pub enum QueueCall {
+    /// Appends a value at the back, where there is room for one more, and answers whether it did.
+    Offer { name: Bytes, value: Bytes },
+    /// Takes the value at the front away and answers it, or null where there is none.
+    Poll { name: Bytes },
+    /// Answers the value at the front, or null where there is none.
+    Peek { name: Bytes },
+    /// Answers how many values there are.
+    Size { name: Bytes },
+    /// Answers how many values more there is room for.
+    RemainingCapacity { name: Bytes },
+    /// Takes all values away.
+    Clear { name: Bytes },
+}
+
 /// A call on one object of the grid.
 #[derive(Debug, Drop)]
 pub enum GridCall {
@@ -41,8 +58,18 @@ pub struct Request {
 /// What a call answers.
 #[derive(Debug, Drop)]
 pub enum Answer {
+    /// It was done.
+    Void,
+    Flag(bool),
+    Number(u32),
     /// A value, or null.
     Maybe(Option<Bytes>),
+    /// Another owner has the key's lock.
+    KeyLocked,
+    /// The caller doesn't have the lock that it releases.
+    NotOwner,
+    /// No processor has the number.
+    UnknownProcessor,
 }
 
 /// How a call changed an entry's value.

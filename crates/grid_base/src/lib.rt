@@ -3,12 +3,15 @@
 
 mod bytes;
 mod calls;
+pub mod errors;
 mod names;
+mod refusal;
 mod shelf;
 
 pub use bytes::Bytes;
-pub use calls::{Answer, Change, Executed, GridCall, MapCall, Request};
+pub use calls::{Answer, Change, Executed, GridCall, MapCall, QueueCall, Request};
 pub use names::{CallId, ClientKey, MemberId, Moment, Owner, PartitionId};
+pub use refusal::CallRefused;
 pub use shelf::Shelf;
 
 /// Want of memory: the one error whose coming no contract explains.
