@@ -1,6 +1,6 @@
 -- A way back over one feed.
 use Rattle.std.specs.Prelude.{◌≡◌, ℕ, ◌+◌, List, [], ◌∷◌, ◌++◌, length, take, drop, Option, Some, None}
-use Rattle.frame_codec.specs.FrameReaders.{InProgress, StandsFor, standing, frames_of}
+use Rattle.frame_codec.specs.FrameReaders.{InProgress, StandsFor, standing, in_progress, frames_of}
 use Rattle.frame_codec.specs.declared.frames.Frame.{Frame}
 use Rattle.frame_codec.specs.declared.frames.PlacedFrame.{PlacedFrame}
 use Rattle.frame_codec.specs.declared.frames.TheConstants.{HEADER_LENGTH}
@@ -28,6 +28,10 @@ first_frame (first ∷ frames) = Some first.frame
 -- A mark of a reader has the place and the mark of the frame in progress.
 abbrev pub IsMarkOf : FrameMark → InProgress → Type 0
 IsMarkOf mark reader = (mark.at ≡ reader.at) × IsPartialMarkOf mark.partial reader.bytes
+
+-- A reader that goes back to a mark, where that frame was taken first since then.
+abbrev pub back_at : FrameMark → Option Frame → InProgress → InProgress
+back_at mark first reader = in_progress mark.at (bytes_at mark.partial (payload_since first reader.bytes))
 
 -- When the mark was taken the reader stood for a text. Since then it was fed a piece, and gave these frames.
 pub record IsFedSince (mark : FrameMark) (reader : InProgress) (frames : List PlacedFrame) (at : ℕ) (text piece : List ℕ) : Type 0 where

@@ -1,7 +1,7 @@
 ghost use Rattle.std.specs.Prelude.{◌≡◌, ℕ, ◌+◌, ◌^◌, ◌<◌, ◌≤◌, List, [], ◌++◌, length, None, IfOk, OnOk, OnErr};
 ghost use Rattle.frame_codec.specs.FrameReaders.{next_place, in_progress, StandsFor, frames_of, fault_of};
 ghost use Rattle.frame_codec.specs.Feeding.{Takes, TakesSome};
-ghost use Rattle.frame_codec.specs.Marks.{IsMarkOf, IsFedSince, first_frame};
+ghost use Rattle.frame_codec.specs.Marks.{IsMarkOf, IsFedSince, first_frame, back_at};
 
 use crate::frames::{Frame, HEADER_LENGTH, MAX_FRAME_LENGTH, PlacedFrame};
 use crate::malformed::{Malformed, Why};
@@ -114,7 +114,15 @@ impl FrameReader {
     pub fn put_back(&mut self, mark: FrameMark, fed: FedFrames)
         ensures { (at : ℕ) (text piece : List ℕ) → IsFedSince mark self.old fed.frames.items at text piece → StandsFor self.new at text }
     {
-        self.partial.put_back(mark.partial, first_of(fed.frames));
+        self.go_back(mark, first_of(fed.frames));
+    }
+
+    /// Goes back over the feed since a mark, of whose frames this one came first; its payload counts alone. Takes no memory.
+    /// The reader is as it was where the frame came with that feed, as `put_back` has it.
+    pub fn go_back(&mut self, mark: FrameMark, first: Option<Frame>)
+        ensures { self.new ≡ back_at mark first self.old }
+    {
+        self.partial.put_back(mark.partial, first);
         self.at = mark.at;
     }
 

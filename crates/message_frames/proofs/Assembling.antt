@@ -1,14 +1,14 @@
 -- Frames that are taken to their lists one after the other are assembled.
-use Rattle.std.proofs.Common.{◌≡◌, ◌≢◌, ℕ, zero, suc, ◌+◌, ◌-◌, ◌<◌, ◌≤◌, Bool, true, false, List, [], ◌∷◌, ◌++◌, length, get_or, append_assoc, append-nil, refl, sym, ◌∙◌, ap, subst, ◌⊎◌, inl, inr, Option, Some, None, arith, vec_len, vec_capacity}
+use Rattle.std.proofs.Common.{◌≡◌, ℕ, ◌+◌, ◌-◌, ◌<◌, ◌≤◌, true, false, List, [], ◌∷◌, ◌++◌, length, get_or, append_assoc, append-nil, refl, sym, ◌∙◌, ap, subst, ◌⊎◌, inl, inr, Some, arith, vec_len, vec_capacity}
 use Rattle.std.specs.Global.{Vec}
-use Rattle.std.proofs.lemmas.Bool.{false≢true, cases_Bool}
+use Rattle.std.proofs.lemmas.Bool.{cases_Bool}
 use Rattle.std.proofs.lemmas.List.{length-map}
 use Rattle.frame_codec.specs.declared.frames.Frame.{Frame}
 use Rattle.frame_codec.specs.declared.frames.PlacedFrame.{PlacedFrame}
 use Rattle.frame_codec.specs.declared.malformed.Malformed.{Malformed}
-use Rattle.message_frames.specs.Assembly.{Assembly, Assembled, Step, Faulty, Goes, Gives, giving, assembled, step}
-use Rattle.message_frames.specs.Turns.{Turned, turned, is_failing, after_all, HasRoom, HaveRoom}
-use Rattle.message_frames.specs.Lists.{list_at, assembly_of, IsSound, ended, lists_after, ending_step, turn_step, step_of, frames_in, rooms_in, LosesRoom, KeepsRoom, HasNumber, given}
+use Rattle.message_frames.specs.Assembly.{Assembly, Assembled, assembled}
+use Rattle.message_frames.specs.Turns.{turned, is_failing, after_all, HasRoom, HaveRoom}
+use Rattle.message_frames.specs.Lists.{list_at, assembly_of, IsSound, ended, lists_after, ending_step, turn_step, step_of, frames_in, rooms_in, KeepsRoom, HasNumber, given}
 use Rattle.message_frames.specs.declared.message.Message.{Message}
 use Rattle.message_frames.specs.declared.control.Control.{Control}
 use Rattle.message_frames.specs.declared.control.Ending.{Ending}
@@ -18,7 +18,7 @@ use Rattle.message_frames.specs.declared.control.Turn.TheVariants.{Fails, Heads,
 use Rattle.message_frames.proofs.Composition.{after_step}
 use Rattle.message_frames.proofs.SoundTurns.{HasList, Counts, CountsAt, turn_counts, sound_after, turn_is_step}
 use Rattle.message_frames.proofs.Planning.{HasLists, lists_after_turn, failing_stays}
-use Rattle.message_frames.proofs.Live.{IsLive, IsStillLive, still_live, have_room_if_live}
+use Rattle.message_frames.proofs.Live.{IsStillLive, still_live, have_room_if_live}
 
 -- messages are counted up
 

@@ -1,11 +1,11 @@
 -- Where the chain of an id is among the open ones.
-use Rattle.std.proofs.Common.{◌≡◌, ℕ, zero, suc, ◌+◌, ◌<◌, ◌≤◌, Bool, true, false, cond, ltb, eqb, List, [], ◌∷◌, ◌++◌, length, get_or, set, take, drop, refl, sym, ◌∙◌, ap, ◌⊎◌, inl, inr, Option, Some, None, arith}
-use Rattle.std.specs.Prelude.{position, remove, IfSome, IfNone, not}
+use Rattle.std.proofs.Common.{◌≡◌, ℕ, zero, suc, ◌<◌, ◌≤◌, Bool, true, false, cond, ltb, List, [], ◌∷◌, length, get_or, set, refl, sym, ◌∙◌, ap, ◌⊎◌, inl, inr, Some, None, arith}
+use Rattle.std.specs.Prelude.{position}
 use Rattle.std.specs.List.{position_or_len}
-use Rattle.std.proofs.lemmas.Bool.{false≢true, cases_Bool}
+use Rattle.std.proofs.lemmas.Bool.{cases_Bool}
 use Rattle.std.proofs.lemmas.Bool.Decides.{nat_tests}
 use Rattle.std.proofs.lemmas.List.Quantifiers.{position-Some}
-use Rattle.message_frames.specs.Turns.{IsAt, Turned, is_named, chain_named, with_tally, without_chain, fails_at, fragment_turn, turned_at, turned}
+use Rattle.message_frames.specs.Turns.{IsAt, is_named, chain_named, with_tally, fails_at, fragment_turn, turned_at, turned}
 use Rattle.message_frames.specs.declared.control.OpenChain.{OpenChain}
 use Rattle.message_frames.specs.declared.control.Control.{Control}
 use Rattle.message_frames.specs.declared.control.Spot.TheVariants.{OfFragment}

@@ -1,28 +1,25 @@
 -- The turn of a fragment's frame is the step of its chain, and so is its header's.
-use Rattle.std.proofs.Common.{◌≡◌, ◌≢◌, ℕ, zero, suc, ◌+◌, ◌<◌, ◌≤◌, Bool, true, false, not, eqb, List, [], ◌∷◌, ◌++◌, length, map, get_or, set, get_or-set_same, get_or-set_other, refl, sym, ◌∙◌, ap, subst, ◌⊎◌, inl, inr, ⊎_elim, Option, Some, None, arith}
+use Rattle.std.proofs.Common.{◌≡◌, ℕ, ◌+◌, ◌<◌, Bool, true, false, List, [], ◌∷◌, ◌++◌, length, set, refl, sym, ◌∙◌, ap, ⊎_elim, Some, None}
 use Rattle.std.specs.Prelude.{◌==◌}
 use Rattle.std.proofs.Math.ListN.{length-map}
 use Rattle.std.proofs.lemmas.List.{map-append}
-use Rattle.std.proofs.lemmas.Bool.{false≢true, cases_Bool}
+use Rattle.std.proofs.lemmas.Bool.{cases_Bool}
 use Rattle.frame_codec.specs.Flags.{without_flag}
 use Rattle.frame_codec.specs.declared.frames.Frame.{Frame}
 use Rattle.frame_codec.specs.declared.frames.PlacedFrame.{PlacedFrame}
 use Rattle.frame_codec.specs.declared.flags.TheConstants.{FINAL}
 use Rattle.frame_codec.specs.declared.malformed.Malformed.{Malformed}
 use Rattle.frame_codec.specs.declared.malformed.Why.{Why}
-use Rattle.frame_codec.specs.declared.malformed.Why.TheVariants.{BadFragment, OpenFragments}
-use Rattle.message_frames.specs.Assembly.{Assembly, Chain, Step, Faulty, Goes, Gives, faulty, Between, InFragment, most_chains, is_final, is_header, begins_chain, ends_chain, chain_id, size_fault, is_open, frames_of, with_frames, without, completed, in_fragment, at_header}
+use Rattle.message_frames.specs.Assembly.{Assembly, Goes, faulty, Between, most_chains, is_final, is_header, begins_chain, chain_id, size_fault, is_open, frames_of, with_frames, without, completed, in_fragment, at_header}
 use Rattle.message_frames.specs.Tallies.{tally_of}
 use Rattle.message_frames.specs.Turns.{Turned, fails, fails_at, chain_named, is_known, with_tally, without_chain, completion_fault, fragment_turn, header_turn}
 use Rattle.message_frames.specs.Lists.{list_at, chain_of, place_of, assembly_of, AreSound, step_of}
 use Rattle.message_frames.specs.declared.control.OpenChain.{OpenChain}
 use Rattle.message_frames.specs.declared.control.Spot.TheVariants.{Free, OfFragment}
 use Rattle.message_frames.specs.declared.control.Ending.TheVariants.{GoesOn, EndsFragment, EndsMessage}
-use Rattle.message_frames.specs.declared.control.Turn.TheVariants.{Fails, Heads, Joins}
+use Rattle.message_frames.specs.declared.control.Turn.TheVariants.{Joins}
 use Rattle.message_frames.specs.declared.control.Control.{Control}
-use Rattle.message_frames.specs.declared.tally.Tally.{Tally}
-use Rattle.message_frames.proofs.ListsOfChains.{IsWithin, named_within, frames_of-named, is_open-chains, with_frames-changed, without-removed}
-use Rattle.message_frames.proofs.SoundChains.{opened}
+use Rattle.message_frames.proofs.ListsOfChains.{named_within, frames_of-named, is_open-chains, with_frames-changed, without-removed}
 use Rattle.message_frames.proofs.TurnSteps.{counted_ok, counted_err, none_or_some, completes, completion_fails}
 
 -- what a turn of a fragment's frame comes to

@@ -1,8 +1,7 @@
 -- What a reader stands for as more bytes come.
-use Rattle.std.proofs.Common.{◌≡◌, ℕ, ◌+◌, ◌-◌, ◌^◌, ◌<◌, ◌≤◌, min, Bool, true, false, List, [], ◌∷◌, ◌++◌, length, drop, append-nil, length-append, length-drop, refl, sym, ◌∙◌, ap, subst, ◌⊎◌, inl, inr, ⊎_elim, Option, Some, None, arith}
-use Rattle.frame_codec.specs.FrameReaders.{InProgress, next_place, kept, standing as frames_standing, StandsFor as FramesStandFor, frames_of as read_frames, fault_of as read_fault}
+use Rattle.std.proofs.Common.{◌≡◌, ℕ, ◌+◌, ◌-◌, ◌^◌, ◌<◌, ◌≤◌, min, Bool, true, false, List, [], ◌∷◌, ◌++◌, length, drop, append-nil, length-append, length-drop, refl, sym, ◌∙◌, ap, subst, ◌⊎◌, inl, inr, Option, Some, None, arith}
+use Rattle.frame_codec.specs.FrameReaders.{InProgress, next_place, kept, standing as frames_standing, StandsFor as FramesStandFor}
 use Rattle.frame_codec.specs.Reading.{Reading, reading}
-use Rattle.frame_codec.specs.declared.frames.PlacedFrame.{PlacedFrame}
 use Rattle.frame_codec.specs.declared.malformed.Malformed.{Malformed}
 use Rattle.frame_codec.specs.declared.malformed.Why.TheVariants.{Prefix}
 use Rattle.message_frames.specs.Assembly.{Assembly, Assembled, assembled, nothing_yet}

@@ -46,3 +46,5 @@ pub mod Settled
 pub mod Examples
 pub mod PrefixParts
 pub mod Hearings
+pub mod Backward
+pub mod LeadingBack

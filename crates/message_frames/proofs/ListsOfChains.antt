@@ -1,12 +1,10 @@
 -- Chains and their lists: a change of one list changes one chain.
-use Rattle.std.proofs.Common.{◌≡◌, ◌≢◌, ℕ, zero, suc, ◌+◌, ◌<◌, ◌≤◌, Bool, true, false, not, eqb, List, [], ◌∷◌, ◌++◌, length, map, filter, get_or, set, get_or-set_same, get_or-set_other, refl, sym, ◌∙◌, ap, subst, ◌⊎◌, inl, inr, Option, Some, None, arith}
+use Rattle.std.proofs.Common.{◌≡◌, ◌≢◌, ℕ, suc, ◌<◌, ◌≤◌, true, false, List, [], ◌∷◌, length, map, set, get_or-set_same, get_or-set_other, refl, sym, ◌∙◌, ap, subst, ◌⊎◌, inl, inr, Some, arith}
 use Rattle.std.specs.Prelude.{◌||◌}
-use Rattle.std.specs.List.{list_any}
-use Rattle.std.proofs.lemmas.Bool.{false≢true, cases_Bool, or_parts, eq-eqb, eqb-true}
-use Rattle.std.proofs.lemmas.Bool.Decides.{nat_tests}
+use Rattle.std.proofs.lemmas.Bool.{false≢true, cases_Bool, or_parts, eqb-true}
 use Rattle.frame_codec.specs.declared.frames.Frame.{Frame}
-use Rattle.message_frames.specs.Assembly.{Chain, has_id, is_open, frames_of, with_frames, without}
-use Rattle.message_frames.specs.Tallies.{tally_of, no_tally}
+use Rattle.message_frames.specs.Assembly.{is_open, frames_of, with_frames, without}
+use Rattle.message_frames.specs.Tallies.{tally_of}
 use Rattle.message_frames.specs.Turns.{is_named, is_known, chain_named, with_tally, without_chain}
 use Rattle.message_frames.specs.Lists.{list_at, chain_of, AreSound}
 use Rattle.message_frames.specs.declared.control.OpenChain.{OpenChain}

@@ -1,21 +1,20 @@
 -- Lists that later frames can join: those of open messages, and those that aren't used yet.
-use Rattle.std.proofs.Common.{◌≡◌, ◌≢◌, ℕ, zero, suc, ◌+◌, ◌<◌, ◌≤◌, Bool, true, false, List, [], ◌∷◌, ◌++◌, length, get_or, refl, sym, ◌∙◌, ap, subst, ◌⊎◌, inl, inr, ⊎_elim, Option, Some, None, arith}
-use Rattle.std.proofs.lemmas.Bool.{false≢true, cases_Bool}
+use Rattle.std.proofs.Common.{◌≡◌, ◌≢◌, ℕ, suc, ◌+◌, ◌<◌, ◌≤◌, Bool, true, false, List, [], ◌∷◌, ◌++◌, length, get_or, sym, ◌∙◌, ap, subst, ◌⊎◌, inl, inr, ⊎_elim, Some, arith}
+use Rattle.std.proofs.lemmas.Bool.{cases_Bool}
 use Rattle.frame_codec.specs.declared.frames.Frame.{Frame}
 use Rattle.frame_codec.specs.declared.frames.PlacedFrame.{PlacedFrame}
-use Rattle.message_frames.specs.Turns.{Turned, is_named, chain_named, with_tally, without_chain, begun_at, turned, is_failing, HasRoom, HaveRoom}
+use Rattle.message_frames.specs.Turns.{Turned, is_named, chain_named, with_tally, without_chain, turned, HasRoom, HaveRoom}
 use Rattle.message_frames.specs.Lists.{AreSound, IsSound}
 use Rattle.message_frames.specs.declared.control.Begun.{Begun}
 use Rattle.message_frames.specs.declared.control.OpenChain.{OpenChain}
 use Rattle.message_frames.specs.declared.control.Spot.{Spot}
 use Rattle.message_frames.specs.declared.control.Spot.TheVariants.{Free, OfMessage, OfFragment}
-use Rattle.message_frames.specs.declared.control.Ending.{Ending}
 use Rattle.message_frames.specs.declared.control.Ending.TheVariants.{GoesOn, EndsFragment, EndsMessage}
 use Rattle.message_frames.specs.declared.control.Turn.{Turn}
 use Rattle.message_frames.specs.declared.control.Turn.TheVariants.{Fails, Heads, Joins}
 use Rattle.message_frames.specs.declared.control.Control.{Control}
 use Rattle.message_frames.specs.declared.tally.Tally.{Tally}
-use Rattle.message_frames.proofs.ListsOfChains.{IsWithin, named_within, bounds}
+use Rattle.message_frames.proofs.ListsOfChains.{named_within, bounds}
 use Rattle.message_frames.proofs.SoundChains.{opened}
 use Rattle.message_frames.proofs.TurnForms.{IsNext, Begins, Follows, Form, Failing, Opening, Continuing, MessageOn, MessageEnds, FragmentOn, FragmentEnds, ChainEnds, turned_form}
 use Rattle.message_frames.proofs.Planning.{HasLists, lists_after_turn}

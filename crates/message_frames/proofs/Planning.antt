@@ -1,5 +1,5 @@
 -- Room that is made for one frame after the other is room for all.
-use Rattle.std.proofs.Common.{◌≡◌, ℕ, zero, suc, ◌+◌, ◌<◌, ◌≤◌, Bool, true, false, List, [], ◌∷◌, ◌++◌, length, get_or, take, drop, drop-cons, add-one, replicate, refl, sym, ◌∙◌, ap, subst, arith}
+use Rattle.std.proofs.Common.{◌≡◌, ℕ, suc, ◌+◌, ◌<◌, ◌≤◌, true, false, List, [], ◌∷◌, ◌++◌, length, get_or, take, drop, drop-cons, add-one, replicate, refl, sym, ◌∙◌, ap, subst, arith}
 use Rattle.std.proofs.lemmas.Bool.{false≢true}
 use Rattle.std.proofs.lemmas.List.{take_more, take-append-drop}
 use Rattle.frame_codec.specs.declared.frames.Frame.{Frame}
@@ -12,7 +12,7 @@ use Rattle.message_frames.specs.declared.control.Turn.{Turn}
 use Rattle.message_frames.specs.declared.control.Turn.TheVariants.{Fails, Heads, Joins}
 use Rattle.message_frames.proofs.SameLists.{sound_same, padded_same, length-padded}
 use Rattle.message_frames.proofs.TurnForms.{Form, Failing, Opening, Continuing, MessageOn, MessageEnds, FragmentOn, FragmentEnds, ChainEnds, turned_form}
-use Rattle.message_frames.proofs.SoundTurns.{HasList, Counts, CountsAt, turn_counts, sound_after}
+use Rattle.message_frames.proofs.SoundTurns.{HasList, CountsAt, turn_counts, sound_after}
 
 -- frames of which none fails
 abbrev pub GoOn : ℕ → List PlacedFrame → Control → Type 0

@@ -1,5 +1,5 @@
 -- Room in lists.
-use Rattle.std.proofs.Common.{◌≡◌, ◌≢◌, ℕ, zero, suc, ◌+◌, ◌<◌, ◌≤◌, List, [], ◌∷◌, ◌++◌, length, map, get_or, set, take, get_or-set_other, length-set, length-append, refl, sym, ◌∙◌, ap, ◌⊎◌, inl, inr, arith, vec_capacity}
+use Rattle.std.proofs.Common.{◌≡◌, ℕ, zero, suc, ◌<◌, ◌≤◌, List, [], ◌∷◌, ◌++◌, length, get_or, set, take, get_or-set_other, length-set, length-append, refl, sym, ◌∙◌, ap, arith, vec_capacity}
 use Rattle.std.specs.Global.{Vec}
 use Rattle.std.proofs.lemmas.List.{set-get_or, map-set}
 use Rattle.frame_codec.specs.declared.frames.Frame.{Frame}

@@ -1,9 +1,9 @@
 -- Lists with the same frames are the same state.
-use Rattle.std.proofs.Common.{◌≡◌, ℕ, zero, suc, ◌+◌, ◌<◌, ◌≤◌, List, [], ◌∷◌, ◌++◌, length, map, get_or, replicate, length-append, refl, sym, ◌∙◌, ap, arith}
+use Rattle.std.proofs.Common.{◌≡◌, ℕ, zero, suc, ◌≤◌, List, [], ◌∷◌, ◌++◌, length, map, replicate, length-append, refl, sym, ◌∙◌, ap, arith}
 use Rattle.std.proofs.Math.ListN.{length-replicate}
 use Rattle.frame_codec.specs.declared.frames.Frame.{Frame}
 use Rattle.message_frames.specs.Tallies.{tally_of}
-use Rattle.message_frames.specs.Lists.{list_at, chain_of, place_of, assembly_of, chains_end, AreSound, IsSoundSpot, IsSound}
+use Rattle.message_frames.specs.Lists.{list_at, chain_of, place_of, assembly_of, chains_end, IsSoundSpot, IsSound}
 use Rattle.message_frames.specs.declared.control.OpenChain.{OpenChain}
 use Rattle.message_frames.specs.declared.control.Spot.{Spot}
 use Rattle.message_frames.specs.declared.control.Spot.TheVariants.{Free, OfMessage, OfFragment}

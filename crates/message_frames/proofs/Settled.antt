@@ -1,10 +1,9 @@
 -- Control and lists that are numbered anew are the same state.
-use Rattle.std.proofs.Common.{◌≡◌, ℕ, zero, suc, ◌+◌, ◌<◌, ◌≤◌, Bool, true, false, List, [], ◌∷◌, ◌++◌, length, map, length-append, append-nil, refl, sym, ◌∙◌, ap, subst, arith}
+use Rattle.std.proofs.Common.{◌≡◌, ℕ, ◌+◌, ◌≤◌, List, [], ◌∷◌, ◌++◌, length, length-append, refl, sym, ◌∙◌, ap, subst, arith}
 use Rattle.std.proofs.lemmas.List.{length-map, get_or_past}
 use Rattle.frame_codec.specs.declared.frames.Frame.{Frame}
 use Rattle.message_frames.specs.Tallies.{tally_of}
-use Rattle.message_frames.specs.Lists.{list_at, chain_of, place_of, assembly_of, chains_end, AreSound, IsSoundSpot, IsSound, renumbered, lists_of, spot_with, spot_lists}
-use Rattle.message_frames.specs.declared.control.Begun.{Begun}
+use Rattle.message_frames.specs.Lists.{list_at, place_of, assembly_of, chains_end, AreSound, IsSoundSpot, IsSound, renumbered, lists_of, spot_with, spot_lists}
 use Rattle.message_frames.specs.declared.control.OpenChain.{OpenChain}
 use Rattle.message_frames.specs.declared.control.Spot.{Spot}
 use Rattle.message_frames.specs.declared.control.Spot.TheVariants.{Free, OfMessage, OfFragment}
@@ -28,6 +27,11 @@ pub length-spot_lists : (lists others : List (List Frame)) (spot : Spot) → len
 length-spot_lists lists others Free = refl
 length-spot_lists lists others (OfMessage begun) = refl
 length-spot_lists lists others (OfFragment id last) = refl
+
+pub spot_lists_few : (lists : List (List Frame)) (spot : Spot) → length (spot_lists lists spot) ≤ 1
+spot_lists_few lists Free = omega arith
+spot_lists_few lists (OfMessage begun) = omega arith
+spot_lists_few lists (OfFragment id last) = omega arith
 
 module _ (lists : List (List Frame)) (chains : List OpenChain) where
   count_of_lists : length (lists_of lists chains) ≡ length chains

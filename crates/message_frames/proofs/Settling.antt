@@ -1,5 +1,5 @@
 -- Lists that are numbered anew are the same state.
-use Rattle.std.proofs.Common.{◌≡◌, ◌≢◌, ℕ, zero, suc, ◌+◌, ◌<◌, ◌≤◌, Bool, true, false, List, [], ◌∷◌, ◌++◌, length, map, get_or, set, take, drop, drop-cons, add-one, length-take, get_or-set_other, length-append, append_assoc, refl, sym, ◌∙◌, ap, subst, ◌⊎◌, inl, inr, ⊎_elim, arith}
+use Rattle.std.proofs.Common.{◌≡◌, ◌≢◌, ℕ, suc, ◌+◌, ◌<◌, List, [], ◌∷◌, ◌++◌, length, map, get_or, set, take, drop, drop-cons, add-one, length-take, get_or-set_other, length-append, append_assoc, refl, sym, ◌∙◌, ap, subst, ◌⊎◌, inl, inr, arith}
 use Rattle.std.specs.Prelude.{◌||◌}
 use Rattle.std.proofs.lemmas.List.{map-append, take_more, take-append-drop}
 use Rattle.frame_codec.specs.declared.frames.Frame.{Frame}
@@ -7,7 +7,6 @@ use Rattle.message_frames.specs.Tallies.{tally_of}
 use Rattle.message_frames.specs.Turns.{is_named, is_known}
 use Rattle.message_frames.specs.Lists.{list_at, chain_of, AreSound, renumbered, lists_of}
 use Rattle.message_frames.specs.declared.control.OpenChain.{OpenChain}
-use Rattle.message_frames.proofs.ListsOfChains.{bounds}
 use Rattle.message_frames.proofs.Live.{IsOfChain, of_within}
 
 suc_moved : (a b : ℕ) → suc a + b ≡ a + suc b

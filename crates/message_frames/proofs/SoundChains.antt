@@ -1,7 +1,7 @@
 -- Chains stay sound as one is opened, changed or taken away.
-use Rattle.std.proofs.Common.{◌≡◌, ◌≢◌, ℕ, zero, suc, ◌+◌, ◌<◌, ◌≤◌, Bool, true, false, not, eqb, List, [], ◌∷◌, ◌++◌, length, map, get_or, set, get_or-set_same, get_or-set_other, refl, sym, ◌∙◌, ap, subst, ◌⊎◌, inl, inr, Option, Some, None, arith}
+use Rattle.std.proofs.Common.{◌≡◌, ◌≢◌, ℕ, suc, ◌<◌, ◌≤◌, Bool, true, false, eqb, List, [], ◌∷◌, ◌++◌, length, set, get_or-set_same, get_or-set_other, refl, sym, ◌∙◌, ap, subst, ◌⊎◌, inl, inr, Some, arith}
 use Rattle.std.specs.Prelude.{◌||◌}
-use Rattle.std.proofs.lemmas.Bool.{false≢true, cases_Bool, or_parts, eq-eqb, eqb-true}
+use Rattle.std.proofs.lemmas.Bool.{cases_Bool, or_parts, eq-eqb}
 use Rattle.std.proofs.lemmas.Bool.Decides.{nat_tests}
 use Rattle.frame_codec.specs.declared.frames.Frame.{Frame}
 use Rattle.message_frames.specs.Tallies.{tally_of, no_tally}
@@ -9,7 +9,7 @@ use Rattle.message_frames.specs.Turns.{is_named, is_known, chain_named, with_tal
 use Rattle.message_frames.specs.Lists.{list_at, AreSound}
 use Rattle.message_frames.specs.declared.control.OpenChain.{OpenChain}
 use Rattle.message_frames.specs.declared.tally.Tally.{Tally}
-use Rattle.message_frames.proofs.ListsOfChains.{IsWithin, named_within, bounds, from_less, to_more, sound_with}
+use Rattle.message_frames.proofs.ListsOfChains.{named_within, from_less, sound_with}
 
 pub is_known-with_tally : (i id : ℕ) (tally : Tally) (chains : List OpenChain) → is_known i (with_tally id tally chains) ≡ is_known i chains
 is_known-with_tally i id tally [] = refl

@@ -1,5 +1,5 @@
 -- Control stays sound with each turn, and each turn is a step.
-use Rattle.std.proofs.Common.{◌≡◌, ◌≢◌, ℕ, zero, suc, ◌+◌, ◌<◌, ◌≤◌, Bool, true, false, List, [], ◌∷◌, ◌++◌, length, get_or, set, get_or-set_same, get_or-set_other, length-append, refl, sym, ◌∙◌, ap, subst, ◌⊎◌, inl, inr, ⊎_elim, Option, Some, None, arith}
+use Rattle.std.proofs.Common.{◌≡◌, ◌≢◌, ℕ, suc, ◌+◌, ◌<◌, ◌≤◌, Bool, true, false, List, [], ◌∷◌, ◌++◌, length, set, get_or-set_same, get_or-set_other, refl, sym, ◌∙◌, ap, subst, ◌⊎◌, inl, inr, Some, arith}
 use Rattle.std.proofs.lemmas.Bool.{cases_Bool}
 use Rattle.frame_codec.specs.Flags.{without_flag}
 use Rattle.frame_codec.specs.declared.flags.TheConstants.{FINAL}
@@ -13,13 +13,12 @@ use Rattle.message_frames.specs.declared.control.Begun.{Begun}
 use Rattle.message_frames.specs.declared.control.OpenChain.{OpenChain}
 use Rattle.message_frames.specs.declared.control.Spot.{Spot}
 use Rattle.message_frames.specs.declared.control.Spot.TheVariants.{Free, OfMessage, OfFragment}
-use Rattle.message_frames.specs.declared.control.Ending.{Ending}
 use Rattle.message_frames.specs.declared.control.Ending.TheVariants.{GoesOn, EndsFragment, EndsMessage}
 use Rattle.message_frames.specs.declared.control.Turn.{Turn}
 use Rattle.message_frames.specs.declared.control.Turn.TheVariants.{Fails, Heads, Joins}
 use Rattle.message_frames.specs.declared.control.Control.{Control}
 use Rattle.message_frames.specs.declared.tally.Tally.{Tally}
-use Rattle.message_frames.proofs.ListsOfChains.{IsWithin, named_within, known_is_named, bounds, from_less, to_more, sound_with}
+use Rattle.message_frames.proofs.ListsOfChains.{named_within, known_is_named, to_more, sound_with}
 use Rattle.message_frames.proofs.SoundChains.{opened, known_when_opened, is_known-with_tally, sound_changed, sound_removed, sound_opened}
 use Rattle.message_frames.proofs.TurnSteps.{tally_with-of, message_step}
 use Rattle.message_frames.proofs.FragmentSteps.{fragment_step, header_step}

@@ -1,5 +1,5 @@
 -- The forms that a turn can have, and what it leaves of the state.
-use Rattle.std.proofs.Common.{◌≡◌, ℕ, zero, suc, ◌+◌, ◌<◌, ◌≤◌, Bool, true, false, not, List, [], ◌∷◌, ◌++◌, length, refl, sym, ◌∙◌, ap, subst, ◌⊎◌, inl, inr, ⊎_elim, Option, Some, None, Ok, Err, Result, arith}
+use Rattle.std.proofs.Common.{◌≡◌, ℕ, ◌+◌, Bool, true, false, [], ◌∷◌, ◌++◌, length, refl, ap, ◌⊎◌, inl, inr, ⊎_elim, Some, None, Ok, Err}
 use Rattle.std.specs.Prelude.{◌==◌}
 use Rattle.std.proofs.lemmas.Bool.{cases_Bool}
 use Rattle.frame_codec.specs.declared.frames.Frame.{Frame}
@@ -9,13 +9,13 @@ use Rattle.frame_codec.specs.declared.malformed.Why.{Why}
 use Rattle.frame_codec.specs.declared.malformed.Why.TheVariants.{BadFragment, OpenFragments}
 use Rattle.message_frames.specs.Assembly.{most_chains, is_unfragmented, is_final, is_header, begins_chain, ends_chain, chain_id}
 use Rattle.message_frames.specs.Tallies.{tally_with, counted, limit_fault}
-use Rattle.message_frames.specs.Turns.{Turned, begun_at, fails, fails_at, chain_named, is_known, with_tally, without_chain, completion_fault, message_turn, header_turn, fragment_turn, turned_at, turned}
+use Rattle.message_frames.specs.Turns.{Turned, begun_at, fails, chain_named, is_known, with_tally, without_chain, completion_fault, message_turn, header_turn, fragment_turn, turned_at, turned}
 use Rattle.message_frames.specs.declared.control.Begun.{Begun}
 use Rattle.message_frames.specs.declared.control.OpenChain.{OpenChain}
 use Rattle.message_frames.specs.declared.control.Spot.{Spot}
 use Rattle.message_frames.specs.declared.control.Spot.TheVariants.{Free, OfMessage, OfFragment}
 use Rattle.message_frames.specs.declared.control.Ending.TheVariants.{GoesOn, EndsFragment, EndsMessage}
-use Rattle.message_frames.specs.declared.control.Turn.TheVariants.{Fails, Heads, Joins}
+use Rattle.message_frames.specs.declared.control.Turn.TheVariants.{Heads, Joins}
 use Rattle.message_frames.specs.declared.control.Control.{Control}
 use Rattle.message_frames.specs.declared.tally.Tally.{Tally}
 use Rattle.message_frames.proofs.SoundChains.{opened}

@@ -1,7 +1,7 @@
 -- A turn is the step of the state that control and lists are.
-use Rattle.std.proofs.Common.{◌≡◌, ◌≢◌, ℕ, zero, suc, ◌+◌, ◌<◌, ◌≤◌, Bool, true, false, not, eqb, List, [], ◌∷◌, ◌++◌, length, map, get_or, set, get_or-set_same, get_or-set_other, length-append, refl, sym, ◌∙◌, ap, subst, ◌⊎◌, inl, inr, ⊎_elim, Option, Some, None, Ok, Err, Result, arith}
+use Rattle.std.proofs.Common.{◌≡◌, ◌≢◌, ℕ, ◌+◌, ◌<◌, ◌≤◌, true, false, List, [], ◌∷◌, ◌++◌, length, map, set, get_or-set_same, get_or-set_other, length-append, refl, sym, ◌∙◌, ap, ◌⊎◌, inl, inr, ⊎_elim, Option, Some, None, Ok, Err, Result, arith}
 use Rattle.std.specs.Prelude.{sum_by, nat_lt, ◌==◌}
-use Rattle.std.proofs.lemmas.Bool.{false≢true, cases_Bool}
+use Rattle.std.proofs.lemmas.Bool.{cases_Bool}
 use Rattle.std.proofs.Math.Dec.{eqb-suc-zero}
 use Rattle.std.proofs.lemmas.List.Sums.{sum_by-append}
 use Rattle.frame_codec.specs.Frames.{frame_length}
@@ -9,7 +9,7 @@ use Rattle.frame_codec.specs.declared.frames.Frame.{Frame}
 use Rattle.frame_codec.specs.declared.frames.PlacedFrame.{PlacedFrame}
 use Rattle.frame_codec.specs.declared.malformed.Malformed.{Malformed}
 use Rattle.frame_codec.specs.declared.malformed.Why.{Why}
-use Rattle.message_frames.specs.Assembly.{Assembly, Step, Faulty, Goes, Gives, faulty, Between, InMessage, most_messages, is_final, size_fault, first_payload, completed, in_message, step}
+use Rattle.message_frames.specs.Assembly.{Assembly, Faulty, Goes, Gives, faulty, Between, InMessage, most_messages, is_final, size_fault, first_payload, completed, in_message}
 use Rattle.message_frames.specs.Tallies.{tally_of, tally_with, counted, limit_fault}
 use Rattle.message_frames.specs.Turns.{Turned, fails, fails_at, completion_fault, message_turn}
 use Rattle.message_frames.specs.Lists.{list_at, chain_of, assembly_of, AreSound, step_of}
@@ -17,7 +17,7 @@ use Rattle.message_frames.specs.declared.control.Begun.{Begun}
 use Rattle.message_frames.specs.declared.control.Spot.TheVariants.{Free, OfMessage}
 use Rattle.message_frames.specs.declared.control.Ending.{Ending}
 use Rattle.message_frames.specs.declared.control.Ending.TheVariants.{GoesOn, EndsMessage}
-use Rattle.message_frames.specs.declared.control.Turn.TheVariants.{Fails, Joins}
+use Rattle.message_frames.specs.declared.control.Turn.TheVariants.{Joins}
 use Rattle.message_frames.specs.declared.control.Control.{Control}
 use Rattle.message_frames.specs.declared.control.OpenChain.{OpenChain}
 use Rattle.message_frames.specs.declared.tally.Tally.{Tally}

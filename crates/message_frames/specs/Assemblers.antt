@@ -1,9 +1,9 @@
 -- An assembler of messages: the state that it has, and the room that frames need in it.
-use Rattle.std.specs.Prelude.{◌≡◌, ℕ, ◌-◌, ◌<◌, ◌≤◌, List, [], length, Option, Some, None, vec_len, vec_capacity}
+use Rattle.std.specs.Prelude.{◌≡◌, ℕ, ◌+◌, ◌-◌, ◌<◌, ◌≤◌, List, [], length, Option, Some, None, vec_len, vec_capacity}
 use Rattle.std.specs.Global.{Vec}
 use Rattle.frame_codec.specs.declared.frames.Frame.{Frame}
 use Rattle.frame_codec.specs.declared.frames.PlacedFrame.{PlacedFrame}
-use Rattle.message_frames.specs.Assembly.{Assembly}
+use Rattle.message_frames.specs.Assembly.{Assembly, most_chains}
 use Rattle.message_frames.specs.Turns.{after_all, HaveRoom}
 use Rattle.message_frames.specs.Lists.{assembly_of, IsSound, frames_in, rooms_in}
 use Rattle.message_frames.specs.declared.control.Control.{Control}
@@ -17,18 +17,36 @@ pub record IsSoundAssembler (a : Assembler) : Type 0 where
   pub control : IsSound a.control (frames_in a.lists.items)
   pub count : a.control.lists ≤ vec_len a.lists
 
--- room for the lists of all open messages, where they are to be moved
-abbrev pub HoldsLists : Control → Option (Vec (Vec Frame)) → Type 0
-HoldsLists after None = Unit {0}
-HoldsLists after (Some kept) = (kept.items ≡ []) × (length after.chains.items < vec_capacity kept)
+-- Between pieces there is a list for each open chain at most, and one for a message in progress.
+abbrev pub most_lists : ℕ
+most_lists = most_chains + 1
+
+abbrev pub HasFewLists : Assembler → Type 0
+HasFewLists a = vec_len a.lists ≤ most_lists
+
+-- room for the lists of all open messages, which are to be moved
+pub record IsRoomForLists (after : Control) (kept : Vec (Vec Frame)) : Type 0 where
+  pub none : kept.items ≡ []
+  pub room : length after.chains.items < vec_capacity kept
+
+-- There is room for the lists of all open messages, or they needn't be moved.
+abbrev pub HoldsLists : Assembler → Option (Vec (Vec Frame)) → Type 0
+HoldsLists a None = HasFewLists a
+HoldsLists a (Some kept) = IsRoomForLists a.control kept
 
 -- room for the messages that are complete between two states of control, and for the lists of the later one
 pub record IsRoomAfter (before after : Control) (room : Room) : Type 0 where
   pub none : room.messages.items ≡ []
   pub empty : vec_len room.messages ≡ 0
   pub numbers : after.complete - before.complete ≤ vec_capacity room.messages
-  pub kept : HoldsLists after room.kept
+  pub kept : IsRoomForLists after room.kept
+
+-- room for where each frame goes
+pub record IsRoomForTrack (room : Room) (frames : List PlacedFrame) : Type 0 where
+  pub none : room.track.items ≡ []
+  pub ways : length frames ≤ vec_capacity room.track
 
 pub record IsRoomFor (a : Assembler) (room : Room) (frames : List PlacedFrame) : Type 0 where
   pub lists : HaveRoom a.shortest (rooms_in a.lists.items) frames a.control
   pub rest : IsRoomAfter a.control (after_all a.shortest frames a.control) room
+  pub track : IsRoomForTrack room frames

@@ -10,3 +10,5 @@ pub mod Laws
 pub mod Writing
 pub mod Assemblers
 pub mod FedFrames
+pub mod Tracks
+pub mod Streams

@@ -1,11 +1,9 @@
 -- What a reader of messages stands for: all bytes of its connection so far, however they were cut.
-use Rattle.std.specs.Prelude.{◌≡◌, ℕ, ◌≤◌, Bool, List, drop, length, min, Option, Some, None}
+use Rattle.std.specs.Prelude.{◌≡◌, ℕ, Bool, List, drop, length, min, Option, Some, None}
 use Rattle.frame_codec.specs.FrameReaders.{InProgress, standing as frames_standing}
 use Rattle.frame_codec.specs.Reading.{reading}
 use Rattle.frame_codec.specs.declared.malformed.Malformed.{Malformed}
 use Rattle.message_frames.specs.Assembly.{Assembly, assembled, nothing_yet}
-use Rattle.message_frames.specs.Assemblers.{state_of, IsSoundAssembler}
-use Rattle.message_frames.specs.declared.assembler.Assembler.{Assembler}
 use Rattle.message_frames.specs.Messages.{prefix_of, shortest_start, fault_of}
 
 pub data Hearing : Type 0 where
@@ -41,11 +39,3 @@ hearing (Some fault) prefix begun frame assembly = Failed fault
 abbrev pub shown_fault : Hearing → Option Malformed
 shown_fault (Live prefix begun frame assembly) = None
 shown_fault (Failed fault) = Some fault
-
--- What a reader keeps of its fields: there is a text that it stands for, so that its places are small.
-pub record IsHearing (fault : Option Malformed) (prefix : Bool) (begun : ℕ) (frame : InProgress) (assembler : Assembler) : Type 0 where
-  pub sound : IsSoundAssembler assembler
-  pub shortest : assembler.shortest ≡ shortest_start prefix
-  pub within : begun ≤ length (prefix_of prefix)
-  pub text : List ℕ
-  pub stands : hearing fault prefix begun frame (state_of assembler) ≡ standing prefix text

@@ -1,5 +1,5 @@
 -- What the frames of a message come to: all that its limits and its completion need to know of them.
-use Rattle.std.specs.Prelude.{ℕ, ◌+◌, ◌==◌, if◌then◌else◌, List, length, sum_by, Option, Some, None, Result, Ok, Err, nat_lt}
+use Rattle.std.specs.Prelude.{◌+◌, ◌==◌, if◌then◌else◌, List, length, sum_by, Option, Some, None, Result, Ok, Err, nat_lt}
 use Rattle.frame_codec.specs.Frames.{frame_length}
 use Rattle.frame_codec.specs.declared.frames.Frame.{Frame}
 use Rattle.frame_codec.specs.declared.malformed.Why.{Why}

@@ -1,7 +1,6 @@
 -- Which frame goes where: what one frame more is, and what it does to the state of a connection, apart from the frames that came before it.
 use Rattle.std.specs.Prelude.{◌≡◌, ℕ, ◌+◌, ◌<◌, ◌≤◌, ◌==◌, slice_index_or, slice_set, remove, Bool, true, false, not, if◌then◌else◌, List, [], ◌∷◌, ◌++◌, length, Option, Some, None, Ok, Err, nat_lt}
 use Rattle.std.specs.List.{list_any}
-use Rattle.frame_codec.specs.declared.frames.Frame.{Frame}
 use Rattle.frame_codec.specs.declared.frames.PlacedFrame.{PlacedFrame}
 use Rattle.frame_codec.specs.declared.malformed.Malformed.{Malformed}
 use Rattle.frame_codec.specs.declared.malformed.Why.{Why}

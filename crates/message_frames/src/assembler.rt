@@ -1,7 +1,9 @@
 //! The messages in progress: the control and the frames that it speaks of, in numbered lists.
-ghost use Rattle.std.specs.Prelude.{◌≡◌, ℕ, ◌+◌, ◌-◌, ◌^◌, ◌<◌, ◌≤◌, [], ◌∷◌, ◌++◌, length, vec_len, vec_capacity, slice_index, slice_set, OnOk, OnErr, IfOk};
+ghost use Rattle.std.specs.Prelude.{◌≡◌, ℕ, ◌+◌, ◌-◌, ◌^◌, ◌<◌, ◌≤◌, [], ◌∷◌, ◌++◌, length, vec_len, vec_capacity, slice_index, slice_set, All, None, OnOk, OnErr, IfOk};
+ghost use Rattle.message_frames.specs.Messages.{or_else};
 ghost use Rattle.message_frames.specs.Assembly.{assembled, nothing_yet};
-ghost use Rattle.message_frames.specs.Assemblers.{state_of, IsSoundAssembler, IsRoomAfter, IsRoomFor};
+ghost use Rattle.message_frames.specs.Assemblers.{state_of, IsSoundAssembler, IsRoomAfter, IsRoomFor, HoldsLists, HasFewLists, most_lists, IsRoomForTrack};
+ghost use Rattle.message_frames.specs.Tracks.{held_in, way_to, without_frame, taken_back, frame_back, first_back, LeadsBelow, IsPayloadOf, IsTrackOf};
 ghost use Rattle.message_frames.specs.Turns.{JoinsBelow, HasRoom, HaveRoom, after_all};
 ghost use Rattle.message_frames.specs.Lists.{list_at, frames_in, rooms_in, GetRoom, LosesRoom, KeepsRoom, HasNumber, given, ended, assembly_of, AreSound, IsSound, renumbered, lists_of, IsBelow, spot_with, spot_lists};
 
@@ -14,9 +16,6 @@ use grid_base::Memory;
 use std::alloc::Global;
 use std::mem;
 
-/// How many lists there may be before those of open messages are numbered anew.
-const MANY_LISTS: usize = 64;
-
 /// The messages in progress on a connection.
 #[derive(Debug, Drop)]
 pub(crate) struct Assembler {
@@ -26,11 +25,50 @@ pub(crate) struct Assembler {
     pub(crate) lists: Vec<Vec<Frame>>,
 }
 
-/// Room for the messages that frames give, and for the lists that they leave where there are many.
+/// Room for the messages that frames give, for where each frame goes, and for the lists that they leave.
 #[derive(Drop)]
 pub(crate) struct Room {
     pub(crate) messages: Vec<Message>,
+    pub(crate) track: Vec<Way>,
+    pub(crate) kept: Vec<Vec<Frame>>,
+}
+
+/// Where a frame went.
+#[derive(Debug, Drop)]
+pub(crate) enum Way {
+    /// To the end of a list.
+    Listed(usize),
+    /// To the end of a list, which was then given away as a message.
+    Given(usize),
+    /// To no list: it heads a fragment, or it fails.
+    Apart(Frame),
+}
+
+/// What frames gave, where each of them went, and room for the lists that they leave, if there were any frames.
+#[derive(Drop)]
+pub(crate) struct Taken {
+    pub(crate) messages: Vec<Message>,
+    pub(crate) fault: Option<Malformed>,
+    pub(crate) track: Vec<Way>,
     pub(crate) kept: Option<Vec<Vec<Frame>>>,
+}
+
+impl Taken {
+    /// With that fault where none has shown.
+    pub(crate) fn or_fault(self, later: Option<Malformed>) -> Self
+        ensures { result ≡ record self { fault = or_else self.fault later } }
+    {
+        let fault = match self.fault {
+            Some(fault) => Some(fault),
+            None => later,
+        };
+        Taken {
+            messages: self.messages,
+            fault,
+            track: self.track,
+            kept: self.kept,
+        }
+    }
 }
 
 impl Assembler {
@@ -38,6 +76,7 @@ impl Assembler {
     pub(crate) fn new(alloc: Global, shortest: usize) -> Self
         ensures shortest { result.shortest ≡ shortest }
         ensures sound { IsSoundAssembler result }
+        ensures few { HasFewLists result }
         ensures state { state_of result ≡ nothing_yet }
     {
         Assembler {
@@ -51,9 +90,11 @@ impl Assembler {
     pub(crate) fn prepare(&mut self, alloc: Global, frames: &[PlacedFrame]) -> Result<Room, Memory>
         requires { IsSoundAssembler self.old }
         ensures shortest { self.new.shortest ≡ self.old.shortest }
+        ensures control { self.new.control ≡ self.old.control }
         ensures state { state_of self.new ≡ state_of self.old }
         ensures sound { IsSoundAssembler self.new }
         ensures room { IfOk result (λ room. IsRoomFor self.new room frames.now) }
+        ensures err { OnErr result (vec_len self.new.lists ≤ vec_len self.old.lists) }
     {
         match room_for(alloc, self.shortest, &self.control, &mut self.lists, frames) {
             Ok(room) => Ok(room),
@@ -65,21 +106,25 @@ impl Assembler {
     }
 
     /// Takes frames for which there is room, up to the first fault, and gives the messages that they complete. Takes no memory.
-    pub(crate) fn take(
-        &mut self,
-        alloc: Global,
-        frames: Vec<PlacedFrame>,
-        room: Room,
-    ) -> (Vec<Message>, Option<Malformed>)
+    pub(crate) fn take(&mut self, alloc: Global, frames: Vec<PlacedFrame>, room: Room) -> Taken
         requires sound { IsSoundAssembler self.old }
         requires room { IsRoomFor self.old room frames.items }
         ensures shortest { self.new.shortest ≡ self.old.shortest }
-        ensures messages { result.0.items ≡ (assembled self.old.shortest frames.items (state_of self.old)).messages }
-        ensures fault { result.1 ≡ (assembled self.old.shortest frames.items (state_of self.old)).fault }
+        ensures messages { result.messages.items ≡ (assembled self.old.shortest frames.items (state_of self.old)).messages }
+        ensures fault { result.fault ≡ (assembled self.old.shortest frames.items (state_of self.old)).fault }
         ensures state { state_of self.new ≡ (assembled self.old.shortest frames.items (state_of self.old)).after }
         ensures sound { IsSoundAssembler self.new }
+        ensures kept { HoldsLists self.new result.kept }
+        ensures back { taken_back result.track.items (held_in self.new.lists.items result.messages.items) ≡ held_in self.old.lists.items [] }
+        ensures first { IsPayloadOf (first_back None result.track.items (held_in self.new.lists.items result.messages.items)) frames.items }
+        ensures below { All (LeadsBelow (vec_len self.new.lists)) result.track.items }
+        ensures count { vec_len self.new.lists ≡ vec_len self.old.lists }
     {
-        let Room { mut messages, kept } = room;
+        let Room {
+            mut messages,
+            mut track,
+            kept,
+        } = room;
         let fault = assemble(
             alloc,
             self.shortest,
@@ -87,11 +132,51 @@ impl Assembler {
             &mut self.lists,
             frames,
             &mut messages,
+            &mut track,
         );
+        Taken {
+            messages,
+            fault,
+            track,
+            kept: Some(kept),
+        }
+    }
+
+    /// Numbers the lists of open messages anew, where there is room kept for them, and lets the others go. Takes no memory.
+    pub(crate) fn keep(&mut self, alloc: Global, kept: Option<Vec<Vec<Frame>>>)
+        requires sound { IsSoundAssembler self.old }
+        requires kept { HoldsLists self.old kept }
+        ensures shortest { self.new.shortest ≡ self.old.shortest }
+        ensures state { state_of self.new ≡ state_of self.old }
+        ensures sound { IsSoundAssembler self.new }
+        ensures few { HasFewLists self.new }
+    {
         if let Some(kept) = kept {
             settle(alloc, &mut self.control, &mut self.lists, kept);
         }
-        (messages, fault)
+    }
+
+    /// Takes frames back that went these ways and gave these messages, and has the control from before them again.
+    /// Answers the frame that went first. Takes no memory.
+    pub(crate) fn put_back(
+        &mut self,
+        before: Control,
+        mut messages: Vec<Message>,
+        track: Vec<Way>,
+    ) -> Option<Frame>
+        requires sound { IsSound before (taken_back track.items (held_in self.old.lists.items messages.items)).lists }
+        requires count { before.lists ≤ vec_len self.old.lists }
+        requires below { All (LeadsBelow (vec_len self.old.lists)) track.items }
+        ensures shortest { self.new.shortest ≡ self.old.shortest }
+        ensures state { state_of self.new ≡ assembly_of before (taken_back track.items (held_in self.old.lists.items messages.items)).lists }
+        ensures sound { IsSoundAssembler self.new }
+        ensures first { result ≡ first_back None track.items (held_in self.old.lists.items messages.items) }
+        ensures count { vec_len self.new.lists ≤ before.lists }
+    {
+        self.control = before;
+        let first = take_back(&mut self.lists, &mut messages, track);
+        self.lists.truncate(self.control.lists);
+        first
     }
 }
 
@@ -176,21 +261,19 @@ fn room_for(
     ensures same { GetRoom lists.old.items lists.new.items }
     ensures room { OnOk result (HaveRoom shortest (rooms_in lists.new.items) frames.now control.now) }
     ensures rest { IfOk result (λ room. IsRoomAfter control.now (after_all shortest frames.now control.now) room) }
+    ensures track { IfOk result (λ room. IsRoomForTrack room frames.now) }
 {
     let after = plan(alloc, shortest, control, lists, frames)?;
     let mut messages = Vec::new(alloc);
     messages.reserve(after.complete.saturating_sub(control.complete) as usize)?;
-    if after.lists <= MANY_LISTS {
-        return Ok(Room {
-            messages,
-            kept: None,
-        });
-    }
+    let mut track = Vec::new(alloc);
+    track.reserve(frames.len())?;
     let mut kept = Vec::new(alloc);
     kept.reserve(after.chains.len() + 1)?;
     Ok(Room {
         messages,
-        kept: Some(kept),
+        track,
+        kept,
     })
 }
 
@@ -251,7 +334,18 @@ fn join(
     }
 }
 
-/// Takes frames to their lists, up to the first that fails, and adds each message that is whole. Answers the fault.
+/// Where a frame went that joined a list.
+fn way_to(list: usize, ending: Ending) -> Way
+    ensures { result ≡ way_to list ending }
+{
+    match ending {
+        Ending::GoesOn | Ending::EndsFragment => Way::Listed(list),
+        Ending::EndsMessage => Way::Given(list),
+    }
+}
+
+/// Takes frames to their lists, up to the first that fails, and adds each message that is whole and where each frame went.
+/// Answers the fault.
 fn assemble(
     alloc: Global,
     shortest: usize,
@@ -259,28 +353,78 @@ fn assemble(
     lists: &mut Vec<Vec<Frame>>,
     frames: Vec<PlacedFrame>,
     messages: &mut Vec<Message>,
+    track: &mut Vec<Way>,
 ) -> Option<Malformed>
     requires sound { IsSound control.old (frames_in lists.old.items) }
     requires room { HaveRoom shortest (rooms_in lists.old.items) frames.items control.old }
     requires numbers { vec_len messages.old + ((after_all shortest frames.items control.old).complete - control.old.complete) ≤ vec_capacity messages.old }
+    requires none { track.old.items ≡ [] }
+    requires ways { length frames.items ≤ vec_capacity track.old }
     ensures messages { messages.new.items ≡ messages.old.items ++ (assembled shortest frames.items (assembly_of control.old (frames_in lists.old.items))).messages }
     ensures fault { result ≡ (assembled shortest frames.items (assembly_of control.old (frames_in lists.old.items))).fault }
     ensures after { assembly_of control.new (frames_in lists.new.items) ≡ (assembled shortest frames.items (assembly_of control.old (frames_in lists.old.items))).after }
     ensures sound { IsSound control.new (frames_in lists.new.items) }
     ensures control { control.new ≡ after_all shortest frames.items control.old }
     ensures count { control.new.lists ≤ vec_len lists.new }
+    ensures track { IsTrackOf frames.items lists.old.items messages.old.items lists.new.items messages.new.items track.new.items }
 {
     let mut rest = frames.into_iter();
     while let Some(new) = rest.next() {
         match control.next(shortest, &new) {
-            Turn::Fails(fault) => return Some(fault),
-            Turn::Heads => {}
+            Turn::Fails(fault) => {
+                track.push_reserved(Way::Apart(new.frame));
+                return Some(fault);
+            }
+            Turn::Heads => track.push_reserved(Way::Apart(new.frame)),
             Turn::Joins { list, ending, .. } => {
                 join(alloc, lists, list, ending, new.frame, messages);
+                track.push_reserved(way_to(list, ending));
             }
         }
     }
     None
+}
+
+/// Takes one frame back from where it went, and answers it.
+fn take_one_back(
+    lists: &mut Vec<Vec<Frame>>,
+    messages: &mut Vec<Message>,
+    way: Way,
+) -> Option<Frame>
+    requires { LeadsBelow (vec_len lists.old) way }
+    ensures held { held_in lists.new.items messages.new.items ≡ without_frame way (held_in lists.old.items messages.old.items) }
+    ensures frame { result ≡ frame_back way (held_in lists.old.items messages.old.items) }
+    ensures count { vec_len lists.new ≡ vec_len lists.old }
+{
+    match way {
+        Way::Listed(list) => lists[list].pop(),
+        Way::Given(list) => {
+            let message = messages.pop()?;
+            let mut frames = message.frames.into_vec();
+            let last = frames.pop();
+            lists[list] = frames;
+            last
+        }
+        Way::Apart(frame) => Some(frame),
+    }
+}
+
+/// Takes frames back from where they went, the last one first. Answers the one that went first.
+fn take_back(
+    lists: &mut Vec<Vec<Frame>>,
+    messages: &mut Vec<Message>,
+    mut track: Vec<Way>,
+) -> Option<Frame>
+    requires { All (LeadsBelow (vec_len lists.old)) track.items }
+    ensures held { held_in lists.new.items messages.new.items ≡ taken_back track.items (held_in lists.old.items messages.old.items) }
+    ensures first { result ≡ first_back None track.items (held_in lists.old.items messages.old.items) }
+    ensures count { vec_len lists.new ≡ vec_len lists.old }
+{
+    let mut first = None;
+    while let Some(way) = track.pop() {
+        first = take_one_back(lists, messages, way);
+    }
+    first
 }
 
 /// Moves the lists of chains behind those that are kept, in their order. Answers the chains with their new lists.
@@ -354,6 +498,7 @@ fn settle(
     ensures same { assembly_of control.new (frames_in lists.new.items) ≡ assembly_of control.old (frames_in lists.old.items) }
     ensures sound { IsSound control.new (frames_in lists.new.items) }
     ensures count { control.new.lists ≤ vec_len lists.new }
+    ensures few { vec_len lists.new ≤ most_lists }
 {
     control.chains = move_chains(alloc, control.chains.as_slice(), lists, &mut kept);
     control.spot = move_message(alloc, control.spot, lists, &mut kept);

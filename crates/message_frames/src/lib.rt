@@ -6,9 +6,10 @@ mod control;
 pub mod laws;
 mod message;
 mod reader;
+mod stream;
 mod tally;
 mod writing;
 
 pub use message::{Frames, Message};
-pub use reader::{FedMessages, MessageReader};
+pub use reader::{FedMessages, MessageReader, PendingFeed};
 pub use writing::{write_fragments, write_message};

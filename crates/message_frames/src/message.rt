@@ -27,6 +27,13 @@ impl Frames {
         Frames { list }
     }
 
+    /// The frames as a `Vec` again. Takes no memory.
+    pub fn into_vec(self) -> Vec<Frame>
+        ensures { result.items ≡ self }
+    {
+        self.list
+    }
+
     pub fn as_slice(&self) -> &[Frame]
         ensures { result.now ≡ self.now }
     {

@@ -2,7 +2,7 @@ ghost use Rattle.std.specs.Prelude.{◌≡◌, ◌≤◌, ◌++◌, length};
 
 use super::*;
 use frame_codec::flags::{BEGIN_FRAGMENT, END_FRAGMENT, FINAL};
-use frame_codec::{MAX_PAYLOAD, write_payload};
+use frame_codec::{MAX_PAYLOAD, Why, write_payload};
 use std::test::Fail;
 
 /// A message in two fragments, and another between them.
@@ -76,6 +76,55 @@ fn feeds_again_after_want_of_memory(rt: HostRuntime) -> Result<(), Fail> {
         tell(fed.messages.as_slice(), &mut told)?;
     }
     assert_eq!(rt; told.as_slice(), HEARD);
+    Ok(())
+}
+
+/// Each piece is taken back once, and then fed.
+#[test]
+fn stands_where_it_stood_after_a_feed_is_taken_back(rt: HostRuntime) -> Result<(), Fail> {
+    let mut reader = MessageReader::new(rt.alloc(), false);
+    let mut seen = Vec::new(rt.alloc());
+    let mut told = Vec::new(rt.alloc());
+    for piece in STREAM.chunks(23) {
+        let pending = reader.prepare(rt.alloc(), piece)?;
+        tell(pending.messages(), &mut seen)?;
+        reader.cancel(pending);
+        let fed = reader.feed(rt.alloc(), piece)?;
+        tell(fed.messages.as_slice(), &mut told)?;
+    }
+    assert_eq!(rt; seen.as_slice(), HEARD);
+    assert_eq!(rt; told.as_slice(), HEARD);
+    Ok(())
+}
+
+#[test]
+fn keeps_a_list_for_each_open_message(rt: HostRuntime) -> Result<(), Fail> {
+    let mut bytes = Vec::new(rt.alloc());
+    for id in 0..16u64 {
+        write_payload(BEGIN_FRAGMENT, &id.to_le_bytes(), &mut bytes)?;
+        write_payload(FINAL, b"a", &mut bytes)?;
+    }
+    for _ in 0..100u32 {
+        bytes.extend_from_slice(b"\x13\0\0\0\0\xe0bbbbbbbbbbbbb")?;
+    }
+    bytes.extend_from_slice(b"\x13\0\0\0\0\xc0bbbbbbbbbbbbb")?;
+    let mut reader = MessageReader::new(rt.alloc(), false);
+    let fed = reader.feed(rt.alloc(), bytes.as_slice())?;
+    assert_eq!(rt; fed.messages.len(), 100);
+    assert_eq!(rt; reader.kept_lists(), 17);
+    Ok(())
+}
+
+#[test]
+fn takes_back_a_fault(rt: HostRuntime) -> Result<(), Fail> {
+    let mut reader = MessageReader::new(rt.alloc(), true);
+    let pending = reader.prepare(rt.alloc(), b"CP1")?;
+    assert_eq!(rt; pending.fault(), at(2, Why::Prefix));
+    reader.cancel(pending);
+    assert_eq!(rt; reader.fault(), None);
+    let pending = reader.prepare(rt.alloc(), b"CP2")?;
+    let fed = reader.commit(rt.alloc(), pending);
+    assert_eq!(rt; fed.fault, None);
     Ok(())
 }
 

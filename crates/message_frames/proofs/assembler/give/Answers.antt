@@ -1,4 +1,4 @@
-use Rattle.std.proofs.Common.{[], set, ◌∙◌, ap}
+use Rattle.std.proofs.Common.{set, ◌∙◌, ap}
 use Rattle.std.specs.Global.{Vec}
 use Rattle.frame_codec.specs.declared.frames.Frame.{Frame}
 use Rattle.message_frames.specs.Lists.{frames_in}

@@ -1,12 +1,12 @@
-use Rattle.std.proofs.Common.{◌≡◌, ◌<◌, ◌≤◌, [], ◌∷◌, ◌++◌, length, get_or, set, take, sym, ◌∙◌, ap, subst, arith, vec_len}
+use Rattle.std.proofs.Common.{◌≡◌, ◌<◌, [], ◌∷◌, ◌++◌, length, get_or, set, take, sym, ◌∙◌, ap, subst, arith, vec_len}
 use Rattle.std.specs.Global.{Vec}
 use Rattle.std.proofs.lemmas.List.{map-append, take_all}
 use Rattle.frame_codec.specs.declared.frames.Frame.{Frame}
-use Rattle.message_frames.specs.Lists.{list_at, frames_in, AreSound}
+use Rattle.message_frames.specs.Lists.{list_at, frames_in}
 use Rattle.message_frames.specs.declared.control.OpenChain.{OpenChain}
 use Rattle.message_frames.proofs.Live.{IsOfChain}
 use Rattle.message_frames.proofs.Rooms.{frames_in-set, frames_read}
-use Rattle.message_frames.proofs.Settling.{AreMoved, list_within, more_moved, moved_count, not_of_chain}
+use Rattle.message_frames.proofs.Settling.{list_within, more_moved, moved_count, not_of_chain}
 use Rattle.message_frames.proofs.assembler.move_chains.Goals as goal
 
 -- what a read past the end would give

@@ -1,9 +1,9 @@
 use Rattle.std.proofs.Common.{◌≡◌, ◌+◌, ◌≤◌, true, false, length, take, drop, sym, ◌∙◌, ap, subst, arith, vec_len, vec_capacity}
 use Rattle.std.proofs.lemmas.List.{length-map}
-use Rattle.message_frames.specs.Turns.{turned, is_failing, after_all, JoinsBelow, HasRoom, HaveRoom}
+use Rattle.message_frames.specs.Turns.{turned, is_failing, after_all, HasRoom, HaveRoom}
 use Rattle.message_frames.specs.Lists.{rooms_in}
 use Rattle.message_frames.specs.declared.control.Control.{Control}
-use Rattle.message_frames.proofs.Planning.{ArePlanned, planned_more, planned_to_fault, failing_stays, frames_with, frames_around, turn_lists}
+use Rattle.message_frames.proofs.Planning.{planned_more, planned_to_fault, failing_stays, frames_with, frames_around, turn_lists}
 use Rattle.message_frames.proofs.Rooms.{got_room_twice}
 use Rattle.message_frames.proofs.assembler.plan.Goals as goal
 use Rattle.message_frames.proofs.assembler.plan.Goals.{Then-is_failing}

@@ -1,10 +1,9 @@
 use Rattle.std.proofs.Common.{◌≡◌, ℕ, ◌+◌, List, [], refl, ◌++◌, length, sym, ◌∙◌, ap, subst, arith, vec_len}
-use Rattle.arrayvec.specs.ArrayVec.{ArrayVec}
-use Rattle.message_frames.specs.Lists.{frames_in, AreSound, IsSound, assembly_of, renumbered, spot_with, spot_lists, lists_of}
+use Rattle.message_frames.specs.Lists.{frames_in, IsSound, assembly_of, renumbered, spot_with, spot_lists, lists_of}
 use Rattle.message_frames.specs.declared.control.OpenChain.{OpenChain}
 use Rattle.message_frames.specs.declared.control.Spot.{Spot}
 use Rattle.message_frames.specs.declared.control.Control.{Control}
-use Rattle.message_frames.proofs.Settled.{open_lists, renumbered_control, same_renumbered, sound_renumbered, length-spot_lists, spot_lists_same, sound_in_all}
+use Rattle.message_frames.proofs.Settled.{open_lists, renumbered_control, same_renumbered, sound_renumbered, length-spot_lists, spot_lists_few, spot_lists_same, sound_in_all}
 use Rattle.message_frames.proofs.assembler.settle.Goals as goal
 use Rattle.message_frames.proofs.assembler.settle.Goals.{After-drop-lists}
 
@@ -47,6 +46,10 @@ returns-clause-same c =
     ap (λ control. assembly_of control (frames_in c.move_message-control.new.kept.items)) (control_is c)
     ∙ ap (assembly_of (renumbered_control c.args.control.now)) (kept_are c)
     ∙ same_renumbered c.args.control.now (frames_in c.args.lists.now.items) c.requires.sound
+
+pub returns-clause-few : goal.returns-clause-few
+returns-clause-few c =
+    omega (arith, c.move_message-control.ensures.count, c.move_chains-control.ensures.kept_count, c.as_slice.ensures.fits, spot_lists_few (frames_in c.move_chains-control.new.lists.items) c.args.control.now.spot)
 
 pub returns-clause-sound : goal.returns-clause-sound
 returns-clause-sound c =

@@ -1,5 +1,5 @@
-use Rattle.std.proofs.Common.{◌≡◌, ℕ, ◌≤◌, [], take, sym, ◌∙◌, ap, subst, arith, vec_len, length-take}
-use Rattle.message_frames.specs.Lists.{list_at, frames_in, assembly_of, IsSound}
+use Rattle.std.proofs.Common.{◌≡◌, ℕ, ◌≤◌, [], ◌∙◌, ap, arith}
+use Rattle.message_frames.specs.Lists.{list_at, frames_in}
 use Rattle.message_frames.proofs.Rooms.{unused_dropped}
 use Rattle.message_frames.proofs.SameLists.{AreSame, assembly_same, sound_same}
 use Rattle.message_frames.proofs.assembler.Assembler.prepare.Goals as goal

@@ -1,5 +1,5 @@
-use Rattle.std.proofs.Common.{◌≡◌, sym, ap, ◌∙◌, Some, None}
-use Rattle.message_frames.specs.Turns.{Turned, turned, fragment_turn}
+use Rattle.std.proofs.Common.{sym, ap, ◌∙◌}
+use Rattle.message_frames.specs.Turns.{Turned}
 use Rattle.message_frames.specs.declared.control.OpenChain.{OpenChain}
 use Rattle.message_frames.proofs.ChainPlaces.{place_found, none_found, of_fragment_turned, of_no_chain_turned}
 use Rattle.message_frames.proofs.control.Control.next.Goals as goal

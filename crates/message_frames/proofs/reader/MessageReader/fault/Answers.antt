@@ -7,4 +7,4 @@ use Rattle.message_frames.proofs.reader.MessageReader.fault.Goals as goal
 pub returns-clause-first : goal.returns-clause-first
 returns-clause-first c = λ prefix text stands.
     let r = c.self.inside in
-    sym (shown_fault-hearing r.fault r.prefix r.begun r.frames (state_of r.assembler)) ∙ ap shown_fault (c.self.view_is ∙ stands) ∙ shown_fault-standing prefix text
+    sym (shown_fault-hearing r.stream.fault r.stream.prefix r.stream.begun r.stream.frames (state_of r.stream.assembler)) ∙ ap shown_fault (c.self.view_is ∙ stands) ∙ shown_fault-standing prefix text

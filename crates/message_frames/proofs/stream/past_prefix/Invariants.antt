@@ -1,6 +1,6 @@
 use Rattle.std.proofs.Common.{◌≡◌, ◌+◌, ◌≤◌, length, drop}
 use Rattle.message_frames.specs.Messages.{prefix_of, differing}
-use Rattle.message_frames.proofs.reader.past_prefix.Given as goal
+use Rattle.message_frames.proofs.stream.past_prefix.Given as goal
 
 abbrev pub invariant-loop-byte : goal.invariant-loop-byte
 invariant-loop-byte l = record {

@@ -1,7 +1,7 @@
 use Rattle.std.proofs.Common.{◌≡◌, ℕ, List, [], ◌∷◌, None, drop, refl, ◌∙◌, ap}
 use Rattle.std.proofs.lemmas.List.{drop_all}
 use Rattle.message_frames.specs.Messages.{prefix_of, differing}
-use Rattle.message_frames.proofs.reader.past_prefix.Goals as goal
+use Rattle.message_frames.proofs.stream.past_prefix.Goals as goal
 
 -- No byte differs where none has come.
 none_differs : (at : ℕ) (wanted : List ℕ) → differing at wanted [] ≡ None
