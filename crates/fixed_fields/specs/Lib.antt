@@ -1,5 +1,7 @@
 pub mod Fields
 pub mod Frames
+pub mod Requests
 pub mod Responses
+pub mod Spelled
 pub mod Structures
 pub mod Examples

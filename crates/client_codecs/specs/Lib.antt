@@ -1,0 +1,4 @@
+pub mod Authentications
+pub mod Replies
+pub mod SpelledAuthentications
+pub mod Examples
