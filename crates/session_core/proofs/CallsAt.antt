@@ -1,0 +1,160 @@
+-- A call among the items of messages is that of the message at its place.
+use Rattle.std.specs.Prelude.{slice_get, take, negsuc, unsigned_abs}
+use Rattle.std.proofs.Common.{◌≡◌, ℕ, zero, suc, ◌+◌, ◌<◌, ◌%◌, ◌==◌, Bool, true, false, cond, List, [], ◌∷◌, ◌++◌, length, Option, Some, None, Result, Ok, Err, pos, refl, ap, sym, ◌∙◌, subst, arith}
+use Rattle.std.specs.Ordering.{int_eq}
+use Rattle.std.proofs.Math.Nat.{mod-lt}
+use Rattle.std.proofs.lemmas.Bool.Decides.{Decides-int_eq}
+use Rattle.grid_base.specs.Errors.{not_authenticated, wrong_partition}
+use Rattle.grid_base.specs.declared.TheConstants.{PARTITIONS}
+use Rattle.grid_base.specs.declared.names.CallId.{CallId}
+use Rattle.grid_base.specs.declared.names.ClientKey.{ClientKey}
+use Rattle.grid_base.specs.declared.calls.MapCall.{MapCall}
+use Rattle.grid_base.specs.declared.calls.MapCall.TheVariants.{Put, Get}
+use Rattle.grid_base.specs.declared.calls.GridCall.TheVariants.{Map}
+use Rattle.grid_base.specs.declared.calls.Request.{Request}
+use Rattle.grid_base.specs.declared.refusal.CallRefused.{CallRefused}
+use Rattle.fixed_fields.specs.Responses.{void_bytes}
+use Rattle.message_frames.specs.declared.message.Message.{Message}
+use Rattle.message_frames.specs.Messages.{messages_of}
+use Rattle.message_frames.proofs.Fitting.{AllFit, MessagesFit, messages_fit}
+use Rattle.client_codecs.specs.Authentications.{authentication_kind, ping_kind, authentication_of}
+use Rattle.client_codecs.specs.declared.authentications.Authentication.{Authentication}
+use Rattle.map_codecs.specs.Calls.{map_call_of}
+use Rattle.murmur_partition.specs.Keys.{key_hash_of}
+use Rattle.session_core.specs.Items.{kind_of, correlation_of, stated_partition, identity_after, identity_after_all, error_to, authentication_item, call_item, served, item_of, items_from, items_of}
+use Rattle.session_core.specs.Places.{partition_of_key, partition_of_call}
+use Rattle.session_core.specs.Sessions.{CallFits}
+use Rattle.session_core.specs.Laws.{IsCallAt, IsPlaced, every_call_is_numbered, every_call_is_placed, every_partition_is_stated, every_call_fits}
+use Rattle.session_core.specs.declared.item.Item.{Item}
+use Rattle.session_core.specs.declared.item.Item.TheVariants.{Call, Reply}
+use Rattle.session_core.proofs.CallsRead.{call_read, frames_fit}
+
+abbrev request_with : CallId → Message → MapCall → Request
+request_with id message call = record { id = id; correlation = correlation_of message; kind = kind_of message; partition = partition_of_call call; call = Map call }
+
+-- A message of this client is this call.
+pub record IsCallOf (id : CallId) (client : ClientKey) (message : Message) (request : Request) : Type 0 where
+  pub call : MapCall
+  pub read : map_call_of client message ≡ Ok call
+  pub stated : stated_partition message ≡ pos (partition_of_call call)
+  pub request_is : request_with id message call ≡ request
+
+-- one message
+
+module _ (id : CallId) (client : ClientKey) (message : Message) (request : Request) where
+  read_call : (said : Result MapCall CallRefused) → map_call_of client message ≡ said → call_item id message said ≡ Call request → IsCallOf id client message request
+  read_call (Err why) read e = absurd cc
+  read_call (Ok call) read e = go (int_eq (stated_partition message) (pos (partition_of_call call))) refl e
+    where
+      go : (b : Bool) → int_eq (stated_partition message) (pos (partition_of_call call)) ≡ b
+          → cond b (Call (request_with id message call)) (error_to message wrong_partition (stated_partition message) (pos (partition_of_call call))) ≡ Call request → IsCallOf id client message request
+      go true same s =
+          let is : request_with id message call ≡ request = cc in
+          record { call = call; read = read; stated = (Decides-int_eq (stated_partition message) (pos (partition_of_call call))).0 same; request_is = is }
+      go false other s = absurd cc
+
+  served_call : served id client message ≡ Call request → IsCallOf id client message request
+  served_call e = go (kind_of message == ping_kind) e
+    where
+      go : (b : Bool) → cond b (Reply (void_bytes ping_kind (correlation_of message))) (call_item id message (map_call_of client message)) ≡ Call request → IsCallOf id client message request
+      go true s = absurd cc
+      go false s = read_call (map_call_of client message) refl s
+
+authentication_no_call : (member : ℕ) (message : Message) (said : Result Authentication CallRefused) (request : Request) → authentication_item member message said ≡ Call request → ⊥
+authentication_no_call member message (Ok authentication) request e = cc
+authentication_no_call member message (Err why) request e = cc
+
+-- A call is of a known client.
+item_call : (member : ℕ) (id : CallId) (identity : Option ClientKey) (message : Message) (request : Request) → item_of member id identity message ≡ Call request
+    → (client : ClientKey) × (identity ≡ Some client) × IsCallOf id client message request
+item_call member id identity message request e = go (kind_of message == authentication_kind) identity refl e
+  where
+    go : (b : Bool) (known : Option ClientKey) → identity ≡ known
+        → cond b (authentication_item member message (authentication_of message)) (elim known [ None ↦ error_to message not_authenticated (pos 0) (pos 0) | Some client ↦ served id client message ]) ≡ Call request
+        → (client : ClientKey) × (identity ≡ Some client) × IsCallOf id client message request
+    go true known k s = absurd (authentication_no_call member message (authentication_of message) request s)
+    go false None k s = absurd cc
+    go false (Some client) k s = (client, k, served_call id client message request s)
+
+-- messages one after the other
+
+pub record IsCallFrom (conn number : ℕ) (identity : Option ClientKey) (messages : List Message) (place : ℕ) (request : Request) : Type 0 where
+  pub message : Message
+  pub there : slice_get messages place ≡ Some message
+  pub client : ClientKey
+  pub known : identity_after_all conn identity (take place messages) ≡ Some client
+  pub is : IsCallOf (record { conn = conn; number = number + place }) client message request
+
+pub call_from : (conn member number : ℕ) (identity : Option ClientKey) (messages : List Message) (place : ℕ) (request : Request)
+    → slice_get (items_from conn member number identity messages) place ≡ Some (Call request) → IsCallFrom conn number identity messages place request
+call_from conn member number identity [] place request e = absurd cc
+call_from conn member number identity (message ∷ messages) zero request e =
+    let same : item_of member (record { conn = conn; number = number }) identity message ≡ Call request = cc in
+    let found = item_call member (record { conn = conn; number = number }) identity message request same in
+    let here : number ≡ number + 0 = omega arith in
+    record { message = message; there = refl; client = found.0; known = found.1; is = subst (λ n. IsCallOf (record { conn = conn; number = n }) found.0 message request) here found.2 }
+call_from conn member number identity (message ∷ messages) (suc place) request e =
+    let later = call_from conn member (number + 1) (identity_after conn identity message) messages place request e in
+    let there : number + 1 + place ≡ number + suc place = omega arith in
+    record { message = later.message; there = later.there; client = later.client; known = later.known; is = subst (λ n. IsCallOf (record { conn = conn; number = n }) later.client later.message request) there later.is }
+
+pub call_at : (conn member : ℕ) (messages : List Message) (place : ℕ) (request : Request) → IsCallAt conn member messages place request → IsCallFrom conn 0 None messages place request
+call_at conn member messages place request e = call_from conn member 0 None messages place request e
+
+-- names, partitions, and frames
+
+pub numbered_call : every_call_is_numbered
+numbered_call conn member messages place request e =
+    let at = call_at conn member messages place request e in
+    let here : 0 + place ≡ place = omega arith in
+    sym (ap (λ (r : Request). r.id) at.is.request_is) ∙ ap {B = CallId} (λ n. record { conn = conn; number = n }) here
+
+pub below_partitions : (key : List ℕ) → partition_of_key key < PARTITIONS
+below_partitions key = go (int_eq (key_hash_of key) (negsuc 0x7fff_ffff))
+  where
+    go : (b : Bool) → cond b 0 (unsigned_abs (key_hash_of key) % PARTITIONS) < PARTITIONS
+    go true = omega arith
+    go false = mod-lt (unsigned_abs (key_hash_of key)) (omega arith)
+
+placed_with : (id : CallId) (message : Message) (call : MapCall) → IsPlaced (request_with id message call)
+placed_with id message (Put name key owner value ttl) = record { own = refl; within = below_partitions key }
+placed_with id message (Get name key owner) = record { own = refl; within = below_partitions key }
+
+pub placed_call : every_call_is_placed
+placed_call conn member messages place request e =
+    let at = call_at conn member messages place request e in
+    subst IsPlaced at.is.request_is (placed_with (record { conn = conn; number = 0 + place }) at.message at.is.call)
+
+same_some : {X : Type 0} (o : Option X) (x y : X) → o ≡ Some x → o ≡ Some y → x ≡ y
+same_some o x y e f = cc
+
+pub stated_call : every_partition_is_stated
+stated_call conn member messages place message request there e =
+    let at = call_at conn member messages place request e in
+    let same = same_some (slice_get messages place) at.message message at.there there in
+    ap stated_partition (sym same) ∙ at.is.stated ∙ ap (λ (r : Request). pos r.partition) at.is.request_is
+
+fits_at : (messages : List Message) (place : ℕ) (message : Message) → MessagesFit messages → slice_get messages place ≡ Some message → AllFit message.frames
+fits_at [] place message fit e = absurd cc
+fits_at (first ∷ messages) zero message fit e = let same : first ≡ message = cc in subst (λ (m : Message). AllFit m.frames) same fit.0
+fits_at (first ∷ messages) (suc place) message fit e = fits_at messages place message fit.1 e
+
+pub fitting_call : every_call_fits
+fitting_call conn member text place request e =
+    let at = call_at conn member (messages_of true text) place request e in
+    let fit = fits_at (messages_of true text) place at.message (messages_fit true text) at.there in
+    let parts = (call_read at.client at.message at.is.call at.is.read).fits (frames_fit at.message fit) in
+    subst (λ (r : Request). CallFits r.call) at.is.request_is parts
+
+-- the calls of a piece
+
+slice_get-behind : {X : Type 0} (front behind : List X) (place : ℕ) → slice_get (front ++ behind) (length front + place) ≡ slice_get behind place
+slice_get-behind [] behind place = let here : 0 + place ≡ place = omega arith in ap (slice_get behind) here
+slice_get-behind {X} (x ∷ front) behind place =
+    let there : length (x ∷ front) + place ≡ suc (length front + place) = omega arith in
+    ap (slice_get (x ∷ (front ++ behind))) there ∙ slice_get-behind front behind place
+
+-- A call among the items that a piece added is one of the connection's, at the place behind those before it.
+pub added_call : (conn member : ℕ) (messages : List Message) (front added : List Item) (place : ℕ) (request : Request) → front ++ added ≡ items_of conn member messages
+    → slice_get added place ≡ Some (Call request) → IsCallAt conn member messages (length front + place) request
+added_call conn member messages front added place request all e = ap (λ (items : List Item). slice_get items (length front + place)) (sym all) ∙ slice_get-behind front added place ∙ e
