@@ -1,0 +1,13 @@
+pub mod Decimals
+pub mod Fitting
+pub mod LineEnds
+pub mod NameTables
+pub mod PieceSizes
+pub mod Pieces
+pub mod Ranges
+pub mod ReadAgain
+pub mod Refusals
+pub mod SpelledWords
+pub mod Steps
+pub mod ValueLists
+pub mod WordCounts

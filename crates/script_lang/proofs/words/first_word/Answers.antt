@@ -1,0 +1,18 @@
+use Rattle.std.proofs.Common.{◌≡◌, ℕ, ◌+◌, ◌-◌, List, ◌∷◌, length, take, drop, ap, sym, ◌∙◌}
+use Rattle.std.proofs.Math.Seq.{take-length}
+use Rattle.std.proofs.lemmas.List.{length-drop}
+use Rattle.script_lang.specs.Words.{space, pieces_at}
+use Rattle.script_lang.proofs.Pieces.{uncut, cut}
+use Rattle.script_lang.proofs.words.first_word.Goals as goal
+
+-- a text from a place on is all that is left of it
+rest_whole : (xs : List ℕ) (k : ℕ) → take (length xs - k) (drop k xs) ≡ drop k xs
+rest_whole xs k = rw (← length-drop k xs) (take-length (drop k xs))
+
+pub returns-in-None : goal.returns-in-None
+returns-in-None c = uncut space c.args.text.now c.in-None.ensures
+
+pub returns-in-Some : goal.returns-in-Some
+returns-in-Some c =
+    cut space c.args.text.now c.in-Some.at c.in-Some.ensures.0 c.in-Some.ensures.1
+    ∙ ap (λ rest. take c.in-Some.at c.args.text.now ∷ pieces_at space rest) (sym (rest_whole c.args.text.now (c.in-Some.at + 1)))

@@ -1,0 +1,148 @@
+-- Worked examples of lines, which the definitions compute.
+use Rattle.std.specs.Prelude.{◌≡◌, ℕ, true, false, List, [], ◌∷◌, Result, Ok, Err, codes, refl}
+use Rattle.hex.specs.Hex.{decode_pairs}
+use Rattle.script_lang.specs.Lines.{line_of}
+use Rattle.script_lang.specs.declared.line.Line.{Line}
+use Rattle.script_lang.specs.declared.line.Line.TheVariants.{Grid, OpenConn, Arrive, Trail, Comment, End}
+use Rattle.script_lang.specs.declared.refusal.LineWhy.{LineWhy}
+use Rattle.script_lang.specs.declared.refusal.LineWhy.TheVariants.{Word, NoGrid, Count, Number, Hex, NotBuilt}
+
+-- the first line of a script, and a later one in a grid of one member
+abbrev first_line : List ℕ → Result Line LineWhy
+first_line text = line_of true 0 text
+
+abbrev later_line : List ℕ → Result Line LineWhy
+later_line text = line_of false 1 text
+
+-- the lines that are built
+
+a_grid_is_made : first_line (codes "grid 1 0 10") ≡ Ok (Grid 1 0 10)
+a_grid_is_made = refl
+
+a_queue_may_have_no_value : first_line (codes "grid 1 0 0") ≡ Ok (Grid 1 0 0)
+a_queue_may_have_no_value = refl
+
+a_queue_may_have_many_values : first_line (codes "grid 1 0 2147483647") ≡ Ok (Grid 1 0 2147483647)
+a_queue_may_have_many_values = refl
+
+a_client_connects : later_line (codes "open 63 0") ≡ Ok (OpenConn 63 0)
+a_client_connects = refl
+
+bytes_arrive : later_line (codes "bytes 0 43503200fF") ≡ Ok (Arrive 0 (67 ∷ 80 ∷ 50 ∷ 0 ∷ 255 ∷ []))
+unfolding decode_pairs
+bytes_arrive = refl
+
+a_history_is_printed : later_line (codes "trail 270") ≡ Ok (Trail 270)
+a_history_is_printed = refl
+
+the_script_ends : later_line (codes "end") ≡ Ok End
+the_script_ends = refl
+
+a_comment_says_nothing : later_line (codes "# the first client") ≡ Ok Comment
+a_comment_says_nothing = refl
+
+a_comment_needs_no_space : later_line (codes "#") ≡ Ok Comment
+a_comment_needs_no_space = refl
+
+-- an unknown first word comes first
+
+a_comment_is_no_first_line : first_line (codes "# x") ≡ Err Word
+a_comment_is_no_first_line = refl
+
+an_empty_line_has_no_word : later_line [] ≡ Err Word
+an_empty_line_has_no_word = refl
+
+an_unknown_word_comes_before_the_count : later_line (codes "opens 0 0 0") ≡ Err Word
+an_unknown_word_comes_before_the_count = refl
+
+a_word_has_no_capitals : later_line (codes "END") ≡ Err Word
+a_word_has_no_capitals = refl
+
+a_line_begins_with_no_space : later_line (codes " end") ≡ Err Word
+a_line_begins_with_no_space = refl
+
+-- then a grid's line that is not the first, or another first line
+
+the_first_line_makes_the_grid : first_line (codes "end") ≡ Err NoGrid
+the_first_line_makes_the_grid = refl
+
+a_grid_is_made_once : later_line (codes "grid 1 0 10") ≡ Err NoGrid
+a_grid_is_made_once = refl
+
+a_second_grid_comes_before_the_count : later_line (codes "grid 1") ≡ Err NoGrid
+a_second_grid_comes_before_the_count = refl
+
+-- then the number of words
+
+the_count_comes_before_the_numbers : later_line (codes "open 64") ≡ Err Count
+the_count_comes_before_the_numbers = refl
+
+no_line_ends_with_a_space : later_line (codes "end ") ≡ Err Count
+no_line_ends_with_a_space = refl
+
+bytes_want_a_word : later_line (codes "bytes 0") ≡ Err Count
+bytes_want_a_word = refl
+
+one_space_stands_between_words : later_line (codes "open  0 0") ≡ Err Count
+one_space_stands_between_words = refl
+
+-- then the words from left to right
+
+a_connection_is_below_64 : later_line (codes "open 64 0") ≡ Err Number
+a_connection_is_below_64 = refl
+
+the_first_word_is_looked_at_first : later_line (codes "open 64 x") ≡ Err Number
+the_first_word_is_looked_at_first = refl
+
+a_number_has_no_leading_zero : later_line (codes "open 00 0") ≡ Err Number
+a_number_has_no_leading_zero = refl
+
+a_number_has_no_sign : later_line (codes "open +1 0") ≡ Err Number
+a_number_has_no_sign = refl
+
+a_member_is_one_of_the_grid : later_line (codes "open 0 1") ≡ Err Number
+a_member_is_one_of_the_grid = refl
+
+a_number_comes_before_the_bytes : later_line (codes "bytes 64 zz") ≡ Err Number
+a_number_comes_before_the_bytes = refl
+
+bytes_are_digits : later_line (codes "bytes 0 zz") ≡ Err Hex
+unfolding decode_pairs
+bytes_are_digits = refl
+
+a_byte_has_two_digits : later_line (codes "bytes 0 012") ≡ Err Hex
+unfolding decode_pairs
+a_byte_has_two_digits = refl
+
+some_byte_arrives : later_line (codes "bytes 0 ") ≡ Err Hex
+some_byte_arrives = refl
+
+the_bytes_come_before_a_later_number : later_line (codes "near 0 zz 0") ≡ Err Hex
+unfolding decode_pairs
+the_bytes_come_before_a_later_number = refl
+
+a_partition_is_below_271 : later_line (codes "trail 271") ≡ Err Number
+a_partition_is_below_271 = refl
+
+a_flow_makes_1000_deliveries_at_most : later_line (codes "flow all 1001") ≡ Err Number
+a_flow_makes_1000_deliveries_at_most = refl
+
+only_a_flow_goes_through_all : later_line (codes "trail all") ≡ Err Number
+only_a_flow_goes_through_all = refl
+
+a_place_has_64_bits : later_line (codes "lose 0 0 1 18446744073709551616") ≡ Err Number
+a_place_has_64_bits = refl
+
+-- then what isn't built
+
+a_grid_has_8_members_at_most : first_line (codes "grid 9 0 10") ≡ Err Number
+a_grid_has_8_members_at_most = refl
+
+no_grid_of_three_members_is_built : first_line (codes "grid 3 1 10") ≡ Err NotBuilt
+no_grid_of_three_members_is_built = refl
+
+no_flow_is_built : later_line (codes "flow all 1") ≡ Err NotBuilt
+no_flow_is_built = refl
+
+a_link_ends_at_the_service : later_line (codes "lose 0 0 1 18446744073709551615") ≡ Err NotBuilt
+a_link_ends_at_the_service = refl

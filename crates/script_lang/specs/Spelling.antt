@@ -1,0 +1,39 @@
+-- How a line is spelled, and that it is read so.
+use Rattle.std.specs.Prelude.{◌≡◌, ℕ, ◌≤◌, Bool, true, false, List, [], ◌∷◌, length, Ok, codes, decimal}
+use Rattle.std.specs.List.{join_with_byte}
+use Rattle.hex.specs.Hex.{encode_lower, IsBytes}
+use Rattle.script_lang.specs.Words.{space}
+use Rattle.script_lang.specs.Lines.{IsWithin, line_of}
+use Rattle.script_lang.specs.declared.line.Line.{Line}
+use Rattle.script_lang.specs.declared.line.Line.TheVariants.{Grid, OpenConn, Arrive, Trail, Comment, End}
+
+abbrev pub spelled_words : Line → List (List ℕ)
+spelled_words (Grid members backups capacity) = codes "grid" ∷ decimal members ∷ decimal backups ∷ decimal capacity ∷ []
+spelled_words (OpenConn conn member) = codes "open" ∷ decimal conn ∷ decimal member ∷ []
+spelled_words (Arrive conn bytes) = codes "bytes" ∷ decimal conn ∷ encode_lower bytes ∷ []
+spelled_words (Trail partition) = codes "trail" ∷ decimal partition ∷ []
+spelled_words Comment = codes "#" ∷ []
+spelled_words End = codes "end" ∷ []
+
+abbrev pub spelled : Line → List ℕ
+spelled line = join_with_byte space (spelled_words line)
+
+-- The grid's line is the first one.
+abbrev pub is_first : Line → Bool
+is_first (Grid members backups capacity) = true
+is_first line = false
+
+-- What a line brings are bytes.
+abbrev pub BringsBytes : Line → Type 0
+BringsBytes (Arrive conn bytes) = IsBytes bytes
+BringsBytes line = Unit {0}
+
+-- Each line within its ranges is read from its spelling.
+abbrev pub lines_are_read_as_spelled : Type 0
+lines_are_read_as_spelled =
+    (members : ℕ) (line : Line) → members ≤ 8 → BringsBytes line → IsWithin members (length (spelled line)) line →
+    line_of (is_first line) members (spelled line) ≡ Ok line
+
+-- Behind the first line whatever begins with `#` is a comment.
+abbrev pub comments_say_nothing : Type 0
+comments_say_nothing = (members : ℕ) (text : List ℕ) → line_of false members (35 ∷ text) ≡ Ok Comment
