@@ -1,0 +1,4 @@
+mod Locking
+mod Rows
+mod Uses
+mod Values

@@ -1,0 +1,5 @@
+pub mod EntryFacts
+pub mod Examples
+pub mod Idling
+pub mod MapEntries
+pub mod MapTable
