@@ -1,183 +1,183 @@
--- Reading a script piece by piece: which lines are whole, how many there are, and where the run stops within them.
-use Rattle.std.proofs.Common.{◌≡◌, ℕ, suc, ◌+◌, ◌≤◌, ◌<◌, ◌==◌, Bool, true, false, cond, List, [], ◌∷◌, ◌++◌, length, Option, Some, None, refl, ap, sym, ◌∙◌, subst, arith, append-nil, append_assoc, length-append}
-use Rattle.std.specs.Prelude.{sum_by}
-use Rattle.std.proofs.lemmas.List.Sums.{sum_by-cons}
+-- Where the run of a script's lines stops, whatever the script has behind the bytes that were read.
+use Rattle.std.proofs.Common.{◌≡◌, ◌≢◌, ℕ, ◌<◌, ◌==◌, Bool, true, false, List, [], ◌∷◌, ◌++◌, length, Option, Some, None, ap, sym, ◌∙◌, subst, arith, append-nil, append_assoc}
+use Rattle.std.proofs.lemmas.Bool.Decides.{nat_tests}
+use Rattle.std.specs.Io.KnownBytes.{append_known}
 use Rattle.grid_base.specs.declared.names.CallId.{CallId}
+use Rattle.grid_edge.proofs.Told.{append_known-nil}
 use Rattle.partition_protocol.specs.Sequences.{IsFrontOf}
-use Rattle.grid_cli.specs.Words.{newline, pieces_at, onto_first, fronts, last_piece, whole_lines, unfinished}
-use Rattle.grid_cli.specs.Pieces.{IsOnePiece}
-use Rattle.grid_cli.specs.PartitionObjects.{partition_object}
-use Rattle.grid_cli.specs.Transcripts.{Transcript, Ended, Refused, first_line, later_lines}
-use Rattle.grid_cli.specs.Statuses.{whole}
-use Rattle.grid_cli.specs.Transcribing.{Follows, HasRoomFor, Continues, StopsAs, lines_of}
-use Rattle.grid_cli.specs.Replays.{HasRead, OfLines, StopsWithin, ended_line}
-use Rattle.grid_cli.specs.declared.grid.Grid.{Grid}
+use Rattle.script_lang.specs.Limits.{most_lines}
+use Rattle.script_lang.specs.Words.{newline, pieces_at, whole_lines, unfinished}
+use Rattle.script_lang.specs.Pieces.{IsOnePiece}
+use Rattle.replay_run.specs.PartitionObjects.{partition_object}
+use Rattle.grid_cli.specs.Scripts.{Cut, stops, cut_pieces, cut, lines_of, limit_of, limit_in, behind}
+use Rattle.grid_cli.specs.Transcripts.{Transcript, Ended, Refused, first_line, transcript}
+use Rattle.grid_cli.specs.Statuses.{whole, Writes}
+use Rattle.grid_cli.specs.Transcribing.{Follows, HasRoomFor, Continues, StopsAs, Concludes}
+use Rattle.grid_cli.specs.Replays.{IsWithin, HasRead, StopsWithin, Takes, StopsIn, ended_line}
 use Rattle.grid_cli.specs.declared.replay.Replay.{Replay}
+use Rattle.grid_cli.specs.declared.status.LimitWhat.{LimitWhat}
 use Rattle.grid_cli.specs.declared.status.Status.{Status}
 use Rattle.grid_cli.specs.declared.status.Status.TheVariants.{Done, Usage, ScriptRefused, ReadFault, WriteFault, Limit, Memory}
-use Rattle.grid_cli.proofs.Pieces.{first_piece}
-use Rattle.grid_cli.proofs.TranscriberLaws.{lines_followed}
-use Rattle.grid_cli.proofs.LineEnds.{joined, one-append, unfinished_is_one, whole_lines-append, unfinished-append, one_piece_lines}
+use Rattle.grid_cli.proofs.Tests.{limit_in_none}
+use Rattle.grid_cli.proofs.Cuts.{lines_completed, nothing_unfinished, more_unfinished, completed, kept, passed_with_newline, passed_within, lines_begin, limit_passed_in}
+use Rattle.grid_cli.proofs.TranscriberLaws.{begins_transcript}
 
--- how many lines
+-- a run whose lines are all that the script has
+module _ (limit : Option LimitWhat) (skips : List CallId) (script written : List ℕ) (lines : List (List ℕ)) (is : cut script ≡ (record { lines = lines; limit = limit })) where
+  same : first_line partition_object skips limit lines ≡ transcript partition_object skips script
+  same = ap (λ (c : Cut). first_line partition_object skips c.limit c.lines) (sym is)
 
-few_pieces : (sep : ℕ) (xs : List ℕ) → length (pieces_at sep xs) ≤ length xs + 1
-few_pieces sep [] = omega arith
-few_pieces sep (x ∷ xs) = by_test (x == sep) (few_pieces sep xs)
-  where
-    longer : (p : List (List ℕ)) → length p ≤ length xs + 1 → length (onto_first x p) ≤ length (x ∷ xs) + 1
-    longer [] h = omega arith
-    longer (q ∷ qs) h = omega arith
+  pub concluded : (status : Status) → Concludes limit status skips lines written → Writes status skips script written
+  concluded Done h = sym same ∙ h
+  concluded Usage h = absurd h
+  concluded (ScriptRefused line why) h = sym same ∙ h
+  concluded ReadFault h = absurd h
+  concluded WriteFault h = subst (λ (t : Transcript). IsFrontOf written t.text) same h
+  concluded (Limit what) h = (h.0, sym same ∙ h.1)
+  concluded Memory h = subst (λ (t : Transcript). IsFrontOf written t.text) same h
 
-    by_test : (b : Bool) → length (pieces_at sep xs) ≤ length xs + 1 → length (cond b ([] ∷ pieces_at sep xs) (onto_first x (pieces_at sep xs))) ≤ length (x ∷ xs) + 1
-    by_test true h = omega arith
-    by_test false h = longer (pieces_at sep xs) h
+pub not_usage : (limit : Option LimitWhat) (status : Status) (skips : List CallId) (lines : List (List ℕ)) (written : List ℕ) → Concludes limit status skips lines written → status ≢ Usage
+not_usage limit status skips lines written h is = let P : Status → Type 0 = λ s. Concludes limit s skips lines written in subst P is h
 
-length-fronts : (p : List ℕ) (ps : List (List ℕ)) → length (fronts (p ∷ ps)) ≡ length ps
-length-fronts p [] = refl
-length-fronts p (q ∷ qs) = ap suc (length-fronts q qs)
+pub not_read_fault : (limit : Option LimitWhat) (status : Status) (skips : List CallId) (lines : List (List ℕ)) (written : List ℕ) → Concludes limit status skips lines written → status ≢ ReadFault
+not_read_fault limit status skips lines written h is = let P : Status → Type 0 = λ s. Concludes limit s skips lines written in subst P is h
 
-pub few_lines : (xs : List ℕ) → length (whole_lines xs) ≤ length xs
-few_lines xs =
-    let p = first_piece newline xs in
-    let fronts_are : length (whole_lines xs) ≡ length p.1 = ap (λ ps. length (fronts ps)) p.2 ∙ length-fronts p.0 p.1 in
-    let pieces_are : length (pieces_at newline xs) ≡ length p.1 + 1 = ap length p.2 ∙ omega arith in
-    omega (arith, few_pieces newline xs, fronts_are, pieces_are)
+-- a run that stopped at a line of the script
+module _ (skips : List CallId) (done : List (List ℕ)) (text written script : List ℕ) (front : IsFrontOf (done ++ text ∷ []) (lines_of script)) where
+  goes_so : (P : Transcript → Type 0) → Continues skips done text P → P (transcript partition_object skips script)
+  goes_so P h = subst (λ ls. P (first_line partition_object skips (limit_of script) ls)) (sym (append_assoc done (text ∷ []) front.0) ∙ front.1) (h (limit_of script) front.0)
 
--- how many bytes they have
+  line_writes : (status : Status) → StopsAs status skips done text written → Writes status skips script written
+  line_writes Done h = goes_so (λ t. t ≡ whole written Ended) h
+  line_writes Usage h = absurd h
+  line_writes (ScriptRefused line why) h = goes_so (λ t. t ≡ whole written (Refused line why)) h
+  line_writes ReadFault h = absurd h
+  line_writes WriteFault h = goes_so (λ t. IsFrontOf written t.text) h
+  line_writes (Limit what) h = absurd h
+  line_writes Memory h = goes_so (λ t. IsFrontOf written t.text) h
 
-exact_size : (separator : ℕ) (xs : List ℕ) → sum_by length (pieces_at separator xs) + length (pieces_at separator xs) ≡ length xs + 1
-exact_size separator [] = let one = sum_by-cons (length {A = ℕ}) [] [] in omega (arith, one)
-exact_size separator (x ∷ xs) = go (x == separator) (exact_size separator xs)
-  where
-    onto : (pieces : List (List ℕ)) → 1 ≤ length pieces → sum_by length (onto_first x pieces) + length (onto_first x pieces) ≡ sum_by length pieces + length pieces + 1
-    onto [] some = absurd (omega arith)
-    onto (piece ∷ pieces) some =
-        let more = sum_by-cons length (x ∷ piece) pieces in
-        let less = sum_by-cons length piece pieces in
-        omega (arith, more, less)
+pub stops_at_line : (status : Status) (skips : List CallId) (done : List (List ℕ)) (text written read : List ℕ) → IsWithin read → whole_lines read ≡ done ++ text ∷ []
+    → StopsAs status skips done text written → StopsWithin status skips read written
+stops_at_line status skips done text written read within lines h = record {
+  writes = λ script front. line_writes skips done text written script (subst (λ ls. IsFrontOf ls (lines_of script)) lines (lines_begin read within script front)) status h;
+  runs = λ is. let P : Status → Type 0 = λ s. StopsAs s skips done text written in subst P is h;
+  reads = λ is. let P : Status → Type 0 = λ s. StopsAs s skips done text written in subst P is h;
+}
 
-    go : (same : Bool) → sum_by length (pieces_at separator xs) + length (pieces_at separator xs) ≡ length xs + 1
-        → sum_by length (cond same ([] ∷ pieces_at separator xs) (onto_first x (pieces_at separator xs))) + length (cond same ([] ∷ pieces_at separator xs) (onto_first x (pieces_at separator xs))) ≡ length (x ∷ xs) + 1
-    go true h = let more = sum_by-cons length [] (pieces_at separator xs) in omega (arith, h, more)
-    go false h =
-        let some : 1 ≤ length (pieces_at separator xs) = let p = first_piece separator xs in let e = ap length p.2 in omega (arith, e) in
-        let e = onto (pieces_at separator xs) some in
-        omega (arith, h, e)
+-- and however many bytes follow
+pub stops_before : (status : Status) (skips : List CallId) (read more written : List ℕ) → StopsWithin status skips read written → StopsWithin status skips (read ++ more) written
+stops_before status skips read more written h = record {
+  writes = λ script front. h.writes script (more ++ front.0, sym (append_assoc read more front.0) ∙ front.1);
+  runs = h.runs;
+  reads = h.reads;
+}
 
-split_size : (p : List ℕ) (ps : List (List ℕ)) → sum_by length (fronts (p ∷ ps)) + length (last_piece (p ∷ ps)) ≡ sum_by length (p ∷ ps)
-split_size p [] = let one = sum_by-cons length p [] in omega (arith, one)
-split_size p (q ∷ qs) =
-    let e = split_size q qs in
-    let front = sum_by-cons length p (fronts (q ∷ qs)) in
-    let whole = sum_by-cons length p (q ∷ qs) in
-    let last : length (last_piece (p ∷ q ∷ qs)) ≡ length (last_piece (q ∷ qs)) = refl in
-    omega (arith, e, front, whole, last)
+-- a byte past a limit
+pub stops_at_limit : (what : LimitWhat) (status : Status) (skips : List CallId) (done : List (List ℕ)) (read written : List ℕ)
+    → ((past : Bool) (rest : List ℕ) → cut_pieces past most_lines (pieces_at newline (read ++ rest)) ≡ behind done (stops what))
+    → Concludes (Some what) status skips done written → StopsWithin status skips read written
+stops_at_limit what status skips done read written passed h = record {
+  writes = λ script front.
+      concluded (Some what) skips script written (done ++ []) (limit_passed_in read done what passed script front) status
+      (subst (λ ls. Concludes (Some what) status skips ls written) (sym (append-nil done)) h);
+  runs = not_usage (Some what) status skips done written h;
+  reads = not_read_fault (Some what) status skips done written h;
+}
 
--- The lines that are whole, their newlines, and what is left are the bytes.
-pub lines_size : (xs : List ℕ) → length (whole_lines xs) + sum_by length (whole_lines xs) + length (unfinished xs) ≡ length xs
-lines_size xs =
-    let p = first_piece newline xs in
-    let fronts_are : length (whole_lines xs) ≡ length p.1 = ap (λ ps. length (fronts ps)) p.2 ∙ length-fronts p.0 p.1 in
-    let pieces_are : length (pieces_at newline xs) ≡ length p.1 + 1 = ap length p.2 ∙ omega arith in
-    let parts : sum_by length (whole_lines xs) + length (unfinished xs) ≡ sum_by length (pieces_at newline xs) =
-    ap (λ ps. sum_by length (fronts ps) + length (last_piece ps)) p.2 ∙ split_size p.0 p.1 ∙ ap (λ ps. sum_by length ps) (sym p.2) in
-    let all = exact_size newline xs in
-    omega (arith, fronts_are, pieces_are, parts, all)
+-- Nothing more is written.
+pub stops_for_memory : (replay : Replay) (bytes : List ℕ) (taken : Option (List ℕ)) → StopsIn replay Memory bytes taken taken
+stops_for_memory replay bytes taken skips read written has = (
+  [],
+  [],
+  stops_before Memory skips read bytes (written ++ []) (record {
+    writes = λ script front.
+        let lines = lines_begin read has.within script front in
+        subst (λ w. IsFrontOf w (transcript partition_object skips script).text) (sym (append-nil written))
+        (subst (λ ls. IsFrontOf written (first_line partition_object skips (limit_of script) ls).text) lines.1
+        (begins_transcript replay.transcriber.grid skips (whole_lines read) written has.follows (limit_of script) lines.0));
+    runs = λ is. absurd (cc is);
+    reads = λ is. absurd (cc is);
+  }),
+  sym (append_known-nil taken),
+)
 
--- There is room for a line that begins with what is left.
-pub room_for_text : (read end : List ℕ) → length read + length end ≤ 16777216 → HasRoomFor (whole_lines read) (unfinished read ++ end)
-room_for_text read end few =
-    let size = lines_size read in
-    let text = length-append (unfinished read) end in
-    omega (arith, few, size, text)
-
-pub has_room : (replay : Replay) (skips : List CallId) (read written : List ℕ) → HasRead replay skips read written → length read ≤ 16777216 → lines_of replay.transcriber.grid + 1 < 4294967295
-has_room replay skips read written has few = omega (arith, few_lines read, lines_followed replay.transcriber.grid skips (whole_lines read) written has.follows)
-
--- which lines
-
-pub joined_one : (text end : List ℕ) → IsOnePiece text → IsOnePiece end → IsOnePiece (text ++ end)
-joined_one text end one more = one-append text end one ∙ ap (joined text) more
-
-pub lines_completed : (read end : List ℕ) → IsOnePiece end → whole_lines (read ++ ended_line end) ≡ whole_lines read ++ (unfinished read ++ end) ∷ []
-lines_completed read end one =
-    let text : List ℕ = unfinished read ++ end in
-    let whole : IsOnePiece text = joined_one (unfinished read) end (unfinished_is_one read) one in
-    whole_lines-append read (ended_line end)
-    ∙ ap (λ bytes. whole_lines read ++ whole_lines bytes) (sym (append_assoc (unfinished read) end (newline ∷ [])))
-    ∙ ap (λ ps. whole_lines read ++ fronts ps) (one-append text (newline ∷ []) whole)
-    ∙ ap (λ t. whole_lines read ++ t ∷ []) (append-nil text)
-
-pub nothing_unfinished : (read end : List ℕ) → IsOnePiece end → unfinished (read ++ ended_line end) ≡ []
-nothing_unfinished read end one =
-    let text : List ℕ = unfinished read ++ end in
-    let whole : IsOnePiece text = joined_one (unfinished read) end (unfinished_is_one read) one in
-    unfinished-append read (ended_line end)
-    ∙ ap unfinished (sym (append_assoc (unfinished read) end (newline ∷ [])))
-    ∙ ap last_piece (one-append text (newline ∷ []) whole)
-
-pub more_unfinished : (read more : List ℕ) → IsOnePiece more → (whole_lines (read ++ more) ≡ whole_lines read) × (unfinished (read ++ more) ≡ unfinished read ++ more)
-more_unfinished read more one =
-    let whole : IsOnePiece (unfinished read ++ more) = joined_one (unfinished read) more (unfinished_is_one read) one in
-    let split = one_piece_lines (unfinished read ++ more) whole in
-    (whole_lines-append read more ∙ ap (λ ls. whole_lines read ++ ls) split.0 ∙ append-nil (whole_lines read), unfinished-append read more ∙ split.1)
-
--- where the run stops
-
-stopped_line : (skips : List CallId) (done : List (List ℕ)) (text : List ℕ) (P : Transcript → Type 0) → Continues skips done text P → OfLines skips (done ++ text ∷ []) P
-stopped_line skips done text P h too_long texts =
-    subst (λ lines. P (first_line partition_object skips too_long lines)) (sym (append_assoc done (text ∷ []) texts)) (h too_long texts)
-
-pub stops_within : (status : Status) (skips : List CallId) (done : List (List ℕ)) (text written : List ℕ) → StopsAs status skips done text written → StopsWithin status skips (done ++ text ∷ []) written
-stops_within Done skips done text written h = stopped_line skips done text (λ t. t ≡ whole written Ended) h
-stops_within Usage skips done text written h = absurd h
-stops_within (ScriptRefused line why) skips done text written h = stopped_line skips done text (λ t. t ≡ whole written (Refused line why)) h
-stops_within ReadFault skips done text written h = absurd h
-stops_within WriteFault skips done text written h = stopped_line skips done text (λ t. IsFrontOf written t.text) h
-stops_within (Limit what) skips done text written h = absurd h
-stops_within Memory skips done text written h = stopped_line skips done text (λ t. IsFrontOf written t.text) h
-
--- and however many lines follow
-more_lines : (skips : List CallId) (lines more : List (List ℕ)) (P : Transcript → Type 0) → OfLines skips lines P → OfLines skips (lines ++ more) P
-more_lines skips lines more P h too_long texts =
-    subst (λ ls. P (first_line partition_object skips too_long ls)) (sym (append_assoc lines more texts)) (h too_long (more ++ texts))
-
-pub stops_before : (status : Status) (skips : List CallId) (lines more : List (List ℕ)) (written : List ℕ) → StopsWithin status skips lines written → StopsWithin status skips (lines ++ more) written
-stops_before Done skips lines more written h = more_lines skips lines more (λ t. t ≡ whole written Ended) h
-stops_before Usage skips lines more written h = absurd h
-stops_before (ScriptRefused line why) skips lines more written h = more_lines skips lines more (λ t. t ≡ whole written (Refused line why)) h
-stops_before ReadFault skips lines more written h = absurd h
-stops_before WriteFault skips lines more written h = more_lines skips lines more (λ t. IsFrontOf written t.text) h
-stops_before (Limit what) skips lines more written h = absurd h
-stops_before Memory skips lines more written h = more_lines skips lines more (λ t. IsFrontOf written t.text) h
-
--- nothing more is written
-pub stops_for_memory : (grid : Option Grid) (skips : List CallId) (done : List (List ℕ)) (written : List ℕ) → Follows grid skips done written → StopsWithin Memory skips done (written ++ [])
-stops_for_memory grid skips done written follows = subst (λ w. StopsWithin Memory skips done w) (sym (append-nil written)) (plain grid follows)
-  where
-    plain : (g : Option Grid) → Follows g skips done written → StopsWithin Memory skips done written
-    plain None f too_long texts = let t : Transcript = first_line partition_object skips too_long (done ++ texts) in (t.text, ap (λ w. w ++ t.text) f.no_text)
-    plain (Some g) f too_long texts =
-        let rest : Transcript = later_lines partition_object skips too_long f.run texts in
-        (rest.text, sym (ap (λ (t : Transcript). t.text) (f.at.goes_on skips (λ a c. refl) too_long texts)))
+-- room for a line without a limit in it
+pub room_without_limit : (read text : List ℕ) → IsWithin read → limit_in (length (whole_lines read)) text ≡ None → HasRoomFor (whole_lines read) text
+room_without_limit read text within none = limit_in_none (length (whole_lines read)) text none within.few
 
 -- a line of the code
 
-pub line_read : (replay new : Replay) (skips more : List CallId) (read written added text end : List ℕ) → HasRead replay skips read written → IsOnePiece end → text ≡ unfinished read ++ end
+pub line_read : (replay new : Replay) (skips more : List CallId) (read written added text end : List ℕ) → HasRead replay skips read written → IsOnePiece end
+    → limit_in (length (whole_lines read)) (unfinished read ++ end) ≡ None → text ≡ unfinished read ++ end
     → Follows new.transcriber.grid (more ++ skips) (whole_lines read ++ text ∷ []) (written ++ added) → new.unfinished.items ≡ [] → HasRead new (more ++ skips) (read ++ ended_line end) (written ++ added)
-line_read replay new skips more read written added text end has one text_is follows rest = record {
+line_read replay new skips more read written added text end has one none text_is follows rest = record {
   follows = subst (λ ls. Follows new.transcriber.grid (more ++ skips) ls (written ++ added)) (ap (λ t. whole_lines read ++ t ∷ []) text_is ∙ sym (lines_completed read end one)) follows;
   rest = rest ∙ sym (nothing_unfinished read end one);
+  within = completed read has.within end one (room_without_limit read (unfinished read ++ end) has.within none);
 }
 
-pub line_stops : (status : Status) (skips : List CallId) (read written text end : List ℕ) → IsOnePiece end → text ≡ unfinished read ++ end
-    → StopsAs status skips (whole_lines read) text written → StopsWithin status skips (whole_lines (read ++ ended_line end)) written
-line_stops status skips read written text end one text_is stops =
-    subst (λ ls. StopsWithin status skips ls written) (ap (λ t. whole_lines read ++ t ∷ []) text_is ∙ sym (lines_completed read end one)) (stops_within status skips (whole_lines read) text written stops)
+pub line_stops : (status : Status) (skips : List CallId) (read written text end : List ℕ) → IsWithin read → IsOnePiece end
+    → limit_in (length (whole_lines read)) (unfinished read ++ end) ≡ None → text ≡ unfinished read ++ end
+    → StopsAs status skips (whole_lines read) text written → StopsWithin status skips (read ++ ended_line end) written
+line_stops status skips read written text end within one none text_is h =
+    stops_at_line status skips (whole_lines read) text written (read ++ ended_line end) (completed read within end one (room_without_limit read (unfinished read ++ end) within none))
+    (lines_completed read end one ∙ ap (λ t. whole_lines read ++ t ∷ []) (sym text_is)) h
 
-pub line_without_memory : (replay : Replay) (skips : List CallId) (read written end : List ℕ) → HasRead replay skips read written → IsOnePiece end
-    → StopsWithin Memory ([] ++ skips) (whole_lines (read ++ ended_line end)) (written ++ [])
-line_without_memory replay skips read written end has one =
-    subst (λ ls. StopsWithin Memory skips ls (written ++ [])) (sym (lines_completed read end one))
-    (stops_before Memory skips (whole_lines read) ((unfinished read ++ end) ∷ []) (written ++ []) (stops_for_memory replay.transcriber.grid skips (whole_lines read) written has.follows))
+-- what the call that stops at a limit says
+abbrev pub ConcludesBehind : Replay → LimitWhat → Status → Option (List ℕ) → Option (List ℕ) → Type 0
+ConcludesBehind replay what status had has = (skips : List CallId) (read written : List ℕ) → HasRead replay skips read written
+    → (added : List ℕ) × Concludes (Some what) status skips (whole_lines read) (written ++ added) × (has ≡ append_known had added)
+
+pub limit_at_newline : (replay : Replay) (what : LimitWhat) (status : Status) (end : List ℕ) (had has : Option (List ℕ)) → IsOnePiece end
+    → ((skips : List CallId) (read written : List ℕ) → HasRead replay skips read written → limit_in (length (whole_lines read)) (unfinished read ++ end) ≡ Some what)
+    → ConcludesBehind replay what status had has → StopsIn replay status (ended_line end) had has
+limit_at_newline replay what status end had has one passed ends skips read written reads =
+    let e = ends skips read written reads in (
+      [],
+      e.0,
+      stops_at_limit what status skips (whole_lines read) (read ++ ended_line end) (written ++ e.0) (passed_with_newline read reads.within end what one (passed skips read written reads)) e.1,
+      e.2,
+    )
+
+pub limit_in_line : (replay : Replay) (what : LimitWhat) (status : Status) (more : List ℕ) (had has : Option (List ℕ)) → IsOnePiece more → 0 < length more
+    → ((skips : List CallId) (read written : List ℕ) → HasRead replay skips read written → limit_in (length (whole_lines read)) (unfinished read ++ more) ≡ Some what)
+    → ConcludesBehind replay what status had has → StopsIn replay status more had has
+limit_in_line replay what status more had has one some passed ends skips read written reads =
+    let e = ends skips read written reads in (
+      [],
+      e.0,
+      stops_at_limit what status skips (whole_lines read) (read ++ more) (written ++ e.0) (passed_within read reads.within more what one some (passed skips read written reads)) e.1,
+      e.2,
+    )
+
+-- bytes of a line that are kept
+pub line_kept : (replay new : Replay) (more : List ℕ) (taken : Option (List ℕ)) → IsOnePiece more → new.transcriber.grid ≡ replay.transcriber.grid → new.unfinished.items ≡ replay.unfinished.items ++ more
+    → ((skips : List CallId) (read written : List ℕ) → HasRead replay skips read written → limit_in (length (whole_lines read)) (unfinished read ++ more) ≡ None)
+    → Takes replay new more taken taken
+line_kept replay new more taken one grid items none skips read written has =
+    let stay = more_unfinished read more one in (
+      [],
+      [],
+      subst (λ text. HasRead new skips (read ++ more) text) (sym (append-nil written)) (record {
+        follows = subst (λ g. Follows g skips (whole_lines (read ++ more)) written) (sym grid) (subst (λ ls. Follows replay.transcriber.grid skips ls written) (sym stay.0) has.follows);
+        rest = items ∙ ap (λ bytes. bytes ++ more) has.rest ∙ sym stay.1;
+        within = kept read has.within more one (room_without_limit read (unfinished read ++ more) has.within (none skips read written has));
+      }),
+      sym (append_known-nil taken),
+    )
+
+pub nothing_taken : (replay : Replay) (taken : Option (List ℕ)) → Takes replay replay [] taken taken
+nothing_taken replay taken skips read written has = (
+  [],
+  [],
+  subst (λ bytes. HasRead replay skips bytes (written ++ [])) (sym (append-nil read)) (subst (λ text. HasRead replay skips read text) (sym (append-nil written)) has),
+  sym (append_known-nil taken),
+)
+
+pub taken_empty : (replay : Replay) (more : List ℕ) (taken : Option (List ℕ)) → (length more == 0) ≡ true → Takes replay replay more taken taken
+taken_empty replay [] taken e = nothing_taken replay taken
+taken_empty replay (x ∷ xs) taken e = absurd (grind (arith, nat_tests))
+
+pub has_bytes : (more : List ℕ) → (length more == 0) ≡ false → 0 < length more
+has_bytes [] e = absurd (cc e)
+has_bytes (x ∷ xs) e = omega arith

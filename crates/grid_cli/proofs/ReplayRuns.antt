@@ -1,20 +1,25 @@
 -- Reading a script to its end, its limit or a fault.
-use Rattle.std.proofs.Common.{◌≡◌, ◌≢◌, ℕ, zero, suc, ◌+◌, ◌-◌, ◌≤◌, ◌<◌, Bool, true, false, List, [], ◌∷◌, ◌++◌, length, take, drop, Option, Some, refl, ap, sym, ◌∙◌, subst, arith, append-nil, append_assoc, length-append}
-use Rattle.std.proofs.Math.Seq.{take-append_seam}
-use Rattle.std.proofs.lemmas.List.{take-append-drop, length-take}
+use Rattle.std.proofs.Common.{◌≡◌, ℕ, ◌+◌, ◌-◌, ◌≤◌, ◌<◌, List, [], ◌++◌, length, take, drop, Option, Some, None, refl, ap, sym, ◌∙◌, subst, arith, append-nil, append_assoc, length-append}
+use Rattle.std.proofs.lemmas.List.{take-append-drop, length-take, take-take, take_at}
+use Rattle.std.proofs.Math.Seq.{take-append-add}
 use Rattle.std.specs.Io.KnownBytes.{append_known, prepend_known, IsAtEnd}
 use Rattle.grid_base.specs.declared.names.CallId.{CallId}
 use Rattle.grid_edge.proofs.Told.{append_known-nil, prepend_known-nil, prepend_known-some, more_taken, more_read}
-use Rattle.grid_cli.specs.Words.{whole_lines, unfinished}
-use Rattle.grid_cli.specs.PartitionObjects.{partition_object}
-use Rattle.grid_cli.specs.Transcripts.{most_bytes, last_line, transcript}
-use Rattle.grid_cli.specs.Statuses.{Writes, WritesText}
+use Rattle.partition_protocol.specs.Sequences.{IsFrontOf}
+use Rattle.script_lang.specs.Limits.{most_bytes}
+use Rattle.script_lang.specs.Words.{whole_lines, unfinished}
+use Rattle.replay_run.specs.PartitionObjects.{partition_object}
+use Rattle.grid_cli.specs.Transcripts.{transcript}
+use Rattle.grid_cli.specs.Statuses.{Writes, WritesText, IsTextSoFar}
 use Rattle.grid_cli.specs.Transcribing.{Concludes}
-use Rattle.grid_cli.specs.Replays.{HasRead, StopsWithin}
+use Rattle.grid_cli.specs.Replays.{HasRead, StopsIn, Takes, last_line}
 use Rattle.grid_cli.specs.declared.replay.Replay.{Replay}
+use Rattle.grid_cli.specs.declared.status.LimitWhat.TheVariants.{Bytes}
 use Rattle.grid_cli.specs.declared.status.Status.{Status}
 use Rattle.grid_cli.specs.declared.status.Status.TheVariants.{Usage, ReadFault, Memory}
-use Rattle.grid_cli.proofs.ReplayEnds.{stopped_within, script_ended, limit_reached, text_so_far}
+use Rattle.grid_cli.proofs.Cuts.{lines_begin, script_ended, bytes_passed}
+use Rattle.grid_cli.proofs.ReplayLaws.{concluded}
+use Rattle.grid_cli.proofs.TranscriberLaws.{stop_of_lines}
 
 -- What was read and written so far. The source told first, and tells now; the sink had before, and has after.
 pub record HasPlayed (replay : Replay) (count : ℕ) (first now before after : Option (List ℕ)) : Type 0 where
@@ -32,17 +37,35 @@ at_first replay first before has = record { skips = []; read = []; written = [];
 pub nothing_played : (first before : Option (List ℕ)) → WritesText Memory first before before
 nothing_played first before script told = ([], [], sym (append_known-nil before), ((transcript partition_object [] script).text, refl))
 
+pub nothing_said : (first before : Option (List ℕ)) → WritesText Usage first before before
+nothing_said first before script told = ([], [], sym (append_known-nil before), refl)
+
+-- A front of a script is one of the bytes that are looked at, if they are no more.
+front_within : (read rest : List ℕ) → length read ≤ most_bytes → IsFrontOf read (take most_bytes (read ++ rest))
+front_within read rest few =
+    let room : ℕ = most_bytes - length read in
+    let is : length read + room ≡ most_bytes = omega arith in
+    (take room rest, sym (ap (λ n. take n (read ++ rest)) (sym is) ∙ take-append-add read rest room))
+
 -- what the source told is what was read, and what is left
 told_rest : (script read : List ℕ) (first now : Option (List ℕ)) → first ≡ Some script → first ≡ prepend_known read now → (rest : List ℕ) × (now ≡ Some rest) × (script ≡ read ++ rest)
 told_rest script read first now told left = prepend_known-some read now script (sym told ∙ left)
 
-pub read_failed : (replay : Replay) (count : ℕ) (first now before after : Option (List ℕ)) → HasPlayed replay count first now before after → WritesText ReadFault first before after
-read_failed replay count first now before after played script told =
+text_so_far : (replay : Replay) (skips : List CallId) (read rest written : List ℕ) → length read ≤ most_bytes → HasRead replay skips read written → IsTextSoFar skips (read ++ rest) written
+text_so_far replay skips read rest written few has = record {
+  read = read;
+  front = (rest, refl);
+  within = lines_begin read has.within (read ++ rest) (front_within read rest few);
+  lines = stop_of_lines replay.transcriber.grid skips (whole_lines read) written has.follows None;
+}
+
+pub read_failed : (replay : Replay) (count : ℕ) (first now before after : Option (List ℕ)) → HasPlayed replay count first now before after → count ≤ most_bytes → WritesText ReadFault first before after
+read_failed replay count first now before after played few script told =
     let rest = told_rest script played.read first now told played.left in (
       played.skips,
       played.written,
       played.taken,
-      subst (λ bytes. Writes ReadFault played.skips bytes played.written) (sym rest.2) (text_so_far replay played.skips played.read rest.0 played.written played.has),
+      subst (λ bytes. Writes ReadFault played.skips bytes played.written) (sym rest.2) (text_so_far replay played.skips played.read rest.0 played.written (omega (arith, played.size)) played.has),
     )
 
 no_more : (rest : List ℕ) (now : Option (List ℕ)) → now ≡ Some rest → IsAtEnd now → rest ≡ []
@@ -50,9 +73,9 @@ no_more rest now is end = let P : Option (List ℕ) → Type 0 = IsAtEnd in subs
 
 pub script_read : (replay : Replay) (count : ℕ) (first now before after last : Option (List ℕ)) (status : Status) → HasPlayed replay count first now before after → IsAtEnd now → count ≤ most_bytes
     → ((skips : List CallId) (read written : List ℕ) → HasRead replay skips read written
-    → (more : List CallId) × (added : List ℕ) × Concludes false status (more ++ skips) (whole_lines read ++ last_line (unfinished read)) (written ++ added) × (last ≡ append_known after added))
+    → (more : List CallId) × (added : List ℕ) × Concludes None status (more ++ skips) (whole_lines read ++ last_line (unfinished read)) (written ++ added) × (last ≡ append_known after added))
     → WritesText status first before last
-script_read replay count first now before after last status played end within ends script told =
+script_read replay count first now before after last status played end few ends script told =
     let rest = told_rest script played.read first now told played.left in
     let all : script ≡ played.read = rest.2 ∙ ap (λ bytes. played.read ++ bytes) (no_more rest.0 now rest.1 end) ∙ append-nil played.read in
     let h = ends played.skips played.read played.written played.has in (
@@ -60,48 +83,38 @@ script_read replay count first now before after last status played end within en
       played.written ++ h.1,
       more_taken before after last played.written h.1 played.taken h.3,
       subst (λ bytes. Writes status (h.0 ++ played.skips) bytes (played.written ++ h.1)) (sym all)
-          (script_ended status (h.0 ++ played.skips) played.read (played.written ++ h.1) (omega (arith, played.size)) h.2),
+          (concluded None (h.0 ++ played.skips) played.read (played.written ++ h.1) (whole_lines played.read ++ last_line (unfinished played.read))
+          (script_ended played.read played.has.within (omega (arith, played.size))) status h.2),
     )
 
 -- A front of the bytes that came is taken.
-front_of_front : (xs : List ℕ) (n m : ℕ) → m ≤ n → take m (take n xs) ≡ take m xs
-front_of_front xs n zero within = refl
-front_of_front [] zero (suc m) within = absurd (omega arith)
-front_of_front [] (suc n) (suc m) within = refl
-front_of_front (x ∷ xs) zero (suc m) within = absurd (omega arith)
-front_of_front (x ∷ xs) (suc n) (suc m) within = ap (λ ys. x ∷ ys) (front_of_front xs n m (omega arith))
-
 rest_of_piece : (read buffer rest : List ℕ) (count m : ℕ) → m ≤ count → read ++ (take count buffer ++ rest) ≡ (read ++ take m buffer) ++ (drop m (take count buffer) ++ rest)
 rest_of_piece read buffer rest count m within =
-    let fronts : take m (take count buffer) ≡ take m buffer = front_of_front buffer count m within in
+    let fronts : take m (take count buffer) ≡ take m buffer = take-take m count buffer within in
     ap (λ bytes. read ++ (bytes ++ rest)) (sym (take-append-drop m (take count buffer)) ∙ ap (λ bytes. bytes ++ drop m (take count buffer)) fronts)
     ∙ ap (λ bytes. read ++ bytes) (append_assoc (take m buffer) (drop m (take count buffer)) rest)
     ∙ sym (append_assoc read (take m buffer) (drop m (take count buffer) ++ rest))
 
 pub stopped_in_piece : (replay : Replay) (count : ℕ) (first now later before after last : Option (List ℕ)) (status : Status) (buffer : List ℕ) (n m : ℕ)
-    → HasPlayed replay count first now before after → now ≡ prepend_known (take n buffer) later → m ≤ n → count + m ≤ most_bytes
-    → ((skips : List CallId) (read written : List ℕ) → HasRead replay skips read written
-    → (more : List CallId) × (added : List ℕ) × StopsWithin status (more ++ skips) (whole_lines (read ++ take m buffer)) (written ++ added) × (last ≡ append_known after added))
+    → HasPlayed replay count first now before after → now ≡ prepend_known (take n buffer) later → m ≤ n → count + m ≤ most_bytes → StopsIn replay status (take m buffer) after last
     → WritesText status first before last
 stopped_in_piece replay count first now later before after last status buffer n m played came within room stops script told =
     let rest = told_rest script played.read first now told played.left in
     let more = prepend_known-some (take n buffer) later rest.0 (sym rest.1 ∙ came) in
-    let all : script ≡ (played.read ++ take m buffer) ++ (drop m (take n buffer) ++ more.0) =
-    rest.2 ∙ ap (λ bytes. played.read ++ bytes) more.2 ∙ rest_of_piece played.read buffer more.0 n m within in
+    let front : List ℕ = played.read ++ take m buffer in
+    let behind : List ℕ = drop m (take n buffer) ++ more.0 in
+    let all : script ≡ front ++ behind = rest.2 ∙ ap (λ bytes. played.read ++ bytes) more.2 ∙ rest_of_piece played.read buffer more.0 n m within in
     let h = stops played.skips played.read played.written played.has in (
       h.0 ++ played.skips,
       played.written ++ h.1,
       more_taken before after last played.written h.1 played.taken h.3,
       subst (λ bytes. Writes status (h.0 ++ played.skips) bytes (played.written ++ h.1)) (sym all)
-          (stopped_within status (h.0 ++ played.skips) (played.read ++ take m buffer) (drop m (take n buffer) ++ more.0) (played.written ++ h.1)
-          (omega (arith, played.size, length-append played.read (take m buffer), length-take m buffer)) h.2),
+          (h.2.writes (front ++ behind) (front_within front behind (omega (arith, played.size, length-append played.read (take m buffer), length-take m buffer)))),
     )
 
 -- The piece was taken whole, and the run goes on.
 pub played_on : (replay next : Replay) (count : ℕ) (first now later before after last : Option (List ℕ)) (buffer : List ℕ) (n : ℕ)
-    → HasPlayed replay count first now before after → now ≡ prepend_known (take n buffer) later → n ≤ length buffer
-    → ((skips : List CallId) (read written : List ℕ) → HasRead replay skips read written
-    → (more : List CallId) × (added : List ℕ) × HasRead next (more ++ skips) (read ++ take n buffer) (written ++ added) × (last ≡ append_known after added))
+    → HasPlayed replay count first now before after → now ≡ prepend_known (take n buffer) later → n ≤ length buffer → Takes replay next (take n buffer) after last
     → HasPlayed next (count + n) first later before last
 played_on replay next count first now later before after last buffer n played came within goes =
     let h = goes played.skips played.read played.written played.has in
@@ -118,10 +131,9 @@ played_on replay next count first now later before after last buffer n played ca
 -- The script has more bytes than it may.
 pub limit_was_passed : (replay next : Replay) (count : ℕ) (first now later before after mid last : Option (List ℕ)) (status : Status) (buffer : List ℕ) (n m : ℕ)
     → HasPlayed replay count first now before after → now ≡ prepend_known (take n buffer) later → n ≤ length buffer → count ≤ most_bytes → m ≡ most_bytes - count → m < n
-    → ((skips : List CallId) (read written : List ℕ) → HasRead replay skips read written
-    → (more : List CallId) × (added : List ℕ) × HasRead next (more ++ skips) (read ++ take m buffer) (written ++ added) × (mid ≡ append_known after added))
+    → Takes replay next (take m buffer) after mid
     → ((skips : List CallId) (read written : List ℕ) → HasRead next skips read written
-    → (added : List ℕ) × Concludes true status skips (whole_lines read) (written ++ added) × (last ≡ append_known mid added))
+    → (added : List ℕ) × Concludes (Some Bytes) status skips (whole_lines read) (written ++ added) × (last ≡ append_known mid added))
     → WritesText status first before last
 limit_was_passed replay next count first now later before after mid last status buffer n m played came within count_within room past goes ends script told =
     let rest = told_rest script played.read first now told played.left in
@@ -129,25 +141,14 @@ limit_was_passed replay next count first now later before after mid last status 
     let front : List ℕ = played.read ++ take m buffer in
     let all : script ≡ front ++ (drop m (take n buffer) ++ more.0) = rest.2 ∙ ap (λ bytes. played.read ++ bytes) more.2 ∙ rest_of_piece played.read buffer more.0 n m (omega (arith, past)) in
     let size : length front ≡ most_bytes = length-append played.read (take m buffer) ∙ omega (arith, played.size, length-take m buffer, room, past, within) in
-    let cut : take most_bytes script ≡ front = ap (take most_bytes) all ∙ ap (λ k. take k (front ++ (drop m (take n buffer) ++ more.0))) (sym size) ∙ take-append_seam front (drop m (take n buffer) ++ more.0) in
+    let cut_off : take most_bytes script ≡ front = ap (take most_bytes) all ∙ take_at front (drop m (take n buffer) ++ more.0) most_bytes size in
+    let many : most_bytes < length script =
+    omega (arith, played.size, ap length rest.2, ap length more.2, length-append played.read rest.0, length-append (take n buffer) more.0, length-take n buffer, room, past, within) in
     let h = goes played.skips played.read played.written played.has in
     let e = ends (h.0 ++ played.skips) front (played.written ++ h.1) h.2 in (
       h.0 ++ played.skips,
       (played.written ++ h.1) ++ e.0,
       more_taken before mid last (played.written ++ h.1) e.0 (more_taken before after mid played.written h.1 played.taken h.3) e.2,
-      limit_reached status (h.0 ++ played.skips) script front ((played.written ++ h.1) ++ e.0)
-          (omega (arith, played.size, ap length rest.2, ap length more.2, length-append played.read rest.0, length-append (take n buffer) more.0, length-take n buffer, room, past, within)) cut e.1,
+      concluded (Some Bytes) (h.0 ++ played.skips) script ((played.written ++ h.1) ++ e.0) (whole_lines front ++ []) (bytes_passed front h.2.within script many cut_off) status
+          (subst (λ ls. Concludes (Some Bytes) status (h.0 ++ played.skips) ls ((played.written ++ h.1) ++ e.0)) (sym (append-nil (whole_lines front))) e.1),
     )
-
--- no run ends for its words
-pub not_usage : (long : Bool) (status : Status) (skips : List CallId) (lines : List (List ℕ)) (written : List ℕ) → Concludes long status skips lines written → status ≢ Usage
-not_usage long status skips lines written h is = let P : Status → Type 0 = λ s. Concludes long s skips lines written in subst P is h
-
-pub not_read_fault : (long : Bool) (status : Status) (skips : List CallId) (lines : List (List ℕ)) (written : List ℕ) → Concludes long status skips lines written → status ≢ ReadFault
-not_read_fault long status skips lines written h is = let P : Status → Type 0 = λ s. Concludes long s skips lines written in subst P is h
-
-pub stops_not_usage : (status : Status) (skips : List CallId) (lines : List (List ℕ)) (written : List ℕ) → StopsWithin status skips lines written → status ≢ Usage
-stops_not_usage status skips lines written h is = let P : Status → Type 0 = λ s. StopsWithin s skips lines written in subst P is h
-
-pub stops_not_read_fault : (status : Status) (skips : List CallId) (lines : List (List ℕ)) (written : List ℕ) → StopsWithin status skips lines written → status ≢ ReadFault
-stops_not_read_fault status skips lines written h is = let P : Status → Type 0 = λ s. StopsWithin s skips lines written in subst P is h

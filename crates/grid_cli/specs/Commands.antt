@@ -1,14 +1,19 @@
--- What the program's commands are, and what a replay that came to its line `end` has printed.
+-- What the program's commands are, and what a replay says of the histories that it prints.
 use Rattle.std.specs.Prelude.{◌≡◌, ℕ, Bool, false, List, [], ◌∷◌, ◌++◌, take, Option, codes, String, string_bytes}
+use Rattle.std.specs.List.{flat_map}
 use Rattle.std.specs.Io.KnownBytes.{append_known}
 use Rattle.std.specs.declared.alloc.Global.{Global}
 use Rattle.grid_base.specs.declared.names.CallId.{CallId}
-use Rattle.grid_cli.specs.Words.{are_same}
-use Rattle.grid_cli.specs.PartitionObjects.{partition_object}
-use Rattle.grid_cli.specs.Printing.{end_text}
-use Rattle.grid_cli.specs.Transcripts.{lines_of}
-use Rattle.grid_cli.specs.Linearizability.{IsLinearizable}
+use Rattle.script_lang.specs.Words.{are_same}
+use Rattle.replay_run.specs.PartitionObjects.{partition_object}
+use Rattle.replay_run.specs.Runs.{Run}
+use Rattle.replay_run.specs.Printing.{ok_text, entry_text, all_entries}
+use Rattle.replay_run.specs.Linearizability.{IsLinearizable}
+use Rattle.grid_cli.specs.Scripts.{lines_of}
 use Rattle.grid_cli.specs.Progress.{run_of}
+use Rattle.grid_cli.specs.Statuses.{Writes}
+use Rattle.grid_cli.specs.declared.status.Status.{Status}
+use Rattle.grid_cli.specs.declared.status.Status.TheVariants.{Done}
 
 -- The words after the program's name are the one word `replay`.
 abbrev pub is_replay : List (String Global) → Bool
@@ -16,15 +21,22 @@ is_replay [] = false
 is_replay (word ∷ []) = are_same (string_bytes word) (codes "replay")
 is_replay (word ∷ other ∷ words) = false
 
--- The text closes with the histories of a run of the script's first lines, and each is one that a single thread could have seen.
-pub record ClosesWithHistories (skips : List CallId) (script text : List ℕ) : Type 0 where
-  -- how many lines the script has up to `end`
-  pub lines : ℕ
-  -- what stands before the histories
-  pub front : List ℕ
-  pub closes : text ≡ front ++ end_text partition_object (run_of skips (take lines (lines_of script)))
-  pub linearizable : IsLinearizable (run_of skips (take lines (lines_of script)))
+-- the run after the first lines of a script, that many or as many as run
+abbrev pub run_of_script : List CallId → List ℕ → ℕ → Run
+run_of_script skips script lines = run_of skips (take lines (lines_of script))
 
--- What was written closes with the histories, for some calls that found no memory.
-abbrev pub PrintsHistories : List ℕ → Option (List ℕ) → Option (List ℕ) → Type 0
-PrintsHistories script before after = (skips : List CallId) × (text : List ℕ) × (after ≡ append_known before text) × ClosesWithHistories skips script text
+-- the text closes with the histories of a run
+abbrev pub ClosesWith : Run → List ℕ → Type 0
+ClosesWith r text = (front : List ℕ) × (text ≡ front ++ ok_text r.lines ++ flat_map (entry_text r.lines) (all_entries partition_object r))
+
+-- With this status the text was written of the script's transcript, where these calls found no memory.
+pub record TellsHistories (status : Status) (skips : List CallId) (script text : List ℕ) : Type 0 where
+  pub writes : Writes status skips script text
+  -- Whichever line it is that prints histories, each is one that a single thread could have seen.
+  pub linearizable : (lines : ℕ) → IsLinearizable (run_of_script skips script lines)
+  -- and with the line `end` the text closes with all of them
+  pub closes : status ≡ Done → (lines : ℕ) × ClosesWith (run_of_script skips script lines) text
+
+-- What was written tells histories of the script, for some calls that found no memory.
+abbrev pub PrintsHistories : Status → List ℕ → Option (List ℕ) → Option (List ℕ) → Type 0
+PrintsHistories status script before after = (skips : List CallId) × (text : List ℕ) × (after ≡ append_known before text) × TellsHistories status skips script text

@@ -1,33 +1,53 @@
 -- What the code that reads a script has done: it has run the lines that are whole in the bytes so far.
-use Rattle.std.specs.Prelude.{◌≡◌, ℕ, Bool, List, [], ◌∷◌, ◌++◌}
+use Rattle.std.specs.Prelude.{◌≡◌, ◌≢◌, ℕ, ◌-◌, ◌≤◌, ◌⊎◌, Bool, Option, List, [], ◌∷◌, ◌++◌, length, take}
+use Rattle.std.specs.Io.KnownBytes.{append_known}
 use Rattle.grid_base.specs.declared.names.CallId.{CallId}
 use Rattle.partition_protocol.specs.Sequences.{IsFrontOf}
+use Rattle.script_lang.specs.Limits.{most_bytes, most_lines}
+use Rattle.script_lang.specs.Words.{whole_lines, unfinished, newline, pieces_at}
+use Rattle.grid_cli.specs.Scripts.{cut_pieces, behind}
+use Rattle.grid_cli.specs.Statuses.{Writes}
+use Rattle.grid_cli.specs.Transcribing.{Follows, HasRoomFor}
 use Rattle.grid_cli.specs.declared.replay.Replay.{Replay}
 use Rattle.grid_cli.specs.declared.status.Status.{Status}
-use Rattle.grid_cli.specs.declared.status.Status.TheVariants.{Done, Usage, ScriptRefused, ReadFault, WriteFault, Limit, Memory}
-use Rattle.grid_cli.specs.Words.{whole_lines, unfinished, newline}
-use Rattle.grid_cli.specs.PartitionObjects.{partition_object}
-use Rattle.grid_cli.specs.Transcripts.{Transcript, Ended, Refused, first_line}
-use Rattle.grid_cli.specs.Statuses.{whole}
-use Rattle.grid_cli.specs.Transcribing.{Follows}
+use Rattle.grid_cli.specs.declared.status.Status.TheVariants.{Usage, ReadFault}
+
+-- None of these bytes is past the limit of lines, or of a line: whatever follows them, the script's lines begin with those that are whole in them.
+pub record IsWithin (read : List ℕ) : Type 0 where
+  pub goes_on : (past : Bool) (rest : List ℕ)
+      → cut_pieces past most_lines (pieces_at newline (read ++ rest)) ≡ behind (whole_lines read) (cut_pieces past (most_lines - length (whole_lines read)) (pieces_at newline (unfinished read ++ rest)))
+  pub few : length (whole_lines read) ≤ most_lines
+  pub room : (unfinished read ≡ []) ⊎ HasRoomFor (whole_lines read) (unfinished read)
 
 -- These bytes were read and this was written: the text of the lines that are whole in them.
 pub record HasRead (replay : Replay) (skips : List CallId) (read : List ℕ) (written : List ℕ) : Type 0 where
   pub follows : Follows replay.transcriber.grid skips (whole_lines read) written
   pub rest : replay.unfinished.items ≡ unfinished read
+  pub within : IsWithin read
 
-abbrev pub OfLines : List CallId → List (List ℕ) → (Transcript → Type 0) → Type 0
-OfLines skips lines P = (too_long : Bool) (texts : List (List ℕ)) → P (first_line partition_object skips too_long (lines ++ texts))
+-- The run stopped with this status within these bytes, whatever the script has behind them.
+pub record StopsWithin (status : Status) (skips : List CallId) (read written : List ℕ) : Type 0 where
+  pub writes : (script : List ℕ) → IsFrontOf read (take most_bytes script) → Writes status skips script written
+  pub runs : status ≢ Usage
+  pub reads : status ≢ ReadFault
 
--- the status with which the run stopped within these lines, where this was written
-abbrev pub StopsWithin : Status → List CallId → List (List ℕ) → List ℕ → Type 0
-StopsWithin Done skips lines written = OfLines skips lines (λ t. t ≡ whole written Ended)
-StopsWithin (ScriptRefused line why) skips lines written = OfLines skips lines (λ t. t ≡ whole written (Refused line why))
-StopsWithin WriteFault skips lines written = OfLines skips lines (λ t. IsFrontOf written t.text)
-StopsWithin Memory skips lines written = OfLines skips lines (λ t. IsFrontOf written t.text)
-StopsWithin Usage skips lines written = ⊥
-StopsWithin ReadFault skips lines written = ⊥
-StopsWithin (Limit what) skips lines written = ⊥
+-- From what was read and written these bytes lead there, whatever it was: some calls more may have found no memory, and the sink took what was added to the text.
+abbrev pub LeadsTo : (List CallId → List ℕ → List ℕ → Type 0) → Replay → List ℕ → Option (List ℕ) → Option (List ℕ) → Type 0
+LeadsTo There before bytes had has = (skips : List CallId) (read written : List ℕ) → HasRead before skips read written
+    → (more : List CallId) × (added : List ℕ) × There (more ++ skips) (read ++ bytes) (written ++ added) × (has ≡ append_known had added)
+
+-- The bytes were taken,
+abbrev pub Takes : Replay → Replay → List ℕ → Option (List ℕ) → Option (List ℕ) → Type 0
+Takes before after bytes had has = LeadsTo (HasRead after) before bytes had has
+
+-- or the run stopped within them.
+abbrev pub StopsIn : Replay → Status → List ℕ → Option (List ℕ) → Option (List ℕ) → Type 0
+StopsIn before status bytes had has = LeadsTo (StopsWithin status) before bytes had has
+
+-- what stands after the last newline is a line if it has a byte
+abbrev pub last_line : List ℕ → List (List ℕ)
+last_line [] = []
+last_line (byte ∷ bytes) = (byte ∷ bytes) ∷ []
 
 -- the bytes of a line with its newline
 abbrev pub ended_line : List ℕ → List ℕ

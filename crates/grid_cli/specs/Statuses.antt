@@ -1,13 +1,14 @@
 -- The statuses of a command, and what is written of a script's transcript at each.
-use Rattle.std.specs.Prelude.{◌≡◌, ℕ, false, List, [], length, Option, Some}
+use Rattle.std.specs.Prelude.{◌≡◌, ℕ, List, [], length, Option, Some, None}
 use Rattle.std.specs.Io.KnownBytes.{append_known}
 use Rattle.grid_base.specs.declared.names.CallId.{CallId}
 use Rattle.partition_protocol.specs.Sequences.{IsFrontOf}
-use Rattle.grid_cli.specs.declared.script.LineWhy.TheVariants.{NoEnd}
+use Rattle.script_lang.specs.declared.refusal.LineWhy.TheVariants.{NoEnd}
 use Rattle.grid_cli.specs.declared.status.Status.{Status}
 use Rattle.grid_cli.specs.declared.status.Status.TheVariants.{Done, Usage, ScriptRefused, ReadFault, WriteFault, Limit, Memory}
-use Rattle.grid_cli.specs.Words.{whole_lines}
-use Rattle.grid_cli.specs.PartitionObjects.{partition_object}
+use Rattle.script_lang.specs.Words.{whole_lines}
+use Rattle.replay_run.specs.PartitionObjects.{partition_object}
+use Rattle.grid_cli.specs.Scripts.{lines_of}
 use Rattle.grid_cli.specs.Transcripts.{Transcript, Ending, Ended, Refused, TooLong, transcript, first_line, following, refused}
 
 abbrev pub exit_status : Status → ℕ
@@ -27,7 +28,8 @@ whole text ending = record { text = text; ending = ending }
 pub record IsTextSoFar (skips : List CallId) (script text : List ℕ) : Type 0 where
   pub read : List ℕ
   pub front : IsFrontOf read script
-  pub lines : first_line partition_object skips false (whole_lines read) ≡ following text (refused (length (whole_lines read)) NoEnd)
+  pub within : IsFrontOf (whole_lines read) (lines_of script)
+  pub lines : first_line partition_object skips None (whole_lines read) ≡ following text (refused (length (whole_lines read)) NoEnd)
 
 -- With these statuses this text was written: the whole transcript where the run came to an end of its own, else a front of it.
 abbrev pub Writes : Status → List CallId → List ℕ → List ℕ → Type 0
@@ -36,7 +38,7 @@ Writes Usage skips script text = text ≡ []
 Writes (ScriptRefused line why) skips script text = transcript partition_object skips script ≡ whole text (Refused line why)
 Writes ReadFault skips script text = IsTextSoFar skips script text
 Writes WriteFault skips script text = IsFrontOf text (transcript partition_object skips script).text
-Writes (Limit what) skips script text = (line : ℕ) × (transcript partition_object skips script ≡ whole text (TooLong line))
+Writes (Limit what) skips script text = (line : ℕ) × (transcript partition_object skips script ≡ whole text (TooLong line what))
 Writes Memory skips script text = IsFrontOf text (transcript partition_object skips script).text
 
 -- Where the source tells its script, a text is written that the script's transcript has, for some calls that found no memory.

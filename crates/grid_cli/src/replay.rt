@@ -1,23 +1,21 @@
-ghost use Rattle.std.specs.Prelude.{◌≡◌, ◌+◌, ◌≤◌, ◌<◌, ◌++◌, [], List, ℕ, Some, length, OnOk, IfErr, IsErrOf, false, ◌≢◌};
+ghost use Rattle.std.specs.Prelude.{◌≡◌, ◌≤◌, ◌<◌, [], List, ℕ, ◌++◌, Some, length, None, OnOk, IfErr, IsErrOf, ◌≢◌};
 ghost use Rattle.std.specs.Io.KnownBytes.{append_known};
 ghost use Rattle.grid_base.specs.declared.names.CallId.{CallId};
 ghost use Rattle.grid_edge.specs.Faults.{Rose};
-ghost use Rattle.grid_cli.specs.Words.{whole_lines, unfinished};
-ghost use Rattle.grid_cli.specs.Transcripts.{last_line};
+ghost use Rattle.script_lang.specs.Words.{whole_lines, unfinished};
+ghost use Rattle.script_lang.specs.Pieces.{IsOnePiece};
+ghost use Rattle.grid_cli.specs.Scripts.{limit_in};
 ghost use Rattle.grid_cli.specs.Statuses.{WritesText};
 ghost use Rattle.grid_cli.specs.Transcribing.{Concludes};
-ghost use Rattle.grid_cli.specs.Pieces.{IsOnePiece};
-ghost use Rattle.grid_cli.specs.Replays.{HasRead, StopsWithin, ended_line};
+ghost use Rattle.grid_cli.specs.Replays.{HasRead, Takes, StopsIn, ended_line, last_line};
 ghost use Rattle.grid_cli.specs.Commands.{PrintsHistories};
 
-use crate::status::Status;
+use crate::status::{LimitWhat, Status};
 use crate::transcriber::Transcriber;
-use grid_edge::{Sink, Source, write_all};
+use grid_edge::{Sink, Source};
 use memchr::memchr;
+use script_lang::{MOST_BYTES, MOST_LINE_BYTES, MOST_LINES};
 use std::alloc::Global;
-
-/// How many bytes a script may have.
-pub const MOST_BYTES: usize = 16_777_216;
 
 /// How many bytes are asked for at a time.
 const PIECE: usize = 65_536;
@@ -40,19 +38,32 @@ impl Replay {
         }
     }
 
+    /// The limit that the next line goes past with these bytes of it, behind which its newline may come.
+    fn limit_in(&self, more: &[u8]) -> Option<LimitWhat>
+        ensures { (skips : List CallId) (read written : List ℕ) → HasRead self.now skips read written
+            → result ≡ limit_in (length (whole_lines read)) (unfinished read ++ more.now) }
+    {
+        if self.transcriber.lines() == MOST_LINES {
+            Some(LimitWhat::Lines)
+        } else if self.unfinished.len() + more.len() > MOST_LINE_BYTES {
+            Some(LimitWhat::Line)
+        } else {
+            None
+        }
+    }
+
     /// Runs the line that ends with these bytes and a newline.
     fn complete<K: Sink>(&mut self, alloc: Global, end: &[u8], out: &mut K) -> Result<(), Status>
-        requires read { (skips : List CallId) × (read written : List ℕ) × HasRead self.old skips read written × (length read + length end.now < MOST_BYTES) }
+        requires read { (skips : List CallId) × (read written : List ℕ) × HasRead self.old skips read written }
         requires one { IsOnePiece end.now }
-        ensures goes { (skips : List CallId) (read written : List ℕ) → HasRead self.old skips read written
-            → OnOk result ((more : List CallId) × (added : List ℕ) × HasRead self.new (more ++ skips) (read ++ ended_line end.now) (written ++ added)
-            × (K.taken out.new ≡ append_known (K.taken out.old) added)) }
-        ensures stops { (skips : List CallId) (read written : List ℕ) → HasRead self.old skips read written
-            → IfErr result (λ status. (more : List CallId) × (added : List ℕ) × StopsWithin status (more ++ skips) (whole_lines (read ++ ended_line end.now)) (written ++ added)
-            × (K.taken out.new ≡ append_known (K.taken out.old) added)) }
+        ensures goes { OnOk result (Takes self.old self.new (ended_line end.now) (K.taken out.old) (K.taken out.new)) }
+        ensures stops { IfErr result (λ status. StopsIn self.old status (ended_line end.now) (K.taken out.old) (K.taken out.new)) }
         ensures never_falls { K.faults out.old ≤ K.faults out.new }
         ensures cause { IsErrOf result Status.WriteFault → Rose (K.faults out.old) (K.faults out.new) }
     {
+        if let Some(what) = self.limit_in(end) {
+            return Err(self.transcriber.stop_at_limit(what, out));
+        }
         let Ok(()) = self.unfinished.extend_from_slice(end) else {
             return Err(Status::Memory);
         };
@@ -68,15 +79,32 @@ impl Replay {
         }
     }
 
+    /// Keeps bytes of a line whose newline hasn't come.
+    fn keep<K: Sink>(&mut self, more: &[u8], out: &mut K) -> Result<(), Status>
+        requires read { (skips : List CallId) × (read written : List ℕ) × HasRead self.old skips read written }
+        requires one { IsOnePiece more.now }
+        ensures goes { OnOk result (Takes self.old self.new more.now (K.taken out.old) (K.taken out.new)) }
+        ensures stops { IfErr result (λ status. StopsIn self.old status more.now (K.taken out.old) (K.taken out.new)) }
+        ensures never_falls { K.faults out.old ≤ K.faults out.new }
+        ensures cause { IsErrOf result Status.WriteFault → Rose (K.faults out.old) (K.faults out.new) }
+    {
+        if more.is_empty() {
+            return Ok(());
+        }
+        if let Some(what) = self.limit_in(more) {
+            return Err(self.transcriber.stop_at_limit(what, out));
+        }
+        let Ok(()) = self.unfinished.extend_from_slice(more) else {
+            return Err(Status::Memory);
+        };
+        Ok(())
+    }
+
     /// Takes the next bytes of the script, and copies each once.
     fn take<K: Sink>(&mut self, alloc: Global, piece: &[u8], out: &mut K) -> Result<(), Status>
-        requires read { (skips : List CallId) × (read written : List ℕ) × HasRead self.old skips read written × (length read + length piece.now ≤ MOST_BYTES) }
-        ensures goes { (skips : List CallId) (read written : List ℕ) → HasRead self.old skips read written
-            → OnOk result ((more : List CallId) × (added : List ℕ) × HasRead self.new (more ++ skips) (read ++ piece.now) (written ++ added)
-            × (K.taken out.new ≡ append_known (K.taken out.old) added)) }
-        ensures stops { (skips : List CallId) (read written : List ℕ) → HasRead self.old skips read written
-            → IfErr result (λ status. (more : List CallId) × (added : List ℕ) × StopsWithin status (more ++ skips) (whole_lines (read ++ piece.now)) (written ++ added)
-            × (K.taken out.new ≡ append_known (K.taken out.old) added)) }
+        requires { (skips : List CallId) × (read written : List ℕ) × HasRead self.old skips read written }
+        ensures goes { OnOk result (Takes self.old self.new piece.now (K.taken out.old) (K.taken out.new)) }
+        ensures stops { IfErr result (λ status. StopsIn self.old status piece.now (K.taken out.old) (K.taken out.new)) }
         ensures never_falls { K.faults out.old ≤ K.faults out.new }
         ensures cause { IsErrOf result Status.WriteFault → Rose (K.faults out.old) (K.faults out.new) }
     {
@@ -88,17 +116,14 @@ impl Replay {
             }
             rest = &rest[at + 1..];
         }
-        let Ok(()) = self.unfinished.extend_from_slice(rest) else {
-            return Err(Status::Memory);
-        };
-        Ok(())
+        self.keep(rest, out)
     }
 
     /// The script has ended: what no newline ended is its last line.
     fn finish<K: Sink>(&mut self, alloc: Global, out: &mut K) -> Status
-        requires read { (skips : List CallId) × (read written : List ℕ) × HasRead self.old skips read written × (length read ≤ MOST_BYTES) }
+        requires { (skips : List CallId) × (read written : List ℕ) × HasRead self.old skips read written }
         ensures concludes { (skips : List CallId) (read written : List ℕ) → HasRead self.old skips read written
-            → (more : List CallId) × (added : List ℕ) × Concludes false result (more ++ skips) (whole_lines read ++ last_line (unfinished read)) (written ++ added)
+            → (more : List CallId) × (added : List ℕ) × Concludes None result (more ++ skips) (whole_lines read ++ last_line (unfinished read)) (written ++ added)
             × (K.taken out.new ≡ append_known (K.taken out.old) added) }
         ensures never_falls { K.faults out.old ≤ K.faults out.new }
         ensures cause { result ≡ Status.WriteFault → Rose (K.faults out.old) (K.faults out.new) }
@@ -142,7 +167,7 @@ fn run_pieces<S: Source, K: Sink>(
             Err(status) => return status,
         }
         if count > room {
-            return replay.transcriber.stop_at_limit(out);
+            return replay.transcriber.stop_at_limit(LimitWhat::Bytes, out);
         }
         read += count;
     }
@@ -151,8 +176,7 @@ fn run_pieces<S: Source, K: Sink>(
 /// Reads a script from its source and writes its transcript.
 pub(crate) fn run_script<S: Source, K: Sink>(alloc: Global, script: &mut S, out: &mut K) -> Status
     ensures text { WritesText result (S.left script.old) (K.taken out.old) (K.taken out.new) }
-    ensures headline { (bytes : List ℕ) → S.left script.old ≡ Some bytes → result ≡ Status.Done
-        → PrintsHistories bytes (K.taken out.old) (K.taken out.new) }
+    ensures headline { (bytes : List ℕ) → S.left script.old ≡ Some bytes → PrintsHistories result bytes (K.taken out.old) (K.taken out.new) }
     ensures runs { result ≢ Status.Usage }
     ensures read_fault { result ≡ Status.ReadFault → Rose (S.faults script.old) (S.faults script.new) }
     ensures write_fault { result ≡ Status.WriteFault → Rose (K.faults out.old) (K.faults out.new) }

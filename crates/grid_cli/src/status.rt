@@ -1,13 +1,17 @@
 ghost use Rattle.std.specs.Prelude.{◌≡◌};
 ghost use Rattle.grid_cli.specs.Statuses.{exit_status};
 
-use crate::script::LineWhy;
+use script_lang::LineWhy;
 
 /// Which limit a script went past.
 #[derive(Clone, Copy, Debug, PartialEq, Eq)]
 pub enum LimitWhat {
     /// The script's bytes.
     Bytes,
+    /// Its lines.
+    Lines,
+    /// The bytes of a line.
+    Line,
 }
 
 /// How a command ended.

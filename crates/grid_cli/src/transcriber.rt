@@ -1,21 +1,22 @@
-ghost use Rattle.std.specs.Prelude.{◌≡◌, ◌+◌, ◌-◌, ◌<◌, ◌≤◌, ◌^◌, ◌++◌, ◌∷◌, [], List, ℕ, length, OnOk, IfOk, IfErr, IsErrOf, MatchOption, true, false, Some, None};
+ghost use Rattle.std.specs.Prelude.{◌≡◌, ◌<◌, ◌≤◌, ◌++◌, ◌∷◌, [], List, ℕ, length, OnOk, IfOk, IfErr, IsErrOf, Option, Some, None};
 ghost use Rattle.std.specs.Io.KnownBytes.{append_known};
 ghost use Rattle.grid_base.specs.declared.names.CallId.{CallId};
 ghost use Rattle.grid_edge.specs.Faults.{Rose};
-ghost use Rattle.grid_cli.specs.Lines.{line_of};
-ghost use Rattle.grid_cli.specs.Runs.{Run, begun};
-ghost use Rattle.grid_cli.specs.Printing.{ok_text, refused_text};
-ghost use Rattle.grid_cli.specs.Transcripts.{why_text};
-ghost use Rattle.grid_cli.specs.Grids.{Stands, HasRoom};
-ghost use Rattle.grid_cli.specs.Transcribing.{Follows, HasRoomFor, RanAs, StopsAs, Concludes, lines_done, lines_of};
+ghost use Rattle.script_lang.specs.Limits.{most_lines, most_line_bytes};
+ghost use Rattle.replay_run.specs.Runs.{Run};
+ghost use Rattle.replay_run.specs.Grids.{Stands};
+ghost use Rattle.grid_cli.specs.Transcribing.{Follows, HasRoomFor, IsBegunBy, RanAs, StopsAs, Concludes};
 
-use crate::grid::{Grid, RunEnd};
-use crate::print::{push_limit, push_ok, push_refused};
-use crate::script::{Line, LineWhy, read_line};
+use crate::print::{push_limit, push_refused};
 use crate::status::{LimitWhat, Status};
 use grid_base::Memory;
 use grid_edge::{Sink, write_all};
+use replay_run::Grid;
+use script_lang::{Line, LineRefused, LineWhy, read_line};
 use std::alloc::{AllocError, Global};
+
+/// The outcome of the first line.
+const FIRST_OK: &[u8] = b"1 ok\n";
 
 /// What became of a line, whose text is then to be written.
 #[derive(Clone, Copy)]
@@ -24,17 +25,22 @@ pub(crate) enum Ran {
     Goes,
     /// It was the line `end`.
     Ended,
-    /// It isn't run at this stage.
-    Refused(u32),
+    /// It isn't in the grammar, and ran in no part.
+    Refused(u32, LineWhy),
 }
 
-/// The grid that a script's first line makes; none where it is another line.
-fn begin(alloc: Global, text: &[u8], out: &mut Vec<u8>) -> Result<Option<Grid>, Memory>
-    ensures made { IfOk result (λ made. MatchOption made ((line_of true text.now ≡ None) × (out.new.items ≡ out.old.items))
-        (λ grid. (line_of true text.now ≡ Some (Line.Grid 1 0 10)) × Stands grid (begun 1 0) × (out.new.items ≡ out.old.items ++ ok_text 1))) }
+/// What the first line of a script made.
+enum Begun {
+    Made(Grid),
+    Refused(LineWhy),
+}
+
+/// The grid that a script's first line makes.
+fn begin(alloc: Global, text: &[u8], out: &mut Vec<u8>) -> Result<Begun, Memory>
+    ensures { IfOk result (λ begun. IsBegunBy begun text.now out.old.items out.new.items) }
 {
-    match read_line(alloc, text, true)? {
-        Some(
+    match read_line(alloc, text, true, 0) {
+        Ok(
             Line::Grid {
                 members,
                 backups,
@@ -42,34 +48,34 @@ fn begin(alloc: Global, text: &[u8], out: &mut Vec<u8>) -> Result<Option<Grid>, 
             },
         ) => {
             let grid = Grid::new(alloc, members, backups)?;
-            push_ok(out, 1)?;
-            Ok(Some(grid))
+            out.extend_from_slice(FIRST_OK)?;
+            Ok(Begun::Made(grid))
         }
-        _ => Ok(None),
+        Ok(_) => Ok(Begun::Refused(LineWhy::NoGrid)),
+        Err(LineRefused::Why(why)) => Ok(Begun::Refused(why)),
+        Err(LineRefused::Memory) => Err(AllocError),
     }
 }
 
 /// Runs a line after the first.
 fn go_on(alloc: Global, grid: &mut Grid, text: &[u8], out: &mut Vec<u8>) -> Result<Ran, Memory>
     requires empty { out.old.items ≡ [] }
-    requires stands { (r : Run) × Stands grid.old r × HasRoom r (length text.now) }
+    requires room { length text.now ≤ most_line_bytes }
+    requires stands { (r : Run) × Stands grid.old r × (r.lines < most_lines) × (r.members ≤ 8) }
     ensures { (skips : List CallId) (done : List (List ℕ)) (written : List ℕ) → Follows (Some grid.old) skips done written
         → IfOk result (λ ran. RanAs ran (Some grid.new) skips done text.now written out.new.items) }
 {
     let number = grid.lines() + 1;
-    let Some(line) = read_line(alloc, text, false)? else {
-        push_refused(out, number, LineWhy::NotBuilt)?;
-        return Ok(Ran::Refused(number));
-    };
-    let ended = line.is_end();
-    match grid.run_line(alloc, line, out) {
-        Ok(()) if ended => Ok(Ran::Ended),
-        Ok(()) => Ok(Ran::Goes),
-        Err(RunEnd::NotBuilt) => {
-            push_refused(out, number, LineWhy::NotBuilt)?;
-            Ok(Ran::Refused(number))
+    match read_line(alloc, text, false, grid.members()) {
+        Ok(line) => {
+            grid.run_line(alloc, number, &line, out)?;
+            Ok(if line.is_end() { Ran::Ended } else { Ran::Goes })
         }
-        Err(RunEnd::Memory) => Err(AllocError),
+        Err(LineRefused::Why(why)) => {
+            push_refused(out, number, why)?;
+            Ok(Ran::Refused(number, why))
+        }
+        Err(LineRefused::Memory) => Err(AllocError),
     }
 }
 
@@ -84,8 +90,7 @@ pub(crate) struct Transcriber {
 
 impl Transcriber {
     pub(crate) fn new(alloc: Global) -> Self
-        ensures follows { Follows result.grid [] [] [] }
-        ensures lines { lines_done result ≡ 0 }
+        ensures { Follows result.grid [] [] [] }
     {
         Transcriber {
             grid: None,
@@ -103,12 +108,15 @@ impl Transcriber {
         if let Some(grid) = &mut self.grid {
             return go_on(alloc, grid, text, &mut self.text);
         }
-        self.grid = begin(alloc, text, &mut self.text)?;
-        if self.grid.is_some() {
-            Ok(Ran::Goes)
-        } else {
-            push_refused(&mut self.text, 1, LineWhy::NotBuilt)?;
-            Ok(Ran::Refused(1))
+        match begin(alloc, text, &mut self.text)? {
+            Begun::Made(grid) => {
+                self.grid = Some(grid);
+                Ok(Ran::Goes)
+            }
+            Begun::Refused(why) => {
+                push_refused(&mut self.text, 1, why)?;
+                Ok(Ran::Refused(1, why))
+            }
         }
     }
 
@@ -139,16 +147,13 @@ impl Transcriber {
         match ran {
             Ran::Goes => Ok(()),
             Ran::Ended => Err(Status::Done),
-            Ran::Refused(line) => Err(Status::ScriptRefused {
-                line,
-                why: LineWhy::NotBuilt,
-            }),
+            Ran::Refused(line, why) => Err(Status::ScriptRefused { line, why }),
         }
     }
 
     /// How many lines were run.
-    fn lines(&self) -> u32
-        ensures { result ≡ lines_done self.now }
+    pub(crate) fn lines(&self) -> u32
+        ensures { (skips : List CallId) (done : List (List ℕ)) (written : List ℕ) → Follows self.now.grid skips done written → result ≡ length done }
     {
         match &self.grid {
             None => 0,
@@ -158,9 +163,8 @@ impl Transcriber {
 
     /// Ends a script that stopped without a line `end`.
     pub(crate) fn refuse_end<K: Sink>(&mut self, out: &mut K) -> Status
-        requires room { lines_done self.old + 1 < 2 ^ 32 - 1 }
         ensures concludes { (skips : List CallId) (done : List (List ℕ)) (written : List ℕ) → Follows self.old.grid skips done written
-            → (added : List ℕ) × Concludes false result skips done (written ++ added) × (K.taken out.new ≡ append_known (K.taken out.old) added) }
+            → (added : List ℕ) × Concludes None result skips done (written ++ added) × (K.taken out.new ≡ append_known (K.taken out.old) added) }
         ensures never_falls { K.faults out.old ≤ K.faults out.new }
         ensures cause { result ≡ Status.WriteFault → Rose (K.faults out.old) (K.faults out.new) }
     {
@@ -178,24 +182,22 @@ impl Transcriber {
         }
     }
 
-    /// Ends a script that has more bytes than it may.
-    pub(crate) fn stop_at_limit<K: Sink>(&mut self, out: &mut K) -> Status
-        requires room { lines_done self.old + 1 < 2 ^ 32 - 1 }
+    /// Ends a script that goes past a limit in the line after those that were run.
+    pub(crate) fn stop_at_limit<K: Sink>(&mut self, what: LimitWhat, out: &mut K) -> Status
+        requires { (skips : List CallId) × (done : List (List ℕ)) × (written : List ℕ) × Follows self.old.grid skips done written × (length done ≤ most_lines) }
         ensures concludes { (skips : List CallId) (done : List (List ℕ)) (written : List ℕ) → Follows self.old.grid skips done written
-            → (added : List ℕ) × Concludes true result skips done (written ++ added) × (K.taken out.new ≡ append_known (K.taken out.old) added) }
+            → (added : List ℕ) × Concludes (Some what) result skips done (written ++ added) × (K.taken out.new ≡ append_known (K.taken out.old) added) }
         ensures never_falls { K.faults out.old ≤ K.faults out.new }
         ensures cause { result ≡ Status.WriteFault → Rose (K.faults out.old) (K.faults out.new) }
     {
         let line = self.lines() + 1;
         self.text.clear();
-        let Ok(()) = push_limit(&mut self.text, line) else {
+        let Ok(()) = push_limit(&mut self.text, line, what) else {
             return Status::Memory;
         };
         let Ok(()) = write_all(out, self.text.as_slice()) else {
             return Status::WriteFault;
         };
-        Status::Limit {
-            what: LimitWhat::Bytes,
-        }
+        Status::Limit { what }
     }
 }

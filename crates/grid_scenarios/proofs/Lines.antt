@@ -3,9 +3,9 @@ use Rattle.std.specs.Prelude.{◌↔◌, IsNone}
 use Rattle.std.specs.Option.{option_map}
 use Rattle.std.proofs.Common.{◌≡◌, ℕ, ◌+◌, ◌==◌, Bool, true, false, cond, List, [], ◌∷◌, ◌++◌, Option, Some, None, refl, ap, sym, ◌∙◌, arith}
 use Rattle.std.proofs.lemmas.Bool.Decides.{nat_tests}
-use Rattle.grid_cli.specs.Words.{newline, pieces_at, onto_first, are_same}
-use Rattle.grid_cli.specs.SameNames.{same_text, are_same_self}
-use Rattle.grid_cli.proofs.Pieces.{first_piece}
+use Rattle.script_lang.specs.Words.{newline, pieces_at, onto_first, are_same}
+use Rattle.replay_run.specs.SameNames.{same_text, are_same_self}
+use Rattle.script_lang.proofs.Pieces.{first_piece}
 use Rattle.grid_scenarios.specs.declared.difference.Difference.{Difference}
 use Rattle.grid_scenarios.specs.Differences.{difference_from, first_difference, differs_as}
 

@@ -1,7 +1,7 @@
 -- The first line in which a text differs from the one that is wanted.
 use Rattle.std.specs.Prelude.{◌≡◌, ℕ, ◌+◌, if◌then◌else◌, List, [], ◌∷◌, Option, Some, None, codes, refl}
 use Rattle.std.specs.Borrow.{Bor}
-use Rattle.grid_cli.specs.Words.{are_same, newline, pieces_at}
+use Rattle.script_lang.specs.Words.{are_same, newline, pieces_at}
 use Rattle.grid_scenarios.specs.declared.difference.Difference.{Difference}
 
 -- a line by its number from 1: what was printed there, and what is wanted there; nothing where the text has ended

@@ -1,6 +1,6 @@
 ghost use Rattle.std.specs.Prelude.{◌≡◌, ◌↔◌, ◌<◌, ◌∷◌, length, IsNone, IfSome};
 ghost use Rattle.std.specs.Option.{option_map};
-ghost use Rattle.grid_cli.specs.Words.{pieces_at, newline};
+ghost use Rattle.script_lang.specs.Words.{pieces_at, newline};
 ghost use Rattle.grid_scenarios.specs.Differences.{first_difference, differs_as, rest_lines};
 
 use memchr::memchr;

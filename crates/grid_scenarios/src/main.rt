@@ -5,86 +5,33 @@ ghost use Rattle.std.specs.Prelude.{◌<◌};
 
 mod codec;
 mod difference;
+mod long_scripts;
+mod scenarios;
+mod tables;
 
 use codec::count_messages;
 use difference::{first_difference, verdict};
 use grid_cli::{Status, replay_command};
 use grid_edge::{MemorySink, MemorySource};
+use long_scripts::{LONG_SCRIPTS, LongScript};
+use scenarios::{OUTSIDE, RANDOM, SCRIPTS, SESSIONS, STREAMS};
 use std::alloc::Global;
 use std::process::ExitCode;
 use std::{env, fs, io};
+use tables::{Place, Row};
 
-/// The scripts, and the exit status of each.
-const SCENARIOS: [(&str, u8); 68] = [
-    ("put_then_get", 0),
-    ("empty_script_is_refused", 2),
-    ("bytes_before_open_are_refused", 2),
-    ("random_01", 0),
-    ("random_02", 0),
-    ("random_03", 2),
-    ("random_04", 0),
-    ("random_05", 0),
-    ("random_06", 0),
-    ("random_07", 0),
-    ("random_08", 0),
-    ("random_09", 0),
-    ("random_10", 2),
-    ("random_11", 0),
-    ("random_12", 0),
-    ("a_chain_may_be_opened_again", 0),
-    ("a_first_payload_that_is_short_is_refused", 2),
-    ("a_key_of_7_bytes_is_refused", 2),
-    ("a_message_that_is_no_put_or_get_is_refused", 2),
-    ("a_name_that_is_not_utf8_is_refused", 2),
-    ("a_null_value_is_refused", 2),
-    ("a_partition_that_is_not_the_keys_is_refused", 2),
-    ("a_script_that_stops_inside_a_frame_is_refused", 2),
-    ("a_structure_in_place_of_the_name_is_refused", 2),
-    ("a_time_to_live_is_refused", 2),
-    ("byte_layer_01", 0),
-    ("byte_layer_02", 0),
-    ("byte_layer_03", 0),
-    ("byte_layer_04", 0),
-    ("byte_layer_05", 0),
-    ("byte_layer_06", 0),
-    ("byte_layer_07", 0),
-    ("byte_layer_08", 0),
-    ("byte_layer_09", 0),
-    ("byte_layer_10", 0),
-    ("byte_layer_11", 0),
-    ("byte_layer_12", 0),
-    ("byte_layer_13", 0),
-    ("byte_layer_14", 0),
-    ("byte_layer_15", 0),
-    ("byte_layer_16", 0),
-    ("bytes_of_two_connections_interleave", 0),
-    ("close_badfragment_begins_an_open_chain", 0),
-    ("close_badfragment_continues_no_chain", 0),
-    ("close_badfragment_ends_no_chain", 0),
-    ("close_badfragment_final_header", 0),
-    ("close_badfragment_payload_of_7_bytes", 0),
-    ("close_longmessage", 0),
-    ("close_manyframes", 0),
-    ("close_manyframes_of_a_chain", 0),
-    ("close_openfragments", 0),
-    ("close_prefix", 0),
-    ("close_prefix_at_its_first_byte", 0),
-    ("close_shortstart", 0),
-    ("close_shortstart_of_a_merged_message", 0),
-    ("close_shortstart_of_a_message_of_two_frames", 0),
-    ("close_shows_at_the_fourth_length_byte", 0),
-    ("close_toolong", 0),
-    ("close_toolong_as_an_unsigned_number", 0),
-    ("close_tooshort", 0),
-    ("fragmented_put_with_a_get_between", 0),
-    ("further_bytes_and_frames_are_ignored", 0),
-    ("keys_without_a_stated_hash", 0),
-    ("length_of_6_is_a_frame", 0),
-    ("put_then_get_one_byte_a_line", 0),
-    ("several_messages_in_one_line", 0),
-    ("sixteen_chains_are_open", 0),
-    ("two_chains_alternate", 0),
+/// Words that are no command.
+const OTHER_WORDS: [&[&str]; 6] = [
+    &[],
+    &["replay", "x"],
+    &["Replay"],
+    &["replay "],
+    &["serve"],
+    &["sample", "0"],
 ];
+
+/// The exit status of a script with a line that is refused.
+const REFUSED: u8 = 2;
 
 /// The numbers of the calls that are made to fail lie below this; the last is past the last call.
 const CALLS: u64 = 64;
@@ -136,6 +83,30 @@ impl Fails {
     }
 }
 
+/// The words as a command takes them.
+fn owned(alloc: Global, words: &[&str]) -> io::Result<Vec<String>> {
+    let mut all = Vec::new(alloc);
+    for word in words {
+        all.push(String::from_str(alloc, word)?)?;
+    }
+    Ok(all)
+}
+
+/// Carries out a command with these words on a script in memory, where these calls fail.
+fn carried_out(
+    alloc: Global,
+    words: &[&str],
+    script: Vec<u8>,
+    fails: Fails,
+    pieces: Pieces,
+) -> io::Result<(Status, Vec<u8>)> {
+    let words = owned(alloc, words)?;
+    let mut script = MemorySource::in_pieces(script, fails.reads, pieces.most_read());
+    let mut out = MemorySink::in_pieces(fails.writes, pieces.most_written());
+    let status = replay_command(alloc, words.as_slice(), &mut script, &mut out);
+    Ok((status, out.into_bytes()))
+}
+
 /// Carries out `replay` on a script in memory, where these calls fail.
 fn replayed(
     alloc: Global,
@@ -143,11 +114,7 @@ fn replayed(
     fails: Fails,
     pieces: Pieces,
 ) -> io::Result<(Status, Vec<u8>)> {
-    let words = vec![in alloc; String::from_str(alloc, "replay")?]?;
-    let mut script = MemorySource::in_pieces(script, fails.reads, pieces.most_read());
-    let mut out = MemorySink::in_pieces(fails.writes, pieces.most_written());
-    let status = replay_command(alloc, words.as_slice(), &mut script, &mut out);
-    Ok((status, out.into_bytes()))
+    carried_out(alloc, &["replay"], script, fails, pieces)
 }
 
 fn read_data(rt: &HostRuntime, name: &str, kind: &str) -> io::Result<Vec<u8>> {
@@ -168,20 +135,44 @@ fn played(
     Ok((status, text, transcript))
 }
 
-/// Does the script print its transcript, and end with this exit status? Where it doesn't, says so.
-fn is_as_written(rt: &HostRuntime, name: &str, code: u8, pieces: Pieces) -> io::Result<bool> {
-    let alloc = rt.alloc();
-    let (status, text, transcript) = played(rt, name, Fails::none(alloc), pieces)?;
-    let difference = first_difference(text.as_slice(), transcript.as_slice());
+/// What a script prints, and the exit status with which it ends.
+#[derive(Clone, Copy, Debug)]
+struct Ending<'a> {
+    text: &'a [u8],
+    code: u8,
+}
+
+/// Did the script end as wanted? Where it didn't, says so.
+fn is_as_wanted(
+    rt: &HostRuntime,
+    name: &str,
+    ended: Ending<'_>,
+    wanted: Ending<'_>,
+) -> io::Result<bool> {
+    let difference = first_difference(ended.text, wanted.text);
     if difference.is_some() {
-        println!(rt; "{}", verdict(alloc, name, difference)?)?;
+        println!(rt; "{}", verdict(rt.alloc(), name, difference)?)?;
         return Ok(false);
     }
-    if status.code() != code {
-        println!(rt; "{name} ends with {}", status.code())?;
+    if ended.code != wanted.code {
+        println!(rt; "{name} ends with {}", ended.code)?;
         return Ok(false);
     }
     Ok(true)
+}
+
+/// Does the script print its transcript, and end with this exit status? Where it doesn't, says so.
+fn is_as_written(rt: &HostRuntime, name: &str, code: u8, pieces: Pieces) -> io::Result<bool> {
+    let (status, text, transcript) = played(rt, name, Fails::none(rt.alloc()), pieces)?;
+    let ended = Ending {
+        text: text.as_slice(),
+        code: status.code(),
+    };
+    let wanted = Ending {
+        text: transcript.as_slice(),
+        code,
+    };
+    is_as_wanted(rt, name, ended, wanted)
 }
 
 /// Runs a scenario in small pieces and in whole ones, and tells how it came out.
@@ -203,7 +194,8 @@ fn tell(rt: &HostRuntime, name: &str, held: bool) -> io::Result<bool> {
 }
 
 /// Let each source call, or each sink call, of the scenario fail in turn: does each run end with that fault and
-/// print a front of the transcript, up to the last call, and is the transcript whole where no call fails?
+/// print a front of the transcript, which is empty for the first call, up to the last call, and is the transcript whole
+/// where no call fails?
 fn each_call_fails(rt: &HostRuntime, name: &str, fault: Status) -> io::Result<bool> {
     let alloc = rt.alloc();
     let mut held = true;
@@ -220,6 +212,7 @@ fn each_call_fails(rt: &HostRuntime, name: &str, fault: Status) -> io::Result<bo
         if status == fault {
             // No call before this one was past the last.
             held &= faults == call && transcript.as_slice().starts_with(text.as_slice());
+            held &= call > 0 || text.is_empty();
             faults = faults.saturating_add(1);
         } else {
             held &= status == Status::Done && text.as_slice() == transcript.as_slice();
@@ -262,15 +255,108 @@ fn main(rt: HostRuntime) -> io::Result<ExitCode> {
 /// Runs all scenarios, and tells how each came out.
 fn run_scenarios(rt: &HostRuntime) -> io::Result<ExitCode> {
     let mut held = true;
-    for (name, code) in SCENARIOS {
-        held &= holds(rt, name, code)?;
+    for scenarios in [
+        &SESSIONS[..],
+        &STREAMS[..],
+        &SCRIPTS[..],
+        &OUTSIDE[..],
+        &RANDOM[..],
+    ] {
+        held &= all_hold(rt, scenarios)?;
     }
-    let name = "put_then_get";
+    held &= lines_are_refused(rt, "first_lines", Place::First)?;
+    held &= lines_are_refused(rt, "later_lines", Place::Second)?;
+    for script in LONG_SCRIPTS {
+        held &= long_script_holds(rt, script)?;
+    }
+    let refused = other_words_are_no_command(rt, "put_then_get")?;
+    held &= tell(rt, "other_words", refused)?;
+    held &= faults_and_memory(rt, "put_then_get")?;
+    Ok(ExitCode::from(if held { 0 } else { 1 }))
+}
+
+/// Runs these scenarios, and tells how each came out.
+fn all_hold(rt: &HostRuntime, scenarios: &[(&str, u8)]) -> io::Result<bool> {
+    let mut held = true;
+    for (name, code) in scenarios {
+        held &= holds(rt, name, *code)?;
+    }
+    Ok(held)
+}
+
+/// Is the row's line refused in that place, for its cause?
+fn is_refused(rt: &HostRuntime, name: &str, row: Row<'_>, place: Place) -> io::Result<bool> {
+    let alloc = rt.alloc();
+    let script = row.script(alloc, place)?.into_bytes();
+    let transcript = row.transcript(alloc, place)?;
+    let (status, text) = replayed(alloc, script, Fails::none(alloc), Pieces::Small)?;
+    let ended = Ending {
+        text: text.as_slice(),
+        code: status.code(),
+    };
+    let wanted = Ending {
+        text: transcript.as_bytes(),
+        code: REFUSED,
+    };
+    let name = format!(in alloc; "{name} '{}'", row.line)?;
+    is_as_wanted(rt, name.as_str(), ended, wanted)
+}
+
+/// Is each line of the table refused in that place, for its cause? Prints how it came out.
+fn lines_are_refused(rt: &HostRuntime, name: &str, place: Place) -> io::Result<bool> {
+    let table = fs::read_to_string(rt, format!(in rt.alloc(); "{name}.refused")?.as_str())?;
+    let mut held = true;
+    let mut rows = 0u64;
+    for text in table.as_str().trim_end_matches('\n').split('\n') {
+        held &= is_refused(rt, name, Row::read(text), place)?;
+        rows = rows.saturating_add(1);
+    }
+    println!(rt; "{name} {rows} {}", if held { "ok" } else { "differ" })?;
+    Ok(held)
+}
+
+/// Runs a script that is made up, and tells how it came out.
+fn long_script_holds(rt: &HostRuntime, script: LongScript) -> io::Result<bool> {
+    let alloc = rt.alloc();
+    let transcript = script.transcript(alloc)?;
+    let (status, text) = replayed(
+        alloc,
+        script.script(alloc)?,
+        Fails::none(alloc),
+        Pieces::Whole,
+    )?;
+    let ended = Ending {
+        text: text.as_slice(),
+        code: status.code(),
+    };
+    let wanted = Ending {
+        text: transcript.as_slice(),
+        code: script.code,
+    };
+    let held = is_as_wanted(rt, script.name, ended, wanted)?;
+    tell(rt, script.name, held)
+}
+
+/// With words that are no command, does a run of the scenario end as such, and print nothing?
+fn other_words_are_no_command(rt: &HostRuntime, name: &str) -> io::Result<bool> {
+    let alloc = rt.alloc();
+    let mut held = true;
+    for words in OTHER_WORDS {
+        let script = read_data(rt, name, "script")?;
+        let (status, text) = carried_out(alloc, words, script, Fails::none(alloc), Pieces::Whole)?;
+        held &= status == Status::Usage && text.is_empty();
+    }
+    Ok(held)
+}
+
+/// Lets each call of a scenario's source and sink fail, and tells how that came out, and whether memory sufficed.
+fn faults_and_memory(rt: &HostRuntime, name: &str) -> io::Result<bool> {
+    let mut held = true;
     let told = each_call_fails(rt, name, Status::ReadFault)?;
     held &= tell(rt, "each_source_call_fails", told)?;
     let told = each_call_fails(rt, name, Status::WriteFault)?;
     held &= tell(rt, "each_sink_call_fails", told)?;
     let done = memory_suffices(rt, name)?;
     held &= tell(rt, "ample_memory", done)?;
-    Ok(ExitCode::from(if held { 0 } else { 1 }))
+    Ok(held)
 }

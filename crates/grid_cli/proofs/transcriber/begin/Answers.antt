@@ -1,19 +1,16 @@
 -- What the first line makes.
-use Rattle.std.proofs.Common.{sym, ◌∙◌, ap, subst, Some}
-use Rattle.grid_cli.specs.Runs.{begun}
-use Rattle.grid_cli.specs.Grids.{Stands}
-use Rattle.grid_cli.proofs.TranscriberLaws.{the_grid_line}
+use Rattle.std.proofs.Common.{◌∙◌, ap, Ok, arith}
+use Rattle.std.proofs.lemmas.Fmt.{decimal_digit}
 use Rattle.grid_cli.proofs.transcriber.begin.Goals as goal
 
--- src/transcriber.rt:35:1
-pub returns-in-Some-Grid : goal.returns-in-Some-Grid
-returns-in-Some-Grid c =
-    let line = the_grid_line c.args.text.now c.in-Some-Grid.members c.in-Some-Grid.backups _ (sym c.in_ok-members.ensures ∙ c.in-Some-Grid.is ∙ ap Some c.in-Some-Grid.field-0-is) in
-    record {
-      made = (
-        line.2,
-        subst (λ m. Stands c.in_ok-grid-in-Some-Grid.grid (begun m 0)) line.0
-            (subst (λ b. Stands c.in_ok-grid-in-Some-Grid.grid (begun c.in-Some-Grid.members b)) line.1 c.in_ok-grid-in-Some-Grid.ensures),
-        c.in_ok-push_ok-in-Some-Grid.ensures,
-      );
-    }
+pub returns-in-Ok-Grid : goal.returns-in-Ok-Grid
+returns-in-Ok-Grid c =
+    let within = rw c.in-Ok-Grid.field-0-is at c.in-Ok-Grid.ensures.within in (
+      c.in-Ok-Grid.members,
+      c.in-Ok-Grid.backups,
+      c.in-Ok-Grid.field-0-2,
+      c.in-Ok-Grid.ensures.line ∙ ap Ok c.in-Ok-Grid.field-0-is,
+      omega (arith, within),
+      c.in_ok-grid-in-Ok-Grid.ensures,
+      rw (decimal_digit 1 (omega arith)) c.in_ok-extend_from_slice-in-Ok-Grid.ensures.items,
+    )

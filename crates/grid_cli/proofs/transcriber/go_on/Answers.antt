@@ -1,35 +1,30 @@
-use Rattle.std.proofs.Common.{◌+◌, ◌++◌, sym, ◌∙◌, ap, Some, Err}
-use Rattle.grid_cli.specs.Grids.{text_at}
-use Rattle.grid_cli.specs.Printing.{refused_text}
-use Rattle.grid_cli.specs.Transcripts.{why_text}
-use Rattle.grid_cli.specs.declared.script.LineWhy.TheVariants.{NotBuilt}
-use Rattle.grid_cli.proofs.TranscriberLaws.{line_goes, line_ends, line_refused, ran_none}
-use Rattle.grid_cli.proofs.LineSizes.{room_for_bytes}
+use Rattle.std.proofs.Common.{Some, false, sym, ◌∙◌, ap, subst, arith}
+use Rattle.script_lang.specs.Lines.{line_of}
+use Rattle.replay_run.specs.Grids.{HasRun as RanLine}
+use Rattle.grid_cli.specs.Transcribing.{RanAs}
+use Rattle.grid_cli.specs.declared.transcriber.Ran.{Ran}
+use Rattle.grid_cli.proofs.TranscriberLaws.{line_goes, line_ends}
+use Rattle.grid_cli.proofs.Members.{has_members}
 use Rattle.grid_cli.proofs.transcriber.go_on.Goals as goal
+use Rattle.grid_cli.proofs.transcriber.go_on.Goals.{then-is_end, else-is_end}
 
-pub returns-in-Ok : goal.returns-in-Ok
-returns-in-Ok c = λ skips done written follows.
-    line_ends c.args.grid.now c.run_line.new.self skips done written c.args.text.now c.run_line.new.out.items follows c.in-Some.line
-    (sym c.in_ok-line.ensures ∙ c.in-Some.is)
-    (λ r stands. let h = c.in-Ok.ensures.ran r stands in (h.0, h.1, h.2, h.3, h.4, h.5 ∙ ap (λ xs. xs ++ text_at r c.in-Some.line h.1) c.requires.empty))
-    (sym c.is_end-ended.ensures ∙ c.if-ended.true)
+pub read_line-requires : goal.read_line-requires
+read_line-requires c = λ later.
+    let stands = c.requires.stands in
+    let same = c.members.ensures stands.0 stands.1 in
+    let some = has_members stands.0 stands.1.run in
+    (omega (arith, same, some), omega (arith, same, stands.3))
 
-pub returns-in-Ok-2 : goal.returns-in-Ok-2
-returns-in-Ok-2 c = λ skips done written follows.
-    line_goes c.args.grid.now c.run_line.new.self skips done written c.args.text.now c.run_line.new.out.items follows c.in-Some.line
-    (sym c.in_ok-line.ensures ∙ c.in-Some.is)
-    (λ r stands. let h = c.in-Ok-2.ensures.ran r stands in (h.0, h.1, h.2, h.3, h.4, h.5 ∙ ap (λ xs. xs ++ text_at r c.in-Some.line h.1) c.requires.empty))
-    (sym c.is_end-ended.ensures ∙ c.if-ended.false)
-
-pub returns-in_ok-push_refused-in-Err-NotBuilt : goal.returns-in_ok-push_refused-in-Err-NotBuilt
-returns-in_ok-push_refused-in-Err-NotBuilt c = λ skips done written follows.
-    let same = c.in-Err-NotBuilt.ensures.refused follows.run follows.stands (ap Err c.in-Err-NotBuilt.field-0-is) in
-    line_refused c.args.grid.now (Some c.run_line.new.self) skips done written c.args.text.now c.push_refused-in-Err-NotBuilt.new.out.items (c.lines-number.result + 1) follows
-    (λ r stands. ran_none c.args.text.now c.in-Some.line skips r (sym c.in_ok-line.ensures ∙ c.in-Some.is) ((c.in-Err-NotBuilt.ensures.refused r stands (ap Err c.in-Err-NotBuilt.field-0-is)).0 skips))
-    (ap (λ n. n + 1) c.lines-number.ensures)
-    (c.in_ok-push_refused-in-Err-NotBuilt.ensures ∙ ap (λ xs. xs ++ refused_text (c.lines-number.result + 1) (why_text NotBuilt)) (same.1 ∙ c.requires.empty))
-
-pub run_line-requires-clause-stands : goal.run_line-requires-clause-stands
-run_line-requires-clause-stands c =
-    let r = c.requires.stands in
-    (r.0, r.1, room_for_bytes r.0 c.args.text.now c.in-Some.line (sym c.in_ok-line.ensures ∙ c.in-Some.is) r.2)
+pub returns-after-is_end : goal.returns-after-is_end
+returns-after-is_end c = λ skips done written follows.
+    let read = ap (λ m. line_of false m c.args.text.now) (sym (c.members.ensures follows.run follows.stands)) ∙ c.in-Ok.ensures.line in
+    let ran = subst (λ t. RanLine c.run_line.new.self follows.run c.in-Ok.line t c.run_line.new.out.items) c.requires.empty (c.in_ok-run_line-in-Ok.ensures follows.run follows.stands) in
+    let As : Ran → Type 0 = λ ran. RanAs ran (Some c.run_line.new.self) skips done c.args.text.now written c.run_line.new.out.items in
+    elim c.if-is_end.branch [
+      | then-is_end w ↦
+          subst As (sym w.result-is)
+          (line_ends c.args.grid.now c.run_line.new.self skips done written c.args.text.now c.run_line.new.out.items follows c.in-Ok.line read ran (sym c.is_end.ensures ∙ w.if-is_end.true))
+      | else-is_end w ↦
+          subst As (sym w.result-is)
+          (line_goes c.args.grid.now c.run_line.new.self skips done written c.args.text.now c.run_line.new.out.items follows c.in-Ok.line read ran (sym c.is_end.ensures ∙ w.if-is_end.false))
+    ]

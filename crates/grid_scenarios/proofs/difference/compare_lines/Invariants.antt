@@ -1,5 +1,5 @@
 use Rattle.std.proofs.Common.{◌≡◌, ◌+◌, ◌≤◌, length}
-use Rattle.grid_cli.specs.Words.{pieces_at, newline}
+use Rattle.script_lang.specs.Words.{pieces_at, newline}
 use Rattle.grid_scenarios.specs.Differences.{difference_from, first_difference}
 use Rattle.grid_scenarios.proofs.difference.compare_lines.Given as goal
 

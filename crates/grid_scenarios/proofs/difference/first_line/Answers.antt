@@ -1,8 +1,8 @@
 use Rattle.std.proofs.Common.{◌≡◌, ℕ, ◌+◌, ◌-◌, List, ◌∷◌, length, take, drop, ap, sym, ◌∙◌}
 use Rattle.std.proofs.Math.Seq.{take-length}
 use Rattle.std.proofs.lemmas.List.{length-drop}
-use Rattle.grid_cli.specs.Words.{newline, pieces_at}
-use Rattle.grid_cli.proofs.Pieces.{uncut, cut}
+use Rattle.script_lang.specs.Words.{newline, pieces_at}
+use Rattle.script_lang.proofs.Pieces.{uncut, cut}
 use Rattle.grid_scenarios.proofs.difference.first_line.Goals as goal
 
 -- a text from a place on is all that is left of it

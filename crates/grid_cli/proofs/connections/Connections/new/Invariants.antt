@@ -1,6 +1,0 @@
-use Rattle.std.proofs.Common.{◌≡◌, replicate, None}
-use Rattle.grid_cli.proofs.connections.Connections.new.Given as goal
-
--- as many slots as the loop has counted, none opened
-abbrev pub invariant-loop : goal.invariant-loop
-invariant-loop l = l.slots.items ≡ replicate l.counter None

@@ -1,9 +1,0 @@
-//! What holds of every run of a script's lines.
-
-ghost use Rattle.grid_cli.specs.Linearizability.{EveryRunIsLinearizable};
-
-/// For every list of lines, whichever calls find no memory: what the run prints for each map entry is the history of one
-/// entry used by one thread.
-pub fn every_run_is_linearizable()
-    ensures { EveryRunIsLinearizable }
-{}

@@ -1,0 +1,240 @@
+-- A line that is counted, and a call that is asked, keep what holds of arrivals.
+use Rattle.std.proofs.Common.{◌≡◌, ◌≢◌, ℕ, ◌+◌, ◌≤◌, ◌<◌, Bool, true, false, cond, ◌==◌, List, [], ◌∷◌, ◌++◌, length, map, filter, None, Some, refl, ap, sym, ◌∙◌, subst, ◌⊎◌, ⊎_elim, inl, inr, arith, append-nil, append_assoc, length-append, true≢false}
+use Rattle.std.proofs.lemmas.List.{map-append}
+use Rattle.std.proofs.lemmas.List.Elements.{filter-append}
+use Rattle.std.proofs.lemmas.Bool.Decides.{nat_tests}
+use Rattle.std.specs.List.{find}
+use Rattle.std.specs.Option.{option_map}
+use Rattle.grid_base.specs.Objects.{Object}
+use Rattle.grid_base.specs.declared.calls.Request.{Request}
+use Rattle.partition_protocol.specs.Events.{Event}
+use Rattle.partition_protocol.specs.Arrivals.{CallName, asked_by, arrivals}
+use Rattle.partition_protocol.proofs.Lists.{In, in_cases, contains_in, IsPart, part_longer, part_both, cases}
+use Rattle.replay_run.specs.Runs.{Run, Arrival, Appended, Connection, At, is_at, events_at, is_connection, connection_of, messages_on, updated, arrival_at, call_of, arrived}
+use Rattle.replay_run.specs.ScriptRuns.{IsPlaced, IsNext}
+use Rattle.replay_run.proofs.Parts.{in_mapped, before_last, named_more}
+use Rattle.replay_run.proofs.Places.{same_number}
+use Rattle.replay_run.proofs.Trails.{find_some}
+use Rattle.replay_run.proofs.RunFacts.{asked_of, arrival_name, is_of, ArrivalsOk, AreApart, RunOk}
+
+-- connections
+
+pub find_front : {X : Type 0} (t : X → Bool) (xs ys : List X) (x : X) → find t xs ≡ Some x → find t (xs ++ ys) ≡ Some x
+find_front t [] ys x e = absurd cc
+find_front t (z ∷ zs) ys x e = go (t z) (λ s. find_front t zs ys x s) e
+  where
+    go : (b : Bool) → (find t zs ≡ Some x → find t (zs ++ ys) ≡ Some x) → cond b (Some z) (find t zs) ≡ Some x → cond b (Some z) (find t (zs ++ ys)) ≡ Some x
+    go true f s = s
+    go false f s = f s
+
+-- what f leaves to the test as it was is found as before
+pub find_map : {X : Type 0} (t : X → Bool) (f : X → X) (xs : List X) → ((x : X) → t (f x) ≡ t x) → find t (map f xs) ≡ option_map f (find t xs)
+find_map t f [] same = refl
+find_map t f (x ∷ xs) same = rw (same x) (go (t x) (find_map t f xs same))
+  where
+    go : (b : Bool) → find t (map f xs) ≡ option_map f (find t xs) → cond b (Some (f x)) (find t (map f xs)) ≡ option_map f (cond b (Some x) (find t xs))
+    go true e = refl
+    go false e = e
+
+pub same_test : (a b : ℕ) → a ≡ b → (a == b) ≡ true
+same_test a b e = grind (arith, nat_tests, e)
+
+-- one connection in place of those of its number
+abbrev pub in_place : Connection → Connection → Connection
+in_place new old = cond (old.conn == new.conn) new old
+
+pub in_place_number : (new old : Connection) → (in_place new old).conn ≡ old.conn
+in_place_number new old = ⊎_elim (λ e. rw e (sym (same_number old.conn new.conn e))) (λ e. rw e refl) (cases (old.conn == new.conn))
+
+pub updated_found : (new : Connection) (ks : List Connection) (c : ℕ) (k : Connection) → find (is_connection c) ks ≡ Some k → find (is_connection c) (updated new ks) ≡ Some (in_place new k)
+updated_found new ks c k e = find_map (is_connection c) (in_place new) ks (λ x. ap (λ n. n == c) (in_place_number new x)) ∙ ap (option_map (in_place new)) e
+
+-- the connections that arrivals came on are still there, and have no fewer messages
+abbrev pub Grows : Run → List Connection → Type 0
+Grows r ks = (c : ℕ) (k : Connection) → connection_of r c ≡ Some k → (j : Connection) × (find (is_connection c) ks ≡ Some j) × (length (messages_on k) ≤ length (messages_on j))
+
+pub opened_grows : (r : Run) (new : Connection) → Grows r (r.connections ++ new ∷ [])
+opened_grows r new c k e = (k, find_front (is_connection c) r.connections (new ∷ []) k e, omega arith)
+
+pub updated_grows : (r : Run) (old new : Connection) → connection_of r old.conn ≡ Some old → new.conn ≡ old.conn → length (messages_on old) ≤ length (messages_on new) → Grows r (updated new r.connections)
+updated_grows r old new there same more c k e = (in_place new k, updated_found new r.connections c k e, ⊎_elim replaced (λ f. rw f (omega arith)) (cases (k.conn == new.conn)))
+  where
+    replaced : (k.conn == new.conn) ≡ true → length (messages_on k) ≤ length (messages_on (in_place new k))
+    replaced f =
+        let number : k.conn ≡ c = same_number k.conn c (find_some (is_connection c) r.connections k e).1 in
+        let at_old : connection_of r c ≡ Some old = ap (connection_of r) (sym number ∙ same_number k.conn new.conn f ∙ same) ∙ there in
+        let found : Some k ≡ Some old = sym e ∙ at_old in
+        let one : k ≡ old = cc in
+        let messages = ap (λ (j : Connection). length (messages_on j)) one in
+        rw f (omega (arith, messages, more))
+
+-- numbers stay apart
+
+pub apart_opened : (ks : List Connection) (new : Connection) → AreApart ks → find (is_connection new.conn) ks ≡ None → AreApart (ks ++ new ∷ [])
+apart_opened [] new apart none = (λ j i. absurd i, tt)
+apart_opened (k ∷ ks) new apart none = ⊎_elim (λ e. absurd (let found : Some k ≡ None = rw e at none in cc)) (λ e. other e (apart_opened ks new apart.1 (rw e at none))) (cases (k.conn == new.conn))
+  where
+    other : (k.conn == new.conn) ≡ false → AreApart (ks ++ new ∷ []) → AreApart (k ∷ ks ++ new ∷ [])
+    other e rest = (λ j i. ⊎_elim (λ l. apart.0 j l) last (in_cases j ks (new ∷ []) i), rest)
+      where
+        last : {j : Connection} → In j (new ∷ []) → j.conn ≢ k.conn
+        last (inl s) n = absurd (true≢false (sym (same_test k.conn new.conn (sym n ∙ ap (λ (c : Connection). c.conn) (sym s))) ∙ e))
+        last (inr l) n = absurd l
+
+pub apart_updated : (ks : List Connection) (new : Connection) → AreApart ks → AreApart (updated new ks)
+apart_updated [] new apart = tt
+apart_updated (k ∷ ks) new apart = (λ j i. away j (in_mapped (in_place new) ks j i), apart_updated ks new apart.1)
+  where
+    away : (j : Connection) → (x : Connection) × In x ks × (in_place new x ≡ j) → j.conn ≢ (in_place new k).conn
+    away j (x, i, e) s = apart.0 x i (sym (in_place_number new x) ∙ ap (λ (c : Connection). c.conn) e ∙ s ∙ in_place_number new k)
+
+-- a line is counted
+pub quiet : {State : Type 0} (o : Object Request State) (r : Run) (ks : List Connection) → RunOk o r → AreApart ks → Grows r ks → RunOk o (record r { lines = r.lines + 1; connections = ks })
+quiet o r ks ok apart grows = record {
+  members = ok.members;
+  connections = apart;
+  of_arrivals = record {
+    placed = ok.of_arrivals.placed;
+    once = ok.of_arrivals.once;
+    counted = λ a i. let k = ok.of_arrivals.counted a i in let j = grows a.id.conn k.0 k.1 in (j.0, j.1, omega (arith, k.2, j.2));
+    in_order = ok.of_arrivals.in_order;
+    rising = ok.of_arrivals.rising;
+    of_line = ok.of_arrivals.of_line;
+    by_now = λ a i. let l = ok.of_arrivals.by_now a i in omega (arith, l);
+    calls = ok.of_arrivals.calls;
+    events = ok.of_arrivals.events;
+  };
+  of_answers = record { given = ok.of_answers.given; once = ok.of_answers.once; resets = ok.of_answers.resets };
+  of_refusals = record { arrived = ok.of_refusals.arrived; unexecuted = ok.of_refusals.unexecuted };
+}
+
+-- events
+
+pub events_at-append : (p : ℕ) (es fs : List At) → events_at p (es ++ fs) ≡ events_at p es ++ events_at p fs
+events_at-append p es fs = ap (map (λ (e : At). e.event)) (filter-append (is_at p) es fs) ∙ map-append (λ (e : At). e.event) (filter (is_at p) es) (filter (is_at p) fs)
+
+pub arrivals-append : {C : Type 0} (es fs : List (Event C)) → arrivals (es ++ fs) ≡ arrivals es ++ arrivals fs
+arrivals-append [] fs = refl
+arrivals-append (e ∷ es) fs = ap (λ ks. asked_by e ++ ks) (arrivals-append es fs) ∙ sym (append_assoc (asked_by e) (arrivals es) (arrivals fs))
+
+-- an element that may be there
+abbrev pub maybe_one : {X : Type 0} → Bool → X → List X
+maybe_one b x = cond b (x ∷ []) []
+
+pub map-maybe_one : {X Y : Type 0} (f : X → Y) (b : Bool) (x : X) → map f (maybe_one b x) ≡ maybe_one b (f x)
+map-maybe_one f true x = refl
+map-maybe_one f false x = refl
+
+pub part_maybe : {X : Type 0} (xs ys : List X) (b : Bool) (y : X) → IsPart xs ys → IsPart xs (ys ++ maybe_one b y)
+part_maybe xs ys true y h = part_longer xs ys y h
+part_maybe xs ys false y h = rw (append-nil ys) h
+
+pub part_maybe_both : {X : Type 0} (xs ys : List X) (b : Bool) (y : X) → IsPart xs ys → IsPart (xs ++ maybe_one b y) (ys ++ maybe_one b y)
+part_maybe_both xs ys true y h = part_both xs ys y h
+part_maybe_both xs ys false y h = rw (append-nil xs, append-nil ys) h
+
+-- a call
+
+abbrev pub its_event : Arrival → At
+its_event a = record { partition = a.request.partition; event = call_of a }
+
+-- the partition's arrivals with one more
+pub arrivals_of_more : (p : ℕ) (come : List Arrival) (a : Arrival)
+    → map asked_of (filter (is_of p) (come ++ a ∷ [])) ≡ map asked_of (filter (is_of p) come) ++ maybe_one (is_of p a) (asked_of a)
+arrivals_of_more p come a =
+    ap (map asked_of) (filter-append (is_of p) come (a ∷ [])) ∙ map-append asked_of (filter (is_of p) come) (maybe_one (is_of p a) a)
+    ∙ ap (λ ks. map asked_of (filter (is_of p) come) ++ ks) (map-maybe_one asked_of (is_of p a) a)
+
+-- the partition's events with that of a call
+pub events_of_more : (p : ℕ) (es : List At) (a : Arrival) → events_at p (es ++ its_event a ∷ []) ≡ events_at p es ++ maybe_one (is_of p a) (call_of a)
+events_of_more p es a = events_at-append p es (its_event a ∷ []) ∙ ap (λ fs. events_at p es ++ fs) (map-maybe_one (λ (e : At). e.event) (is_of p a) (its_event a))
+
+pub asked_of_maybe : (b : Bool) (a : Arrival) → arrivals (maybe_one b (call_of a)) ≡ maybe_one b (asked_of a)
+asked_of_maybe true a = refl
+asked_of_maybe false a = refl
+
+pub calls_of_more : (p : ℕ) (es : List At) (a : Arrival) → arrivals (events_at p (es ++ its_event a ∷ [])) ≡ arrivals (events_at p es) ++ maybe_one (is_of p a) (asked_of a)
+calls_of_more p es a =
+    ap arrivals (events_of_more p es a) ∙ arrivals-append (events_at p es) (maybe_one (is_of p a) (call_of a))
+    ∙ ap (λ ks. arrivals (events_at p es) ++ ks) (asked_of_maybe (is_of p a) a)
+
+-- it makes its event, or none
+abbrev pub IsMade : Arrival → List At → Type 0
+IsMade a events = (events ≡ []) ⊎ (events ≡ its_event a ∷ [])
+
+module _ (r : Run) (ok : ArrivalsOk r) (member : ℕ) (request : Request) (next : IsNext r request) where
+  abbrev pub a : Arrival
+  a = arrival_at r member request
+
+  -- its name is new
+  pub fresh : (b : Arrival) → In b r.arrivals → arrival_name b ≢ arrival_name a
+  fresh b i e =
+      let number : b.id.number ≡ request.id.number = ap (λ (n : CallName). n.number) e in
+      let before = next.may.after b (contains_in b r.arrivals i) (ap (λ (n : CallName). n.conn) e ∙ next.on) in
+      omega (arith, number, before)
+
+  pub calls_with : (p : ℕ) (events : List At) → IsMade a events → IsPart (arrivals (events_at p (r.events ++ events))) (map asked_of (filter (is_of p) (r.arrivals ++ a ∷ [])))
+  calls_with p events (inl e) =
+      subst (λ ks. IsPart (arrivals (events_at p (r.events ++ events))) ks) (sym (arrivals_of_more p r.arrivals a))
+      (subst (λ es. IsPart (arrivals (events_at p es)) (map asked_of (filter (is_of p) r.arrivals) ++ maybe_one (is_of p a) (asked_of a))) (sym (ap (λ fs. r.events ++ fs) e ∙ append-nil r.events))
+      (part_maybe (arrivals (events_at p r.events)) (map asked_of (filter (is_of p) r.arrivals)) (is_of p a) (asked_of a) (ok.calls p)))
+  calls_with p events (inr e) =
+      subst (λ ks. IsPart (arrivals (events_at p (r.events ++ events))) ks) (sym (arrivals_of_more p r.arrivals a))
+      (subst (λ es. IsPart es (map asked_of (filter (is_of p) r.arrivals) ++ maybe_one (is_of p a) (asked_of a))) (sym (ap (λ fs. arrivals (events_at p (r.events ++ fs))) e ∙ calls_of_more p r.events a))
+      (part_maybe_both (arrivals (events_at p r.events)) (map asked_of (filter (is_of p) r.arrivals)) (is_of p a) (asked_of a) (ok.calls p)))
+
+  events_with : (events : List At) → IsMade a events → length (r.events ++ events) ≤ length (r.arrivals ++ a ∷ [])
+  events_with events h =
+      let one = ⊎_elim {C = length events ≤ 1} (λ e. let n = ap length e in omega (arith, n)) (λ e. let n = ap length e in omega (arith, n)) h in
+      let fewer = ok.events in
+      let more = length-append r.events events in
+      let calls = length-append r.arrivals (a ∷ []) in
+      omega (arith, one, fewer, more, calls)
+
+  pub arrivals_with : (events : List At) (appended : List Appended) → IsMade a events → ArrivalsOk (arrived r a events appended)
+  arrivals_with events appended h = record {
+    placed = λ b i. ⊎_elim (ok.placed b) last_placed (in_cases b r.arrivals (a ∷ []) i);
+    once = named_more arrival_name r.arrivals a ok.once fresh;
+    counted = λ b i. ⊎_elim (ok.counted b) last_counted (in_cases b r.arrivals (a ∷ []) i);
+    in_order = λ b c i. ⊎_elim (ok.in_order b c) (last_line b c) (before_last r.arrivals a b c i);
+    rising = λ b c i. ⊎_elim (ok.rising b c) (last_number b c) (before_last r.arrivals a b c i);
+    of_line = λ b c i j. with_last b c (in_cases b r.arrivals (a ∷ []) i) (in_cases c r.arrivals (a ∷ []) j);
+    by_now = λ b i. ⊎_elim (ok.by_now b) (last_now b) (in_cases b r.arrivals (a ∷ []) i);
+    calls = λ p. calls_with p events h;
+    events = events_with events h;
+  }
+    where
+      last_placed : {b : Arrival} → In b (a ∷ []) → IsPlaced b.request
+      last_placed (inl e) = subst (λ (c : Arrival). IsPlaced c.request) e next.placed
+      last_placed (inr i) = absurd i
+
+      last_counted : {b : Arrival} → In b (a ∷ []) → (k : Connection) × (connection_of r b.id.conn ≡ Some k) × (b.id.number < length (messages_on k))
+      last_counted (inl e) = subst (λ (c : Arrival). (k : Connection) × (connection_of r c.id.conn ≡ Some k) × (c.id.number < length (messages_on k))) e (next.connection, ap (connection_of r) next.on ∙ next.may.there, next.complete)
+      last_counted (inr i) = absurd i
+
+      last_line : (b c : Arrival) → In b r.arrivals × (a ≡ c) → b.line ≤ c.line
+      last_line b c (i, e) = let now = ok.by_now b i in let line = ap (λ (d : Arrival). d.line) e in omega (arith, now, line)
+
+      last_number : (b c : Arrival) → In b r.arrivals × (a ≡ c) → b.id.conn ≡ c.id.conn → b.id.number < c.id.number
+      last_number b c (i, e) s =
+          let before = next.may.after b (contains_in b r.arrivals i) (s ∙ ap (λ (d : Arrival). d.id.conn) (sym e) ∙ next.on) in
+          let number = ap (λ (d : Arrival). d.id.number) e in
+          omega (arith, before, number)
+
+      -- an earlier call of this line
+      earlier : (b : Arrival) → In b r.arrivals → b.line ≡ r.lines → b.id.conn ≡ request.id.conn
+      earlier b i s = next.may.of_line b (contains_in b r.arrivals i) s ∙ sym next.on
+
+      with_last : (b c : Arrival) → In b r.arrivals ⊎ In b (a ∷ []) → In c r.arrivals ⊎ In c (a ∷ []) → b.line ≡ c.line → b.id.conn ≡ c.id.conn
+      with_last b c (inl i) (inl j) s = ok.of_line b c i j s
+      with_last b c (inl i) (inr (inl e)) s = earlier b i (s ∙ ap (λ (d : Arrival). d.line) (sym e)) ∙ ap (λ (d : Arrival). d.id.conn) e
+      with_last b c (inl i) (inr (inr j)) s = absurd j
+      with_last b c (inr (inl e)) (inl j) s = ap (λ (d : Arrival). d.id.conn) (sym e) ∙ sym (earlier c j (sym s ∙ ap (λ (d : Arrival). d.line) (sym e)))
+      with_last b c (inr (inr i)) (inl j) s = absurd i
+      with_last b c (inr (inl e)) (inr (inl f)) s = ap (λ (d : Arrival). d.id.conn) (sym e ∙ f)
+      with_last b c (inr (inl e)) (inr (inr j)) s = absurd j
+      with_last b c (inr (inr i)) (inr j) s = absurd i
+
+      last_now : (b : Arrival) → In b (a ∷ []) → b.line ≤ r.lines
+      last_now b (inl e) = let line = ap (λ (d : Arrival). d.line) e in omega (arith, line)
+      last_now b (inr i) = absurd i

@@ -1,0 +1,51 @@
+-- The grid after the first line.
+use Rattle.std.proofs.Common.{◌≡◌, ◌≢◌, ℕ, zero, suc, ◌+◌, ◌<◌, ◌≤◌, List, [], ◌∷◌, ◌++◌, length, None, slice_get, refl, ap, sym, ◌∙◌, subst, ⊎_elim, arith}
+use Rattle.std.specs.Option.{option_and_then}
+use Rattle.std.proofs.lemmas.Bool.{cases_eq}
+use Rattle.partition_world.specs.Worlds.{waiting}
+use Rattle.replay_run.specs.declared.grid.Grid.{Grid}
+use Rattle.replay_run.specs.Runs.{Run, begun}
+use Rattle.replay_run.specs.Printing.{partitions}
+use Rattle.replay_run.specs.Tables.{most_connections, unopened, no_connections, opened_at}
+use Rattle.replay_run.specs.ScriptRuns.{grid_begun}
+use Rattle.replay_run.specs.Grids.{MapWorld, IsWorld, Matches, HasTable, IsSettled, HasWorld, Stands}
+use Rattle.replay_run.proofs.TableChanges.{got_last, got_before, line_at}
+
+-- one world more
+pub more_worlds : (ws : List MapWorld) (r : Run) (n : ℕ) (world : MapWorld) → length ws ≡ n → ((p : ℕ) → p < n → HasWorld ws r p) → HasWorld (ws ++ world ∷ []) r n → (p : ℕ) → p < n + 1 → HasWorld (ws ++ world ∷ []) r p
+more_worlds ws r n world size have last p below = ⊎_elim (λ e. subst (λ q. HasWorld (ws ++ world ∷ []) r q) (sym e) last) (λ apart. kept apart (have p (omega arith))) (cases_eq p n)
+  where
+    kept : p ≢ n → HasWorld ws r p → HasWorld (ws ++ world ∷ []) r p
+    kept apart w = record { world = w.world; there = got_before ws world p (λ e. apart (e ∙ size)) ∙ w.there; is = w.is; given = w.given }
+
+pub last_world : (ws : List MapWorld) (r : Run) (n : ℕ) (world : MapWorld) → length ws ≡ n → IsWorld world r n → ((member : ℕ) → waiting world member ≡ []) → HasWorld (ws ++ world ∷ []) r n
+last_world ws r n world size is given = record { world = world; there = ap (slice_get (ws ++ world ∷ [])) (sym size) ∙ got_last ws world; is = is; given = given }
+
+sized : (n : ℕ) → length (unopened n) ≡ n
+sized zero = refl
+sized (suc n) = ap (λ k. suc k) (sized n)
+
+none_at : (n c : ℕ) → opened_at (unopened n) c ≡ None
+none_at zero c = refl
+none_at (suc n) zero = refl
+none_at (suc n) (suc c) = none_at n c
+
+begun_table : (members backups : ℕ) → HasTable no_connections (begun members backups)
+unfolding no_connections
+begun_table members backups = record {
+  size = sized most_connections;
+  connections = λ c. subst (λ slot. Matches slot None) (sym (none_at most_connections c)) tt;
+  calls = λ id. ap (option_and_then (line_at id.number)) (none_at most_connections id.conn);
+}
+
+begun_settled : (members backups : ℕ) → IsSettled no_connections (begun members backups)
+begun_settled members backups c o k at there = absurd cc
+
+pub begun_stands : (grid : Grid) (members backups : ℕ) → 1 ≤ members → grid.lines ≡ 1 → grid.members ≡ members → grid.connections ≡ no_connections → ((p : ℕ) → p < partitions → HasWorld grid.worlds.items (begun members backups) p)
+    → Stands grid (begun members backups)
+begun_stands grid members backups some lines own table worlds = record {
+  run = grid_begun members backups some;
+  small = omega arith;
+  holds = record { lines = lines; members = own; table = subst (λ t. HasTable t (begun members backups)) (sym table) (begun_table members backups); worlds = worlds };
+  settled = subst (λ t. IsSettled t (begun members backups)) (sym table) (begun_settled members backups);
+}

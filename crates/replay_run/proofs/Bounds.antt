@@ -1,0 +1,289 @@
+-- A run has no more events than calls, no more calls than messages, and far fewer messages than bytes; and what a line adds to those.
+use Rattle.std.proofs.Common.{◌≡◌, ◌≢◌, ℕ, ◌+◌, ◌*◌, ◌≤◌, ◌<◌, ◌^◌, ◌-◌, ◌==◌, Bool, true, false, cond, List, [], ◌∷◌, length, Option, Some, None, pos, refl, ap, sym, ◌∙◌, subst, ⊎_elim, inl, inr, arith, length-append}
+use Rattle.std.proofs.lemmas.List.Sums.{sum_by-cons, sum_by-append}
+use Rattle.std.specs.List.{find, sum_by}
+use Rattle.std.specs.Prelude.{is_some}
+use Rattle.grid_base.specs.Errors.{want_of_memory}
+use Rattle.grid_base.specs.declared.names.CallId.{CallId}
+use Rattle.partition_protocol.proofs.Lists.{In, contains_in, cases}
+use Rattle.partition_protocol.proofs.RowFacts.{false_or_not}
+use Rattle.session_core.specs.declared.item.Item.{Item}
+use Rattle.session_core.specs.declared.item.Item.TheVariants.{Call as Asks, Reply}
+use Rattle.script_lang.specs.Limits.{most_lines, most_line_bytes}
+use Rattle.script_lang.specs.Lines.{IsWithin}
+use Rattle.script_lang.specs.declared.line.Line.{Line}
+use Rattle.script_lang.specs.declared.line.Line.TheVariants.{Grid, OpenConn, Arrive, Trail, Comment, End}
+use Rattle.replay_run.specs.PartitionObjects.{partition_object}
+use Rattle.replay_run.specs.Runs.{Run, Connection, Arrival, is_connection, connection_of, messages_on, bytes_of, updated, with_bytes, took_bytes, opened, next_line, fault_on, items_by, told, refusal, arrival_at, happening, arrived, is_skipped, asked, bytes_arrived, after_line, handled_all}
+use Rattle.replay_run.specs.Linearizability.{Before}
+use Rattle.replay_run.specs.ScriptRuns.{IsRun}
+use Rattle.replay_run.specs.Grids.{IsSmall}
+use Rattle.replay_run.specs.WorldCalls.{HasRoom}
+use Rattle.replay_run.proofs.Counts.{count}
+use Rattle.replay_run.proofs.Hearing.{header, messages_sized}
+use Rattle.replay_run.proofs.Items.{items_room}
+use Rattle.replay_run.proofs.Places.{same_number}
+use Rattle.replay_run.proofs.Trails.{find_some}
+use Rattle.replay_run.proofs.RunFacts.{AreApart, RunOk}
+use Rattle.replay_run.proofs.Arriving.{same_test, its_event}
+use Rattle.replay_run.proofs.RunsOfLines.{run_ok}
+use Rattle.replay_run.proofs.Lines.{connection_there, handled_all_come}
+use Rattle.replay_run.proofs.SkipLaws.{line_counts}
+
+-- sums
+
+pub sum_more : {X : Type 0} (f g : X → ℕ) (xs : List X) → ((x : X) → In x xs → f x ≤ g x) → sum_by f xs ≤ sum_by g xs
+sum_more f g [] h = omega arith
+sum_more f g (x ∷ xs) h =
+    let rest = sum_more f g xs (λ y i. h y (inr i)) in
+    let here = h x (inl refl) in
+    let left = sum_by-cons f x xs in
+    let right = sum_by-cons g x xs in
+    omega (arith, rest, here, left, right)
+
+pub sum_both : {X : Type 0} (f g : X → ℕ) (xs : List X) → sum_by (λ x. f x + g x) xs ≡ sum_by f xs + sum_by g xs
+sum_both f g [] = refl
+sum_both f g (x ∷ xs) =
+    let rest = sum_both f g xs in
+    let whole = sum_by-cons (λ x. f x + g x) x xs in
+    let left = sum_by-cons f x xs in
+    let right = sum_by-cons g x xs in
+    omega (arith, rest, whole, left, right)
+
+pub sum_has : {X : Type 0} (f : X → ℕ) (xs : List X) (x : X) → In x xs → f x ≤ sum_by f xs
+sum_has f [] x i = absurd i
+sum_has f (y ∷ ys) x (inl e) = let whole = sum_by-cons f y ys in let here = ap f e in omega (arith, whole, here)
+sum_has f (y ∷ ys) x (inr i) = let whole = sum_by-cons f y ys in let rest = sum_has f ys x i in omega (arith, whole, rest)
+
+-- messages and bytes
+
+abbrev pub messages_at : Connection → ℕ
+messages_at k = length (messages_on k)
+
+abbrev pub bytes_at : Connection → ℕ
+bytes_at k = length k.bytes
+
+-- how many messages are complete on all connections
+abbrev pub messages_in : Run → ℕ
+messages_in r = sum_by messages_at r.connections
+
+all_sized : (ks : List Connection) → header * sum_by messages_at ks ≤ sum_by bytes_at ks
+all_sized [] = omega arith
+all_sized (k ∷ ks) =
+    let rest = all_sized ks in
+    let here = messages_sized k.bytes in
+    let left = sum_by-cons messages_at k ks in
+    let right = sum_by-cons bytes_at k ks in
+    omega (arith, rest, here, left, right)
+
+pub messages_fewer : (r : Run) → header * messages_in r ≤ bytes_of r
+messages_fewer r = all_sized r.connections
+
+-- the calls of a connection
+
+abbrev pub is_on_conn : ℕ → Arrival → Bool
+is_on_conn c a = a.id.conn == c
+
+-- numbers that rise below a bound are no more than it
+rising_fewer : (c low high : ℕ) (xs : List Arrival) → low ≤ high → ((a b : Arrival) → Before xs a b → a.id.conn ≡ b.id.conn → a.id.number < b.id.number)
+    → ((a : Arrival) → In a xs → a.id.conn ≡ c → (low ≤ a.id.number) × (a.id.number < high)) → count (is_on_conn c) xs + low ≤ high
+rising_fewer c low high [] l rising within = omega (arith, l)
+rising_fewer c low high (x ∷ xs) l rising within =
+    ⊎_elim (λ e. here e (λ m w. rising_fewer c (x.id.number + 1) high xs m (λ a b h. rising a b (inr h)) w))
+    (λ e. let rest = rising_fewer c low high xs l (λ a b h. rising a b (inr h)) (λ a i. within a (inr i)) in rw e (omega (arith, rest)))
+    (cases (is_on_conn c x))
+  where
+    here : is_on_conn c x ≡ true
+        → (x.id.number + 1 ≤ high → ((a : Arrival) → In a xs → a.id.conn ≡ c → (x.id.number + 1 ≤ a.id.number) × (a.id.number < high)) → count (is_on_conn c) xs + (x.id.number + 1) ≤ high)
+        → count (is_on_conn c) (x ∷ xs) + low ≤ high
+    here e more =
+        let conn = same_number x.id.conn c e in
+        let at = within x (inl refl) conn in
+        let rest = more (omega (arith, at.1)) (λ a i s.
+        (let later = rising x a (inl (refl, contains_in a xs i)) (conn ∙ sym s) in
+        let w = within a (inr i) s in
+        (omega (arith, later), w.1))) in
+        rw e (omega (arith, rest, at.0))
+
+-- each call is of a connection, so all calls are no more than those of each connection together
+all_counted : (xs : List Arrival) (ks : List Connection) → ((a : Arrival) → In a xs → (k : Connection) × In k ks × (a.id.conn ≡ k.conn))
+    → length xs ≤ sum_by (λ (k : Connection). count (is_on_conn k.conn) xs) ks
+all_counted [] ks h = omega arith
+all_counted (x ∷ xs) ks h =
+    let rest = all_counted xs ks (λ a i. h a (inr i)) in
+    let at = h x (inl refl) in
+    let its = sum_has (λ (k : Connection). cond (is_on_conn k.conn x) 1 0) ks at.0 at.1 in
+    let test : is_on_conn at.0.conn x ≡ true = same_test x.id.conn at.0.conn at.2 in
+    let one = ap {B = ℕ} (λ b. cond b 1 0) test in
+    let both = sum_both (λ (k : Connection). cond (is_on_conn k.conn x) 1 0) (λ (k : Connection). count (is_on_conn k.conn) xs) ks in
+    omega (arith, rest, its, one, both)
+
+-- a connection is found by its number
+apart_found : (ks : List Connection) (k : Connection) → AreApart ks → In k ks → find (is_connection k.conn) ks ≡ Some k
+apart_found [] k apart i = absurd i
+apart_found (j ∷ js) k apart (inl e) = let test : (j.conn == k.conn) ≡ true = same_test j.conn k.conn (ap (λ (c : Connection). c.conn) e) in rw test (ap Some e)
+apart_found (j ∷ js) k apart (inr i) =
+    let test : (j.conn == k.conn) ≡ false = false_or_not (j.conn == k.conn) (λ e. apart.0 k i (sym (same_number j.conn k.conn e))) in
+    rw test (apart_found js k apart.1 i)
+
+-- events and calls
+
+pub events_fewer : (r : Run) → IsRun r → length r.events ≤ length r.arrivals
+events_fewer r is = (run_ok is).of_arrivals.events
+
+pub arrivals_fewer : (r : Run) → IsRun r → length r.arrivals ≤ messages_in r
+arrivals_fewer r is =
+    let all = all_counted r.arrivals r.connections there in
+    let each = sum_more (λ (k : Connection). count (is_on_conn k.conn) r.arrivals) messages_at r.connections fewer in
+    omega (arith, all, each)
+  where
+    ok : RunOk partition_object r
+    ok = run_ok is
+
+    there : (a : Arrival) → In a r.arrivals → (k : Connection) × In k r.connections × (a.id.conn ≡ k.conn)
+    there a i =
+        let k = ok.of_arrivals.counted a i in
+        let found = find_some (is_connection a.id.conn) r.connections k.0 k.1 in
+        (k.0, found.0, sym (same_number k.0.conn a.id.conn found.1))
+
+    below : (k : Connection) → In k r.connections → (a : Arrival) → In a r.arrivals → a.id.conn ≡ k.conn → (0 ≤ a.id.number) × (a.id.number < length (messages_on k))
+    below k j a i e =
+        let c = ok.of_arrivals.counted a i in
+        let found : Some c.0 ≡ Some k = sym c.1 ∙ ap (connection_of r) e ∙ apart_found r.connections k ok.connections j in
+        let one : c.0 ≡ k = cc in
+        (omega arith, subst (λ (x : Connection). a.id.number < length (messages_on x)) one c.2)
+
+    fewer : (k : Connection) → In k r.connections → count (is_on_conn k.conn) r.arrivals ≤ messages_at k
+    fewer k j = let messages = rising_fewer k.conn 0 (length (messages_on k)) r.arrivals (omega arith) ok.of_arrivals.rising (below k j) in omega (arith, messages)
+
+pub events_within : (r : Run) → IsRun r → length r.events ≤ messages_in r
+events_within r is = let a = events_fewer r is in let b = arrivals_fewer r is in omega (arith, a, b)
+
+-- what bytes add
+
+updated_none : (new : Connection) (ks : List Connection) → ((j : Connection) → In j ks → j.conn ≢ new.conn) → updated new ks ≡ ks
+updated_none new [] h = refl
+updated_none new (k ∷ ks) h =
+    let test : (k.conn == new.conn) ≡ false = false_or_not (k.conn == new.conn) (λ e. h k (inl refl) (same_number k.conn new.conn e)) in
+    let rest = updated_none new ks (λ j i. h j (inr i)) in
+    rw test (ap (λ js. k ∷ js) rest)
+
+sum_updated : (weight : Connection → ℕ) (new : Connection) (ks : List Connection) (k : Connection) → AreApart ks → In k ks → new.conn ≡ k.conn
+    → sum_by weight (updated new ks) + weight k ≡ sum_by weight ks + weight new
+sum_updated weight new [] k apart i e = absurd i
+sum_updated weight new (j ∷ js) k apart (inl s) e =
+    let test : (j.conn == new.conn) ≡ true = same_test j.conn new.conn (ap (λ (c : Connection). c.conn) s ∙ sym e) in
+    let rest = updated_none new js (λ x i t. apart.0 x i (t ∙ e ∙ ap (λ (c : Connection). c.conn) (sym s))) in
+    let whole : updated new (j ∷ js) ≡ new ∷ js = rw (test, rest) refl in
+    let after = ap (sum_by weight) whole ∙ sum_by-cons weight new js in
+    let before = sum_by-cons weight j js in
+    let its = ap weight s in
+    omega (arith, after, before, its)
+sum_updated weight new (j ∷ js) k apart (inr i) e =
+    let test : (j.conn == new.conn) ≡ false = false_or_not (j.conn == new.conn) (λ t. apart.0 k i (sym (same_number j.conn new.conn t ∙ e))) in
+    let whole : updated new (j ∷ js) ≡ j ∷ updated new js = rw test refl in
+    let after = ap (sum_by weight) whole ∙ sum_by-cons weight j (updated new js) in
+    let before = sum_by-cons weight j js in
+    let rest = sum_updated weight new js k apart.1 i e in
+    omega (arith, after, before, rest)
+
+module _ (r : Run) (k : Connection) (bytes : List ℕ) (is : IsRun r) (there : connection_of r k.conn ≡ Some k) where
+  taken : (weight : Connection → ℕ) → sum_by weight (took_bytes r k bytes).connections + weight k ≡ sum_by weight r.connections + weight (with_bytes k bytes)
+  taken weight = sum_updated weight (with_bytes k bytes) r.connections k (run_ok is).connections (find_some (is_connection k.conn) r.connections k there).0 refl
+
+  pub bytes_taken_more : bytes_of (took_bytes r k bytes) ≡ bytes_of r + length bytes
+  bytes_taken_more = let sums = taken bytes_at in let longer = length-append k.bytes bytes in omega (arith, sums, longer)
+
+  -- one message for each item
+  pub messages_taken_more : messages_in (took_bytes r k bytes) ≡ messages_in r + length (items_by k bytes)
+  messages_taken_more = let sums = taken messages_at in let room = (items_room k bytes).1 in omega (arith, sums, room)
+
+  -- There is room for one line more, whatever its bytes.
+  pub room : IsSmall r → r.lines + 1 ≤ most_lines → 2 * length bytes ≤ most_line_bytes → HasRoom r k bytes
+  room small lines size =
+      let events = events_within r is in
+      let fewer = messages_fewer (took_bytes r k bytes) in
+      omega (arith, small, lines, size, events, fewer, bytes_taken_more, messages_taken_more)
+
+  -- and its messages have numbers of four bytes
+  pub numbers_room : IsSmall r → r.lines + 1 ≤ most_lines → 2 * length bytes ≤ most_line_bytes → length (messages_on (with_bytes k bytes)) < 2 ^ 32 - 1
+  numbers_room small lines size =
+      let its = sum_has messages_at r.connections k (find_some (is_connection k.conn) r.connections k there).0 in
+      let fewer = messages_fewer (took_bytes r k bytes) in
+      let all = (items_room k bytes).1 in
+      omega (arith, small, lines, size, its, fewer, all, bytes_taken_more, messages_taken_more)
+
+pub opened_no_more : (r : Run) (c member : ℕ) → bytes_of (opened r c member) ≡ bytes_of r
+opened_no_more r c member =
+    let new : Connection = record { conn = c; member = member; bytes = [] } in
+    let more = sum_by-append bytes_at r.connections (new ∷ []) in
+    omega (arith, more)
+
+pub handled_no_more : (skips : List CallId) (r : Run) (k : Connection) (items : List Item) → bytes_of (handled_all partition_object skips r k items) ≡ bytes_of r
+handled_no_more skips r k items = ap (sum_by bytes_at) (handled_all_come partition_object skips r k items).connections
+
+-- what items add to the events: one at most for each
+
+asked_event : (skips : List CallId) (r : Run) (a : Arrival) → length (asked partition_object skips r a).events ≤ length r.events + 1
+asked_event skips r a = go (is_skipped skips a.id)
+  where
+    go : (b : Bool) → length (cond b (arrived r a [] (refusal a.line a.request (pos want_of_memory) 0 ∷ [])) (arrived r a (its_event a ∷ []) (happening partition_object r a))).events ≤ length r.events + 1
+    go true = let more = length-append r.events [] in omega (arith, more)
+    go false = let more = length-append r.events (its_event a ∷ []) in omega (arith, more)
+
+pub handled_events : (skips : List CallId) (r : Run) (k : Connection) (items : List Item) → length (handled_all partition_object skips r k items).events ≤ length r.events + length items
+handled_events skips r k [] = omega arith
+handled_events skips r k (Reply bytes ∷ items) = let rest = handled_events skips (told r k.conn bytes) k items in omega (arith, rest)
+handled_events skips r k (Asks request ∷ items) =
+    let one = asked_event skips r (arrival_at r k.member request) in
+    let rest = handled_events skips (asked partition_object skips r (arrival_at r k.member request)) k items in
+    omega (arith, one, rest)
+
+-- lines
+
+-- the bytes of a line
+abbrev pub length_of : Line → ℕ
+length_of (Arrive c bytes) = length bytes
+length_of line = 0
+
+module _ (skips : List CallId) (r : Run) (is : IsRun r) where
+  bytes_more : (c : ℕ) (bytes : List ℕ) (found : Option Connection) → connection_of r c ≡ found
+      → bytes_of (elim found [ None ↦ next_line r | Some k ↦ bytes_arrived partition_object skips r k bytes ]) ≤ bytes_of r + length bytes
+  bytes_more c bytes None there = omega arith
+  bytes_more c bytes (Some k) there = go (is_some (fault_on k))
+    where
+      go : (closed : Bool) → bytes_of (cond closed (next_line r) (handled_all partition_object skips (took_bytes r k bytes) k (items_by k bytes))) ≤ bytes_of r + length bytes
+      go true = omega arith
+      go false =
+          let all = handled_no_more skips (took_bytes r k bytes) k (items_by k bytes) in
+          let more = bytes_taken_more r k bytes is (connection_there r c k there) in
+          omega (arith, all, more)
+
+  open_more : (c member : ℕ) (there : Bool) → bytes_of (cond there (next_line r) (opened r c member)) ≤ bytes_of r + 0
+  open_more c member true = omega arith
+  open_more c member false = let same = opened_no_more r c member in omega (arith, same)
+
+  -- A line adds no more than its bytes.
+  pub line_adds : (line : Line) → bytes_of (after_line partition_object skips r line) ≤ bytes_of r + length_of line
+  line_adds (Grid members backups capacity) = omega arith
+  line_adds (OpenConn c member) = open_more c member (is_some (connection_of r c))
+  line_adds (Arrive c bytes) = bytes_more c bytes (connection_of r c) refl
+  line_adds (Trail partition) = omega arith
+  line_adds Comment = omega arith
+  line_adds End = omega arith
+
+  -- and so many lines have no more bytes than their texts have room for
+  pub stays_small : (line : Line) → IsSmall r → 2 * length_of line ≤ most_line_bytes → IsSmall (after_line partition_object skips r line)
+  stays_small line small size =
+      let adds = line_adds line in
+      let lines = (line_counts skips r line).lines in
+      omega (arith, small, size, adds, lines)
+
+-- a line within the limit of bytes
+pub line_within : (members size : ℕ) (line : Line) → IsWithin members size line → 2 * length_of line ≤ size
+line_within members size (Grid n backups capacity) h = omega arith
+line_within members size (OpenConn conn member) h = omega arith
+line_within members size (Arrive conn bytes) h = h.2
+line_within members size (Trail partition) h = omega arith
+line_within members size Comment h = omega arith
+line_within members size End h = omega arith

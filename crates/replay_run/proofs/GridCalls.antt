@@ -1,0 +1,221 @@
+-- The grid after a call, which its partition's world ran or which found no memory.
+use Rattle.std.proofs.Common.{◌≡◌, ℕ, ◌+◌, ◌<◌, true, cond, List, [], ◌∷◌, ◌++◌, length, map, drop, pos, Some, None, slice_get, slice_set, refl, ap, sym, ◌∙◌, subst, ◌⊎◌, ⊎_elim, inl, inr, append-nil, append_assoc}
+use Rattle.std.specs.List.{Contains}
+use Rattle.std.proofs.lemmas.Bool.{eq-eqb}
+use Rattle.grid_base.specs.Names.{is_same_call}
+use Rattle.grid_base.specs.declared.names.CallId.{CallId}
+use Rattle.grid_base.specs.declared.calls.Request.{Request}
+use Rattle.partition_protocol.specs.World.{World}
+use Rattle.partition_protocol.specs.Events.{happens}
+use Rattle.partition_protocol.proofs.Lists.{In, in_contains}
+use Rattle.partition_world.specs.declared.node.Released.{Released}
+use Rattle.partition_world.specs.Answers.{released_by as answers_by}
+use Rattle.partition_world.specs.Worlds.{waiting}
+use Rattle.replay_run.specs.declared.grid.Grid.{Grid}
+use Rattle.replay_run.specs.PartitionObjects.{partition_object}
+use Rattle.grid_base.specs.Errors.{want_of_memory}
+use Rattle.replay_run.specs.Runs.{Run, Arrival, Appended, connection_of, events_at, arrival_at, call_of, world_at, happening, refused_by, refusal, answer_to, released_by, asked, arrived, is_skipped}
+use Rattle.replay_run.specs.Printing.{partitions, new_messages}
+use Rattle.replay_run.specs.ScriptRuns.{IsRun, IsNext}
+use Rattle.replay_run.specs.Tables.{Table, Opened, opened_at, with_arrival}
+use Rattle.replay_run.specs.Grids.{MapWorld, IsConnection, HasTable, IsCounting, HasWorld, Holds}
+use Rattle.replay_run.specs.WorldCalls.{no_change, arrival_to, message_of, with_answers, texts_of, IsCalled, IsSkipped, GivesOut, HasAsked}
+use Rattle.replay_run.proofs.Arriving.{its_event}
+use Rattle.replay_run.proofs.Answering.{refusals_answer_none}
+use Rattle.replay_run.proofs.Places.{same_call_refl}
+use Rattle.replay_run.proofs.RunsOfLines.{unheard_unanswered}
+use Rattle.replay_run.proofs.LineTexts.{new_with, texts-append, answers_given}
+use Rattle.replay_run.proofs.TableRuns.{found_opened, arrived_table, refusals_table, answers_table}
+use Rattle.replay_run.proofs.TableCounts.{counting_called, counting_answers}
+use Rattle.replay_run.proofs.WorldRuns.{run_is, released_here, called_worlds, nothing_waits, skipped_worlds}
+
+-- the text of a call: what answered it at once, and the answers that were given out
+abbrev pub call_text : List ℕ → ℕ → List ℕ → List Released → List ℕ
+call_text written line added answers = (written ++ added) ++ texts_of (map (message_of line) answers)
+
+-- The table and the worlds of the code after a call.
+pub record IsAfter (grid new : Grid) (line partition conn : ℕ) (world : MapWorld) (answers : List Released) : Type 0 where
+  pub lines : new.lines ≡ line
+  pub members : new.members ≡ grid.members
+  pub table : new.connections ≡ with_answers (with_arrival grid.connections conn line) line answers
+  pub worlds : new.worlds.items ≡ slice_set grid.worlds.items partition world
+
+module _ (grid : Grid) (r : Run) (run : IsRun r) (h : Holds grid r) (member : ℕ) (request : Request) (next : IsNext r request) (count : IsCounting grid.connections r request.id.conn request.id.number) (low : request.partition < partitions)
+    (new : Grid) (called world : MapWorld) (added written text : List ℕ)
+    (after : IsAfter grid new r.lines request.partition request.id.conn world (waiting called member))
+    (out : GivesOut called world member)
+    (wrote : text ≡ call_text written r.lines added (waiting called member)) where
+  abbrev old : HasWorld grid.worlds.items r request.partition
+  old = h.worlds request.partition low
+
+  abbrev a : Arrival
+  a = arrival_at r member request
+
+  abbrev before : World Request
+  before = world_at partition_object r request.partition
+
+  slot : (o : Opened) × (opened_at grid.connections request.id.conn ≡ Some o) × IsConnection o next.connection
+  slot = found_opened grid.connections r h.table request.id.conn next.connection (ap (connection_of r) next.on ∙ next.may.there)
+
+  numbered : request.id ≡ record { conn = request.id.conn; number = length slot.0.calls }
+  numbered = λ i. record { conn = request.id.conn; number = sym (count.here slot.0 slot.1) i }
+
+  -- the run once the call is counted
+  abbrev counted : Run
+  counted = record r { arrivals = r.arrivals ++ arrival_at r member request ∷ [] }
+
+  abbrev called_one : Table
+  called_one = with_arrival grid.connections request.id.conn r.lines
+
+  counted_table : HasTable (with_arrival grid.connections request.id.conn r.lines) counted
+  counted_table = arrived_table grid.connections r h.table request.id.conn slot.0 slot.1 (arrival_at r member request) numbered (unheard_unanswered r run request.id)
+
+  counting_now : IsCounting new.connections r request.id.conn (request.id.number + 1)
+  counting_now =
+      subst (λ t. IsCounting t r request.id.conn (request.id.number + 1)) (sym after.table)
+      (counting_answers r.lines (waiting called member) called_one r request.id.conn (request.id.number + 1)
+      (counting_called grid.connections r request.id.conn request.id.number r.lines count))
+
+  -- the call was run
+  module _ (did : IsCalled (h.worlds request.partition low).world called (events_at request.partition r.events) (arrival_at r member request) added) where
+    abbrev then_world : World Request
+    then_world = (happens partition_object before (call_of a)).world
+
+    abbrev refused : List Appended
+    refused = refused_by r.lines request (happens partition_object before (call_of a)).outcome
+
+    abbrev given : List Appended
+    given = map (answer_to r.lines) (released_by before then_world)
+
+    abbrev called_run : Run
+    called_run = arrived r a (its_event a ∷ []) (happening partition_object r a)
+
+    released_is : waiting called member ≡ answers_by partition_object no_change before then_world
+    released_is =
+        released_here grid.worlds.items r a world called_run old refl refl called added did out refl
+        ∙ ap (λ b. cond b (answers_by partition_object no_change before then_world) []) (eq-eqb member member refl)
+
+    messages_are : map (message_of r.lines) (waiting called member) ≡ map (answer_to r.lines) (released_by before then_world)
+    messages_are = ap (map (message_of r.lines)) released_is ∙ answers_given r.lines then_world (drop (length before.released) then_world.released)
+
+    called_table : HasTable new.connections called_run
+    called_table =
+        let first = refusals_table refused called_one counted (refusals_answer_none r.lines request (happens partition_object before (call_of a)).outcome) counted_table in
+        let all = answers_table r.lines (waiting called member) called_one (record counted { appended = r.appended ++ refused }) first in
+        let same = append_assoc r.appended refused (map (message_of r.lines) (waiting called member)) ∙ ap (λ (ms : List Appended). r.appended ++ (refused ++ ms)) messages_are in
+        let whole = subst (λ (ms : List Appended). HasTable (with_answers called_one r.lines (waiting called member)) (record counted { appended = ms })) same all in
+        subst (λ t. HasTable t called_run) (sym after.table) (record { size = whole.size; connections = whole.connections; calls = whole.calls })
+
+    called_holds : Holds new called_run
+    called_holds = record {
+      lines = after.lines;
+      members = after.members ∙ h.members;
+      table = called_table;
+      worlds = λ q below. subst (λ ws. HasWorld ws called_run q) (sym after.worlds) (called_worlds grid.worlds.items r a world called_run old refl refl called added did out refl q (h.worlds q below));
+    }
+
+    added_is : added ≡ texts_of refused
+    added_is = did.text ∙ ap (λ w. texts_of (refused_by r.lines request (happens partition_object w (call_of a)).outcome)) (run_is old.world r request.partition old.is)
+
+    called_text : text ≡ written ++ texts_of (new_messages r called_run)
+    called_text =
+        wrote ∙ (λ i. (written ++ added_is i) ++ texts_of (messages_are i))
+        ∙ append_assoc written (texts_of refused) (texts_of given)
+        ∙ ap (λ xs. written ++ xs) (sym (ap texts_of (new_with r called_run (happening partition_object r a) refl) ∙ texts-append refused given))
+
+    pub call_ran : HasAsked new r member request written text
+    call_ran = record {
+      skips = [];
+      its_own = λ id there. absurd (in_contains id [] there);
+      holds = called_holds;
+      counting = record { here = counting_now.here; others = counting_now.others };
+      added = called_text;
+    }
+
+  -- the call found no memory
+  module _ (did : IsSkipped (h.worlds request.partition low).world called (events_at request.partition r.events) (arrival_at r member request) added) where
+    abbrev excuse : List Appended
+    excuse = refusal r.lines request (pos want_of_memory) 0 ∷ []
+
+    abbrev skipped_run : Run
+    skipped_run = arrived r a [] (refusal r.lines request (pos want_of_memory) 0 ∷ [])
+
+    skip_it : is_skipped (request.id ∷ []) request.id ≡ true
+    skip_it = let same : is_same_call request.id request.id ≡ true = same_call_refl request.id in rw same refl
+
+    asked_is : asked partition_object (request.id ∷ []) r a ≡ skipped_run
+    asked_is = ap (λ b. cond b skipped_run (arrived r a (its_event a ∷ []) (happening partition_object r a))) skip_it
+
+    waits : waiting called member ≡ []
+    waits = nothing_waits grid.worlds.items r a world skipped_run old refl refl called added did out (append-nil r.events) member
+
+    excuse_answers_none : (m : Appended) → In m excuse → m.answers ≡ None
+    excuse_answers_none m (inl e) = ap (λ (n : Appended). n.answers) (sym e)
+    excuse_answers_none m (inr i) = absurd i
+
+    skipped_table : HasTable new.connections skipped_run
+    skipped_table =
+        let whole = refusals_table excuse called_one counted excuse_answers_none counted_table in
+        subst (λ t. HasTable t skipped_run) (sym (after.table ∙ ap (with_answers called_one r.lines) waits))
+        (record { size = whole.size; connections = whole.connections; calls = whole.calls })
+
+    skipped_holds : Holds new skipped_run
+    skipped_holds = record {
+      lines = after.lines;
+      members = after.members ∙ h.members;
+      table = skipped_table;
+      worlds = λ q below. subst (λ ws. HasWorld ws skipped_run q) (sym after.worlds)
+          (skipped_worlds grid.worlds.items r a world skipped_run old refl refl called added did out (append-nil r.events) q (h.worlds q below));
+    }
+
+    skipped_text : text ≡ written ++ texts_of (new_messages r skipped_run)
+    skipped_text =
+        wrote ∙ (λ i. (written ++ did.text i) ++ texts_of (map (message_of r.lines) (waits i)))
+        ∙ append-nil (written ++ texts_of excuse)
+        ∙ ap (λ ms. written ++ texts_of ms) (sym (new_with r skipped_run excuse refl))
+
+    its_own_call : (id : CallId) → Contains (request.id ∷ []) id → request.id ≡ id
+    its_own_call id there = ⊎_elim (λ e. e) (λ i. absurd i) (in_contains id (request.id ∷ []) there)
+
+    skipped_counting : IsCounting new.connections skipped_run request.id.conn (request.id.number + 1)
+    skipped_counting = record { here = counting_now.here; others = counting_now.others }
+
+    pub call_skipped : HasAsked new r member request written text
+    call_skipped = record {
+      skips = request.id ∷ [];
+      its_own = its_own_call;
+      holds = subst (Holds new) (sym asked_is) skipped_holds;
+      counting = subst (λ x. IsCounting new.connections x request.id.conn (request.id.number + 1)) (sym asked_is) skipped_counting;
+      added = skipped_text ∙ ap (λ (n : Run). written ++ texts_of (new_messages r n)) (sym asked_is);
+    }
+
+-- A call that reached its world, which then gave out all that waited.
+pub asked_grid : (grid : Grid) (r : Run) (run : IsRun r) (h : Holds grid r) (member : ℕ) (request : Request) → IsNext r request → IsCounting grid.connections r request.id.conn request.id.number → (low : request.partition < partitions)
+    → (new : Grid) (old called world : MapWorld) (line : ℕ) (added written text : List ℕ) → slice_get grid.worlds.items request.partition ≡ Some old → line ≡ r.lines
+    → IsAfter grid new line request.partition request.id.conn world (waiting called member) → GivesOut called world member
+    → IsCalled old called (events_at request.partition r.events) (arrival_to line member request) added ⊎ IsSkipped old called (events_at request.partition r.events) (arrival_to line member request) added
+    → text ≡ call_text written line added (waiting called member) → HasAsked new r member request written text
+asked_grid grid r run h member request next count low new old called world line added written text there at_line after out did wrote = ⊎_elim ran skipped did
+  where
+    same_world : old ≡ (h.worlds request.partition low).world
+    same_world =
+        let both : Some old ≡ Some (h.worlds request.partition low).world = sym there ∙ (h.worlds request.partition low).there in
+        cc
+
+    after_it : IsAfter grid new r.lines request.partition request.id.conn world (waiting called member)
+    after_it = subst (λ l. IsAfter grid new l request.partition request.id.conn world (waiting called member)) at_line after
+
+    wrote_it : text ≡ call_text written r.lines added (waiting called member)
+    wrote_it = wrote ∙ (λ i. call_text written (at_line i) added (waiting called member))
+
+    ran : IsCalled old called (events_at request.partition r.events) (arrival_to line member request) added → HasAsked new r member request written text
+    ran d =
+        call_ran grid r run h member request next count low new called world added written text after_it out wrote_it
+        (subst (λ w. IsCalled w called (events_at request.partition r.events) (arrival_at r member request) added) same_world
+        (subst (λ l. IsCalled old called (events_at request.partition r.events) (arrival_to l member request) added) at_line d))
+
+    skipped : IsSkipped old called (events_at request.partition r.events) (arrival_to line member request) added → HasAsked new r member request written text
+    skipped d =
+        call_skipped grid r run h member request next count low new called world added written text after_it out wrote_it
+        (subst (λ w. IsSkipped w called (events_at request.partition r.events) (arrival_at r member request) added) same_world
+        (subst (λ l. IsSkipped old called (events_at request.partition r.events) (arrival_to l member request) added) at_line d))

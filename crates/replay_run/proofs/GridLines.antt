@@ -1,0 +1,255 @@
+-- The grid after each line: it stands for the run after the line, and the line's text was added.
+use Rattle.std.proofs.Common.{◌≡◌, ℕ, ◌+◌, ◌*◌, ◌<◌, ◌≤◌, true, false, cond, List, [], ◌++◌, length, Option, Some, None, refl, ap, sym, ◌∙◌, subst, ⊎_elim, append-nil, append_assoc, arith}
+use Rattle.std.specs.Option.{is_some, option_and_then}
+use Rattle.std.proofs.lemmas.Bool.{cases_eq}
+use Rattle.frame_codec.specs.declared.malformed.Malformed.{Malformed}
+use Rattle.partition_protocol.proofs.Lists.{in_contains}
+use Rattle.session_core.specs.Sessions.{session_after}
+use Rattle.session_core.specs.declared.item.Item.{Item}
+use Rattle.script_lang.specs.Limits.{most_lines, most_line_bytes}
+use Rattle.script_lang.specs.declared.line.Line.{Line}
+use Rattle.script_lang.specs.declared.line.Line.TheVariants.{OpenConn, Arrive}
+use Rattle.replay_run.specs.declared.grid.Grid.{Grid}
+use Rattle.replay_run.specs.PartitionObjects.{partition_object}
+use Rattle.replay_run.specs.Runs.{Run, Connection, is_connection, connection_of, fault_on, messages_on, with_bytes, took_bytes, opened, next_line, after_line}
+use Rattle.replay_run.specs.Printing.{ok_text, nothing_text, close_text, outcome_text, does_nothing, line_close, line_text, new_messages}
+use Rattle.replay_run.specs.Skips.{AreOfLine}
+use Rattle.replay_run.specs.ScriptRuns.{line_counted, connection_opened}
+use Rattle.replay_run.specs.Tables.{Table, most_connections, opened_at, with_opened, with_session}
+use Rattle.replay_run.specs.Grids.{HasTable, IsSettled, IsCounting, Holds, IsSmall, Stands, MayRun, HasRun}
+use Rattle.replay_run.specs.WorldCalls.{texts_of, member_if_open, open_member_in, Brings, HasHandledSome}
+use Rattle.replay_run.proofs.Bounds.{stays_small}
+use Rattle.replay_run.proofs.Items.{items_room}
+use Rattle.replay_run.proofs.LineTexts.{text_nothing, entries_text, text_without, new_with}
+use Rattle.replay_run.proofs.Midway.{begun_midway, midway_come, unopened_line, unopened_does_nothing, closed_line, closed_does_nothing, open_does_something, ended_line, ended_skips}
+use Rattle.replay_run.proofs.Places.{same_number}
+use Rattle.replay_run.proofs.Trails.{find_some}
+use Rattle.replay_run.proofs.TableRuns.{none_opened, opened_table, fed_table}
+use Rattle.replay_run.proofs.TableCounts.{settled_opened, counting_fed}
+
+-- the grid once the line of that number is counted
+abbrev pub counted : Grid → ℕ → Grid
+counted grid number = record grid { lines = number }
+
+abbrev pub with_table : Grid → ℕ → Table → Grid
+with_table grid number t = record grid { lines = number; connections = t }
+
+pub counted_holds : (grid : Grid) (r : Run) (number : ℕ) (t : Table) (ks : List Connection) → Holds grid r → number ≡ r.lines + 1 → HasTable t (record r { lines = r.lines + 1; connections = ks })
+    → Holds (with_table grid number t) (record r { lines = r.lines + 1; connections = ks })
+counted_holds grid r number t ks h at_line table = record {
+  lines = at_line;
+  members = h.members;
+  table = table;
+  worlds = λ p low. let w = h.worlds p low in record { world = w.world; there = w.there; is = record { stands = w.is.stands; setup = w.is.setup }; given = w.given };
+}
+
+pub counted_stands : (grid : Grid) (r : Run) (number : ℕ) → Stands grid r → number ≡ r.lines + 1 → Stands (counted grid number) (next_line r)
+counted_stands grid r number s at_line = record {
+  run = line_counted r s.run;
+  small = let small : IsSmall r = s.small in omega (arith, small);
+  holds = counted_holds grid r number grid.connections r.connections s.holds at_line (record { size = s.holds.table.size; connections = s.holds.table.connections; calls = s.holds.table.calls });
+  settled = s.settled;
+}
+
+-- the next line
+
+pub next_number : (grid : Grid) (number : ℕ) (line : Line) → MayRun grid number line → (r : Run) → Stands grid r → number ≡ r.lines + 1
+next_number grid number line may r s = may.next ∙ ap (λ n. n + 1) (sym may.stands.holds.lines ∙ s.holds.lines)
+
+pub few_lines : (grid : Grid) (number : ℕ) (line : Line) → MayRun grid number line → (r : Run) → Stands grid r → r.lines + 1 ≤ most_lines
+few_lines grid number line may r s = let next = next_number grid number line may r s in let within = may.within in omega (arith, next, within)
+
+-- a text in two parts
+pub both_texts : (written outcome entries mid text : List ℕ) → mid ≡ written ++ outcome → text ≡ mid ++ entries → text ≡ written ++ (outcome ++ entries)
+both_texts written outcome entries mid text began is = is ∙ ap (λ xs. xs ++ entries) began ∙ append_assoc written outcome entries
+
+-- a line that brings no call skips none
+no_skips : (r : Run) (line : Line) → AreOfLine r line []
+no_skips r line id there = absurd (in_contains id [] there)
+
+-- a line that is only counted
+module _ (grid new : Grid) (r : Run) (number : ℕ) (line : Line) (s : Stands grid r) (at_line : number ≡ r.lines + 1) (after : after_line partition_object [] r line ≡ next_line r)
+    (made : new ≡ counted grid number) (written text : List ℕ) where
+  stands_after : Stands new (after_line partition_object [] r line)
+  stands_after = subst (λ g. Stands g (after_line partition_object [] r line)) (sym made) (subst (Stands (counted grid number)) (sym after) (counted_stands grid r number s at_line))
+
+  -- Its condition is false.
+  pub passed_line : does_nothing r line ≡ true → text ≡ written ++ nothing_text number → HasRun new r line written text
+  passed_line idle is = record {
+    skips = [];
+    of_line = no_skips r line;
+    stands = stands_after;
+    added = is ∙ ap (λ n. written ++ nothing_text n) at_line
+        ∙ ap (λ xs. written ++ xs) (sym (text_nothing r (after_line partition_object [] r line) line idle ∙ ap (λ (x : Run). nothing_text x.lines) after));
+  }
+
+  -- It prints its outcome and its entries.
+  pub counted_line : does_nothing r line ≡ false → line_close (next_line r) line ≡ [] → text ≡ written ++ (outcome_text partition_object (next_line r) line ++ entries_text (next_line r) line)
+      → HasRun new r line written text
+  counted_line goes open_still is = record {
+    skips = [];
+    of_line = no_skips r line;
+    stands = stands_after;
+    added = is ∙ ap (λ xs. written ++ xs) (sym (ap (λ (x : Run). line_text partition_object r line x) after ∙ text_without r (next_line r) line goes refl open_still));
+  }
+
+-- `open`
+
+-- of a connection that was opened before
+pub reopened_line : (grid new : Grid) (r : Run) (number c member : ℕ) (k : Connection) (written text : List ℕ) → Stands grid r → number ≡ r.lines + 1 → connection_of r c ≡ Some k
+    → new ≡ counted grid number → text ≡ written ++ nothing_text number → HasRun new r (OpenConn c member) written text
+reopened_line grid new r number c member k written text s at_line there made is =
+    passed_line grid new r number (OpenConn c member) s at_line (ap (λ (o : Option Connection). cond (is_some o) (next_line r) (opened r c member)) there) made written text (ap is_some there) is
+
+pub opened_line : (grid new : Grid) (r : Run) (number c member : ℕ) (written text : List ℕ) → Stands grid r → number ≡ r.lines + 1 → c < most_connections → opened_at grid.connections c ≡ None
+    → new ≡ with_table grid number (with_opened grid.connections c member) → text ≡ written ++ ok_text number → HasRun new r (OpenConn c member) written text
+opened_line grid new r number c member written text s at_line within closed made is = record {
+  skips = [];
+  of_line = no_skips r (OpenConn c member);
+  stands = subst (λ g. Stands g (after_line partition_object [] r (OpenConn c member))) (sym made) (subst (Stands (with_table grid number (with_opened grid.connections c member))) (sym after) stands_opened);
+  added = is ∙ ap (λ n. written ++ ok_text n) at_line ∙ ap (λ xs. written ++ xs) (sym its_text);
+}
+  where
+    free : connection_of r c ≡ None
+    free = none_opened grid.connections r s.holds.table c closed
+
+    after : after_line partition_object [] r (OpenConn c member) ≡ opened r c member
+    after = ap (λ (o : Option Connection). cond (is_some o) (next_line r) (opened r c member)) free
+
+    stands_opened : Stands (with_table grid number (with_opened grid.connections c member)) (opened r c member)
+    stands_opened = record {
+      run = connection_opened r c member s.run free;
+      small = subst IsSmall after (stays_small [] r s.run (OpenConn c member) s.small (omega arith));
+      holds = counted_holds grid r number (with_opened grid.connections c member) (opened r c member).connections s.holds at_line (opened_table grid.connections r s.holds.table c member within closed);
+      settled = settled_opened grid.connections r s.holds.table c member within closed s.settled;
+    }
+
+    its_text : line_text partition_object r (OpenConn c member) (after_line partition_object [] r (OpenConn c member)) ≡ ok_text (r.lines + 1)
+    its_text =
+        ap (λ (x : Run). line_text partition_object r (OpenConn c member) x) after
+        ∙ text_without r (opened r c member) (OpenConn c member) (ap is_some free) refl refl
+        ∙ append-nil (ok_text (r.lines + 1))
+
+-- bytes where none can arrive
+
+pub record IsIdle (r : Run) (line : Line) : Type 0 where
+  pub after : after_line partition_object [] r line ≡ next_line r
+  pub nothing : does_nothing r line ≡ true
+
+pub not_open : (r : Run) (c : ℕ) (bytes : List ℕ) → open_member_in r c ≡ None → IsIdle r (Arrive c bytes)
+not_open r c bytes none = go (connection_of r c) refl none
+  where
+    closed : (k : Connection) → connection_of r c ≡ Some k → (fault : Option Malformed) → fault_on k ≡ fault → cond (is_some fault) None (Some k.member) ≡ None → IsIdle r (Arrive c bytes)
+    closed k there (Some fault) shown e = record { after = closed_line r c bytes k there [] fault shown; nothing = closed_does_nothing r c bytes k there fault shown }
+    closed k there None shown e = absurd cc
+
+    go : (found : Option Connection) → connection_of r c ≡ found → option_and_then member_if_open found ≡ None → IsIdle r (Arrive c bytes)
+    go None there e = record { after = unopened_line r c bytes [] there; nothing = unopened_does_nothing r c bytes there }
+    go (Some k) there e = closed k there (fault_on k) refl e
+
+pub idle_line : (grid new : Grid) (r : Run) (number c : ℕ) (bytes written text : List ℕ) → Stands grid r → number ≡ r.lines + 1 → open_member_in r c ≡ None
+    → new ≡ counted grid number → text ≡ written ++ nothing_text number → HasRun new r (Arrive c bytes) written text
+idle_line grid new r number c bytes written text s at_line none made is =
+    let idle = not_open r c bytes none in
+    passed_line grid new r number (Arrive c bytes) s at_line idle.after made written text idle.nothing is
+
+-- bytes on an open connection
+
+pub record IsOpen (r : Run) (c member : ℕ) : Type 0 where
+  pub connection : Connection
+  pub there : connection_of r c ≡ Some connection
+  pub itself : connection_of r connection.conn ≡ Some connection
+  pub numbered : connection.conn ≡ c
+  pub to : connection.member ≡ member
+  pub sound : fault_on connection ≡ None
+
+pub its_number : (r : Run) (c : ℕ) (k : Connection) → connection_of r c ≡ Some k → k.conn ≡ c
+its_number r c k there = same_number k.conn c (find_some (is_connection c) r.connections k there).1
+
+pub is_open : (r : Run) (c member : ℕ) → open_member_in r c ≡ Some member → IsOpen r c member
+is_open r c member open_to = go (connection_of r c) refl open_to
+  where
+    sound : (k : Connection) → connection_of r c ≡ Some k → (fault : Option Malformed) → fault_on k ≡ fault → cond (is_some fault) None (Some k.member) ≡ Some member → IsOpen r c member
+    sound k there (Some fault) shown e = absurd cc
+    sound k there None shown e =
+        let to : k.member ≡ member = cc in
+        let at = its_number r c k there in
+        record { connection = k; there = there; itself = ap (connection_of r) at ∙ there; numbered = at; to = to; sound = shown }
+
+    go : (found : Option Connection) → connection_of r c ≡ found → option_and_then member_if_open found ≡ Some member → IsOpen r c member
+    go None there e = absurd cc
+    go (Some k) there e = sound k there (fault_on k) refl e
+
+-- The line is counted and the connection has its bytes.
+pub begun_some : (grid new : Grid) (r : Run) (s : Stands grid r) (number c : ℕ) (k : Connection) → number ≡ r.lines + 1 → connection_of r c ≡ Some k → connection_of r k.conn ≡ Some k → (bytes text : List ℕ)
+    → new ≡ with_table grid number (with_session grid.connections c (session_after k.conn k.member (k.bytes ++ bytes))) → HasHandledSome new r k bytes [] text text
+begun_some grid new r s number c k at_line there itself bytes text made = record {
+  skips = [];
+  now = took_bytes r k bytes;
+  midway = begun_midway r s.run k itself bytes;
+  holds = subst (λ g. Holds g (took_bytes r k bytes)) (sym made)
+      (counted_holds grid r number fed (took_bytes r k bytes).connections s.holds at_line (fed_table grid.connections r s.holds.table c k there bytes));
+  counting = subst (λ (g : Grid). IsCounting g.connections (took_bytes r k bytes) k.conn (length (messages_on k) + 0)) (sym made)
+      (subst (λ n. IsCounting fed (took_bytes r k bytes) n (length (messages_on k) + 0)) (sym (its_number r c k there))
+      (subst (λ n. IsCounting fed (took_bytes r k bytes) c n) none_yet (counting_fed grid.connections r s.holds.table c k there bytes s.settled)));
+  added = sym (ap (λ ms. text ++ texts_of ms) (new_with r (took_bytes r k bytes) [] (sym (append-nil r.appended))) ∙ append-nil text);
+}
+  where
+    fed : Table
+    fed = with_session grid.connections c (session_after k.conn k.member (k.bytes ++ bytes))
+
+    none_yet : length (messages_on k) ≡ length (messages_on k) + 0
+    none_yet = omega arith
+
+module _ (r : Run) (c : ℕ) (k : Connection) (there : connection_of r c ≡ Some k) (bytes : List ℕ) (items : List Item) (brings : Brings r k bytes items)
+    (new : Grid) (start mid : List ℕ) (did : HasHandledSome new r k bytes items start mid) where
+  -- all items were handled
+  all_settled : IsSettled new.connections did.now
+  all_settled d o j at found = ⊎_elim here (λ apart. did.counting.others d o j apart at found) (cases_eq d k.conn)
+    where
+      here : d ≡ k.conn → length o.calls ≡ length (messages_on j)
+      here e =
+          let both : Some (with_bytes k bytes) ≡ Some j = sym did.midway.may.there ∙ ap (connection_of did.now) (sym e) ∙ found in
+          let same : with_bytes k bytes ≡ j = cc in
+          let room = (items_room k bytes).1 in
+          let came = ap length brings.come in
+          let counts = did.counting.here o (ap (opened_at new.connections) (sym e) ∙ at) in
+          let whole : length o.calls ≡ length (messages_on (with_bytes k bytes)) = omega (arith, room, came, counts) in
+          whole ∙ ap (λ (x : Connection). length (messages_on x)) same
+
+  now_lines : did.now.lines ≡ r.lines + 1
+  now_lines = (midway_come r brings.run k brings.there bytes items did.skips did.now did.midway).lines
+
+  now_there : connection_of did.now c ≡ Some (with_bytes k bytes)
+  now_there = ap (connection_of did.now) (sym (its_number r c k there)) ∙ did.midway.may.there
+
+  module _ (sound : fault_on k ≡ None) where
+    after : after_line partition_object did.skips r (Arrive c bytes) ≡ did.now
+    after = ended_line r c bytes k there items did.skips did.now sound brings.come did.midway
+
+    its_text : line_text partition_object r (Arrive c bytes) did.now ≡ (ok_text (r.lines + 1) ++ texts_of (new_messages r did.now)) ++ close_text (r.lines + 1) c (fault_on (with_bytes k bytes))
+    its_text = rw (open_does_something r c bytes k there sound, now_there, now_lines) (append-nil ((ok_text (r.lines + 1) ++ texts_of (new_messages r did.now)) ++ close_text (r.lines + 1) c (fault_on (with_bytes k bytes))))
+
+    pub bytes_line : (fault : Option Malformed) (number : ℕ) (written text : List ℕ) → IsSmall r → 2 * length bytes ≤ most_line_bytes → start ≡ written ++ ok_text number → number ≡ r.lines + 1
+        → fault ≡ fault_on (with_bytes k bytes) → text ≡ mid ++ close_text number c fault → HasRun new r (Arrive c bytes) written text
+    bytes_line fault number written text small size began at_line shown is = record {
+      skips = did.skips;
+      of_line = ended_skips r c bytes k there items did.skips did.now sound brings.come did.midway;
+      stands = subst (Stands new) (sym after) (record {
+        run = did.midway.run;
+        small = subst IsSmall after (stays_small did.skips r brings.run (Arrive c bytes) small size);
+        holds = did.holds;
+        settled = all_settled;
+      });
+      added = is ∙ (λ i. whole i ++ close_text (at_line i) c (shown i)) ∙ grouped
+          ∙ ap (λ xs. written ++ xs) (sym (ap (λ (x : Run). line_text partition_object r (Arrive c bytes) x) after ∙ its_text));
+    }
+      where
+        whole : mid ≡ (written ++ ok_text (r.lines + 1)) ++ texts_of (new_messages r did.now)
+        whole = did.added ∙ ap (λ xs. xs ++ texts_of (new_messages r did.now)) (began ∙ ap (λ n. written ++ ok_text n) at_line)
+
+        grouped : ((written ++ ok_text (r.lines + 1)) ++ texts_of (new_messages r did.now)) ++ close_text (r.lines + 1) c (fault_on (with_bytes k bytes))
+            ≡ written ++ ((ok_text (r.lines + 1) ++ texts_of (new_messages r did.now)) ++ close_text (r.lines + 1) c (fault_on (with_bytes k bytes)))
+        grouped =
+            ap (λ xs. xs ++ close_text (r.lines + 1) c (fault_on (with_bytes k bytes))) (append_assoc written (ok_text (r.lines + 1)) (texts_of (new_messages r did.now)))
+            ∙ append_assoc written (ok_text (r.lines + 1) ++ texts_of (new_messages r did.now)) (close_text (r.lines + 1) c (fault_on (with_bytes k bytes)))

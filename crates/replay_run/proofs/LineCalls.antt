@@ -1,0 +1,136 @@
+-- The items of a line of bytes on the grid, one after the other.
+use Rattle.std.proofs.Common.{◌≡◌, ℕ, ◌+◌, ◌<◌, ◌^◌, ◌-◌, List, [], ◌∷◌, ◌++◌, length, get_or, map, take, drop, Option, Some, None, inl, refl, ap, sym, ◌∙◌, subst, append_assoc, arith, length-append}
+use Rattle.std.proofs.lemmas.List.{take-append-drop, drop_more}
+use Rattle.std.specs.Iterator.{Yields}
+use Rattle.std.proofs.lemmas.Iterator.Adapters.{YieldsList-from_vec}
+use Rattle.std.proofs.lemmas.Iterator.Consumers.{YieldsList-so_far, YieldsList-turn, YieldsList-end}
+use Rattle.std.specs.Vec.Iter.{into_iter_items, into_iter_len, into_iter_steps}
+use Rattle.std.specs.declared.vec.IntoIter.{IntoIter}
+use Rattle.partition_protocol.proofs.Lists.{in_right, contains_in}
+use Rattle.grid_base.specs.declared.names.CallId.{CallId}
+use Rattle.grid_base.specs.declared.calls.Request.{Request}
+use Rattle.replay_run.specs.declared.grid.Grid.{Grid}
+use Rattle.replay_run.specs.PartitionObjects.{partition_object, target_of}
+use Rattle.replay_run.specs.Runs.{Run, Connection, Arrival, messages_on, arrival_at, asked, told}
+use Rattle.replay_run.specs.Printing.{partitions, new_messages}
+use Rattle.replay_run.specs.ScriptRuns.{IsNext}
+use Rattle.session_core.specs.Sessions.{CallFits}
+use Rattle.session_core.specs.declared.item.Item.{Item}
+use Rattle.session_core.specs.declared.item.Item.TheVariants.{Call as Asks, Reply}
+use Rattle.replay_run.specs.Grids.{IsCounting, Holds}
+use Rattle.replay_run.specs.WorldCalls.{texts_of, HasAsked, HasTold, HasRoom, Brings, HasHandledSome}
+use Rattle.replay_run.proofs.Lines.{HasCome, asked_come, told_come}
+use Rattle.replay_run.proofs.LineTexts.{new_with, texts_more}
+use Rattle.replay_run.proofs.Midway.{midway_come, midway_events, its_name, next_midway, asked_midway, told_midway}
+use Rattle.replay_run.proofs.Places.{home_below}
+
+map_same : {X : Type 0} (xs : List X) → map (λ (x : X). x) xs ≡ xs
+map_same [] = refl
+map_same (x ∷ xs) = ap (λ ys. x ∷ ys) (map_same xs)
+
+-- a loop over a `Vec` by value
+
+turn_splits : {X : Type 0} (all xs : List X) (x : X) → map (λ (y : X). y) xs ≡ take (length xs) all → length xs < length all → x ≡ get_or all (length xs) x → all ≡ xs ++ x ∷ drop (length xs + 1) all
+turn_splits all xs x so_far within at =
+    sym (take-append-drop (length xs) all)
+    ∙ ap (λ ys. ys ++ drop (length xs) all) (sym so_far ∙ map_same xs)
+    ∙ ap (λ ys. xs ++ ys) (drop_more all (length xs) x within ∙ ap (λ y. y ∷ drop (length xs + 1) all) (sym at))
+
+module _ {X Z : Type 0} (s : IntoIter X Z) (all : List X) (items : into_iter_items s ≡ all) (len : into_iter_len s ≡ length all) (xs : List X) (t : IntoIter X Z) (yielded : Yields into_iter_steps s xs t) (r : Option X) (u : IntoIter X Z) (steps : into_iter_steps t r u) where
+  -- at its next item
+  pub at_next : (x : X) → r ≡ Some x → all ≡ xs ++ x ∷ drop (length xs + 1) all
+  at_next x is =
+      let turn = YieldsList-turn (YieldsList-from_vec {s = s} all items len) xs t yielded r u x is steps in
+      turn_splits all xs x (YieldsList-so_far (YieldsList-from_vec {s = s} all items len) xs t yielded) turn.0 turn.1
+
+  -- which is of this form
+  pub at_next_as : (x y : X) → r ≡ Some x → x ≡ y → all ≡ xs ++ y ∷ drop (length xs + 1) all
+  at_next_as x y is same = at_next x is ∙ ap (λ z. xs ++ z ∷ drop (length xs + 1) all) same
+
+  pub at_end : r ≡ None → xs ≡ all
+  at_end is = sym (map_same xs) ∙ (YieldsList-end (YieldsList-from_vec {s = s} all items len) xs t yielded r u is steps).0
+
+-- One item more: its messages stand behind those of the items before it.
+module _ (grid : Grid) (r : Run) (k : Connection) (bytes : List ℕ) (done : List Item) (item : Item) (rest : List Item) (brings : Brings r k bytes (done ++ item ∷ rest))
+    (written mid : List ℕ) (so_far : HasHandledSome grid r k bytes done written mid) where
+  number_more : (length (messages_on k) + length done) + 1 ≡ length (messages_on k) + length (done ++ item ∷ [])
+  number_more = let parts = length-append done (item ∷ []) in omega (arith, parts)
+
+  text_more : (next : Run) (come : List Arrival) (text : List ℕ) → HasCome so_far.now come next → text ≡ mid ++ texts_of (new_messages so_far.now next) → text ≡ written ++ texts_of (new_messages r next)
+  text_more next come text has is =
+      let before = midway_come r brings.run k brings.there bytes done so_far.skips so_far.now so_far.midway in
+      let grown = sym has.appended.1 in
+      is ∙ ap (λ xs. xs ++ texts_of (new_messages so_far.now next)) so_far.added
+      ∙ append_assoc written (texts_of (new_messages r so_far.now)) (texts_of (new_messages so_far.now next))
+      ∙ ap (λ ms. written ++ (texts_of (new_messages r so_far.now) ++ texts_of ms)) (new_with so_far.now next has.appended.0 grown)
+      ∙ ap (λ xs. written ++ xs) (sym (texts_more r so_far.now next has.appended.0 before.appended grown))
+
+-- an answer of the session itself
+pub told_one_more : (grid : Grid) (r : Run) (k : Connection) (bytes : List ℕ) (done : List Item) (answer : List ℕ) (rest : List Item) → Brings r k bytes (done ++ Reply answer ∷ rest)
+    → (written mid : List ℕ) (so_far : HasHandledSome grid r k bytes done written mid) (new : Grid) (text : List ℕ)
+    → HasTold new so_far.now k.conn (length (messages_on k) + length done) answer mid text → HasHandledSome new r k bytes (done ++ Reply answer ∷ []) written text
+told_one_more grid r k bytes done answer rest brings written mid so_far new text did = record {
+  skips = so_far.skips;
+  now = told so_far.now k.conn answer;
+  midway = told_midway r brings.run k brings.there bytes done answer rest brings.come so_far.skips so_far.now so_far.midway;
+  holds = did.holds;
+  counting = subst (λ n. IsCounting new.connections (told so_far.now k.conn answer) k.conn n) (number_more grid r k bytes done (Reply answer) rest brings written mid so_far) did.counting;
+  added = text_more grid r k bytes done (Reply answer) rest brings written mid so_far (told so_far.now k.conn answer) [] text (told_come so_far.now k.conn answer) did.added;
+}
+
+-- A call may be asked: its parts fit, its partition is there, and there is room for its event.
+pub record MayAskNext (grid : Grid) (q : Request) : Type 0 where
+  pub fits : CallFits q.call
+  pub placed : q.partition < partitions
+  pub run : Run
+  pub holds : Holds grid run
+  pub room : length run.events + 1 < 2 ^ 32 - 1
+
+-- a call
+module _ (grid : Grid) (r : Run) (k : Connection) (bytes : List ℕ) (done : List Item) (q : Request) (rest : List Item) (brings : Brings r k bytes (done ++ Asks q ∷ rest))
+    (written mid : List ℕ) (so_far : HasHandledSome grid r k bytes done written mid) where
+  next_fits : CallFits q.call
+  next_fits = brings.fit q (contains_in (Asks q) (done ++ Asks q ∷ rest) (in_right (Asks q) done (Asks q ∷ rest) (inl refl)))
+
+  pub next_call : IsNext so_far.now q
+  next_call = next_midway r brings.run k brings.there bytes done q rest brings.come so_far.skips so_far.now so_far.midway
+
+  next_placed : q.partition < partitions
+  next_placed = subst (λ n. n < partitions) next_call.placed (home_below (target_of q))
+
+  next_room : HasRoom r k bytes → length so_far.now.events + 1 < 2 ^ 32 - 1
+  next_room room =
+      let events = midway_events r brings.run k brings.there bytes done so_far.skips so_far.now so_far.midway in
+      let items = ap length brings.come in
+      let parts = length-append done (Asks q ∷ rest) in
+      omega (arith, events, items, parts, room)
+
+  -- what the next call wants
+  pub may_ask : HasRoom r k bytes → MayAskNext grid q
+  may_ask room = record { fits = next_fits; placed = next_placed; run = so_far.now; holds = so_far.holds; room = next_room room }
+
+  name : q.id ≡ record { conn = k.conn; number = length (messages_on k) + length done }
+  name = its_name r brings.run k brings.there bytes done q rest brings.come so_far.skips so_far.now so_far.midway
+
+  pub next_count : IsCounting grid.connections so_far.now q.id.conn q.id.number
+  next_count = subst (λ (id : CallId). IsCounting grid.connections so_far.now id.conn id.number) (sym name) so_far.counting
+
+  module _ (new : Grid) (text : List ℕ) (did : HasAsked new so_far.now k.member q mid text) where
+    abbrev now : Run
+    now = asked partition_object did.skips so_far.now (arrival_at so_far.now k.member q)
+
+    count_more : IsCounting new.connections now k.conn (length (messages_on k) + length (done ++ Asks q ∷ []))
+    count_more =
+        subst (λ n. IsCounting new.connections now k.conn n) (number_more grid r k bytes done (Asks q) rest brings written mid so_far)
+        (subst (λ (id : CallId). IsCounting new.connections now id.conn (id.number + 1)) name did.counting)
+
+    pub asked_one_more : HasHandledSome new r k bytes (done ++ Asks q ∷ []) written text
+    asked_one_more = record {
+      skips = did.skips ++ so_far.skips;
+      now = now;
+      midway = asked_midway r brings.run k brings.there bytes done q rest brings.come so_far.skips so_far.now so_far.midway did.skips did.its_own;
+      holds = did.holds;
+      counting = count_more;
+      added = text_more grid r k bytes done (Asks q) rest brings written mid so_far now (arrival_at so_far.now k.member q ∷ []) text
+          (asked_come partition_object did.skips so_far.now (arrival_at so_far.now k.member q)) did.added;
+    }

@@ -1,0 +1,61 @@
+-- What the code reads of a connection, and the items that its bytes bring.
+use Rattle.std.proofs.Common.{◌≡◌, ℕ, true, List, ◌++◌, length, drop, Option, Some, None, refl, ap, sym, ◌∙◌, subst}
+use Rattle.std.specs.Option.{is_some}
+use Rattle.std.proofs.lemmas.List.{drop_at}
+use Rattle.partition_protocol.proofs.Lists.{In, in_contains}
+use Rattle.session_core.specs.Sessions.{SessionState, session_after, StandsFor}
+use Rattle.session_core.specs.declared.item.Item.TheVariants.{Call as Asks}
+use Rattle.session_core.specs.declared.session.FedSession.{FedSession}
+use Rattle.replay_run.specs.declared.grid.Grid.{Grid}
+use Rattle.replay_run.specs.Runs.{Run, Connection, connection_of, fault_on, items_on, items_by, with_bytes}
+use Rattle.replay_run.specs.Tables.{Table, Opened, opened_at, with_session, FeedGives}
+use Rattle.replay_run.specs.Grids.{IsConnection, Stands}
+use Rattle.replay_run.specs.WorldCalls.{Brings}
+use Rattle.replay_run.proofs.Items.{calls_fit}
+use Rattle.replay_run.proofs.Lines.{connection_there}
+use Rattle.replay_run.proofs.TableRuns.{found_opened}
+
+-- a connection that is there
+pub its_opened : {X : Type 0} (o : Option X) → is_some o ≡ true → (x : X) × (o ≡ Some x)
+its_opened None e = absurd cc
+its_opened (Some x) e = (x, refl)
+
+-- a session stands for the bytes of its connection
+stands_at : (session : SessionState) (conn member : ℕ) (text : List ℕ) → session ≡ session_after conn member text → StandsFor session text
+stands_at session conn member text e = e ∙ (λ i. session_after (ap (λ (s : SessionState). s.conn) (sym e) i) (ap (λ (s : SessionState). s.member) (sym e) i) text)
+
+module _ (grid : Grid) (r : Run) (s : Stands grid r) (c : ℕ) (k : Connection) (there : connection_of r c ≡ Some k) where
+  pub slot : (o : Opened) × (opened_at grid.connections c ≡ Some o) × IsConnection o k
+  slot = found_opened grid.connections r s.holds.table c k there
+
+  pub slot_stands : StandsFor slot.0.session k.bytes
+  slot_stands = stands_at slot.0.session k.conn k.member k.bytes slot.2
+
+  conn_is : slot.0.session.conn ≡ k.conn
+  conn_is = ap (λ (x : SessionState). x.conn) slot.2
+
+  member_is : slot.0.session.member ≡ k.member
+  member_is = ap (λ (x : SessionState). x.member) slot.2
+
+  module _ (bytes : List ℕ) where
+    pub fed_session : (t : Table) → t ≡ with_session grid.connections c (session_after slot.0.session.conn slot.0.session.member (k.bytes ++ bytes))
+        → t ≡ with_session grid.connections c (session_after k.conn k.member (k.bytes ++ bytes))
+    fed_session t made = made ∙ (λ i. with_session grid.connections c (session_after (conn_is i) (member_is i) (k.bytes ++ bytes)))
+
+    module _ (fed : FedSession) (gives : FeedGives fed slot.0.session.conn slot.0.session.member k.bytes bytes) where
+      its_gives : FeedGives fed k.conn k.member k.bytes bytes
+      its_gives = subst (λ m. FeedGives fed k.conn m k.bytes bytes) member_is (subst (λ n. FeedGives fed n slot.0.session.member k.bytes bytes) conn_is gives)
+
+      come : items_by k bytes ≡ fed.items.items
+      come = ap (drop (length (items_on k))) (sym its_gives.items) ∙ drop_at (items_on k) fed.items.items (length (items_on k)) refl
+
+      pub they_bring : Brings r k bytes fed.items.items
+      they_bring = record {
+        run = s.run;
+        there = connection_there r c k there;
+        come = come;
+        fit = λ q i. calls_fit k bytes q (subst (λ xs. In (Asks q) xs) (sym come) (in_contains (Asks q) fed.items.items i));
+      }
+
+      pub closed_as : fed.closed ≡ fault_on (with_bytes k bytes)
+      closed_as = gives.closed

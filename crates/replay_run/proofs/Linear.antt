@@ -1,0 +1,216 @@
+-- What is printed for an object fits the run: it is the history of that object, used by one thread.
+use Rattle.std.proofs.Common.{◌≡◌, ◌≢◌, ℕ, ◌≤◌, ◌<◌, true, List, [], map, Option, Some, Contains, refl, ap, sym, ◌∙◌, subst, arith}
+use Rattle.std.specs.Prelude.{unwrap_or, option_map}
+use Rattle.grid_base.specs.Histories.{IsLegal}
+use Rattle.grid_base.specs.MapEntries.{empty_entry}
+use Rattle.grid_base.specs.Names.{ObjectName, is_same}
+use Rattle.grid_base.specs.declared.names.CallId.{CallId}
+use Rattle.grid_base.specs.declared.calls.Request.{Request}
+use Rattle.partition_protocol.specs.History.{Executed}
+use Rattle.partition_protocol.specs.World.{World, trail}
+use Rattle.partition_protocol.specs.Arrivals.{Asked}
+use Rattle.partition_protocol.proofs.Lists.{In, in_contains, contains_in}
+use Rattle.partition_protocol.proofs.Faithful.{part_in}
+use Rattle.partition_world.specs.Answers.{id_of}
+use Rattle.script_lang.specs.declared.line.Line.TheVariants.{Grid, OpenConn, Arrive, Trail, Comment, End}
+use Rattle.replay_run.specs.PartitionObjects.{target_of, map_entry, partition_object}
+use Rattle.replay_run.specs.Runs.{Run, begun, Arrival, Appended, world_at, after_lines}
+use Rattle.replay_run.specs.Printing.{Printed, partitions, entries_of, all_entries, printed_from, arrival_of, is_answer_to, answer_of}
+use Rattle.replay_run.specs.Linearizability.{is_on, history_of, Before, answered_call, IsOf, Fits, IsLinearizable, EveryRunIsLinearizable}
+use Rattle.replay_run.specs.SameNames.{same_name}
+use Rattle.replay_run.proofs.Parts.{before_first, before_second, part_filter, before_part, named_apart, in_filter, in_filtered}
+use Rattle.replay_run.specs.ScriptRuns.{home, grid_begun}
+use Rattle.replay_run.proofs.Places.{home_below, same_number}
+use Rattle.replay_run.proofs.Trails.{executed, asked, executed_name, Prints, printed_in, in_printed, printed_before}
+use Rattle.replay_run.proofs.RunFacts.{RunOk, asked_of, arrival_name, id_name, safe, log_once, origin, origins, arrival_found, IsGivenIn, given_executed, asked_as}
+use Rattle.replay_run.proofs.RunsOfLines.{run_ok}
+use Rattle.replay_run.proofs.Lines.{lines_run}
+use Rattle.replay_run.proofs.Locality.{legal_on, history_elsewhere, history_at}
+use Rattle.replay_run.proofs.Counts.{count_before}
+use Rattle.replay_run.proofs.Answers.{trail_part, answer_named, given_at, printed_answer, answer_stands, answer_found, arrived_before}
+
+pub answered_once : (r : Run) → RunOk partition_object r → (m n : Appended) (id : CallId) → Before r.appended m n → m.answers ≡ Some id → n.answers ≢ Some id
+answered_once r ok m n id before first second =
+    count_before (is_answer_to id) r.appended m n (ok.of_answers.once id) before (answer_named id m first) (answer_named id n second)
+
+module _ (r : Run) (ok : RunOk partition_object r) (p : ℕ) where
+  abbrev pub w : World Request
+  w = world_at partition_object r p
+
+  abbrev pub log : List (Executed Request)
+  log = executed w.recorded.log
+
+  -- the line at which an arrival that was found arrived
+  abbrev pub line_of : Option Arrival → ℕ
+  line_of found = unwrap_or (option_map (λ (a : Arrival). a.line) found) 0
+
+  -- an entry is of the arrival of its call
+  pub is_of_arrival : (a : Arrival) (x : Executed Request) (e : Printed) → In a r.arrivals → asked_of a ≡ asked x → Prints r p x e → IsOf a e
+  is_of_arrival a x e i same prints =
+      let named : id_of x ≡ a.id = ap (λ (k : Asked Request). record { conn = k.conn; number = k.number }) (sym same) in
+      let entry = sym prints.is in
+      record {
+        id = ap (λ (f : Printed). f.id) entry ∙ named;
+        request = ap (λ (f : Printed). f.request) entry ∙ ap (λ (k : Asked Request). k.call) (sym same);
+        now = ap (λ (f : Printed). f.now) entry ∙ ap (λ (k : Asked Request). k.now) (sym same);
+        line = ap (λ (f : Printed). f.arrived) entry ∙ ap (λ c. line_of (arrival_of r c)) named ∙ ap line_of (arrival_found r ok.of_arrivals a i);
+      }
+
+  -- it has the line of that arrival
+  pub line_of_entry : (x : Executed Request) (e : Printed) → In x log → Prints r p x e → (a : Arrival) → In a r.arrivals → arrival_name a ≡ executed_name x → e.arrived ≡ a.line
+  line_of_entry x e i prints a j same = (is_of_arrival a x e j (asked_as partition_object r ok.members ok.of_arrivals a p x j i (sym same)) prints).line
+
+  -- two entries in order
+  pub record InOrder (a b : Printed) : Type 0 where
+    pub first : Executed Request
+    pub second : Executed Request
+    pub before : Before log first second
+    pub prints_first : Prints r p first a
+    pub prints_second : Prints r p second b
+
+  module _ (name : ObjectName) where
+    abbrev pub h : List Printed
+    h = history_of name (printed_from r p 0 (trail w))
+
+    -- the call of an entry
+    pub entry_call : (e : Printed) → In e h → (is_on name e ≡ true) × ((x : Executed Request) × In x log × Prints r p x e)
+    entry_call e i =
+        let f = in_filtered (is_on name) (printed_from r p 0 (trail w)) e i in
+        let k = printed_in r p 0 (trail w) e f.0 in
+        (f.1, (k.0, part_in (executed (trail w)) log k.0 (trail_part partition_object r ok p) k.1, k.2))
+
+    pub entries_in_order : (a b : Printed) → Before h a b → InOrder a b
+    entries_in_order a b before =
+        let k = printed_before r p 0 (trail w) a b (before_part h (printed_from r p 0 (trail w)) a b (part_filter (is_on name) (printed_from r p 0 (trail w))) before) in
+        record {
+          first = k.0;
+          second = k.1.0;
+          before = before_part (executed (trail w)) log k.0 k.1.0 (trail_part partition_object r ok p) k.1.1;
+          prints_first = k.1.2;
+          prints_second = k.1.3;
+        }
+
+    pub legal : IsLegal map_entry empty_entry (map answered_call h)
+    legal =
+        let safe_at = (safe partition_object r ok.members ok.of_arrivals p).0 in
+        legal_on r p 0 name (λ other. empty_entry) empty_entry (trail w) (safe_at.resets ∙ ok.of_answers.resets p) refl safe_at.legal
+
+    pub arrived : (e : Printed) → Contains h e → (is_on name e ≡ true) × ((a : Arrival) × Contains r.arrivals a × IsOf a e)
+    arrived e c =
+        let k = entry_call e (in_contains e h c) in
+        let from = origin partition_object r ok.members ok.of_arrivals p k.1.0 k.1.1 in
+        (k.0, (from.0, contains_in from.0 r.arrivals from.1, is_of_arrival from.0 k.1.0 e from.1 from.3 k.1.2))
+
+    pub unrefused : (e : Printed) (m : Appended) → Contains h e → Contains r.appended m → m.refuses ≢ Some e.id
+    unrefused e m c d refused =
+        let k = entry_call e (in_contains e h c) in
+        ok.of_refusals.unexecuted m e.id (in_contains m r.appended d) refused p k.1.0 k.1.1 (ap (λ (f : Printed). id_name f.id) k.1.2.is)
+
+    pub once : (a b : Printed) → Before h a b → a.id ≢ b.id
+    once a b before same =
+        let k = entries_in_order a b before in
+        named_apart executed_name log k.first k.second (log_once partition_object r ok.members ok.of_arrivals p) k.before
+        (ap id_name (ap (λ (f : Printed). f.id) k.prints_first.is ∙ same ∙ ap (λ (f : Printed). f.id) (sym k.prints_second.is)))
+
+    -- an entry of the call that an answer was given to
+    pub entry_of_answer : (a : Arrival) (m : Appended) (g : IsGivenIn partition_object r p m a.id) (e : Printed) → In a r.arrivals → is_same (target_of a.request) name ≡ true
+        → answer_of r a.id ≡ Some m → In e (printed_from r p 0 (trail w)) → Prints r p g.call e
+        → Contains h e × IsOf a e × (e.reply ≡ m.bytes) × (e.answered ≡ Some m.line)
+    entry_of_answer a m g e i on found j prints =
+        let is = is_of_arrival a g.call e i (asked_as partition_object r ok.members ok.of_arrivals a p g.call i (given_executed m a.id g) (ap id_name g.call_is)) prints in (
+          contains_in e h (in_filter (is_on name) (printed_from r p 0 (trail w)) e j (ap (λ q. is_same (target_of q) name) is.request ∙ on)),
+          is,
+          ap (λ (f : Printed). f.reply) (sym prints.is) ∙ sym g.reply,
+          ap (λ (f : Printed). f.answered) (sym prints.is) ∙ ap (λ c. option_map (λ (n : Appended). n.line) (answer_of r c)) g.call_is ∙ ap (λ n. option_map (λ (n : Appended). n.line) n) found,
+        )
+
+    pub answered_there : (a : Arrival) (m : Appended) (g : IsGivenIn partition_object r p m a.id) → In a r.arrivals → is_same (target_of a.request) name ≡ true → answer_of r a.id ≡ Some m
+        → (e : Printed) × Contains h e × IsOf a e × (e.reply ≡ m.bytes) × (e.answered ≡ Some m.line)
+    answered_there a m g i on found =
+        let k = in_printed r p 0 (trail w) g.call (answer_stands partition_object r ok p m a.id g) in
+        let e = entry_of_answer a m g k.0 i on found k.1 k.2 in
+        (k.0, e.0, e.1, e.2, e.3)
+
+    pub answered : home name ≡ p → (a : Arrival) (m : Appended) → Contains r.arrivals a → is_same (target_of a.request) name ≡ true → Contains r.appended m → m.answers ≡ Some a.id
+        → (e : Printed) × Contains h e × IsOf a e × (e.reply ≡ m.bytes) × (e.answered ≡ Some m.line)
+    answered at a m c on d s =
+        let i = in_contains a r.arrivals c in
+        let j = in_contains m r.appended d in
+        let there : a.request.partition ≡ p = sym (ok.of_arrivals.placed a i) ∙ ap home (same_name (target_of a.request) name on) ∙ at in
+        answered_there a m (subst (λ k. IsGivenIn partition_object r k m a.id) there (given_at partition_object r ok a m i j s)) i on (answer_found partition_object r ok m a.id j s)
+
+    pub given : (e : Printed) (line : ℕ) → Contains h e → e.answered ≡ Some line → (m : Appended) × Contains r.appended m × (m.answers ≡ Some e.id) × (m.line ≡ line) × (m.bytes ≡ e.reply)
+    given e line c s =
+        let k = entry_call e (in_contains e h c) in
+        let prints = k.1.2 in
+        let found = printed_answer partition_object r ok p k.1.0 line k.1.1 (ap (λ (f : Printed). f.answered) prints.is ∙ s) in (
+          found.message,
+          contains_in found.message r.appended found.there,
+          found.answers ∙ ap (λ (f : Printed). Some f.id) prints.is,
+          found.at_line,
+          found.given.reply ∙ ap (λ (x : Executed Request). x.reply) found.is ∙ ap (λ (f : Printed). f.reply) prints.is,
+        )
+
+    pub ordered : (a b : Printed) (line : ℕ) → Before h a b → b.answered ≡ Some line → a.arrived ≤ line
+    ordered a b line before s =
+        let k = entries_in_order a b before in
+        let found = printed_answer partition_object r ok p k.second line (before_second log k.first k.second k.before) (ap (λ (f : Printed). f.answered) k.prints_second.is ∙ s) in
+        let by_then = arrived_before partition_object r ok p k.first k.second found.message (id_of k.second) found.given found.is k.before in
+        let at = line_of_entry k.first a (before_first log k.first k.second k.before) k.prints_first by_then.0 by_then.1 by_then.2 in
+        omega (arith, at, by_then.3, found.at_line)
+
+    pub same_line : (a b : Printed) → Before h a b → a.arrived ≡ b.arrived → a.id.number < b.id.number
+    same_line a b before s =
+        let k = entries_in_order a b before in
+        let from = origins partition_object r ok.members ok.of_arrivals p k.first k.second k.before in
+        let first = is_of_arrival from.0 k.first a (before_first r.arrivals from.0 from.1.0 from.1.1) from.1.2 k.prints_first in
+        let second = is_of_arrival from.1.0 k.second b (before_second r.arrivals from.0 from.1.0 from.1.1) from.1.3 k.prints_second in
+        let one_line : from.0.line ≡ from.1.0.line = sym first.line ∙ s ∙ second.line in
+        let one_conn = ok.of_arrivals.of_line from.0 from.1.0 (before_first r.arrivals from.0 from.1.0 from.1.1) (before_second r.arrivals from.0 from.1.0 from.1.1) one_line in
+        let apart = ok.of_arrivals.rising from.0 from.1.0 from.1.1 one_conn in
+        let left = ap (λ (c : CallId). c.number) first.id in
+        let right = ap (λ (c : CallId). c.number) second.id in
+        omega (arith, apart, left, right)
+
+    pub fits : home name ≡ p → Fits map_entry name r h
+    fits at = record {
+      legal = legal;
+      arrived = arrived;
+      unrefused = unrefused;
+      once = once;
+      answered = answered at;
+      answered_once = answered_once r ok;
+      given = given;
+      ordered = ordered;
+      same_line = same_line;
+    }
+
+-- each call of a partition's trail is on an object of the partition
+pub trail_at_home : (r : Run) → RunOk partition_object r → (p : ℕ) (x : Executed Request) → In x (executed (trail (world_at partition_object r p))) → home (target_of x.call) ≡ p
+trail_at_home r ok p x i =
+    let from = origin partition_object r ok.members ok.of_arrivals p x (part_in (executed (trail (world_at partition_object r p))) (log r ok p) x (trail_part partition_object r ok p) i) in
+    ap (λ (k : Asked Request). home (target_of k.call)) (sym from.3) ∙ ok.of_arrivals.placed from.0 from.1 ∙ same_number from.0.request.partition p from.2
+
+-- the entries of all partitions on an object
+pub all_fit : (r : Run) → RunOk partition_object r → (name : ObjectName) → Fits map_entry name r (history_of name (all_entries partition_object r))
+all_fit r ok name =
+    subst (λ es. Fits map_entry name r es)
+    (sym (history_at name (entries_of partition_object r) (home name) elsewhere partitions (home_below name)))
+    (fits r ok (home name) name refl)
+  where
+    elsewhere : (q : ℕ) → home name ≢ q → history_of name (entries_of partition_object r q) ≡ []
+    elsewhere q other = history_elsewhere r q 0 name (trail (world_at partition_object r q)) (trail_at_home r ok q) other
+
+-- so one thread that used one map entry could have seen each history that a line prints
+pub linear : (r : Run) → RunOk partition_object r → IsLinearizable r
+linear r ok (Trail p) name shown = fits r ok p name (same_number (home name) p shown)
+linear r ok End name shown = all_fit r ok name
+linear r ok (Grid members backups capacity) name shown = absurd cc
+linear r ok (OpenConn c member) name shown = absurd cc
+linear r ok (Arrive c bytes) name shown = absurd cc
+linear r ok Comment name shown = absurd cc
+
+pub every_run_is_linearizable : EveryRunIsLinearizable
+every_run_is_linearizable members backups skips lines grid =
+    linear (after_lines partition_object skips (begun members backups) lines)
+    (run_ok (lines_run skips (begun members backups) lines (grid_begun members backups grid)))

@@ -1,0 +1,214 @@
+-- Each line of a script makes a run of a run, and so does a list of lines.
+use Rattle.std.proofs.Common.{◌≡◌, ℕ, ◌+◌, ◌≤◌, ◌<◌, Bool, true, false, cond, List, [], ◌∷◌, ◌++◌, length, Option, Some, None, Contains, pos, refl, ap, sym, ◌∙◌, subst, ⊎_elim, inl, inr, ◌⊎◌, arith, length-append, append_assoc, append-nil}
+use Rattle.std.specs.List.{find, filter_map}
+use Rattle.std.specs.Option.{is_some}
+use Rattle.grid_base.specs.Errors.{want_of_memory}
+use Rattle.grid_base.specs.Objects.{Object}
+use Rattle.grid_base.specs.declared.names.CallId.{CallId}
+use Rattle.grid_base.specs.declared.calls.Request.{Request}
+use Rattle.partition_protocol.specs.Sequences.{IsFrontOf}
+use Rattle.partition_protocol.proofs.Lists.{In, in_cases, in_contains, contains_in}
+use Rattle.partition_protocol.proofs.Extends.{front_trans, same}
+use Rattle.session_core.specs.declared.item.Item.{Item}
+use Rattle.session_core.specs.declared.item.Item.TheVariants.{Call as Asks, Reply}
+use Rattle.script_lang.specs.declared.line.Line.{Line}
+use Rattle.script_lang.specs.declared.line.Line.TheVariants.{Grid, OpenConn, Arrive, Trail, Comment, End}
+use Rattle.replay_run.specs.PartitionObjects.{partition_object}
+use Rattle.replay_run.specs.Runs.{Run, Connection, Arrival, At, Appended, is_connection, connection_of, fault_on, messages_on, with_bytes, took_bytes, items_by, own_answer, told, refusal, arrival_at, happening, arrived, is_skipped, asked, handled_all, opened, next_line, bytes_arrived, after_line, after_lines}
+use Rattle.replay_run.specs.ScriptRuns.{IsPlaced, MayAsk, IsNext, IsRun, line_counted, connection_opened, bytes_taken, answer_told, call_asked}
+use Rattle.replay_run.specs.WorldCalls.{arrival_to}
+use Rattle.replay_run.proofs.Items.{AreNumbered, numbered_front, items_room}
+use Rattle.replay_run.proofs.Places.{same_number}
+use Rattle.replay_run.proofs.Trails.{find_some}
+use Rattle.replay_run.proofs.RunFacts.{RunOk}
+use Rattle.replay_run.proofs.Arriving.{same_test, in_place, updated_found, its_event}
+use Rattle.replay_run.proofs.RunsOfLines.{run_ok}
+
+-- a connection that is found has the number that was looked for
+pub connection_there : (r : Run) (c : ℕ) (k : Connection) → connection_of r c ≡ Some k → connection_of r k.conn ≡ Some k
+connection_there r c k there = ap (connection_of r) (same_number k.conn c (find_some (is_connection c) r.connections k there).1) ∙ there
+
+-- items
+
+-- what items leave of a run, and that their calls are arrivals more
+pub record HasCome (r : Run) (come : List Arrival) (next : Run) : Type 0 where
+  pub members : next.members ≡ r.members
+  pub backups : next.backups ≡ r.backups
+  pub lines : next.lines ≡ r.lines
+  pub connections : next.connections ≡ r.connections
+  pub arrivals : next.arrivals ≡ r.arrivals ++ come
+  pub appended : IsFrontOf r.appended next.appended
+
+pub come_both : (r mid next : Run) (first then : List Arrival) → HasCome r first mid → HasCome mid then next → HasCome r (first ++ then) next
+come_both r mid next first then a b = record {
+  members = b.members ∙ a.members;
+  backups = b.backups ∙ a.backups;
+  lines = b.lines ∙ a.lines;
+  connections = b.connections ∙ a.connections;
+  arrivals = b.arrivals ∙ ap (λ xs. xs ++ then) a.arrivals ∙ append_assoc r.arrivals first then;
+  appended = front_trans r.appended mid.appended next.appended a.appended b.appended;
+}
+
+pub asked_come : {State : Type 0} (o : Object Request State) (skips : List CallId) (r : Run) (a : Arrival) → HasCome r (a ∷ []) (asked o skips r a)
+asked_come o skips r a = go (is_skipped skips a.id)
+  where
+    is : (events : List At) (appended : List Appended) → HasCome r (a ∷ []) (arrived r a events appended)
+    is events appended = record { members = refl; backups = refl; lines = refl; connections = refl; arrivals = refl; appended = (appended, refl) }
+
+    go : (b : Bool) → HasCome r (a ∷ []) (cond b (arrived r a [] (refusal a.line a.request (pos want_of_memory) 0 ∷ [])) (arrived r a (its_event a ∷ []) (happening o r a)))
+    go true = is [] (refusal a.line a.request (pos want_of_memory) 0 ∷ [])
+    go false = is (its_event a ∷ []) (happening o r a)
+
+pub told_come : (r : Run) (c : ℕ) (bytes : List ℕ) → HasCome r [] (told r c bytes)
+told_come r c bytes = record { members = refl; backups = refl; lines = refl; connections = refl; arrivals = sym (append-nil r.arrivals); appended = (own_answer r.lines c bytes ∷ [], refl) }
+
+-- the arrival of an item that reaches a member at a line, if it is a call
+abbrev pub arriving : ℕ → ℕ → Item → Option Arrival
+arriving line member (Asks request) = Some (arrival_to line member request)
+arriving line member (Reply bytes) = None
+
+abbrev pub all_arriving : ℕ → ℕ → List Item → List Arrival
+all_arriving line member items = filter_map (arriving line member) items
+
+pub handled_all_come : {State : Type 0} (o : Object Request State) (skips : List CallId) (r : Run) (k : Connection) (items : List Item)
+    → HasCome r (all_arriving r.lines k.member items) (handled_all o skips r k items)
+handled_all_come o skips r k [] = record { members = refl; backups = refl; lines = refl; connections = refl; arrivals = sym (append-nil r.arrivals); appended = same r.appended }
+handled_all_come o skips r k (Reply bytes ∷ items) =
+    let mid = told r k.conn bytes in
+    come_both r mid (handled_all o skips mid k items) [] (all_arriving r.lines k.member items) (told_come r k.conn bytes) (handled_all_come o skips mid k items)
+handled_all_come o skips r k (Asks request ∷ items) =
+    let a = arrival_at r k.member request in
+    let one = asked_come o skips r a in
+    let mid = asked o skips r a in
+    let more = handled_all_come o skips mid k items in
+    come_both r mid (handled_all o skips mid k items) (a ∷ []) (all_arriving r.lines k.member items) one
+    (subst (λ line. HasCome mid (all_arriving line k.member items) (handled_all o skips mid k items)) one.lines more)
+
+-- after a call the next message's may be asked
+pub may_ask_more : {State : Type 0} (o : Object Request State) (skips : List CallId) (r : Run) (k : Connection) (number member : ℕ) (request : Request)
+    → MayAsk r k number → request.id ≡ record { conn = k.conn; number = number } → MayAsk (asked o skips r (arrival_at r member request)) k (number + 1)
+may_ask_more o skips r k number member request may named = record {
+  there = ap (λ ks. find (is_connection k.conn) ks) come.connections ∙ may.there;
+  after = λ b c s. ⊎_elim (λ i. let l = may.after b (contains_in b r.arrivals i) s in omega (arith, l)) (last_number b) (earlier b c);
+  of_line = λ b c s. ⊎_elim (λ i. may.of_line b (contains_in b r.arrivals i) (s ∙ come.lines)) (last_conn b) (earlier b c);
+}
+  where
+    a : Arrival
+    a = arrival_at r member request
+
+    come : HasCome r (a ∷ []) (asked o skips r a)
+    come = asked_come o skips r a
+
+    earlier : (b : Arrival) → Contains (asked o skips r a).arrivals b → In b r.arrivals ⊎ In b (a ∷ [])
+    earlier b c = in_cases b r.arrivals (a ∷ []) (subst (λ xs. In b xs) come.arrivals (in_contains b (asked o skips r a).arrivals c))
+
+    last_number : (b : Arrival) → In b (a ∷ []) → b.id.number < number + 1
+    last_number b (inl e) = let n = ap (λ (c : Arrival). c.id.number) (sym e) ∙ ap (λ (c : CallId). c.number) named in omega (arith, n)
+    last_number b (inr i) = absurd i
+
+    last_conn : (b : Arrival) → In b (a ∷ []) → b.id.conn ≡ k.conn
+    last_conn b (inl e) = ap (λ (c : Arrival). c.id.conn) (sym e) ∙ ap (λ (c : CallId). c.conn) named
+    last_conn b (inr i) = absurd i
+
+-- and so after a message that its session answered itself
+pub may_ask_after : (r : Run) (k : Connection) (number c : ℕ) (bytes : List ℕ) → MayAsk r k number → MayAsk (told r c bytes) k (number + 1)
+may_ask_after r k number c bytes may = record {
+  there = may.there;
+  after = λ a i s. let l = may.after a i s in omega (arith, l);
+  of_line = may.of_line;
+}
+
+pub is_next : (r : Run) (k : Connection) (number : ℕ) (request : Request) → MayAsk r k number → number < length (messages_on k)
+    → request.id ≡ record { conn = k.conn; number = number } → IsPlaced request → IsNext r request
+is_next r k number request may complete named placed = record {
+  connection = k;
+  on = ap (λ (c : CallId). c.conn) named;
+  complete = subst (λ n. n < length (messages_on k)) (ap (λ (c : CallId). c.number) (sym named)) complete;
+  may = subst (λ n. MayAsk r k n) (ap (λ (c : CallId). c.number) (sym named)) may;
+  placed = placed;
+}
+
+-- All items of the messages that are complete may be handled one after the other.
+pub handled_all_run : (skips : List CallId) (r : Run) (k : Connection) (bytes : List ℕ) (number : ℕ) (items : List Item) → IsRun r → MayAsk r (with_bytes k bytes) number → AreNumbered k.conn number items
+    → number + length items ≤ length (messages_on (with_bytes k bytes)) → IsRun (handled_all partition_object skips r k items)
+handled_all_run skips r k bytes number [] is may numbered room = is
+handled_all_run skips r k bytes number (Reply answer ∷ items) is may numbered room =
+    handled_all_run skips (told r k.conn answer) k bytes (number + 1) items
+    (answer_told r k.conn answer is)
+    (may_ask_after r (with_bytes k bytes) number k.conn answer may)
+    numbered.1 (omega (arith, room))
+handled_all_run skips r k bytes number (Asks request ∷ items) is may numbered room =
+    let next = is_next r (with_bytes k bytes) number request may (omega (arith, room)) numbered.0.0 numbered.0.1 in
+    handled_all_run skips (asked partition_object skips r (arrival_at r k.member request)) k bytes (number + 1) items
+    (call_asked skips r k.member request is next)
+    (may_ask_more partition_object skips r (with_bytes k bytes) number k.member request may numbered.0.0)
+    numbered.1 (omega (arith, room))
+
+-- bytes
+
+-- what the bytes of a line lead to: its connection has them, and its calls may be asked
+pub record HasTaken (r : Run) (k : Connection) (bytes : List ℕ) : Type 0 where
+  pub run : IsRun (took_bytes r k bytes)
+  pub may : MayAsk (took_bytes r k bytes) (with_bytes k bytes) (length (messages_on k))
+
+pub has_taken : (r : Run) (k : Connection) (bytes : List ℕ) → IsRun r → connection_of r k.conn ≡ Some k → HasTaken r k bytes
+has_taken r k bytes is there = record {
+  run = bytes_taken r k bytes is there;
+  may = record {
+    there = updated_found (with_bytes k bytes) r.connections k.conn k there ∙ ap Some itself;
+    after = λ a c s. counted a (ok.of_arrivals.counted a (in_contains a r.arrivals c)) s;
+    of_line = λ a c s. let l = ok.of_arrivals.by_now a (in_contains a r.arrivals c) in absurd (omega (arith, l, s));
+  };
+}
+  where
+    ok : RunOk partition_object r
+    ok = run_ok is
+
+    itself : in_place (with_bytes k bytes) k ≡ with_bytes k bytes
+    itself = rw (same_test k.conn k.conn refl) refl
+
+    counted : (a : Arrival) → (j : Connection) × (connection_of r a.id.conn ≡ Some j) × (a.id.number < length (messages_on j)) → a.id.conn ≡ k.conn → a.id.number < length (messages_on k)
+    counted a (j, found, below) s =
+        let both : Some j ≡ Some k = sym found ∙ ap (connection_of r) s ∙ there in
+        let one : j ≡ k = cc in
+        subst (λ (x : Connection). a.id.number < length (messages_on x)) one below
+
+-- a front of the line's items
+pub part_run : (skips : List CallId) (r : Run) (k : Connection) (bytes : List ℕ) (items more : List Item) → IsRun r → connection_of r k.conn ≡ Some k → items_by k bytes ≡ items ++ more
+    → IsRun (handled_all partition_object skips (took_bytes r k bytes) k items)
+part_run skips r k bytes items more is there e =
+    let taken = has_taken r k bytes is there in
+    let room = items_room k bytes in
+    let all = ap length e ∙ length-append items more in
+    handled_all_run skips (took_bytes r k bytes) k bytes (length (messages_on k)) items taken.run taken.may
+    (numbered_front k.conn (length (messages_on k)) items more (subst (AreNumbered k.conn (length (messages_on k))) e room.0)) (omega (arith, room.1, all))
+
+-- lines
+
+module _ (skips : List CallId) (r : Run) (is : IsRun r) where
+  arrived_run : (k : Connection) (bytes : List ℕ) → connection_of r k.conn ≡ Some k → IsRun (bytes_arrived partition_object skips r k bytes)
+  arrived_run k bytes there = go (is_some (fault_on k))
+    where
+      go : (closed : Bool) → IsRun (cond closed (next_line r) (handled_all partition_object skips (took_bytes r k bytes) k (items_by k bytes)))
+      go true = line_counted r is
+      go false = part_run skips r k bytes (items_by k bytes) [] is there (sym (append-nil (items_by k bytes)))
+
+  bytes_run : (c : ℕ) (bytes : List ℕ) (found : Option Connection) → connection_of r c ≡ found → IsRun (elim found [ None ↦ next_line r | Some k ↦ bytes_arrived partition_object skips r k bytes ])
+  bytes_run c bytes None there = line_counted r is
+  bytes_run c bytes (Some k) there = arrived_run k bytes (connection_there r c k there)
+
+  opened_run : (c member : ℕ) (found : Option Connection) → connection_of r c ≡ found → IsRun (cond (is_some found) (next_line r) (opened r c member))
+  opened_run c member (Some k) there = line_counted r is
+  opened_run c member None there = connection_opened r c member is there
+
+  pub line_run : (line : Line) → IsRun (after_line partition_object skips r line)
+  line_run (Grid members backups capacity) = line_counted r is
+  line_run (OpenConn c member) = opened_run c member (connection_of r c) refl
+  line_run (Arrive c bytes) = bytes_run c bytes (connection_of r c) refl
+  line_run (Trail partition) = line_counted r is
+  line_run Comment = line_counted r is
+  line_run End = line_counted r is
+
+pub lines_run : (skips : List CallId) (r : Run) (lines : List Line) → IsRun r → IsRun (after_lines partition_object skips r lines)
+lines_run skips r [] is = is
+lines_run skips r (line ∷ lines) is = lines_run skips (after_line partition_object skips r line) lines (line_run skips r is line)

@@ -1,0 +1,168 @@
+-- A call that was refused is executed in no partition, then or later.
+use Rattle.std.proofs.Common.{pos, ◌≡◌, ◌≢◌, ℕ, true, List, [], ◌∷◌, ◌++◌, map, Option, Some, None, slice_get, refl, ap, sym, ◌∙◌, subst, ◌⊎◌, ⊎_elim, inl, inr, append-nil}
+use Rattle.grid_base.specs.Objects.{Object}
+use Rattle.grid_base.specs.declared.names.CallId.{CallId}
+use Rattle.grid_base.specs.declared.calls.Request.{Request}
+use Rattle.partition_table.specs.Rows.{is_empty}
+use Rattle.partition_protocol.specs.Node.{Node, settled}
+use Rattle.partition_protocol.specs.History.{Executed, Entry, Called}
+use Rattle.partition_protocol.specs.Execution.{Reached, Executes, PartitionLost, WrongTarget, Migrating, reached, executing}
+use Rattle.partition_protocol.specs.World.{World, start, is_live, map_or, pair_state}
+use Rattle.partition_protocol.specs.Events.{Happened, entry_of, Outcome, HeldAt, ReleasedAt, nothing, if_executes, calling, executes, happens, run}
+use Rattle.partition_protocol.specs.Arrivals.{name}
+use Rattle.partition_protocol.proofs.Lists.{In, in_left, in_right, in_cases, cases, on_if}
+use Rattle.replay_run.specs.Runs.{Run, Arrival, Appended, At, world_at, events_at, arrival_at, answer_to, refusal, refused_by, released_by, call_of, happening, arrived}
+use Rattle.grid_base.specs.Errors.{want_of_memory}
+use Rattle.replay_run.proofs.Parts.{in_mapped}
+use Rattle.replay_run.specs.ScriptRuns.{IsNext}
+use Rattle.replay_run.proofs.Places.{same_number}
+use Rattle.replay_run.proofs.Trails.{executed, executed-append, executed_name}
+use Rattle.replay_run.proofs.RunFacts.{id_name, arrival_name, is_of, RefusalsOk, RunOk, origin}
+use Rattle.replay_run.proofs.Arriving.{its_event, fresh}
+use Rattle.replay_run.proofs.Answering.{refused_with, skipped, next, world_here, world_elsewhere}
+
+-- a refusal names the call that it refuses
+pub refusals_name_the_call : (line : ℕ) (request : Request) (outcome : Outcome) (m : Appended) → In m (refused_by line request outcome) → m.refuses ≡ Some request.id
+refusals_name_the_call line request outcome m i = ap (λ (n : Appended). n.refuses) (sym (refused_with line request outcome m i).2)
+
+-- a call that is logged, which isn't refused
+pub record IsLogged (a : Arrival) (log : List (Entry Request)) (h : Happened Request) : Type 0 where
+  pub call : Executed Request
+  pub named : executed_name call ≡ arrival_name a
+  pub is_last : h.world.recorded.log ≡ log ++ Called call ∷ []
+  pub unrefused : refused_by a.line a.request h.outcome ≡ []
+
+-- a call leaves the log, or is logged
+pub call_log : {State : Type 0} (o : Object Request State) (w : World Request) (a : Arrival)
+    → let h = happens o w (call_of a) in (h.world.recorded.log ≡ w.recorded.log) ⊎ IsLogged a w.recorded.log h
+call_log o w a =
+    on_if Leaves (is_live w a.member) (map_or (slice_get w.nodes a.member) (nothing w) (calling o w a.member a.id.conn a.id.number a.request a.now)) (nothing w)
+    (at (slice_get w.nodes a.member)) (inl refl)
+  where
+    Leaves : Happened Request → Type 0
+    Leaves h = (h.world.recorded.log ≡ w.recorded.log) ⊎ IsLogged a w.recorded.log h
+
+    by : (node : Node) (why : Reached) → let h = if_executes w why (executes o w a.member a.id.conn a.id.number a.request a.now node) in
+        (h.world.recorded.log ≡ w.recorded.log) ⊎ IsLogged a w.recorded.log h
+    by node Executes =
+        let s = pair_state o w node.pair in
+        let after = executing (o.changes s a.request a.now) a.id.conn a.id.number node in
+        inr (record {
+          call = entry_of o s a.id.conn a.id.number a.request a.now after.pair;
+          named = refl;
+          is_last = refl;
+          unrefused = on_if (λ (out : Outcome). refused_by a.line a.request out ≡ []) (is_empty (settled after).held) (ReleasedAt after.pair.count) (HeldAt after.pair.count) refl refl;
+        })
+    by node (PartitionLost version) = inl refl
+    by node (WrongTarget version) = inl refl
+    by node (Migrating version) = inl refl
+
+    at : (node : Option Node) → let h = map_or node (nothing w) (calling o w a.member a.id.conn a.id.number a.request a.now) in
+        (h.world.recorded.log ≡ w.recorded.log) ⊎ IsLogged a w.recorded.log h
+    at None = inl refl
+    at (Some node) = by node (reached a.member node)
+
+module _ {State : Type 0} (o : Object Request State) (r : Run) (ok : RunOk o r) (member : ℕ) (request : Request) (is_next : IsNext r request) where
+  abbrev a : Arrival
+  a = arrival_at r member request
+
+  -- a call that is new was executed nowhere
+  not_yet : (p : ℕ) (x : Executed Request) → In x (executed (world_at o r p).recorded.log) → executed_name x ≢ arrival_name a
+  not_yet p x i e =
+      let from = origin o r ok.members ok.of_arrivals p x i in
+      fresh r ok.of_arrivals member request is_next from.0 from.1 (ap name from.3 ∙ e)
+
+  -- Where nothing is executed but the new call, and that only if it isn't refused, what was refused stays so.
+  refused_more : (events : List At) (appended : List Appended)
+      → ((p : ℕ) (x : Executed Request) → In x (executed (world_at o (arrived r a events appended) p).recorded.log) → In x (executed (world_at o r p).recorded.log) ⊎ (executed_name x ≡ arrival_name a))
+      → ((m : Appended) (id : CallId) → In m appended → m.refuses ≡ Some id
+      → (id ≡ a.id) × ((p : ℕ) (x : Executed Request) → In x (executed (world_at o (arrived r a events appended) p).recorded.log) → executed_name x ≢ arrival_name a))
+      → RefusalsOk o (arrived r a events appended)
+  refused_more events appended only new = record {
+    arrived = λ m id i e. ⊎_elim (earlier m id e) (λ j. (a, in_right a r.arrivals (a ∷ []) (inl refl), sym (new m id j e).0)) (in_cases m r.appended appended i);
+    unexecuted = λ m id i e p x j. ⊎_elim (λ l. still m id l e p x (only p x j)) (λ l s. (new m id l e).1 p x j (s ∙ ap id_name (new m id l e).0)) (in_cases m r.appended appended i);
+  }
+    where
+      earlier : (m : Appended) (id : CallId) → m.refuses ≡ Some id → In m r.appended → (b : Arrival) × In b (r.arrivals ++ a ∷ []) × (b.id ≡ id)
+      earlier m id e i = let from = ok.of_refusals.arrived m id i e in (from.0, in_left from.0 r.arrivals (a ∷ []) from.1, from.2)
+
+      still : (m : Appended) (id : CallId) → In m r.appended → m.refuses ≡ Some id → (p : ℕ) (x : Executed Request)
+          → In x (executed (world_at o r p).recorded.log) ⊎ (executed_name x ≡ arrival_name a) → executed_name x ≢ id_name id
+      still m id i e p x (inl j) = ok.of_refusals.unexecuted m id i e p x j
+      still m id i e p x (inr s) =
+          let from = ok.of_refusals.arrived m id i e in
+          λ t. fresh r ok.of_arrivals member request is_next from.0 from.1 (ap id_name from.2 ∙ sym t ∙ s)
+
+  -- the call found no memory
+  pub skipped_refusals : RefusalsOk o (skipped o r ok a)
+  skipped_refusals = refused_more [] (refusal a.line request (pos want_of_memory) 0 ∷ []) (λ p x i. inl (as_before p x i)) refused
+    where
+      as_before : (p : ℕ) (x : Executed Request) → In x (executed (world_at o (skipped o r ok a) p).recorded.log) → In x (executed (world_at o r p).recorded.log)
+      as_before p x i = subst (λ es. In x (executed (run o (start p r.members r.backups) (events_at p es)).recorded.log)) (append-nil r.events) i
+
+      refused : (m : Appended) (id : CallId) → In m (refusal a.line request (pos want_of_memory) 0 ∷ []) → m.refuses ≡ Some id
+          → (id ≡ a.id) × ((p : ℕ) (x : Executed Request) → In x (executed (world_at o (skipped o r ok a) p).recorded.log) → executed_name x ≢ arrival_name a)
+      refused m id (inl s) e =
+          let whose : Some request.id ≡ Some id = ap (λ (n : Appended). n.refuses) s ∙ e in
+          let its : id ≡ request.id = cc in
+          (its, λ p x i. not_yet p x (as_before p x i))
+      refused m id (inr i) e = absurd i
+
+  -- the call has its event
+
+  abbrev p : ℕ
+  p = request.partition
+
+  abbrev after : Run
+  after = next o r ok a
+
+  executed_in : ℕ → List (Executed Request)
+  executed_in q = executed (world_at o after q).recorded.log
+
+  -- what it executes
+  executed_now : (x : Executed Request) → In x (executed (happens o (world_at o r p) (call_of a)).world.recorded.log)
+      → In x (executed (world_at o r p).recorded.log) ⊎ ((executed_name x ≡ arrival_name a) × (refused_by a.line request (happens o (world_at o r p) (call_of a)).outcome ≡ []))
+  executed_now x i = ⊎_elim (λ e. inl (subst (λ es. In x (executed es)) e i)) logged (call_log o (world_at o r p) a)
+    where
+      logged : IsLogged a (world_at o r p).recorded.log (happens o (world_at o r p) (call_of a))
+          → In x (executed (world_at o r p).recorded.log) ⊎ ((executed_name x ≡ arrival_name a) × (refused_by a.line request (happens o (world_at o r p) (call_of a)).outcome ≡ []))
+      logged l =
+          ⊎_elim (λ j. inl j) (λ j. inr (last j, l.unrefused))
+          (in_cases x (executed (world_at o r p).recorded.log) (l.call ∷ [])
+          (subst (λ xs. In x xs) (ap executed l.is_last ∙ executed-append (world_at o r p).recorded.log (Called l.call ∷ [])) i))
+        where
+          last : In x (l.call ∷ []) → executed_name x ≡ arrival_name a
+          last (inl e) = ap executed_name (sym e) ∙ l.named
+          last (inr j) = absurd j
+
+  executed_after : (q : ℕ) (x : Executed Request) → In x (executed (world_at o after q).recorded.log)
+      → In x (executed (world_at o r q).recorded.log) ⊎ ((executed_name x ≡ arrival_name a) × (refused_by a.line request (happens o (world_at o r p) (call_of a)).outcome ≡ []))
+  executed_after q x i = ⊎_elim here (λ e. inl (subst (λ (w : World Request). In x (executed w.recorded.log)) (world_elsewhere o r ok a q e) i)) (cases (is_of q a))
+    where
+      here : is_of q a ≡ true → In x (executed (world_at o r q).recorded.log) ⊎ ((executed_name x ≡ arrival_name a) × (refused_by a.line request (happens o (world_at o r p) (call_of a)).outcome ≡ []))
+      here e =
+          let same : p ≡ q = same_number request.partition q e in
+          let now = subst (λ v. In x (executed (world_at o after v).recorded.log)) (sym same) i in
+          subst (λ v. In x (executed (world_at o r v).recorded.log) ⊎ ((executed_name x ≡ arrival_name a) × (refused_by a.line request (happens o (world_at o r p) (call_of a)).outcome ≡ []))) same
+          (executed_now x (subst (λ (w : World Request). In x (executed w.recorded.log)) (world_here o r ok a) now))
+
+  pub refusals_after : RefusalsOk o (next o r ok a)
+  refusals_after = refused_more (its_event a ∷ []) (happening o r a) (λ q x i. ⊎_elim (λ j. inl j) (λ j. inr j.0) (executed_after q x i)) refused
+    where
+      given : (m : Appended) (id : CallId) → In m (map (answer_to a.line) (released_by (world_at o r p) (happens o (world_at o r p) (call_of a)).world)) → m.refuses ≡ Some id → ⊥
+      given m id i e =
+          let made = in_mapped (answer_to a.line) (released_by (world_at o r p) (happens o (world_at o r p) (call_of a)).world) m i in
+          let clash : None ≡ Some id = ap (λ (n : Appended). n.refuses) made.2 ∙ e in cc
+
+      refused_here : (m : Appended) (id : CallId) → m.refuses ≡ Some id → In m (refused_by a.line request (happens o (world_at o r p) (call_of a)).outcome)
+          → (id ≡ a.id) × ((q : ℕ) (x : Executed Request) → In x (executed (world_at o after q).recorded.log) → executed_name x ≢ arrival_name a)
+      refused_here m id e i =
+          let whose : Some request.id ≡ Some id = sym (refusals_name_the_call a.line request (happens o (world_at o r p) (call_of a)).outcome m i) ∙ e in
+          let its : id ≡ request.id = cc in
+          (its, λ q x j. ⊎_elim (not_yet q x) (λ l. absurd (subst (λ ms. In m ms) l.1 i)) (executed_after q x j))
+
+      refused : (m : Appended) (id : CallId) → In m (happening o r a) → m.refuses ≡ Some id
+          → (id ≡ a.id) × ((q : ℕ) (x : Executed Request) → In x (executed (world_at o after q).recorded.log) → executed_name x ≢ arrival_name a)
+      refused m id i e =
+          ⊎_elim (refused_here m id e) (λ j. absurd (given m id j e))
+          (in_cases m (refused_by a.line request (happens o (world_at o r p) (call_of a)).outcome) (map (answer_to a.line) (released_by (world_at o r p) (happens o (world_at o r p) (call_of a)).world)) i)

@@ -1,0 +1,130 @@
+-- What holds of every run that lines can make.
+use Rattle.std.proofs.Common.{pos, ◌≡◌, ℕ, ◌≤◌, Bool, true, false, cond, List, [], ◌∷◌, ◌++◌, Option, Some, None, refl, ap, sym, ◌∙◌, ⊎_elim, inl, inr, arith}
+use Rattle.grid_base.specs.Objects.{Object}
+use Rattle.grid_base.specs.declared.names.CallId.{CallId}
+use Rattle.grid_base.specs.declared.calls.Request.{Request}
+use Rattle.partition_protocol.proofs.Lists.{In, in_cases}
+use Rattle.replay_run.specs.PartitionObjects.{partition_object}
+use Rattle.grid_base.specs.Errors.{want_of_memory}
+use Rattle.replay_run.specs.Runs.{Run, Connection, Arrival, Appended, begun, updated, with_bytes, own_answer, told, refusal, arrival_at, happening, arrived, is_skipped, asked}
+use Rattle.replay_run.specs.Printing.{arrival_of, answer_of, is_answer_to}
+use Rattle.replay_run.specs.ScriptRuns.{IsNext, IsRun, grid_begun, line_counted, connection_opened, bytes_taken, answer_told, call_asked}
+use Rattle.replay_run.proofs.Hearing.{no_fewer}
+use Rattle.replay_run.proofs.Counts.{count-append}
+use Rattle.replay_run.proofs.Trails.{find_some}
+use Rattle.replay_run.proofs.RunFacts.{RunOk, arrival_found}
+use Rattle.replay_run.proofs.Arriving.{apart_opened, apart_updated, opened_grows, updated_grows, quiet, arrivals_with, its_event}
+use Rattle.replay_run.proofs.Answering.{skipped_answers, answers_after}
+use Rattle.replay_run.proofs.Refusals.{skipped_refusals, refusals_after}
+use Rattle.replay_run.proofs.Answers.{id_of_name, named_answer}
+
+-- the first line has made nothing
+pub begun_ok : {State : Type 0} (o : Object Request State) (members backups : ℕ) → 1 ≤ members → RunOk o (begun members backups)
+begun_ok o members backups grid = record {
+  members = grid;
+  connections = tt;
+  of_arrivals = record {
+    placed = λ a i. absurd i;
+    once = tt;
+    counted = λ a i. absurd i;
+    in_order = λ a b h. absurd h;
+    rising = λ a b h. absurd h;
+    of_line = λ a b i. absurd i;
+    by_now = λ a i. absurd i;
+    calls = λ p. refl;
+    events = omega arith;
+  };
+  of_answers = record { given = λ m id i e. absurd i; once = λ id. omega arith; resets = λ p. refl };
+  of_refusals = record { arrived = λ m id i e. absurd i; unexecuted = λ m id i e. absurd i };
+}
+
+-- what a session answers itself answers no call and refuses none
+pub told_ok : {State : Type 0} (o : Object Request State) (r : Run) (c : ℕ) (bytes : List ℕ) → RunOk o r → RunOk o (told r c bytes)
+told_ok o r c bytes ok = record {
+  members = ok.members;
+  connections = ok.connections;
+  of_arrivals = record {
+    placed = ok.of_arrivals.placed;
+    once = ok.of_arrivals.once;
+    counted = ok.of_arrivals.counted;
+    in_order = ok.of_arrivals.in_order;
+    rising = ok.of_arrivals.rising;
+    of_line = ok.of_arrivals.of_line;
+    by_now = ok.of_arrivals.by_now;
+    calls = ok.of_arrivals.calls;
+    events = ok.of_arrivals.events;
+  };
+  of_answers = record {
+    given = λ m id i e. ⊎_elim (λ j. ok.of_answers.given m id j e) (λ j. absurd (answers_none m id j e)) (in_cases m r.appended (own_answer r.lines c bytes ∷ []) i);
+    once = λ id. let old = ok.of_answers.once id in let more = count-append (is_answer_to id) r.appended (own_answer r.lines c bytes ∷ []) in omega (arith, old, more);
+    resets = ok.of_answers.resets;
+  };
+  of_refusals = record {
+    arrived = λ m id i e. ⊎_elim (λ j. ok.of_refusals.arrived m id j e) (λ j. absurd (refuses_none m id j e)) (in_cases m r.appended (own_answer r.lines c bytes ∷ []) i);
+    unexecuted = λ m id i e. ⊎_elim (λ j. ok.of_refusals.unexecuted m id j e) (λ j. absurd (refuses_none m id j e)) (in_cases m r.appended (own_answer r.lines c bytes ∷ []) i);
+  };
+}
+  where
+    answers_none : (m : Appended) (id : CallId) → In m (own_answer r.lines c bytes ∷ []) → m.answers ≡ Some id → ⊥
+    answers_none m id (inl s) e = let clash : None ≡ Some id = ap (λ (n : Appended). n.answers) s ∙ e in cc
+    answers_none m id (inr i) e = i
+
+    refuses_none : (m : Appended) (id : CallId) → In m (own_answer r.lines c bytes ∷ []) → m.refuses ≡ Some id → ⊥
+    refuses_none m id (inl s) e = let clash : None ≡ Some id = ap (λ (n : Appended). n.refuses) s ∙ e in cc
+    refuses_none m id (inr i) e = i
+
+-- a call, with an event or none
+pub asked_ok : {State : Type 0} (o : Object Request State) (skips : List CallId) (r : Run) (member : ℕ) (request : Request) → RunOk o r → IsNext r request → RunOk o (asked o skips r (arrival_at r member request))
+asked_ok o skips r member request ok next = go (is_skipped skips request.id)
+  where
+    a : Arrival
+    a = arrival_at r member request
+
+    go : (b : Bool) → RunOk o (cond b (arrived r a [] (refusal r.lines request (pos want_of_memory) 0 ∷ [])) (arrived r a (its_event a ∷ []) (happening o r a)))
+    go true = record {
+      members = ok.members;
+      connections = ok.connections;
+      of_arrivals = arrivals_with r ok.of_arrivals member request next [] (refusal r.lines request (pos want_of_memory) 0 ∷ []) (inl refl);
+      of_answers = skipped_answers o r ok a;
+      of_refusals = skipped_refusals o r ok member request next;
+    }
+    go false =
+        let come = arrivals_with r ok.of_arrivals member request next (its_event a ∷ []) (happening o r a) (inr refl) in
+        record {
+          members = ok.members;
+          connections = ok.connections;
+          of_arrivals = come;
+          of_answers = answers_after o r ok a refl come;
+          of_refusals = refusals_after o r ok member request next;
+        }
+
+pub run_ok : {r : Run} → IsRun r → RunOk partition_object r
+run_ok (grid_begun members backups grid) = begun_ok partition_object members backups grid
+run_ok (line_counted r is) = let ok = run_ok is in quiet partition_object r r.connections ok ok.connections (λ c k s. (k, s, omega arith))
+run_ok (connection_opened r c member is free) =
+    let ok = run_ok is in
+    let new : Connection = record { conn = c; member = member; bytes = [] } in
+    quiet partition_object r (r.connections ++ new ∷ []) ok (apart_opened r.connections new ok.connections free) (opened_grows r new)
+run_ok (bytes_taken r connection bytes is there) =
+    let ok = run_ok is in
+    let new : Connection = with_bytes connection bytes in
+    quiet partition_object r (updated new r.connections) ok (apart_updated r.connections new ok.connections) (updated_grows r connection new there refl (no_fewer connection.bytes bytes))
+run_ok (answer_told r c bytes is) = told_ok partition_object r c bytes (run_ok is)
+run_ok (call_asked skips r member request is next) = asked_ok partition_object skips r member request (run_ok is) next
+
+-- A call that did not arrive was not answered.
+pub unheard_unanswered : (r : Run) → IsRun r → (id : CallId) → arrival_of r id ≡ None → answer_of r id ≡ None
+unheard_unanswered r is id unheard = go (answer_of r id) refl
+  where
+    ok : RunOk partition_object r
+    ok = run_ok is
+
+    go : (answer : Option Appended) → answer_of r id ≡ answer → answer_of r id ≡ None
+    go None e = e
+    go (Some m) e =
+        let there = find_some (is_answer_to id) r.appended m e in
+        let given = ok.of_answers.given m id there.0 (named_answer id m there.1) in
+        let from = given.1.arrived given.1.call given.1.has in
+        let named : from.0.id ≡ id = ap id_of_name from.2 ∙ given.1.call_is in
+        let found : arrival_of r id ≡ Some from.0 = ap (arrival_of r) (sym named) ∙ arrival_found r ok.of_arrivals from.0 from.1 in
+        absurd (let clash : None ≡ Some from.0 = sym unheard ∙ found in cc)

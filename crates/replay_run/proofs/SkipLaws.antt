@@ -1,0 +1,123 @@
+-- A line asks of the skips only which of its own calls are among them, and adds its own calls to the arrivals.
+use Rattle.std.proofs.Common.{◌≡◌, ◌≢◌, ℕ, ◌+◌, Bool, true, false, ◌||◌, cond, List, [], ◌∷◌, ◌++◌, map, Option, Some, None, refl, ap, sym, ◌∙◌, inl, inr, append-nil, arith}
+use Rattle.std.specs.Prelude.{is_some}
+use Rattle.grid_base.specs.Objects.{Object}
+use Rattle.grid_base.specs.declared.names.CallId.{CallId}
+use Rattle.grid_base.specs.declared.calls.Request.{Request}
+use Rattle.grid_base.specs.Names.{is_same_call}
+use Rattle.partition_protocol.proofs.Lists.{In}
+use Rattle.partition_protocol.proofs.RowFacts.{false_or_not}
+use Rattle.session_core.specs.declared.item.Item.{Item}
+use Rattle.session_core.specs.declared.item.Item.TheVariants.{Call as Asks, Reply}
+use Rattle.script_lang.specs.declared.line.Line.{Line}
+use Rattle.script_lang.specs.declared.line.Line.TheVariants.{Grid, OpenConn, Arrive, Trail, Comment, End}
+use Rattle.replay_run.specs.PartitionObjects.{partition_object}
+use Rattle.replay_run.specs.Runs.{Run, Connection, Arrival, connection_of, fault_on, items_by, took_bytes, next_line, after_line, bytes_arrived, told, asked, handled, handled_all, arrival_at, is_skipped, opened}
+use Rattle.replay_run.specs.ScriptRuns.{calls_in}
+use Rattle.replay_run.specs.Skips.{items_at, calls_at}
+use Rattle.replay_run.proofs.Places.{same_call}
+use Rattle.replay_run.proofs.Lines.{all_arriving, handled_all_come}
+
+-- who is skipped
+
+pub skipped_by_either : (k skips : List CallId) (id : CallId) → is_skipped (k ++ skips) id ≡ is_skipped k id || is_skipped skips id
+skipped_by_either [] skips id = refl
+skipped_by_either (x ∷ k) skips id = ap (λ b. is_same_call id x || b) (skipped_by_either k skips id) ∙ grind (arith)
+
+pub not_skipped : (k : List CallId) (id : CallId) → ((x : CallId) → In x k → is_same_call id x ≡ false) → is_skipped k id ≡ false
+not_skipped [] id h = refl
+not_skipped (x ∷ k) id h = rw (h x (inl refl)) (not_skipped k id (λ y i. h y (inr i)))
+
+pub unless_same : (a b : CallId) → a ≢ b → is_same_call a b ≡ false
+unless_same a b different = false_or_not (is_same_call a b) (λ e. different (same_call a b e))
+
+-- two lists of skips say the same of these calls
+abbrev pub Alike : List CallId → List CallId → List CallId → Type 0
+Alike s k calls = (id : CallId) → In id calls → is_skipped s id ≡ is_skipped k id
+
+pub names_arriving : (line member : ℕ) (items : List Item) → map (λ (a : Arrival). a.id) (all_arriving line member items) ≡ calls_in items
+names_arriving line member [] = refl
+names_arriving line member (Reply bytes ∷ items) = names_arriving line member items
+names_arriving line member (Asks request ∷ items) = ap (λ ids. request.id ∷ ids) (names_arriving line member items)
+
+pub asked_alike : {State : Type 0} (o : Object Request State) (s k : List CallId) (r : Run) (a : Arrival) → is_skipped s a.id ≡ is_skipped k a.id → asked o s r a ≡ asked o k r a
+asked_alike o s k r a e = same_choice (is_skipped s a.id) (is_skipped k a.id) _ _ e
+  where
+    same_choice : (b d : Bool) (x y : Run) → b ≡ d → cond b x y ≡ cond d x y
+    same_choice b d x y h = ap (λ t. cond t x y) h
+
+pub handled_all_alike : {State : Type 0} (o : Object Request State) (s k : List CallId) (r : Run) (c : Connection) (items : List Item) → Alike s k (calls_in items)
+    → handled_all o s r c items ≡ handled_all o k r c items
+handled_all_alike o s k r c [] h = refl
+handled_all_alike o s k r c (Reply bytes ∷ items) h = handled_all_alike o s k (told r c.conn bytes) c items h
+handled_all_alike o s k r c (Asks request ∷ items) h =
+    ap (λ next. handled_all o s next c items) (asked_alike o s k r (arrival_at r c.member request) (h request.id (inl refl)))
+    ∙ handled_all_alike o s k (asked o k r (arrival_at r c.member request)) c items (λ id i. h id (inr i))
+
+-- the items of a front, and then the others
+pub handled_all-append : {State : Type 0} (o : Object Request State) (skips : List CallId) (r : Run) (c : Connection) (first then : List Item)
+    → handled_all o skips r c (first ++ then) ≡ handled_all o skips (handled_all o skips r c first) c then
+handled_all-append o skips r c [] then = refl
+handled_all-append o skips r c (item ∷ items) then = handled_all-append o skips (handled o skips r c item) c items then
+
+-- lines
+
+on_open : (s k : List CallId) (r : Run) (bytes : List ℕ) (c : Connection) (closed : Bool) → Alike s k (calls_in (cond closed [] (items_by c bytes)))
+    → cond closed (next_line r) (handled_all partition_object s (took_bytes r c bytes) c (items_by c bytes))
+    ≡ cond closed (next_line r) (handled_all partition_object k (took_bytes r c bytes) c (items_by c bytes))
+on_open s k r bytes c true h = refl
+on_open s k r bytes c false h = handled_all_alike partition_object s k (took_bytes r c bytes) c (items_by c bytes) h
+
+-- the run after bytes on a connection, which may not have been opened
+abbrev pub on_bytes : List CallId → Run → List ℕ → Option Connection → Run
+on_bytes skips r bytes found = elim found [ None ↦ next_line r | Some c ↦ bytes_arrived partition_object skips r c bytes ]
+
+on_connection : (s k : List CallId) (r : Run) (bytes : List ℕ) (found : Option Connection) → Alike s k (calls_in (items_at found bytes)) → on_bytes s r bytes found ≡ on_bytes k r bytes found
+on_connection s k r bytes None h = refl
+on_connection s k r bytes (Some c) h = on_open s k r bytes c (is_some (fault_on c)) h
+
+pub skips_alike : (s k : List CallId) (r : Run) (line : Line) → Alike s k (calls_at r line) → after_line partition_object s r line ≡ after_line partition_object k r line
+skips_alike s k r (Grid members backups capacity) h = refl
+skips_alike s k r (OpenConn c member) h = refl
+skips_alike s k r (Arrive c bytes) h = on_connection s k r bytes (connection_of r c) h
+skips_alike s k r (Trail partition) h = refl
+skips_alike s k r Comment h = refl
+skips_alike s k r End h = refl
+
+-- what a line does to the lines and the arrivals
+pub record Counts (r next : Run) (calls : List CallId) : Type 0 where
+  pub lines : next.lines ≡ r.lines + 1
+  pub come : List Arrival
+  pub arrivals : next.arrivals ≡ r.arrivals ++ come
+  pub names : map (λ (a : Arrival). a.id) come ≡ calls
+
+quiet : (r next : Run) → next.lines ≡ r.lines + 1 → next.arrivals ≡ r.arrivals → Counts r next []
+quiet r next lines arrivals = record { lines = lines; come = []; arrivals = arrivals ∙ sym (append-nil r.arrivals); names = refl }
+
+open_counts : (k : List CallId) (r : Run) (bytes : List ℕ) (c : Connection) (closed : Bool)
+    → Counts r (cond closed (next_line r) (handled_all partition_object k (took_bytes r c bytes) c (items_by c bytes))) (calls_in (cond closed [] (items_by c bytes)))
+open_counts k r bytes c true = quiet r (next_line r) refl refl
+open_counts k r bytes c false =
+    let come = handled_all_come partition_object k (took_bytes r c bytes) c (items_by c bytes) in
+    record {
+      lines = come.lines;
+      come = all_arriving (r.lines + 1) c.member (items_by c bytes);
+      arrivals = come.arrivals;
+      names = names_arriving (r.lines + 1) c.member (items_by c bytes);
+    }
+
+connection_counts : (k : List CallId) (r : Run) (bytes : List ℕ) (found : Option Connection) → Counts r (on_bytes k r bytes found) (calls_in (items_at found bytes))
+connection_counts k r bytes None = quiet r (next_line r) refl refl
+connection_counts k r bytes (Some c) = open_counts k r bytes c (is_some (fault_on c))
+
+opened_counts : (r : Run) (c member : ℕ) (there : Bool) → Counts r (cond there (next_line r) (opened r c member)) []
+opened_counts r c member true = quiet r (next_line r) refl refl
+opened_counts r c member false = quiet r (opened r c member) refl refl
+
+pub line_counts : (k : List CallId) (r : Run) (line : Line) → Counts r (after_line partition_object k r line) (calls_at r line)
+line_counts k r (Grid members backups capacity) = quiet r (next_line r) refl refl
+line_counts k r (OpenConn c member) = opened_counts r c member (is_some (connection_of r c))
+line_counts k r (Arrive c bytes) = connection_counts k r bytes (connection_of r c)
+line_counts k r (Trail partition) = quiet r (next_line r) refl refl
+line_counts k r Comment = quiet r (next_line r) refl refl
+line_counts k r End = quiet r (next_line r) refl refl

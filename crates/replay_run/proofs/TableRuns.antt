@@ -1,0 +1,297 @@
+-- The table has what the run has, after each thing that a line does.
+use Rattle.std.proofs.Common.{◌≡◌, ◌≢◌, ℕ, ◌<◌, ◌==◌, true, false, cond, List, [], ◌∷◌, ◌++◌, length, map, Option, Some, None, refl, ap, sym, ◌∙◌, subst, ⊎_elim, inl, inr, append_assoc, append-nil, arith}
+use Rattle.std.specs.Option.{option_map, option_and_then, option_or}
+use Rattle.std.specs.List.{find}
+use Rattle.std.proofs.lemmas.Bool.{cases_eq, cases_Bool, eq-eqb, ne_eqb, false≢true}
+use Rattle.std.proofs.lemmas.List.{length-set}
+use Rattle.std.proofs.lemmas.List.Folds.{find-append}
+use Rattle.std.proofs.lemmas.Option.{slice_get_past}
+use Rattle.grid_base.specs.Names.{is_same_call}
+use Rattle.grid_base.specs.declared.names.CallId.{CallId}
+use Rattle.session_core.specs.Sessions.{session_after}
+use Rattle.partition_protocol.proofs.Lists.{In}
+use Rattle.partition_world.specs.declared.node.Released.{Released}
+use Rattle.replay_run.specs.declared.connections.CallLines.{CallLines}
+use Rattle.replay_run.specs.Runs.{Run, Connection, Arrival, Appended, is_connection, connection_of, with_bytes, took_bytes, own_answer, told, opened}
+use Rattle.replay_run.specs.Printing.{arrival_of, answer_of, is_answer_to, is_named}
+use Rattle.replay_run.specs.Tables.{Table, Opened, most_connections, opened_at, lines_of, silent, present, with_opened, with_change, heard, with_session, replied, with_reply, called, with_arrival, or_line, lines_answered, answered, with_answer}
+use Rattle.replay_run.specs.Grids.{IsConnection, Matches, HasTable, lines_in}
+use Rattle.replay_run.specs.WorldCalls.{message_of, with_answers}
+use Rattle.replay_run.proofs.Arriving.{find_map, same_test, in_place, in_place_number}
+use Rattle.replay_run.proofs.Places.{same_call, same_call_refl, same_number}
+use Rattle.replay_run.proofs.Trails.{find_some}
+use Rattle.replay_run.proofs.TableChanges.{map_none, or_none, length-changed_at, got_last, got_before, opened_changed, opened_unchanged, opened_anew, opened_before, line_at, lines_elsewhere, lines_marked, answered_elsewhere}
+
+-- a slot and its connection
+
+pub matched : (slot : Option Opened) (found : Option Connection) (k : Connection) → Matches slot found → found ≡ Some k → (o : Opened) × (slot ≡ Some o) × IsConnection o k
+matched None None k m e = absurd cc
+matched None (Some j) k m e = absurd m
+matched (Some o) None k m e = absurd m
+matched (Some o) (Some j) k m e = let same : j ≡ k = cc in (o, refl, subst (IsConnection o) same m)
+
+pub matched_back : (slot : Option Opened) (found : Option Connection) (o : Opened) → Matches slot found → slot ≡ Some o → (k : Connection) × (found ≡ Some k) × IsConnection o k
+matched_back None None o m e = absurd cc
+matched_back None (Some k) o m e = absurd m
+matched_back (Some p) None o m e = absurd m
+matched_back (Some p) (Some k) o m e = let same : p ≡ o = cc in (k, refl, subst (λ q. IsConnection q k) same m)
+
+unmatched : (slot : Option Opened) (found : Option Connection) → Matches slot found → slot ≡ None → found ≡ None
+unmatched None None m e = refl
+unmatched None (Some k) m e = absurd m
+unmatched (Some o) found m e = absurd cc
+
+-- a change that keeps the member and the reader
+matches_kept : (change : Opened → Opened) → ((o : Opened) (k : Connection) → IsConnection o k → IsConnection (change o) k) → (slot : Option Opened) (found : Option Connection) → Matches slot found → Matches (option_map change slot) found
+matches_kept change kept None None m = tt
+matches_kept change kept None (Some k) m = m
+matches_kept change kept (Some o) None m = m
+matches_kept change kept (Some o) (Some k) m = kept o k m
+
+matches_at : {slot other : Option Opened} {found place : Option Connection} → slot ≡ other → found ≡ place → Matches other place → Matches slot found
+matches_at {slot = slot} {other = other} {found = found} {place = place} s f m = subst (λ x. Matches x found) (sym s) (subst (λ y. Matches other y) (sym f) m)
+
+pub found_opened : (t : Table) (r : Run) → HasTable t r → (c : ℕ) (k : Connection) → connection_of r c ≡ Some k → (o : Opened) × (opened_at t c ≡ Some o) × IsConnection o k
+found_opened t r h c k e = matched (opened_at t c) (connection_of r c) k (h.connections c) e
+
+pub found_connection : (t : Table) (r : Run) → HasTable t r → (c : ℕ) (o : Opened) → opened_at t c ≡ Some o → (k : Connection) × (connection_of r c ≡ Some k) × IsConnection o k
+found_connection t r h c o e = matched_back (opened_at t c) (connection_of r c) o (h.connections c) e
+
+pub none_opened : (t : Table) (r : Run) → HasTable t r → (c : ℕ) → opened_at t c ≡ None → connection_of r c ≡ None
+none_opened t r h c e = unmatched (opened_at t c) (connection_of r c) (h.connections c) e
+
+-- what is printed of a call with its answer
+abbrev with_lines : Option Appended → Arrival → CallLines
+with_lines answer a = record { arrived = a.line; answered = option_map (λ (m : Appended). m.line) answer }
+
+-- a change that keeps each connection
+changed_connections : (t : Table) (r : Run) → HasTable t r → (c : ℕ) (change : Opened → Opened) → ((o : Opened) (k : Connection) → IsConnection o k → IsConnection (change o) k)
+    → (d : ℕ) → Matches (opened_at (with_change t c change) d) (connection_of r d)
+changed_connections t r h c change kept d = ⊎_elim here (λ apart. matches_at (opened_unchanged t c d change apart) refl (h.connections d)) (cases_eq d c)
+  where
+    here : d ≡ c → Matches (opened_at (with_change t c change) d) (connection_of r d)
+    here e = subst (λ n. Matches (opened_at (with_change t c change) n) (connection_of r n)) (sym e)
+        (matches_at (opened_changed t c change) refl (matches_kept change kept (opened_at t c) (connection_of r c) (h.connections c)))
+
+-- a connection is opened
+
+abbrev pub silent_connection : ℕ → ℕ → Connection
+silent_connection c member = record { conn = c; member = member; bytes = [] }
+
+module _ (t : Table) (r : Run) (h : HasTable t r) (c member : ℕ) (within : c < most_connections) (closed : opened_at t c ≡ None) where
+  in_table : c < length t
+  in_table = omega (arith, h.size, within)
+
+  pub anew : opened_at (with_opened t c member) c ≡ Some (silent c member)
+  anew = opened_anew t c member in_table
+
+  found_anew : (d : ℕ) → connection_of (opened r c member) d ≡ option_or (connection_of r d) (cond (c == d) (Some (silent_connection c member)) None)
+  found_anew d = find-append (is_connection d) r.connections (silent_connection c member ∷ [])
+
+  pub found_there : connection_of (opened r c member) c ≡ Some (silent_connection c member)
+  found_there =
+      let itself : (c == c) ≡ true = eq-eqb c c refl in
+      found_anew c ∙ ap (λ x. option_or x (cond (c == c) (Some (silent_connection c member)) None)) (none_opened t r h c closed)
+      ∙ ap (λ b. cond b (Some (silent_connection c member)) None) itself
+
+  pub found_before : (d : ℕ) → d ≢ c → connection_of (opened r c member) d ≡ connection_of r d
+  found_before d apart =
+      let other : (c == d) ≡ false = ne_eqb c d (λ e. apart (sym e)) in
+      found_anew d ∙ ap (λ b. option_or (connection_of r d) (cond b (Some (silent_connection c member)) None)) other ∙ or_none (connection_of r d)
+
+  opening_connections : (d : ℕ) → Matches (opened_at (with_opened t c member) d) (connection_of (opened r c member) d)
+  opening_connections d = ⊎_elim here (λ apart. matches_at (opened_before t c d member apart) (found_before d apart) (h.connections d)) (cases_eq d c)
+    where
+      here : d ≡ c → Matches (opened_at (with_opened t c member) d) (connection_of (opened r c member) d)
+      here e = subst (λ n. Matches (opened_at (with_opened t c member) n) (connection_of (opened r c member) n)) (sym e)
+          (matches_at anew found_there refl)
+
+  opening_calls : (id : CallId) → lines_of (with_opened t c member) id ≡ lines_in r id
+  opening_calls id = ⊎_elim here (λ apart. ap (option_and_then (line_at id.number)) (opened_before t c id.conn member apart)) (cases_eq id.conn c) ∙ h.calls id
+    where
+      here : id.conn ≡ c → lines_of (with_opened t c member) id ≡ lines_of t id
+      here e =
+          subst (λ n. option_and_then (line_at id.number) (opened_at (with_opened t c member) n) ≡ option_and_then (line_at id.number) (opened_at t n)) (sym e)
+          (ap (option_and_then (line_at id.number)) anew ∙ sym (ap (option_and_then (line_at id.number)) closed))
+
+  pub opened_table : HasTable (with_opened t c member) (opened r c member)
+  opened_table = record {
+    size = length-set t c (Some (silent c member)) ∙ h.size;
+    connections = opening_connections;
+    calls = opening_calls;
+  }
+
+-- its bytes come
+
+module _ (t : Table) (r : Run) (h : HasTable t r) (c : ℕ) (k : Connection) (is : connection_of r c ≡ Some k) (bytes : List ℕ) where
+  abbrev new : Connection
+  new = with_bytes k bytes
+
+  numbered : k.conn ≡ c
+  numbered = same_number k.conn c (find_some (is_connection c) r.connections k is).1
+
+  found_updated : (d : ℕ) → connection_of (took_bytes r k bytes) d ≡ option_map (in_place new) (connection_of r d)
+  found_updated d = find_map (is_connection d) (in_place new) r.connections (λ x. ap (λ n. n == d) (in_place_number new x))
+
+  pub took_here : connection_of (took_bytes r k bytes) c ≡ Some new
+  took_here = let itself : (k.conn == k.conn) ≡ true = same_test k.conn k.conn refl in found_updated c ∙ ap (option_map (in_place new)) is ∙ ap (λ b. Some (cond b new k)) itself
+
+  pub took_elsewhere : (d : ℕ) → d ≢ c → connection_of (took_bytes r k bytes) d ≡ connection_of r d
+  took_elsewhere d apart = found_updated d ∙ go (connection_of r d) refl
+    where
+      go : (found : Option Connection) → connection_of r d ≡ found → option_map (in_place new) found ≡ found
+      go None e = refl
+      go (Some j) e =
+          let at = same_number j.conn d (find_some (is_connection d) r.connections j e).1 in
+          let other : (j.conn == k.conn) ≡ false = ne_eqb j.conn k.conn (λ s. apart (sym at ∙ s ∙ numbered)) in
+          ap (λ b. Some (cond b new j)) other
+
+  fed_connections : (d : ℕ) → Matches (opened_at (with_session t c (session_after k.conn k.member (k.bytes ++ bytes))) d) (connection_of (took_bytes r k bytes) d)
+  fed_connections d = ⊎_elim here (λ apart. matches_at (opened_unchanged t c d (heard (session_after k.conn k.member (k.bytes ++ bytes))) apart) (took_elsewhere d apart) (h.connections d)) (cases_eq d c)
+    where
+      o : (x : Opened) × (opened_at t c ≡ Some x) × IsConnection x k
+      o = found_opened t r h c k is
+
+      here : d ≡ c → Matches (opened_at (with_session t c (session_after k.conn k.member (k.bytes ++ bytes))) d) (connection_of (took_bytes r k bytes) d)
+      here e = subst (λ n. Matches (opened_at (with_session t c (session_after k.conn k.member (k.bytes ++ bytes))) n) (connection_of (took_bytes r k bytes) n)) (sym e)
+          (matches_at (opened_changed t c (heard (session_after k.conn k.member (k.bytes ++ bytes))) ∙ ap (option_map (heard (session_after k.conn k.member (k.bytes ++ bytes)))) o.1) took_here refl)
+
+  pub fed_table : HasTable (with_session t c (session_after k.conn k.member (k.bytes ++ bytes))) (took_bytes r k bytes)
+  fed_table = record {
+    size = length-changed_at (option_map (heard (session_after k.conn k.member (k.bytes ++ bytes)))) t c ∙ h.size;
+    connections = fed_connections;
+    calls = λ id. lines_elsewhere t c (heard (session_after k.conn k.member (k.bytes ++ bytes))) id (λ e x s. refl) ∙ h.calls id;
+  }
+
+-- a call arrives
+
+module _ (t : Table) (r : Run) (h : HasTable t r) (c : ℕ) (o : Opened) (there : opened_at t c ≡ Some o) (a : Arrival) (number : a.id ≡ record { conn = c; number = length o.calls }) (fresh : arrival_of r a.id ≡ None → answer_of r a.id ≡ None) where
+  -- the call did not arrive before
+  unheard : arrival_of r a.id ≡ None
+  unheard =
+      map_none (with_lines (answer_of r a.id)) (arrival_of r a.id)
+      (sym (h.calls a.id) ∙ ap (lines_of t) number ∙ ap (option_and_then (line_at (length o.calls))) there ∙ ap present (slice_get_past o.calls (length o.calls) (omega arith)))
+
+  in_table_now : lines_of (with_arrival t c a.line) a.id ≡ Some (record { arrived = a.line; answered = None })
+  in_table_now =
+      ap (lines_of (with_arrival t c a.line)) number
+      ∙ ap (option_and_then (line_at (length o.calls))) (opened_changed t c (called a.line) ∙ ap (option_map (called a.line)) there)
+      ∙ ap present (got_last o.calls (Some (record { arrived = a.line; answered = None })))
+
+  arrival_calls : (id : CallId) → lines_of (with_arrival t c a.line) id ≡ lines_in (record r { arrivals = r.arrivals ++ a ∷ [] }) id
+  arrival_calls id = ⊎_elim here elsewhere (cases_Bool (is_same_call a.id id)) ∙ sym (ap (option_map (with_lines (answer_of r id))) (find-append (λ (x : Arrival). is_same_call x.id id) r.arrivals (a ∷ [])))
+    where
+      itself : is_same_call a.id a.id ≡ true
+      itself = same_call_refl a.id
+
+      at_it : lines_of (with_arrival t c a.line) a.id ≡ option_map (with_lines (answer_of r a.id)) (option_or (arrival_of r a.id) (cond (is_same_call a.id a.id) (Some a) None))
+      at_it =
+          in_table_now ∙ ap (λ (m : Option Appended). Some (record { arrived = a.line; answered = option_map (λ (x : Appended). x.line) m })) (sym (fresh unheard))
+          ∙ sym (ap (λ b. option_map (with_lines (answer_of r a.id)) (option_or (arrival_of r a.id) (cond b (Some a) None))) itself ∙ ap (λ x. option_map (with_lines (answer_of r a.id)) (option_or x (Some a))) unheard)
+
+      here : is_same_call a.id id ≡ true → lines_of (with_arrival t c a.line) id ≡ option_map (with_lines (answer_of r id)) (option_or (arrival_of r id) (cond (is_same_call a.id id) (Some a) None))
+      here e = subst (λ j. lines_of (with_arrival t c a.line) j ≡ option_map (with_lines (answer_of r j)) (option_or (arrival_of r j) (cond (is_same_call a.id j) (Some a) None))) (same_call a.id id e) at_it
+
+      -- another number of the same connection
+      apart : is_same_call a.id id ≡ false → id.conn ≡ c → (x : Opened) → opened_at t c ≡ Some x → line_at id.number (called a.line x) ≡ line_at id.number x
+      apart e at_conn x same =
+          let both : Some o ≡ Some x = sym there ∙ same in
+          let one : o ≡ x = cc in
+          subst (λ (y : Opened). line_at id.number (called a.line y) ≡ line_at id.number y) one
+          (ap present (got_before o.calls (Some (record { arrived = a.line; answered = None })) id.number (λ s. false≢true (sym e ∙ ap (is_same_call a.id) (sym (number ∙ (λ i. record { conn = sym at_conn i; number = sym s i }))) ∙ same_call_refl a.id))))
+
+      elsewhere : is_same_call a.id id ≡ false → lines_of (with_arrival t c a.line) id ≡ option_map (with_lines (answer_of r id)) (option_or (arrival_of r id) (cond (is_same_call a.id id) (Some a) None))
+      elsewhere e = lines_elsewhere t c (called a.line) id (apart e) ∙ h.calls id ∙ sym (ap (option_map (with_lines (answer_of r id))) (ap (λ b. option_or (arrival_of r id) (cond b (Some a) None)) e ∙ or_none (arrival_of r id)))
+
+  pub arrived_table : HasTable (with_arrival t c a.line) (record r { arrivals = r.arrivals ++ a ∷ [] })
+  arrived_table = record {
+    size = length-changed_at (option_map (called a.line)) t c ∙ h.size;
+    connections = changed_connections t r h c (called a.line) (λ x k m. m);
+    calls = arrival_calls;
+  }
+
+-- a message is appended
+
+-- that answers no call
+pub unanswered_table : (t : Table) (r : Run) (m : Appended) → HasTable t r → m.answers ≡ None → HasTable t (record r { appended = r.appended ++ m ∷ [] })
+unanswered_table t r m h none = record {
+  size = h.size;
+  connections = h.connections;
+  calls = λ id. h.calls id ∙ ap (λ x. option_map (with_lines x) (arrival_of r id)) (same id);
+}
+  where
+    same : (id : CallId) → answer_of r id ≡ find (is_answer_to id) (r.appended ++ m ∷ [])
+    same id = sym (find-append (is_answer_to id) r.appended (m ∷ []) ∙ ap (λ o. option_or (answer_of r id) (cond (is_named id o) (Some m) None)) none ∙ or_none (answer_of r id))
+
+-- that answers a call
+module _ (t : Table) (r : Run) (m : Appended) (h : HasTable t r) (id : CallId) (answers : m.answers ≡ Some id) where
+  answers_after : (j : CallId) → find (is_answer_to j) (r.appended ++ m ∷ []) ≡ option_or (answer_of r j) (cond (is_same_call id j) (Some m) None)
+  answers_after j = find-append (is_answer_to j) r.appended (m ∷ []) ∙ ap (λ o. option_or (answer_of r j) (cond (is_named j o) (Some m) None)) answers
+
+  first_counts : (x : Option Appended) → or_line (option_map (λ (y : Appended). y.line) x) m.line ≡ option_map (λ (y : Appended). y.line) (option_or x (Some m))
+  first_counts None = refl
+  first_counts (Some y) = refl
+
+  marked : (x : Option Appended) (a : Option Arrival) → option_map (lines_answered m.line) (option_map (with_lines x) a) ≡ option_map (with_lines (option_or x (Some m))) a
+  marked x None = refl
+  marked x (Some b) = ap (λ (n : Option ℕ). Some (record { arrived = b.line; answered = n })) (first_counts x)
+
+  answer_calls : (j : CallId) → lines_of (with_answer t id m.line) j ≡ lines_in (record r { appended = r.appended ++ m ∷ [] }) j
+  answer_calls j = ⊎_elim here elsewhere (cases_Bool (is_same_call id j)) ∙ sym (ap (λ x. option_map (with_lines x) (arrival_of r j)) (answers_after j))
+    where
+      itself : is_same_call id id ≡ true
+      itself = same_call_refl id
+
+      at_it : lines_of (with_answer t id m.line) id ≡ option_map (with_lines (option_or (answer_of r id) (cond (is_same_call id id) (Some m) None))) (arrival_of r id)
+      at_it = lines_marked t id m.line ∙ ap (option_map (lines_answered m.line)) (h.calls id) ∙ marked (answer_of r id) (arrival_of r id)
+          ∙ sym (ap (λ b. option_map (with_lines (option_or (answer_of r id) (cond b (Some m) None))) (arrival_of r id)) itself)
+
+      here : is_same_call id j ≡ true → lines_of (with_answer t id m.line) j ≡ option_map (with_lines (option_or (answer_of r j) (cond (is_same_call id j) (Some m) None))) (arrival_of r j)
+      here e = subst (λ i. lines_of (with_answer t id m.line) i ≡ option_map (with_lines (option_or (answer_of r i) (cond (is_same_call id i) (Some m) None))) (arrival_of r i)) (same_call id j e) at_it
+
+      apart : is_same_call id j ≡ false → j.conn ≡ id.conn → (o : Opened) → opened_at t id.conn ≡ Some o → line_at j.number (answered id.number m.line o) ≡ line_at j.number o
+      apart e at_conn o there = answered_elsewhere o id.number m.line j.number (λ s. false≢true (sym e ∙ ap (is_same_call id) (λ i. record { conn = at_conn i; number = s i }) ∙ same_call_refl id))
+
+      elsewhere : is_same_call id j ≡ false → lines_of (with_answer t id m.line) j ≡ option_map (with_lines (option_or (answer_of r j) (cond (is_same_call id j) (Some m) None))) (arrival_of r j)
+      elsewhere e = lines_elsewhere t id.conn (answered id.number m.line) j (apart e) ∙ h.calls j ∙ sym (ap (λ x. option_map (with_lines x) (arrival_of r j)) (ap (λ b. option_or (answer_of r j) (cond b (Some m) None)) e ∙ or_none (answer_of r j)))
+
+  pub answered_table : HasTable (with_answer t id m.line) (record r { appended = r.appended ++ m ∷ [] })
+  answered_table = record {
+    size = length-changed_at (option_map (answered id.number m.line)) t id.conn ∙ h.size;
+    connections = changed_connections t r h id.conn (answered id.number m.line) (λ x k m. m);
+    calls = answer_calls;
+  }
+
+-- a session answers a message itself
+
+-- There is no call of that number, before and after.
+replied_lines : (o : Opened) (n : ℕ) → line_at n (replied o) ≡ line_at n o
+replied_lines o n = ⊎_elim here (λ apart. ap present (got_before o.calls None n apart)) (cases_eq n (length o.calls))
+  where
+    here : n ≡ length o.calls → line_at n (replied o) ≡ line_at n o
+    here e = subst (λ k. line_at k (replied o) ≡ line_at k o) (sym e)
+        (ap present (got_last o.calls None) ∙ sym (ap present (slice_get_past o.calls (length o.calls) (omega arith))))
+
+replied_table : (t : Table) (r : Run) → HasTable t r → (c : ℕ) → HasTable (with_reply t c) r
+replied_table t r h c = record {
+  size = length-changed_at (option_map replied) t c ∙ h.size;
+  connections = changed_connections t r h c replied (λ x k m. m);
+  calls = λ id. lines_elsewhere t c replied id (λ e x s. replied_lines x id.number) ∙ h.calls id;
+}
+
+pub told_table : (t : Table) (r : Run) (c : ℕ) (bytes : List ℕ) → HasTable t r → HasTable (with_reply t c) (told r c bytes)
+told_table t r c bytes h = unanswered_table (with_reply t c) r (own_answer r.lines c bytes) (replied_table t r h c) refl
+
+-- all answers that are given out at a line
+pub answers_table : (line : ℕ) (answers : List Released) (t : Table) (r : Run) → HasTable t r → HasTable (with_answers t line answers) (record r { appended = r.appended ++ map (message_of line) answers })
+answers_table line [] t r h = subst (λ (ms : List Appended). HasTable t (record r { appended = ms })) (sym (append-nil r.appended)) h
+answers_table line (answer ∷ answers) t r h =
+    subst (λ (ms : List Appended). HasTable (with_answers t line (answer ∷ answers)) (record r { appended = ms })) (append_assoc r.appended (message_of line answer ∷ []) (map (message_of line) answers))
+    (answers_table line answers (with_answer t answer.id line) (record r { appended = r.appended ++ message_of line answer ∷ [] }) (answered_table t r (message_of line answer) h answer.id refl))
+
+-- messages that answer no call
+pub refusals_table : (ms : List Appended) (t : Table) (r : Run) → ((m : Appended) → In m ms → m.answers ≡ None) → HasTable t r → HasTable t (record r { appended = r.appended ++ ms })
+refusals_table [] t r none h = subst (λ (xs : List Appended). HasTable t (record r { appended = xs })) (sym (append-nil r.appended)) h
+refusals_table (m ∷ ms) t r none h =
+    subst (λ (xs : List Appended). HasTable t (record r { appended = xs })) (append_assoc r.appended (m ∷ []) ms)
+    (refusals_table ms t (record r { appended = r.appended ++ m ∷ [] }) (λ x i. none x (inr i)) (unanswered_table t r m h (none m (inl refl))))

@@ -1,0 +1,52 @@
+use Rattle.std.proofs.Common.{◌∙◌, sym}
+use Rattle.std.proofs.lemmas.Result.{on_ok_weaker}
+use Rattle.script_lang.specs.declared.line.Line.TheVariants.{Arrive}
+use Rattle.replay_run.proofs.Bounds.{room}
+use Rattle.replay_run.proofs.Feeding.{not_refused, has_begun}
+use Rattle.replay_run.proofs.GridLines.{next_number, few_lines, idle_line, bytes_line}
+use Rattle.replay_run.proofs.grid.Grid.arrive.Goals as goal
+
+-- Bytes can't arrive on the connection.
+pub returns-in_default : goal.returns-in_default
+returns-in_default c = λ r s.
+    let at_line = next_number c.args.self.now c.args.number (Arrive c.args.conn c.args.bytes.now) c.requires r s in
+    on_ok_weaker c.pass.result
+    (λ e. idle_line c.args.self.now c.pass.new.self r c.args.number c.args.conn c.args.bytes.now c.args.out.now.items c.pass.new.out.items s at_line (sym (c.open_member.ensures r s) ∙ c.in_default.is) c.pass.ensures.grid e)
+    c.pass.ensures.text
+
+-- A connection that is open takes its bytes.
+pub returns-in_default-2 : goal.returns-in_default-2
+returns-in_default-2 c = λ r s.
+    absurd (not_refused c.args.self.now r s c.args.conn c.in-Some.member (sym (c.open_member.ensures r s) ∙ c.in-Some.is) c.args.bytes.now c.in_ok-fed.field-0 c.in_ok-fed.ensures.gives c.in_default-2.is)
+
+pub handle_all-requires : goal.handle_all-requires
+handle_all-requires c =
+    let r = c.requires.run in
+    let s = c.requires.stands in
+    let line = Arrive c.args.conn c.args.bytes.now in
+    let at_line = next_number c.args.self.now c.args.number line c.requires r s in
+    let begun = has_begun c.args.self.now r s c.args.conn c.in-Some.member (sym (c.open_member.ensures r s) ∙ c.in-Some.is) c.args.bytes.now c.in_ok-fed.field-0 c.in_ok-fed.ensures.gives
+    c.count.new.self c.args.number c.count.new.out.items c.in-Some-2.fed c.feed.new.self at_line c.in-Some-2.is c.in_ok-fed.ensures.stands c.count.ensures.grid in
+    let its = begun.open_there in (
+      r,
+      its.connection,
+      c.args.bytes.now,
+      begun.brings,
+      begun.none_handled,
+      its.numbered,
+      its.to,
+      room r its.connection c.args.bytes.now s.run its.itself s.small (few_lines c.args.self.now c.args.number line c.requires r s) c.requires.read.2,
+    )
+
+pub returns : goal.returns
+returns c = λ r s.
+    let line = Arrive c.args.conn c.args.bytes.now in
+    let at_line = next_number c.args.self.now c.args.number line c.requires r s in
+    let begun = has_begun c.args.self.now r s c.args.conn c.in-Some.member (sym (c.open_member.ensures r s) ∙ c.in-Some.is) c.args.bytes.now c.in_ok-fed.field-0 c.in_ok-fed.ensures.gives
+    c.count.new.self c.args.number c.count.new.out.items c.in-Some-2.fed c.feed.new.self at_line c.in-Some-2.is c.in_ok-fed.ensures.stands c.count.ensures.grid in
+    let its = begun.open_there in
+    let did = c.in_ok-handle_all.ensures r its.connection c.args.bytes.now begun.brings its.numbered its.to begun.none_handled in
+    on_ok_weaker c.push_close.result
+    (λ e. bytes_line r c.args.conn its.connection its.there c.args.bytes.now c.in-Some-2.fed.items.items begun.brings c.handle_all.new.self c.count.new.out.items c.handle_all.new.out.items did its.sound
+    c.in-Some-2.fed.closed c.args.number c.args.out.now.items c.push_close.new.out.items s.small c.requires.read.2 c.in_ok-count.ensures.text at_line begun.closed e)
+    c.push_close.ensures

@@ -1,0 +1,46 @@
+use Rattle.std.proofs.Common.{◌∙◌, ◌++◌, List, ℕ, map, set, refl, ap, arith}
+use Rattle.partition_world.specs.Worlds.{waiting}
+use Rattle.replay_run.specs.Runs.{events_at}
+use Rattle.replay_run.specs.Tables.{Table}
+use Rattle.replay_run.specs.WorldCalls.{texts_of, message_of, with_answers}
+use Rattle.replay_run.proofs.Asking.{on_ok_all, world_within, world_there, world_is, world_room}
+use Rattle.replay_run.proofs.GridCalls.{asked_grid}
+use Rattle.replay_run.proofs.grid.Grid.ask.Goals as goal
+
+pub index_mut-world-requires : goal.index_mut-world-requires
+index_mut-world-requires c =
+    let within = world_within c.args.self.now c.requires.stands.0 c.requires.stands.1 c.args.request.partition c.from.result c.requires.placed c.from.ensures in
+    omega (arith, within, c.args.self.now.worlds.ok.0)
+
+pub call-requires-clause-room : goal.call-requires-clause-room
+call-requires-clause-room c =
+    world_room c.args.self.now c.requires.stands.0 c.requires.stands.1 c.args.request.partition c.from.result c.requires.placed c.from.ensures c.index_mut-world.result.now c.index_mut-world.ensures.value c.requires.stands.2
+
+pub call-requires-clause-stands : goal.call-requires-clause-stands
+call-requires-clause-stands c = (
+  events_at c.args.request.partition c.requires.stands.0.events,
+  (world_is c.args.self.now c.requires.stands.0 c.requires.stands.1 c.args.request.partition c.from.result c.requires.placed c.from.ensures c.index_mut-world.result.now c.index_mut-world.ensures.value).stands,
+)
+
+pub returns : goal.returns
+returns c = λ r run h next count.
+    let grid = c.args.self.now in
+    let line = c.args.self.now.lines in
+    let partition = c.args.request.partition in
+    let old = c.index_mut-world.result.now in
+    let read = c.index_mut-world.ensures.value in
+    let answers = waiting c.call.new.world c.args.member in
+    let did = c.in_ok-call.ensures (events_at partition r.events) (world_is grid r h partition c.from.result c.requires.placed c.from.ensures old read).stands in
+    on_ok_all c.give_out.result c.give_out.ensures.text c.give_out.ensures.table c.give_out.ensures.world
+    (λ text table out. asked_grid grid r run h c.args.member c.args.request next count c.requires.placed _ old c.call.new.world c.give_out.new.world line did.0 c.args.out.now.items c.give_out.new.out.items
+    (world_there grid r h partition c.from.result c.requires.placed c.from.ensures old read)
+    h.lines
+    (record {
+      lines = refl;
+      members = refl;
+      table = table ∙ ap (λ (t : Table). with_answers t line answers) c.in_ok-arrive.ensures.ok;
+      worlds = λ i. set grid.worlds.items (c.from.ensures i) c.give_out.new.world;
+    })
+    out
+    did.2
+    (text ∙ ap (λ (xs : List ℕ). xs ++ texts_of (map (message_of line) answers)) did.1))

@@ -1,0 +1,101 @@
+-- The grid of the code stands for a run: its worlds for the events of their partitions, its table for the connections and the calls.
+use Rattle.std.specs.Prelude.{◌≡◌, ◌≢◌, ℕ, ◌+◌, ◌*◌, ◌<◌, ◌≤◌, List, [], ◌++◌, length, Option, Some, None, option_map, slice_get}
+use Rattle.grid_base.specs.declared.names.CallId.{CallId}
+use Rattle.grid_base.specs.declared.calls.Request.{Request}
+use Rattle.partition_world.specs.declared.world.World.{World}
+use Rattle.partition_world.specs.Worlds.{StandsFor, setup_of, waiting}
+use Rattle.replay_run.specs.declared.connections.CallLines.{CallLines}
+use Rattle.replay_run.specs.declared.grid.Grid.{Grid}
+use Rattle.script_lang.specs.declared.line.Line.{Line}
+use Rattle.script_lang.specs.Limits.{most_lines, most_line_bytes}
+use Rattle.script_lang.specs.Lines.{IsWithin}
+use Rattle.session_core.specs.Sessions.{session_after}
+use Rattle.replay_run.specs.declared.shelf.MapList.{MapList}
+use Rattle.replay_run.specs.MapLists.{partition_of}
+use Rattle.replay_run.specs.PartitionObjects.{partition_object}
+use Rattle.replay_run.specs.Runs.{Run, Connection, Arrival, Appended, connection_of, messages_on, bytes_of, events_at, after_line}
+use Rattle.replay_run.specs.Printing.{partitions, arrival_of, answer_of, line_text}
+use Rattle.replay_run.specs.ScriptRuns.{IsRun}
+use Rattle.replay_run.specs.Skips.{AreOfLine}
+use Rattle.replay_run.specs.Tables.{Table, Opened, most_connections, opened_at, lines_of}
+
+-- the table
+
+-- A slot's session is that of all the connection's bytes.
+abbrev pub IsConnection : Opened → Connection → Type 0
+IsConnection opened k = opened.session ≡ session_after k.conn k.member k.bytes
+
+abbrev pub Matches : Option Opened → Option Connection → Type 0
+Matches None None = Unit {0}
+Matches (Some opened) (Some k) = IsConnection opened k
+Matches _ _ = ⊥
+
+-- the lines of a call, where it arrived
+abbrev pub lines_in : Run → CallId → Option CallLines
+lines_in r id = option_map (λ (a : Arrival). record { arrived = a.line; answered = option_map (λ (m : Appended). m.line) (answer_of r id) }) (arrival_of r id)
+
+pub record HasTable (table : Table) (r : Run) : Type 0 where
+  pub size : length table ≡ most_connections
+  pub connections : (c : ℕ) → Matches (opened_at table c) (connection_of r c)
+  pub calls : (id : CallId) → lines_of table id ≡ lines_in r id
+
+-- Every message of a connection was handled.
+abbrev pub IsSettled : Table → Run → Type 0
+IsSettled table r = (c : ℕ) (opened : Opened) (k : Connection) → opened_at table c ≡ Some opened → connection_of r c ≡ Some k → length opened.calls ≡ length (messages_on k)
+
+-- So many messages of this connection were handled, and all of the others.
+pub record IsCounting (table : Table) (r : Run) (conn number : ℕ) : Type 0 where
+  pub here : (opened : Opened) → opened_at table conn ≡ Some opened → length opened.calls ≡ number
+  pub others : (c : ℕ) (opened : Opened) (k : Connection) → c ≢ conn → opened_at table c ≡ Some opened → connection_of r c ≡ Some k → length opened.calls ≡ length (messages_on k)
+
+-- the worlds
+
+abbrev pub MapWorld : Type 0
+MapWorld = World MapList (Unit {0}) Request
+
+-- The world is that of a partition's events.
+pub record IsWorld (world : MapWorld) (r : Run) (p : ℕ) : Type 0 where
+  pub stands : StandsFor partition_object partition_of world (events_at p r.events)
+  pub setup : setup_of world ≡ record { partition = p; members = r.members; backups = r.backups }
+
+-- A partition has its world, which has given out every answer that it released.
+pub record HasWorld (worlds : List MapWorld) (r : Run) (p : ℕ) : Type 0 where
+  pub world : MapWorld
+  pub there : slice_get worlds p ≡ Some world
+  pub is : IsWorld world r p
+  pub given : (member : ℕ) → waiting world member ≡ []
+
+-- The grid has what the run has.
+pub record Holds (grid : Grid) (r : Run) : Type 0 where
+  pub lines : grid.lines ≡ r.lines
+  pub members : grid.members ≡ r.members
+  pub table : HasTable grid.connections r
+  pub worlds : (p : ℕ) → p < partitions → HasWorld grid.worlds.items r p
+
+-- The lines brought no more bytes than so many lines can: each byte has two digits in its line.
+abbrev pub IsSmall : Run → Type 0
+IsSmall r = 2 * bytes_of r ≤ most_line_bytes * r.lines
+
+-- between two lines
+pub record Stands (grid : Grid) (r : Run) : Type 0 where
+  pub run : IsRun r
+  pub small : IsSmall r
+  pub holds : Holds grid r
+  pub settled : IsSettled grid.connections r
+
+-- lines
+
+-- The line is one that the grid's script can have next: a line of its grammar, and within the limit of lines.
+pub record MayRun (grid : Grid) (number : ℕ) (line : Line) : Type 0 where
+  pub run : Run
+  pub stands : Stands grid run
+  pub read : IsWithin run.members most_line_bytes line
+  pub next : number ≡ run.lines + 1
+  pub within : number ≤ most_lines
+
+-- The line ran: the grid stands for the run after it, and its text was added. Its calls were skipped that found no memory.
+pub record HasRun (new : Grid) (r : Run) (line : Line) (written text : List ℕ) : Type 0 where
+  pub skips : List CallId
+  pub of_line : AreOfLine r line skips
+  pub stands : Stands new (after_line partition_object skips r line)
+  pub added : text ≡ written ++ line_text partition_object r line (after_line partition_object skips r line)

@@ -1,0 +1,14 @@
+pub mod EffectLaws
+pub mod Effects
+pub mod Grids
+pub mod Linearizability
+pub mod MapLists
+pub mod PartitionObjects
+pub mod PrintedEntries
+pub mod Printing
+pub mod Runs
+pub mod SameNames
+pub mod ScriptRuns
+pub mod Skips
+pub mod Tables
+pub mod WorldCalls

@@ -1,0 +1,176 @@
+-- The text of a line's outcome and of what happened at it.
+use Rattle.std.specs.Prelude.{ℕ, ◌+◌, Bool, true, false, not, List, [], ◌∷◌, ◌++◌, length, drop, Option, Some, None, option_map, unwrap_or, is_some, if◌then◌else◌, codes, decimal}
+use Rattle.std.specs.List.{find, flat_map}
+use Rattle.hex.specs.Hex.{encode_lower}
+use Rattle.grid_base.specs.Objects.{Object}
+use Rattle.grid_base.specs.Names.{is_same_call}
+use Rattle.grid_base.specs.declared.names.CallId.{CallId}
+use Rattle.grid_base.specs.declared.calls.MapCall.{MapCall}
+use Rattle.grid_base.specs.declared.calls.MapCall.TheVariants.{Put, Get}
+use Rattle.grid_base.specs.declared.calls.Request.{Request}
+use Rattle.partition_protocol.specs.History.{Executed, Entry, Called, Reset}
+use Rattle.partition_protocol.specs.World.{trail}
+use Rattle.partition_protocol.specs.Service.{numbers_below}
+use Rattle.replay_run.specs.PartitionObjects.{map_call_of, target_of}
+use Rattle.partition_world.specs.Answers.{id_of}
+use Rattle.replay_run.specs.Runs.{Run, Connection, Arrival, Appended, world_at, connection_of, fault_on}
+use Rattle.script_lang.specs.declared.line.Line.{Line}
+use Rattle.script_lang.specs.declared.line.Line.TheVariants.{Grid, OpenConn, Arrive, Trail, End}
+use Rattle.frame_codec.specs.declared.malformed.Malformed.{Malformed}
+use Rattle.frame_codec.specs.declared.malformed.Why.{Why}
+use Rattle.frame_codec.specs.declared.malformed.Why.TheVariants.{Prefix, TooShort, TooLong, BadFragment, OpenFragments, ManyFrames, LongMessage, ShortStart, Spent}
+
+-- an entry of a trail: its place there, its call, the lines at which the call arrived and was answered, and the reply
+pub record Printed : Type 0 where
+  pub partition : ℕ
+  pub place : ℕ
+  pub id : CallId
+  pub arrived : ℕ
+  pub answered : Option ℕ
+  pub now : ℕ
+  pub request : Request
+  pub reply : List ℕ
+
+abbrev pub arrival_of : Run → CallId → Option Arrival
+arrival_of r id = find (λ (a : Arrival). is_same_call a.id id) r.arrivals
+
+abbrev pub is_named : CallId → Option CallId → Bool
+is_named id None = false
+is_named id (Some other) = is_same_call other id
+
+abbrev pub is_answer_to : CallId → Appended → Bool
+is_answer_to id m = is_named id m.answers
+
+abbrev pub answer_of : Run → CallId → Option Appended
+answer_of r id = find (is_answer_to id) r.appended
+
+abbrev pub printed : Run → ℕ → ℕ → Executed Request → Printed
+printed r p place x = record {
+  partition = p;
+  place = place;
+  id = id_of x;
+  arrived = unwrap_or (option_map (λ (a : Arrival). a.line) (arrival_of r (id_of x))) 0;
+  answered = option_map (λ (m : Appended). m.line) (answer_of r (id_of x));
+  now = x.now;
+  request = x.call;
+  reply = x.reply;
+}
+
+abbrev pub printed_from : Run → ℕ → ℕ → List (Entry Request) → List Printed
+printed_from r p place [] = []
+printed_from r p place (Called x ∷ es) = printed r p place x ∷ printed_from r p (place + 1) es
+printed_from r p place (Reset version ∷ es) = printed_from r p (place + 1) es
+
+abbrev pub partitions : ℕ
+partitions = 271
+
+-- the entries of a partition's trail, and of all trails in order of partition
+abbrev pub entries_of : {State : Type 0} → Object Request State → Run → ℕ → List Printed
+entries_of o r p = printed_from r p 0 (trail (world_at o r p))
+
+abbrev pub all_entries : {State : Type 0} → Object Request State → Run → List Printed
+all_entries o r = flat_map (entries_of o r) (numbers_below partitions)
+
+-- text
+
+abbrev pub word : List ℕ → List ℕ
+word text = text ++ 32 ∷ []
+
+abbrev pub number : ℕ → List ℕ
+number n = word (decimal n)
+
+abbrev pub line_end : List ℕ
+line_end = 10 ∷ []
+
+-- bytes that may be none are `x` and their hexadecimal
+abbrev pub hex_word : List ℕ → List ℕ
+hex_word bytes = 120 ∷ encode_lower bytes
+
+abbrev pub number_or_dash : Option ℕ → List ℕ
+number_or_dash None = codes "- "
+number_or_dash (Some n) = number n
+
+abbrev pub ok_text : ℕ → List ℕ
+ok_text line = number line ++ codes "ok" ++ line_end
+
+-- `I to C HEX`
+abbrev pub appended_text : Appended → List ℕ
+appended_text m = number m.line ++ codes "to " ++ number m.conn ++ encode_lower m.bytes ++ line_end
+
+abbrev pub call_name : MapCall → List ℕ
+call_name (Put name key owner value ttl) = codes "put"
+call_name (Get name key owner) = codes "get"
+
+-- `I entry P PLACE CONN NUMBER ARRIVED ANSWERED NOW OP NAME KEY REPLY`
+abbrev pub entry_text : ℕ → Printed → List ℕ
+entry_text line e =
+    number line ++ codes "entry " ++ number e.partition ++ number e.place ++ number e.id.conn ++ number e.id.number
+    ++ number e.arrived ++ number_or_dash e.answered ++ number e.now
+    ++ word (call_name (map_call_of e.request.call)) ++ word (hex_word (target_of e.request).map) ++ word (hex_word (target_of e.request).key)
+    ++ hex_word e.reply ++ line_end
+
+-- what was appended at the last line
+abbrev pub new_messages : Run → Run → List Appended
+new_messages before after = drop (length before.appended) after.appended
+
+-- the word of a fault
+abbrev pub fault_word : Why → List ℕ
+fault_word Prefix = codes "prefix"
+fault_word TooShort = codes "tooshort"
+fault_word TooLong = codes "toolong"
+fault_word BadFragment = codes "badfragment"
+fault_word OpenFragments = codes "openfragments"
+fault_word ManyFrames = codes "manyframes"
+fault_word LongMessage = codes "longmessage"
+fault_word ShortStart = codes "shortstart"
+fault_word Spent = codes "spent"
+
+-- `I close C AT WHY`
+abbrev pub close_text : ℕ → ℕ → Option Malformed → List ℕ
+close_text line c None = []
+close_text line c (Some fault) = number line ++ codes "close " ++ number c ++ number fault.at ++ fault_word fault.why ++ line_end
+
+abbrev pub nothing_text : ℕ → List ℕ
+nothing_text line = number line ++ codes "nothing" ++ line_end
+
+-- whether bytes can arrive on a connection: it was opened and didn't close
+abbrev pub is_open : Option Connection → Bool
+is_open None = false
+is_open (Some connection) = not (is_some (fault_on connection))
+
+-- whether a line's condition is false
+abbrev pub does_nothing : Run → Line → Bool
+does_nothing before (Grid members backups capacity) = true
+does_nothing before (OpenConn c member) = is_some (connection_of before c)
+does_nothing before (Arrive c bytes) = not (is_open (connection_of before c))
+does_nothing before line = false
+
+-- the entries that a line prints: those of a partition's trail, or at the end those of all trails
+abbrev pub printed_by : {State : Type 0} → Object Request State → Run → Line → List Printed
+printed_by o after (Trail p) = entries_of o after p
+printed_by o after End = all_entries o after
+printed_by o after line = []
+
+-- `I trail N`: how many entries a trail has
+abbrev pub trail_text : ℕ → ℕ → List ℕ
+trail_text line entries = number line ++ codes "trail " ++ decimal entries ++ line_end
+
+abbrev pub outcome_text : {State : Type 0} → Object Request State → Run → Line → List ℕ
+outcome_text o after (Trail p) = trail_text after.lines (length (entries_of o after p))
+outcome_text o after line = ok_text after.lines
+
+-- the fault of a connection, which closes it
+abbrev pub closing_text : ℕ → ℕ → Option Connection → List ℕ
+closing_text line c None = []
+closing_text line c (Some connection) = close_text line c (fault_on connection)
+
+-- Bytes that show their connection's fault close it.
+abbrev pub line_close : Run → Line → List ℕ
+line_close after (Arrive c bytes) = closing_text after.lines c (connection_of after c)
+line_close after line = []
+
+-- The text of a line: its outcome, then each message that it appended, the connection that it closed, and the entries that it prints.
+abbrev pub line_text : {State : Type 0} → Object Request State → Run → Line → Run → List ℕ
+line_text o before line after =
+    if does_nothing before line then nothing_text after.lines
+    else outcome_text o after line ++ flat_map appended_text (new_messages before after) ++ line_close after line ++ flat_map (entry_text after.lines) (printed_by o after line)

@@ -1,0 +1,211 @@
+-- The run of a script: what its lines so far have made. The worlds of the partitions are not kept: each is the protocol's run of its events.
+use Rattle.std.specs.Prelude.{ℕ, ◌+◌, ◌==◌, Bool, true, if◌then◌else◌, ℤ, pos, List, [], ◌∷◌, ◌++◌, length, map, filter, drop, sum_by, Option, Some, None, is_some}
+use Rattle.std.specs.Int.{w32, cast_signed}
+use Rattle.std.specs.List.{list_any, find, filter_map}
+use Rattle.grid_base.specs.Objects.{Object}
+use Rattle.grid_base.specs.Names.{is_same_call}
+use Rattle.frame_codec.specs.declared.malformed.Malformed.{Malformed}
+use Rattle.message_frames.specs.Messages.{messages_of, fault_of}
+use Rattle.message_frames.specs.declared.message.Message.{Message}
+use Rattle.grid_base.specs.declared.names.CallId.{CallId}
+use Rattle.grid_base.specs.declared.calls.Request.{Request}
+use Rattle.partition_protocol.specs.Node.{Held}
+use Rattle.partition_protocol.specs.History.{Executed}
+use Rattle.partition_protocol.specs.Execution.{Reached, Executes, PartitionLost, WrongTarget, Migrating}
+use Rattle.partition_protocol.specs.World.{World, start}
+use Rattle.partition_protocol.specs.Events.{Event, Call, Outcome, Refused, happens, run}
+use Rattle.partition_world.specs.Answers.{id_of, newest_call}
+use Rattle.grid_base.specs.Errors.{partition_lost, wrong_target, migrating, want_of_memory}
+use Rattle.fixed_fields.specs.Responses.{error_bytes}
+use Rattle.session_core.specs.Items.{items_of}
+use Rattle.session_core.specs.declared.item.Item.{Item}
+use Rattle.session_core.specs.declared.item.Item.TheVariants.{Call as Asks, Reply}
+use Rattle.script_lang.specs.declared.line.Line.{Line}
+use Rattle.script_lang.specs.declared.line.Line.TheVariants.{Grid, OpenConn, Arrive, Trail, Comment, End}
+
+-- a connection: its number, the member that it is to, and all the bytes that arrived on it, however they were cut
+pub record Connection : Type 0 where
+  pub conn : ℕ
+  pub member : ℕ
+  pub bytes : List ℕ
+
+-- an event of one partition
+pub record At : Type 0 where
+  pub partition : ℕ
+  pub event : Event Request
+
+-- a call as it arrived: at which line, at which member, at which moment of that member
+pub record Arrival : Type 0 where
+  pub id : CallId
+  pub line : ℕ
+  pub member : ℕ
+  pub now : ℕ
+  pub request : Request
+
+-- a message appended to a connection's output at a line: the call that it answers, if it answers one, and the call that it refuses, if it refuses one
+pub record Appended : Type 0 where
+  pub conn : ℕ
+  pub line : ℕ
+  pub bytes : List ℕ
+  pub answers : Option CallId
+  pub refuses : Option CallId
+
+pub record Run : Type 0 where
+  pub members : ℕ
+  pub backups : ℕ
+  pub lines : ℕ  -- how many lines were run
+  pub connections : List Connection
+  pub events : List At  -- of all partitions, in order
+  pub arrivals : List Arrival
+  pub appended : List Appended
+
+-- after the first line
+abbrev pub begun : ℕ → ℕ → Run
+begun members backups = record { members = members; backups = backups; lines = 1; connections = []; events = []; arrivals = []; appended = [] }
+
+abbrev pub is_at : ℕ → At → Bool
+is_at p e = e.partition == p
+
+abbrev pub events_at : ℕ → List At → List (Event Request)
+events_at p events = map (λ (e : At). e.event) (filter (is_at p) events)
+
+-- a partition's world
+abbrev pub world_at : {State : Type 0} → Object Request State → Run → ℕ → World Request
+world_at o r p = run o (start p r.members r.backups) (events_at p r.events)
+
+abbrev pub is_connection : ℕ → Connection → Bool
+is_connection c connection = connection.conn == c
+
+abbrev pub connection_of : Run → ℕ → Option Connection
+connection_of r c = find (is_connection c) r.connections
+
+-- the messages that are complete on a connection, and its fault, which closed it
+abbrev pub messages_on : Connection → List Message
+messages_on connection = messages_of true connection.bytes
+
+abbrev pub fault_on : Connection → Option Malformed
+fault_on connection = fault_of true connection.bytes
+
+-- what its messages give: an item each
+abbrev pub items_on : Connection → List Item
+items_on connection = items_of connection.conn connection.member (messages_on connection)
+
+-- how many bytes arrived on all connections
+abbrev pub bytes_of : Run → ℕ
+bytes_of r = sum_by (λ (connection : Connection). length connection.bytes) r.connections
+
+abbrev pub updated : Connection → List Connection → List Connection
+updated new connections = map (λ (old : Connection). if old.conn == new.conn then new else old) connections
+
+-- answers
+
+-- the call of an answer, as it was executed
+abbrev pub executed_for : World Request → Held → Option (Executed Request)
+executed_for w h = newest_call (record { conn = h.conn; number = h.number }) w.recorded.log
+
+-- the calls whose answers an event released, in order of release
+abbrev pub released_by : World Request → World Request → List (Executed Request)
+released_by before after = filter_map (executed_for after) (drop (length before.released) after.released)
+
+abbrev pub answer_to : ℕ → Executed Request → Appended
+answer_to line x = record { conn = x.conn; line = line; bytes = x.reply; answers = Some (id_of x); refuses = None }
+
+-- A refusal answers no call: it names the call that wasn't executed.
+abbrev pub refusal : ℕ → Request → ℤ → ℕ → Appended
+refusal line request code first = record { conn = request.id.conn; line = line; bytes = error_bytes request.correlation code (cast_signed w32 first) (pos 0); answers = None; refuses = Some request.id }
+
+abbrev pub refused_at : ℕ → Request → Reached → List Appended
+refused_at line request Executes = []
+refused_at line request (PartitionLost version) = refusal line request (pos partition_lost) version ∷ []
+refused_at line request (WrongTarget version) = refusal line request (pos wrong_target) version ∷ []
+refused_at line request (Migrating version) = refusal line request (pos migrating) version ∷ []
+
+abbrev pub refused_by : ℕ → Request → Outcome → List Appended
+refused_by line request (Refused reached) = refused_at line request reached
+refused_by line request _ = []
+
+-- A session answers a message itself.
+
+abbrev pub own_answer : ℕ → ℕ → List ℕ → Appended
+own_answer line c bytes = record { conn = c; line = line; bytes = bytes; answers = None; refuses = None }
+
+abbrev pub told : Run → ℕ → List ℕ → Run
+told r c bytes = record r { appended = r.appended ++ own_answer r.lines c bytes ∷ [] }
+
+-- A message is complete and is a call: it arrives at the connection's member, at that member's moment, which is 0 at first.
+
+abbrev pub arrival_at : Run → ℕ → Request → Arrival
+arrival_at r member request = record { id = request.id; line = r.lines; member = member; now = 0; request = request }
+
+abbrev pub call_of : Arrival → Event Request
+call_of a = Call a.member a.id.conn a.id.number a.request a.now
+
+-- the call with an event, which may release answers or refuse it
+abbrev pub happening : {State : Type 0} → Object Request State → Run → Arrival → List Appended
+happening o r a =
+    let before = world_at o r a.request.partition in
+    let next = happens o before (call_of a) in
+    refused_by a.line a.request next.outcome ++ map (answer_to a.line) (released_by before next.world)
+
+abbrev pub arrived : Run → Arrival → List At → List Appended → Run
+arrived r a events appended = record r {
+  events = r.events ++ events;
+  arrivals = r.arrivals ++ a ∷ [];
+  appended = r.appended ++ appended;
+}
+
+-- The skips are the calls that found no memory: such a call makes no event and is answered with error 10.
+abbrev pub is_skipped : List CallId → CallId → Bool
+is_skipped skips id = list_any (is_same_call id) skips
+
+abbrev pub asked : {State : Type 0} → Object Request State → List CallId → Run → Arrival → Run
+asked o skips r a =
+    if is_skipped skips a.id then arrived r a [] (refusal a.line a.request (pos want_of_memory) 0 ∷ [])
+    else arrived r a (record { partition = a.request.partition; event = call_of a } ∷ []) (happening o r a)
+
+-- an item of a connection, and several in a row
+
+abbrev pub handled : {State : Type 0} → Object Request State → List CallId → Run → Connection → Item → Run
+handled o skips r connection (Reply bytes) = told r connection.conn bytes
+handled o skips r connection (Asks request) = asked o skips r (arrival_at r connection.member request)
+
+abbrev pub handled_all : {State : Type 0} → Object Request State → List CallId → Run → Connection → List Item → Run
+handled_all o skips r connection [] = r
+handled_all o skips r connection (item ∷ items) = handled_all o skips (handled o skips r connection item) connection items
+
+-- Lines after the first. Each is counted. One whose condition is false does nothing else.
+
+abbrev pub next_line : Run → Run
+next_line r = record r { lines = r.lines + 1 }
+
+abbrev pub opened : Run → ℕ → ℕ → Run
+opened r c member = record r { lines = r.lines + 1; connections = r.connections ++ record { conn = c; member = member; bytes = [] } ∷ [] }
+
+abbrev pub with_bytes : Connection → List ℕ → Connection
+with_bytes connection bytes = record connection { bytes = connection.bytes ++ bytes }
+
+-- the items of the messages that bytes complete
+abbrev pub items_by : Connection → List ℕ → List Item
+items_by connection bytes = drop (length (items_on connection)) (items_on (with_bytes connection bytes))
+
+abbrev pub took_bytes : Run → Connection → List ℕ → Run
+took_bytes r connection bytes = record r { lines = r.lines + 1; connections = updated (with_bytes connection bytes) r.connections }
+
+-- Bytes on a closed connection do nothing. Others may complete messages, whose items are handled in order.
+abbrev pub bytes_arrived : {State : Type 0} → Object Request State → List CallId → Run → Connection → List ℕ → Run
+bytes_arrived o skips r connection bytes =
+    if is_some (fault_on connection) then next_line r
+    else handled_all o skips (took_bytes r connection bytes) connection (items_by connection bytes)
+
+-- The run after a line. A connection is opened once, and bytes arrive where it was opened. The other lines change nothing.
+abbrev pub after_line : {State : Type 0} → Object Request State → List CallId → Run → Line → Run
+after_line o skips r (OpenConn c member) = if is_some (connection_of r c) then next_line r else opened r c member
+after_line o skips r (Arrive c bytes) = elim (connection_of r c) [ None ↦ next_line r | Some connection ↦ bytes_arrived o skips r connection bytes ]
+after_line o skips r (Grid members backups capacity) = next_line r
+after_line o skips r (Trail partition) = next_line r
+after_line o skips r Comment = next_line r
+after_line o skips r End = next_line r
+
+abbrev pub after_lines : {State : Type 0} → Object Request State → List CallId → Run → List Line → Run
+after_lines o skips r [] = r
+after_lines o skips r (line ∷ lines) = after_lines o skips (after_line o skips r line) lines

@@ -1,0 +1,425 @@
+ghost use Rattle.std.specs.Prelude.{◌≡◌, ℕ, false, ◌+◌, ◌-◌, ◌<◌, ◌≤◌, ◌^◌, List, [], ◌++◌, ◌⊎◌, Some, map, IfOk, OnOk, length};
+ghost use Rattle.std.specs.List.{flat_map};
+ghost use Rattle.grid_base.specs.declared.calls.Request.{Request as Call};
+ghost use Rattle.partition_protocol.specs.Events.{Event as ProtocolEvent};
+ghost use Rattle.partition_protocol.specs.World.{trail};
+ghost use Rattle.session_core.specs.Sessions.{CallFits};
+ghost use Rattle.partition_world.specs.Events.{happened_of};
+ghost use Rattle.partition_world.specs.Worlds.{StandsFor, steps_of, waiting};
+ghost use Rattle.replay_run.specs.MapLists.{partition_of};
+ghost use Rattle.replay_run.specs.PartitionObjects.{partition_object};
+ghost use Rattle.replay_run.specs.Runs.{Run, Connection as RunConnection, begun, refused_by};
+ghost use Rattle.replay_run.specs.Printing.{partitions, appended_text, entry_text, entries_of, all_entries, ok_text, nothing_text};
+ghost use Rattle.replay_run.specs.Tables.{with_answer};
+ghost use Rattle.replay_run.specs.ScriptRuns.{IsRun, IsNext};
+ghost use Rattle.replay_run.specs.Grids.{Stands, Holds, IsCounting, MayRun, HasRun};
+ghost use Rattle.replay_run.specs.WorldCalls.{arrival_to, refusals, texts_of, message_of, with_answers, IsCalled, IsSkipped, GivesOut, HasAsked, HasTold, HasRoom, open_member_in, Brings, HasHandledSome};
+
+use crate::connections::Connections;
+use crate::print::{
+    EntryPlace, push_appended, push_close, push_entry, push_nothing, push_ok, push_trail,
+};
+use crate::shelf::MapList;
+use client_codecs::write_error;
+use grid_base::errors::{MIGRATING, PARTITION_LOST, WANT_OF_MEMORY, WRONG_TARGET};
+use grid_base::{Bytes, MemberId, Memory, PARTITIONS, PartitionId, Request};
+use partition_world::{CallOutcome, Event, Happened, Released, World};
+use script_lang::Line;
+use session_core::Item;
+use std::alloc::Global;
+
+/// The error that answers a call which was not run: its number, and the version of the row that its
+/// member knows.
+#[derive(Clone, Copy, Debug, PartialEq, Eq)]
+struct Refusal {
+    code: i32,
+    version: u32,
+}
+
+/// A call found no memory.
+const NO_MEMORY: Refusal = Refusal {
+    code: WANT_OF_MEMORY,
+    version: 0,
+};
+
+/// How a call is refused, if it is.
+fn refusal_of(happened: Happened) -> Option<Refusal>
+    ensures { (line : ℕ) (request : Call) → refusals line request result ≡ refused_by line request (happened_of happened) }
+{
+    match happened {
+        Happened::Nothing => None,
+        Happened::Called(CallOutcome::Held { .. } | CallOutcome::Released { .. }) => None,
+        Happened::Called(CallOutcome::PartitionLost { version }) => Some(Refusal {
+            code: PARTITION_LOST,
+            version,
+        }),
+        Happened::Called(CallOutcome::WrongTarget { version }) => Some(Refusal {
+            code: WRONG_TARGET,
+            version,
+        }),
+        Happened::Called(CallOutcome::Migrating { version }) => Some(Refusal {
+            code: MIGRATING,
+            version,
+        }),
+    }
+}
+
+/// What an error that answers a call carries of it.
+#[derive(Clone, Copy)]
+struct Caller {
+    line: u32,
+    conn: u32,
+    correlation: i64,
+}
+
+/// Appends the error that refuses a call, if it is refused.
+fn push_refusal(
+    alloc: Global,
+    out: &mut Vec<u8>,
+    to: Caller,
+    refusal: Option<Refusal>,
+) -> Result<(), Memory>
+    ensures { (request : Call) → request.id.conn ≡ to.conn → request.correlation ≡ to.correlation
+        → OnOk result (out.new.items ≡ out.old.items ++ texts_of (refusals to.line request refusal)) }
+{
+    let Some(Refusal { code, version }) = refusal else {
+        return Ok(());
+    };
+    let error = write_error(alloc, to.correlation, code, version.cast_signed(), 0)?;
+    push_appended(alloc, out, to.line, to.conn, error.as_slice())
+}
+
+/// A call reaches a member at a line. It is answered at once where it is refused or finds no memory.
+fn call(
+    alloc: Global,
+    world: &mut World<MapList>,
+    member: MemberId,
+    request: Request,
+    line: u32,
+    out: &mut Vec<u8>,
+) -> Result<(), Memory>
+    requires limits { CallFits request.call }
+    requires room { steps_of world.old + 1 < 2 ^ 32 - 1 }
+    requires stands { (events : List (ProtocolEvent Call)) × StandsFor partition_object partition_of world.old events }
+    ensures { (events : List (ProtocolEvent Call)) → StandsFor partition_object partition_of world.old events
+        → OnOk result ((text : List ℕ) × (out.new.items ≡ out.old.items ++ text)
+        × (IsCalled world.old world.new events (arrival_to line member request) text ⊎ IsSkipped world.old world.new events (arrival_to line member request) text)) }
+{
+    let id = request.id;
+    let to = Caller {
+        line,
+        conn: id.conn,
+        correlation: request.correlation,
+    };
+    let event = Event::Call {
+        member,
+        id,
+        call: request,
+        now: 0,
+    };
+    match world.step(alloc, &(), event) {
+        Ok(happened) => push_refusal(alloc, out, to, refusal_of(happened)),
+        Err(_) => push_refusal(alloc, out, to, Some(NO_MEMORY)),
+    }
+}
+
+/// Gives out an answer: marks its call as answered, and appends it as a message.
+fn give(
+    alloc: Global,
+    connections: &mut Connections,
+    line: u32,
+    answer: Released,
+    out: &mut Vec<u8>,
+) -> Result<(), Memory>
+    ensures table { connections.new ≡ with_answer connections.old answer.id line }
+    ensures text { OnOk result (out.new.items ≡ out.old.items ++ appended_text (message_of line answer)) }
+{
+    connections.answer(answer.id, line);
+    push_appended(alloc, out, line, answer.id.conn, answer.reply.as_slice())
+}
+
+/// Gives out the answers that wait at a member, the oldest first.
+fn give_out(
+    alloc: Global,
+    world: &mut World<MapList>,
+    member: MemberId,
+    connections: &mut Connections,
+    line: u32,
+    out: &mut Vec<u8>,
+) -> Result<(), Memory>
+    ensures text { OnOk result (out.new.items ≡ out.old.items ++ texts_of (map (message_of line) (waiting world.old member))) }
+    ensures table { OnOk result (connections.new ≡ with_answers connections.old line (waiting world.old member)) }
+    ensures world { OnOk result (GivesOut world.old world.new member) }
+{
+    while let Some(answer) = world.pop_released(member) {
+        give(alloc, connections, line, answer, out)?;
+    }
+    Ok(())
+}
+
+/// The worlds of all partitions, the connections to their members, and how many lines were run.
+#[derive(Drop)]
+pub struct Grid {
+    members: u8,
+    lines: u32,
+    connections: Connections,
+    worlds: Vec<World<MapList>>,
+}
+
+impl Grid {
+    /// The grid after a script's first line. At this stage it has one member. Costs its partitions.
+    pub fn new(alloc: Global, members: u8, backups: u8) -> Result<Grid, Memory>
+        requires members { members ≡ 1 }
+        requires backups { backups ≤ 6 }
+        ensures { IfOk result (λ grid. Stands grid (begun members backups)) }
+    {
+        let mut worlds = Vec::with_capacity(alloc, usize::from(PARTITIONS))?;
+        for partition in 0..PARTITIONS {
+            worlds.push(World::new(alloc, partition, members, backups)?)?;
+        }
+        Ok(Grid {
+            members,
+            lines: 1,
+            connections: Connections::new(alloc)?,
+            worlds,
+        })
+    }
+
+    /// How many members the grid has.
+    pub fn members(&self) -> u8
+        ensures { (r : Run) → Stands self.now r → result ≡ r.members }
+    {
+        self.members
+    }
+
+    /// How many lines were run, the first among them.
+    pub fn lines(&self) -> u32
+        ensures { (r : Run) → Stands self.now r → result ≡ r.lines }
+    {
+        self.lines
+    }
+
+    /// Runs the line of that number, which is the next one, and appends its text. After want of memory the grid and
+    /// the text are given up.
+    ///
+    /// A line costs its own work: it looks up its connection and its partition by their numbers. The line `trail`
+    /// costs the entries of its partition's history, and the line `end` those of all.
+    pub fn run_line(
+        &mut self,
+        alloc: Global,
+        number: u32,
+        line: &Line,
+        out: &mut Vec<u8>,
+    ) -> Result<(), Memory>
+        requires { MayRun self.old number line.now }
+        ensures { (r : Run) → Stands self.old r → OnOk result (HasRun self.new r line.now out.old.items out.new.items) }
+    {
+        match line {
+            Line::Grid { .. } => self.pass(number, out),
+            Line::OpenConn { conn, member } => self.open(alloc, number, *conn, *member, out),
+            Line::Arrive { conn, bytes } => self.arrive(
+                alloc,
+                number,
+                *conn,
+                bytes.as_slice(),
+                out,
+            ),
+            Line::Trail { partition } => self.trail(alloc, number, *partition, out),
+            Line::Comment => self.count(number, out),
+            Line::End => self.end(alloc, number, out),
+        }
+    }
+
+    /// Counts a line that ran.
+    fn count(&mut self, number: u32, out: &mut Vec<u8>) -> Result<(), Memory>
+        ensures grid { self.new ≡ record self.old { lines = number } }
+        ensures text { OnOk result (out.new.items ≡ out.old.items ++ ok_text number) }
+    {
+        self.lines = number;
+        push_ok(out, number)
+    }
+
+    /// Counts a line whose condition is false.
+    fn pass(&mut self, number: u32, out: &mut Vec<u8>) -> Result<(), Memory>
+        ensures grid { self.new ≡ record self.old { lines = number } }
+        ensures text { OnOk result (out.new.items ≡ out.old.items ++ nothing_text number) }
+    {
+        self.lines = number;
+        push_nothing(out, number)
+    }
+
+    /// `open C M`: opens a connection that wasn't opened before.
+    fn open(
+        &mut self,
+        alloc: Global,
+        number: u32,
+        conn: u32,
+        member: MemberId,
+        out: &mut Vec<u8>,
+    ) -> Result<(), Memory>
+        requires { MayRun self.old number (Line.OpenConn conn member) }
+        ensures { (r : Run) → Stands self.old r → OnOk result (HasRun self.new r (Line.OpenConn conn member) out.old.items out.new.items) }
+    {
+        if self.connections.get(conn).is_some() {
+            return self.pass(number, out);
+        }
+        self.connections.open(alloc, conn, member);
+        self.count(number, out)
+    }
+
+    /// `bytes C HEX`: the messages that the bytes complete are handled in order, and a fault closes the connection.
+    /// Where it is closed or wasn't opened nothing happens.
+    fn arrive(
+        &mut self,
+        alloc: Global,
+        number: u32,
+        conn: u32,
+        bytes: &[u8],
+        out: &mut Vec<u8>,
+    ) -> Result<(), Memory>
+        requires { MayRun self.old number (Line.Arrive conn bytes.now) }
+        ensures { (r : Run) → Stands self.old r → OnOk result (HasRun self.new r (Line.Arrive conn bytes.now) out.old.items out.new.items) }
+    {
+        let Some(member) = self.open_member(conn) else {
+            return self.pass(number, out);
+        };
+        let Some(fed) = self.connections.feed(alloc, conn, bytes)? else {
+            return self.pass(number, out);
+        };
+        self.count(number, out)?;
+        self.handle_all(alloc, conn, member, fed.items, out)?;
+        push_close(out, number, conn, fed.closed)
+    }
+
+    /// The member of a connection, where bytes can arrive on it.
+    fn open_member(&self, conn: u32) -> Option<MemberId>
+        ensures { (r : Run) → Stands self.now r → result ≡ open_member_in r conn }
+    {
+        let session = &self.connections.get(conn)?.session;
+        match session.closed() {
+            None => Some(session.member()),
+            Some(_) => None,
+        }
+    }
+
+    /// The items of a connection are handled one after the other.
+    fn handle_all(
+        &mut self,
+        alloc: Global,
+        conn: u32,
+        member: MemberId,
+        items: Vec<Item>,
+        out: &mut Vec<u8>,
+    ) -> Result<(), Memory>
+        requires { (r : Run) × (k : RunConnection) × (bytes : List ℕ) × Brings r k bytes items.items × HasHandledSome self.old r k bytes [] out.old.items out.old.items × (k.conn ≡ conn) × (k.member ≡ member) × HasRoom r k bytes }
+        ensures { (r : Run) (k : RunConnection) (bytes : List ℕ) → Brings r k bytes items.items → k.conn ≡ conn → k.member ≡ member
+            → HasHandledSome self.old r k bytes [] out.old.items out.old.items
+            → OnOk result (HasHandledSome self.new r k bytes items.items out.old.items out.new.items) }
+    {
+        for item in items {
+            match item {
+                Item::Reply(answer) => self.tell(alloc, conn, answer, out)?,
+                Item::Call(request) => self.ask(alloc, member, request, out)?,
+            }
+        }
+        Ok(())
+    }
+
+    /// A session's own answer is appended to its connection.
+    fn tell(
+        &mut self,
+        alloc: Global,
+        conn: u32,
+        answer: Bytes,
+        out: &mut Vec<u8>,
+    ) -> Result<(), Memory>
+        ensures { (r : Run) (number : ℕ) → IsRun r → Holds self.old r → IsCounting self.old.connections r conn number
+            → OnOk result (HasTold self.new r conn number answer out.old.items out.new.items) }
+    {
+        self.connections.reply(conn)?;
+        push_appended(alloc, out, self.lines, conn, answer.as_slice())
+    }
+
+    /// A call arrives at its connection's member.
+    fn ask(
+        &mut self,
+        alloc: Global,
+        member: MemberId,
+        request: Request,
+        out: &mut Vec<u8>,
+    ) -> Result<(), Memory>
+        requires limits { CallFits request.call }
+        requires placed { request.partition < partitions }
+        requires stands { (r : Run) × Holds self.old r × (length r.events + 1 < 2 ^ 32 - 1) }
+        ensures { (r : Run) → IsRun r → Holds self.old r → IsNext r request → IsCounting self.old.connections r request.id.conn request.id.number
+            → OnOk result (HasAsked self.new r member request out.old.items out.new.items) }
+    {
+        self.connections.arrive(request.id.conn, self.lines)?;
+        let world = &mut self.worlds[usize::from(request.partition)];
+        call(alloc, world, member, request, self.lines, out)?;
+        give_out(alloc, world, member, &mut self.connections, self.lines, out)
+    }
+
+    /// `trail P`: prints a partition's recorded history.
+    fn trail(
+        &mut self,
+        alloc: Global,
+        number: u32,
+        partition: PartitionId,
+        out: &mut Vec<u8>,
+    ) -> Result<(), Memory>
+        requires { MayRun self.old number (Line.Trail partition) }
+        ensures { (r : Run) → Stands self.old r → OnOk result (HasRun self.new r (Line.Trail partition) out.old.items out.new.items) }
+    {
+        self.lines = number;
+        push_trail(out, number, self.worlds[usize::from(partition)].trail_len())?;
+        self.push_history(alloc, partition, out)
+    }
+
+    /// `end`: prints all recorded histories.
+    fn end(&mut self, alloc: Global, number: u32, out: &mut Vec<u8>) -> Result<(), Memory>
+        requires { MayRun self.old number Line.End }
+        ensures { (r : Run) → Stands self.old r → OnOk result (HasRun self.new r Line.End out.old.items out.new.items) }
+    {
+        self.count(number, out)?;
+        self.push_histories(alloc, out)
+    }
+
+    /// Appends the recorded histories of all partitions.
+    fn push_histories(&self, alloc: Global, out: &mut Vec<u8>) -> Result<(), Memory>
+        requires { (r : Run) × Stands self.now r }
+        ensures { (r : Run) → Stands self.now r → OnOk result (out.new.items ≡ out.old.items ++ flat_map (entry_text r.lines) (all_entries partition_object r)) }
+    {
+        for partition in 0..PARTITIONS {
+            self.push_history(alloc, partition, out)?;
+        }
+        Ok(())
+    }
+
+    /// Appends the recorded history of a partition.
+    fn push_history(
+        &self,
+        alloc: Global,
+        partition: PartitionId,
+        out: &mut Vec<u8>,
+    ) -> Result<(), Memory>
+        requires placed { partition < PARTITIONS }
+        requires stands { (r : Run) × Stands self.now r }
+        ensures { (r : Run) → Stands self.now r → OnOk result (out.new.items ≡ out.old.items ++ flat_map (entry_text r.lines) (entries_of partition_object r partition)) }
+    {
+        let world = &self.worlds[usize::from(partition)];
+        for place in 0..world.trail_len() {
+            let entry = world.trail_at(place);
+            let at = EntryPlace {
+                line: self.lines,
+                partition,
+                place,
+            };
+            push_entry(alloc, out, at, entry, self.connections.lines_of(entry.id))?;
+        }
+        Ok(())
+    }
+}
+
+#[cfg(test)]
+mod tests;

@@ -1,0 +1,156 @@
+ghost use Rattle.std.specs.Prelude.{◌<◌, IfOk, OnOk};
+ghost use Rattle.script_lang.specs.Limits.{most_line_bytes};
+ghost use Rattle.script_lang.specs.Lines.{IsWithin};
+ghost use Rattle.replay_run.specs.Runs.{Run};
+ghost use Rattle.replay_run.specs.Grids.{Stands};
+
+use super::*;
+use std::test::Fail;
+
+// How many bytes a line of these tests brings at most, and how many lines a test runs at most.
+const MOST_BYTES: usize = 200;
+
+const MOST_LINES: u32 = 100;
+
+// With it a connection's bytes begin.
+const PREFIX: &str = "435032";
+
+// An authentication of client 7 for the cluster "dev".
+const AUTH: &str =
+    "2800000000c0000100000000000000000000ffffffff000000000000000000070000000000000001090000000020646576";
+
+// A put of a value on the key 00000005fffffff56b in the map "m", and a get of it.
+const PUT: &str =
+    "2600000000c000010100010000000000000005000000010000000000000000000000000000000700000000006d0f000000000000000005fffffff56b0f000000002000000000fffffff576";
+
+const GET: &str =
+    "1e00000000c00002010002000000000000000500000001000000000000000700000000006d0f000000002000000005fffffff56b";
+
+// A ping with the first bytes of that get, and the others.
+const PING_AND_GET_BEGUN: &str = "1600000000e0000b00000100000000000000ffffffff1e00000000c000020100";
+
+const GET_ENDED: &str =
+    "02000000000000000500000001000000000000000700000000006d0f000000002000000005fffffff56b";
+
+// An authenticated client puts a value where there was none, and gets it.
+const PUT_AND_GET: &str = "\
+2 ok
+3 ok
+3 to 0 2900000000e0010100000000000000000000000000000000000000000001000000000000000f010000
+4 ok
+4 to 0 1300000000c001010100010000000000000000060000000024
+5 ok
+5 to 0 1300000000c0010201000200000000000000000f000000002000000000fffffff576
+6 ok
+6 entry 5 0 0 1 4 4 0 put x6d x00000005fffffff56b x1300000000c001010100010000000000000000060000000024
+6 entry 5 1 0 2 5 5 0 get x6d x00000005fffffff56b x1300000000c0010201000200000000000000000f000000002000000000fffffff576
+";
+
+// A connection is opened twice, and another one isn't opened. A put comes before the authentication, and a get cut into two
+// lines behind a ping. A length that no frame has closes the connection.
+const MANY_LINES: &str = "\
+2 ok
+3 nothing
+4 ok
+5 nothing
+6 ok
+6 to 0 1f00000000e000000000010000000000000000020000000000000000000000
+7 ok
+7 to 0 2900000000e0010100000000000000000000000000000000000000000001000000000000000f010000
+8 ok
+8 to 0 1300000000e0010b0000010000000000000000
+9 ok
+9 to 0 1300000000c001020100020000000000000000060000000024
+10 trail 1
+10 entry 5 0 0 3 9 9 0 get x6d x00000005fffffff56b x1300000000c001020100020000000000000000060000000024
+11 trail 0
+12 ok
+12 close 0 201 tooshort
+13 nothing
+14 ok
+14 entry 5 0 0 3 9 9 0 get x6d x00000005fffffff56b x1300000000c001020100020000000000000000060000000024
+";
+
+// A line that brings bytes on a connection.
+fn bytes_line(alloc: Global, conn: u32, hex: &str) -> Result<Line, Fail>
+    requires { conn < 64 }
+    ensures { IfOk result (IsWithin 1 most_line_bytes) }
+{
+    let bytes = hex::decode(alloc, hex.as_bytes())?;
+    if bytes.is_empty() || bytes.len() > MOST_BYTES {
+        return Err(Fail::from("no bytes or too many"));
+    }
+    let bytes = Bytes::from_vec(bytes);
+    Ok(Line::Arrive { conn, bytes })
+}
+
+// Runs the next line of a grid of one member.
+fn run(alloc: Global, grid: &mut Grid, line: &Line, out: &mut Vec<u8>) -> Result<(), Fail>
+    requires read { IsWithin 1 most_line_bytes line.now }
+    requires stands { (r : Run) × Stands grid.old r }
+    ensures { OnOk result ((r : Run) × Stands grid.new r) }
+{
+    if grid.members() != 1 || grid.lines() >= MOST_LINES {
+        return Err(Fail::from("another grid, or too many lines"));
+    }
+    let number = grid.lines() + 1;
+    Ok(grid.run_line(alloc, number, line, out)?)
+}
+
+// Bytes arrive on a connection.
+fn arrive(
+    alloc: Global,
+    grid: &mut Grid,
+    conn: u32,
+    hex: &str,
+    out: &mut Vec<u8>,
+) -> Result<(), Fail>
+    requires open { conn < 64 }
+    requires stands { (r : Run) × Stands grid.old r }
+    ensures { OnOk result ((r : Run) × Stands grid.new r) }
+{
+    let line = bytes_line(alloc, conn, hex)?;
+    run(alloc, grid, &line, out)
+}
+
+#[test]
+fn answers_a_put_and_a_get(rt: HostRuntime) -> Result<(), Fail> {
+    let alloc = rt.alloc();
+    let mut grid = Grid::new(alloc, 1, 0)?;
+    let mut out = Vec::new(alloc);
+    let open = Line::OpenConn { conn: 0, member: 0 };
+    run(alloc, &mut grid, &open, &mut out)?;
+    let begun = format!(in alloc; "{PREFIX}{AUTH}")?;
+    arrive(alloc, &mut grid, 0, begun.as_str(), &mut out)?;
+    arrive(alloc, &mut grid, 0, PUT, &mut out)?;
+    arrive(alloc, &mut grid, 0, GET, &mut out)?;
+    run(alloc, &mut grid, &Line::End, &mut out)?;
+    assert_eq!(rt; out.as_slice(), PUT_AND_GET.as_bytes());
+    Ok(())
+}
+
+#[test]
+fn runs_each_kind_of_line(rt: HostRuntime) -> Result<(), Fail> {
+    let alloc = rt.alloc();
+    let mut grid = Grid::new(alloc, 1, 0)?;
+    let mut out = Vec::new(alloc);
+    let open = Line::OpenConn { conn: 0, member: 0 };
+    run(alloc, &mut grid, &open, &mut out)?;
+    run(alloc, &mut grid, &open, &mut out)?;
+    run(alloc, &mut grid, &Line::Comment, &mut out)?;
+    arrive(alloc, &mut grid, 1, PREFIX, &mut out)?;
+    let early = format!(in alloc; "{PREFIX}{PUT}")?;
+    arrive(alloc, &mut grid, 0, early.as_str(), &mut out)?;
+    arrive(alloc, &mut grid, 0, AUTH, &mut out)?;
+    arrive(alloc, &mut grid, 0, PING_AND_GET_BEGUN, &mut out)?;
+    arrive(alloc, &mut grid, 0, GET_ENDED, &mut out)?;
+    let trail = Line::Trail { partition: 5 };
+    run(alloc, &mut grid, &trail, &mut out)?;
+    let other = Line::Trail { partition: 6 };
+    run(alloc, &mut grid, &other, &mut out)?;
+    arrive(alloc, &mut grid, 0, "05000000", &mut out)?;
+    arrive(alloc, &mut grid, 0, "00", &mut out)?;
+    run(alloc, &mut grid, &Line::End, &mut out)?;
+    assert_eq!(rt; out.as_slice(), MANY_LINES.as_bytes());
+    Ok(())
+}

@@ -1,0 +1,11 @@
+//! A script, line by line: what each line does to a grid, and the text that it prints.
+#![tactic(auto)]
+
+mod connections;
+mod grid;
+mod laws;
+mod print;
+mod shelf;
+
+pub use grid::Grid;
+pub use laws::every_run_is_linearizable;
