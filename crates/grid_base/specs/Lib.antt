@@ -1,5 +1,5 @@
 pub mod Errors
 pub mod Histories
-pub mod MapEntries
+pub mod Limits
 pub mod Names
 pub mod Objects

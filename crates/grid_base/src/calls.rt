@@ -1,11 +1,29 @@
 use crate::bytes::Bytes;
 use crate::names::{CallId, Owner, PartitionId};
 
-/// A call on one entry of a map.
+/// A call on one entry of a map, which its map's name and its key name.
+///
+/// Times to live, leases and max idle times are in milliseconds; one of 0 or less never ends.
 #[derive(Debug, Drop)]
 pub enum MapCall {
-    /// Sets the value and answers the one before. A time to live of 0 or less never ends, in milliseconds.
+    /// Sets the value and answers the one before.
     Put {
+        name: Bytes,
+        key: Bytes,
+        owner: Owner,
+        value: Bytes,
+        ttl: i64,
+    },
+    /// Sets the value.
+    Set {
+        name: Bytes,
+        key: Bytes,
+        owner: Owner,
+        value: Bytes,
+        ttl: i64,
+    },
+    /// Sets the value where there is none, and answers the one before.
+    PutIfAbsent {
         name: Bytes,
         key: Bytes,
         owner: Owner,
@@ -18,6 +36,186 @@ pub enum MapCall {
         key: Bytes,
         owner: Owner,
     },
+    /// Answers whether there is a value.
+    ContainsKey {
+        name: Bytes,
+        key: Bytes,
+        owner: Owner,
+    },
+    /// Takes the value away and answers it.
+    Remove {
+        name: Bytes,
+        key: Bytes,
+        owner: Owner,
+    },
+    /// Takes the value away.
+    Delete {
+        name: Bytes,
+        key: Bytes,
+        owner: Owner,
+    },
+    /// Puts a value in the place of another, with its expiry, and answers the one before.
+    Replace {
+        name: Bytes,
+        key: Bytes,
+        owner: Owner,
+        value: Bytes,
+    },
+    /// Puts a value in the place of an equal one of `test`, with its expiry, and answers whether it did.
+    ReplaceIfSame {
+        name: Bytes,
+        key: Bytes,
+        owner: Owner,
+        test: Bytes,
+        value: Bytes,
+    },
+    /// Takes the value away where it equals `test`, and answers whether it did.
+    RemoveIfSame {
+        name: Bytes,
+        key: Bytes,
+        owner: Owner,
+        test: Bytes,
+    },
+    /// Locks the key, also once more for its owner, and answers whether it did.
+    TryLock {
+        name: Bytes,
+        key: Bytes,
+        owner: Owner,
+        lease: i64,
+    },
+    /// Releases the owner's lock once.
+    Unlock {
+        name: Bytes,
+        key: Bytes,
+        owner: Owner,
+    },
+    /// Answers whether the key is locked.
+    IsLocked {
+        name: Bytes,
+        key: Bytes,
+    },
+    /// Takes the lock away, whoever has it.
+    ForceUnlock {
+        name: Bytes,
+        key: Bytes,
+    },
+    /// Runs the processor of a number on the value and the argument.
+    ExecuteOnKey {
+        name: Bytes,
+        key: Bytes,
+        owner: Owner,
+        number: i32,
+        argument: Bytes,
+    },
+    /// As `Put`, for a value that also goes once it lies unused so long.
+    PutMaxIdle {
+        name: Bytes,
+        key: Bytes,
+        owner: Owner,
+        value: Bytes,
+        ttl: i64,
+        idle: i64,
+    },
+    /// As `Set`, for a value that also goes once it lies unused so long.
+    SetMaxIdle {
+        name: Bytes,
+        key: Bytes,
+        owner: Owner,
+        value: Bytes,
+        ttl: i64,
+        idle: i64,
+    },
+}
+
+impl MapCall {
+    ghost use Rattle.std.specs.Prelude.{◌≡◌};
+    ghost use Rattle.grid_base.specs.Names.{map_of, key_of};
+    ghost use Rattle.grid_base.specs.Limits.{MapNumbersFit};
+
+    /// The call's numbers are those of their types. Nothing runs here.
+    pub fn numbers_fit(&self)
+        ensures { MapNumbersFit self.now }
+    {
+        match self {
+            MapCall::Put { owner, ttl, .. }
+            | MapCall::Set { owner, ttl, .. }
+            | MapCall::PutIfAbsent { owner, ttl, .. }
+            | MapCall::TryLock {
+                owner,
+                lease: ttl,
+                ..
+            } => {
+                let _ttl = *ttl;
+                owner.fits();
+            }
+            MapCall::PutMaxIdle {
+                owner,
+                ttl,
+                idle,
+                ..
+            }
+            | MapCall::SetMaxIdle {
+                owner,
+                ttl,
+                idle,
+                ..
+            } => {
+                let _times = (*ttl, *idle);
+                owner.fits();
+            }
+            _ => {}
+        }
+    }
+
+    /// The name of the call's map.
+    pub fn map(&self) -> &Bytes
+        ensures { result.now ≡ map_of self.now }
+    {
+        match self {
+            MapCall::Put { name, .. }
+            | MapCall::Set { name, .. }
+            | MapCall::PutIfAbsent { name, .. }
+            | MapCall::Get { name, .. }
+            | MapCall::ContainsKey { name, .. }
+            | MapCall::Remove { name, .. }
+            | MapCall::Delete { name, .. }
+            | MapCall::Replace { name, .. }
+            | MapCall::ReplaceIfSame { name, .. }
+            | MapCall::RemoveIfSame { name, .. }
+            | MapCall::TryLock { name, .. }
+            | MapCall::Unlock { name, .. }
+            | MapCall::IsLocked { name, .. }
+            | MapCall::ForceUnlock { name, .. }
+            | MapCall::ExecuteOnKey { name, .. }
+            | MapCall::PutMaxIdle { name, .. }
+            | MapCall::SetMaxIdle { name, .. } => name,
+        }
+    }
+
+    /// The key of the call's entry.
+    pub fn key(&self) -> &Bytes
+        ensures { result.now ≡ key_of self.now }
+    {
+        match self {
+            MapCall::Put { key, .. }
+            | MapCall::Set { key, .. }
+            | MapCall::PutIfAbsent { key, .. }
+            | MapCall::Get { key, .. }
+            | MapCall::ContainsKey { key, .. }
+            | MapCall::Remove { key, .. }
+            | MapCall::Delete { key, .. }
+            | MapCall::Replace { key, .. }
+            | MapCall::ReplaceIfSame { key, .. }
+            | MapCall::RemoveIfSame { key, .. }
+            | MapCall::TryLock { key, .. }
+            | MapCall::Unlock { key, .. }
+            | MapCall::IsLocked { key, .. }
+            | MapCall::ForceUnlock { key, .. }
+            | MapCall::ExecuteOnKey { key, .. }
+            | MapCall::PutMaxIdle { key, .. }
+            | MapCall::SetMaxIdle { key, .. } => key,
+        }
+    }
 }
 
 /// A call on a queue.
@@ -37,10 +235,44 @@ pub enum QueueCall {
     Clear { name: Bytes },
 }
 
+impl QueueCall {
+    ghost use Rattle.std.specs.Prelude.{◌≡◌};
+    ghost use Rattle.grid_base.specs.Names.{queue_of};
+
+    /// The name of the call's queue.
+    pub fn queue(&self) -> &Bytes
+        ensures { result.now ≡ queue_of self.now }
+    {
+        match self {
+            QueueCall::Offer { name, .. }
+            | QueueCall::Poll { name }
+            | QueueCall::Peek { name }
+            | QueueCall::Size { name }
+            | QueueCall::RemainingCapacity { name }
+            | QueueCall::Clear { name } => name,
+        }
+    }
+}
+
 /// A call on one object of the grid.
 #[derive(Debug, Drop)]
 pub enum GridCall {
     Map(MapCall),
+    Queue(QueueCall),
+}
+
+impl GridCall {
+    ghost use Rattle.grid_base.specs.Limits.{NumbersFit};
+
+    /// The call's numbers are those of their types. Nothing runs here.
+    pub fn numbers_fit(&self)
+        ensures { NumbersFit self.now }
+    {
+        match self {
+            GridCall::Map(call) => call.numbers_fit(),
+            GridCall::Queue(_) => {}
+        }
+    }
 }
 
 /// A call as a client asked for it: its name, what its reply carries, and where it goes.

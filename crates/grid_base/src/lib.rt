@@ -10,7 +10,7 @@ mod shelf;
 
 pub use bytes::Bytes;
 pub use calls::{Answer, Change, Executed, GridCall, MapCall, QueueCall, Request};
-pub use names::{CallId, ClientKey, MemberId, Moment, Owner, PartitionId};
+pub use names::{CallId, ClientKey, MemberId, Moment, ObjectKey, Owner, PartitionId};
 pub use refusal::CallRefused;
 pub use shelf::Shelf;
 

@@ -1,3 +1,8 @@
+ghost use Rattle.std.specs.Prelude.{◌<◌, ◌^◌};
+ghost use Rattle.std.specs.Int.{w64};
+ghost use Rattle.std.specs.Int.RustNames.{FitsSigned};
+
+use crate::bytes::Bytes;
 use std::fmt;
 
 /// A member's number, from 0.
@@ -34,4 +39,39 @@ pub enum ClientKey {
 pub struct Owner {
     pub client: ClientKey,
     pub thread: i64,
+}
+
+impl Owner {
+    ghost use Rattle.grid_base.specs.Limits.{OwnerFits};
+
+    /// Its numbers are those of their types. Nothing runs here.
+    pub fn fits(&self)
+        ensures { OwnerFits self.now }
+    {
+        signed_fits(self.thread);
+        match self.client {
+            ClientKey::Known(number) => number_fits(number),
+            ClientKey::OfConn(conn) => conn_fits(conn),
+        }
+    }
+}
+
+fn signed_fits(_number: i64)
+    ensures { FitsSigned w64 _number }
+{}
+
+fn number_fits(_number: u128)
+    ensures { _number < 2 ^ 128 }
+{}
+
+fn conn_fits(_conn: u32)
+    ensures { _conn < 2 ^ 32 }
+{}
+
+/// Names an object of a partition. A map's entries come before the queues, and each in the order of its parts.
+#[derive(Debug, PartialEq, Eq, PartialOrd, Ord, Hash, Drop)]
+pub enum ObjectKey {
+    /// An entry of a map.
+    Entry { map: Bytes, key: Bytes },
+    Queue { name: Bytes },
 }
