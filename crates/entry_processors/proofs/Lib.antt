@@ -1,3 +1,3 @@
 mod Forms
 mod NumberValues
-mod Outcomes
+pub mod Outcomes

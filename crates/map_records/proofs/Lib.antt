@@ -1,4 +1,4 @@
 mod Locking
 mod Rows
 mod Uses
-mod Values
+pub mod Values

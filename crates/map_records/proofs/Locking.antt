@@ -9,8 +9,8 @@ use Rattle.entry_processors.specs.Places.{item_at}
 use Rattle.entry_processors.specs.Processors.{ProcessorForm, outcome}
 use Rattle.key_locks.specs.declared.locks.Lock.{Lock}
 use Rattle.key_locks.specs.Locks.{is_same_owner, may_write}
-use Rattle.map_records.specs.declared.calls.MapCall.{MapCall}
-use Rattle.map_records.specs.declared.calls.MapCall.TheVariants.{Put, Set, PutIfAbsent, Get, ContainsKey, Remove, Delete, Replace, ReplaceIfSame, RemoveIfSame, TryLock, Unlock, IsLocked, ForceUnlock, ExecuteOnKey, PutMaxIdle, SetMaxIdle}
+use Rattle.grid_base.specs.declared.calls.MapCall.{MapCall}
+use Rattle.grid_base.specs.declared.calls.MapCall.TheVariants.{Put, Set, PutIfAbsent, Get, ContainsKey, Remove, Delete, Replace, ReplaceIfSame, RemoveIfSame, TryLock, Unlock, IsLocked, ForceUnlock, ExecuteOnKey, PutMaxIdle, SetMaxIdle}
 use Rattle.map_records.specs.declared.records.MapRecord.{MapRecord}
 use Rattle.map_records.specs.MapEntries.{cleaned}
 use Rattle.map_records.specs.MapTable.{Done, row, processed, writer, unless_locked}

@@ -8,8 +8,8 @@ use Rattle.entry_processors.specs.declared.processor.Outcome.{Outcome}
 use Rattle.entry_processors.specs.Processors.{ProcessorForm, outcome_at}
 use Rattle.key_locks.specs.declared.locks.Lock.{Lock}
 use Rattle.key_locks.specs.Locks.{may_write, is_held_by, cleaned as cleaned_lock}
-use Rattle.map_records.specs.declared.calls.MapCall.{MapCall}
-use Rattle.map_records.specs.declared.calls.MapCall.TheVariants.{Unlock, ExecuteOnKey}
+use Rattle.grid_base.specs.declared.calls.MapCall.{MapCall}
+use Rattle.grid_base.specs.declared.calls.MapCall.TheVariants.{Unlock, ExecuteOnKey}
 use Rattle.map_records.specs.declared.records.MapRecord.{MapRecord}
 use Rattle.map_records.specs.MapEntries.{is_expired, without_value, with_lock, cleaned}
 use Rattle.map_records.specs.MapTable.{Done, row, processed, writer, unless_locked}

@@ -6,8 +6,8 @@ use Rattle.grid_base.specs.declared.names.Owner.{Owner}
 use Rattle.entry_processors.specs.declared.processor.Outcome.{Outcome}
 use Rattle.entry_processors.specs.Processors.{ProcessorForm, outcome_at}
 use Rattle.key_locks.specs.Locks.{may_write}
-use Rattle.map_records.specs.declared.calls.MapCall.{MapCall}
-use Rattle.map_records.specs.declared.calls.MapCall.TheVariants.{Put, Set, PutIfAbsent, Get, ContainsKey, Remove, Delete, Replace, ReplaceIfSame, RemoveIfSame, TryLock, Unlock, IsLocked, ForceUnlock, ExecuteOnKey, PutMaxIdle, SetMaxIdle}
+use Rattle.grid_base.specs.declared.calls.MapCall.{MapCall}
+use Rattle.grid_base.specs.declared.calls.MapCall.TheVariants.{Put, Set, PutIfAbsent, Get, ContainsKey, Remove, Delete, Replace, ReplaceIfSame, RemoveIfSame, TryLock, Unlock, IsLocked, ForceUnlock, ExecuteOnKey, PutMaxIdle, SetMaxIdle}
 use Rattle.map_records.specs.declared.records.Idle.{Idle}
 use Rattle.map_records.specs.declared.records.MapRecord.{MapRecord}
 use Rattle.map_records.specs.Idling.{idle_from, idle_of, used}

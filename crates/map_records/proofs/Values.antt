@@ -9,8 +9,8 @@ use Rattle.entry_processors.specs.Processors.{ProcessorForm, outcome_at}
 use Rattle.key_locks.specs.declared.locks.Lock.{Lock}
 use Rattle.key_locks.specs.Ends.{end_of, has_ended}
 use Rattle.key_locks.specs.Locks.{may_write, cleaned as cleaned_lock}
-use Rattle.map_records.specs.declared.calls.MapCall.{MapCall}
-use Rattle.map_records.specs.declared.calls.MapCall.TheVariants.{Put, Set, PutIfAbsent, Get, ContainsKey, Remove, Delete, Replace, ReplaceIfSame, RemoveIfSame, TryLock, Unlock, IsLocked, ForceUnlock, ExecuteOnKey, PutMaxIdle, SetMaxIdle}
+use Rattle.grid_base.specs.declared.calls.MapCall.{MapCall}
+use Rattle.grid_base.specs.declared.calls.MapCall.TheVariants.{Put, Set, PutIfAbsent, Get, ContainsKey, Remove, Delete, Replace, ReplaceIfSame, RemoveIfSame, TryLock, Unlock, IsLocked, ForceUnlock, ExecuteOnKey, PutMaxIdle, SetMaxIdle}
 use Rattle.map_records.specs.declared.records.MapRecord.{MapRecord}
 use Rattle.map_records.specs.Idling.{used}
 use Rattle.map_records.specs.MapEntries.{is_expired, cleaned, without_value, with_lock, with_value, with_value_if_absent, replaced, is_value, replaced_if_same, removed_if_same, with_outcome, touched}

@@ -6,8 +6,8 @@ use Rattle.entry_processors.specs.Processors.{ProcessorForm}
 use Rattle.key_locks.specs.declared.locks.Lock.{Lock}
 use Rattle.key_locks.specs.Ends.{end_of, has_ended}
 use Rattle.key_locks.specs.Locks.{is_same_owner, may_write, cleaned as cleaned_lock}
-use Rattle.map_records.specs.declared.calls.MapCall.{MapCall}
-use Rattle.map_records.specs.declared.calls.MapCall.TheVariants.{Put, Set, PutIfAbsent, Get, ContainsKey, Remove, Delete, Replace, ReplaceIfSame, RemoveIfSame, TryLock, Unlock, IsLocked, ForceUnlock, ExecuteOnKey, PutMaxIdle, SetMaxIdle}
+use Rattle.grid_base.specs.declared.calls.MapCall.{MapCall}
+use Rattle.grid_base.specs.declared.calls.MapCall.TheVariants.{Put, Set, PutIfAbsent, Get, ContainsKey, Remove, Delete, Replace, ReplaceIfSame, RemoveIfSame, TryLock, Unlock, IsLocked, ForceUnlock, ExecuteOnKey, PutMaxIdle, SetMaxIdle}
 use Rattle.map_records.specs.declared.records.MapRecord.{MapRecord}
 use Rattle.map_records.specs.Idling.{idle_from}
 use Rattle.map_records.specs.MapEntries.{is_expired, cleaned, without_value}

@@ -6,8 +6,8 @@ use Rattle.grid_base.specs.declared.names.Owner.{Owner}
 use Rattle.entry_processors.specs.NumberValues.{number_value}
 use Rattle.entry_processors.specs.Processors.{ProcessorForm, Add, AddUpTo, Append, SetIfGreater, Clear}
 use Rattle.key_locks.specs.declared.locks.Lock.{Lock}
-use Rattle.map_records.specs.declared.calls.MapCall.{MapCall}
-use Rattle.map_records.specs.declared.calls.MapCall.TheVariants.{Put, PutIfAbsent, Get, ContainsKey, Remove, Replace, ReplaceIfSame, RemoveIfSame, TryLock, Unlock, IsLocked, ForceUnlock, ExecuteOnKey, PutMaxIdle}
+use Rattle.grid_base.specs.declared.calls.MapCall.{MapCall}
+use Rattle.grid_base.specs.declared.calls.MapCall.TheVariants.{Put, PutIfAbsent, Get, ContainsKey, Remove, Replace, ReplaceIfSame, RemoveIfSame, TryLock, Unlock, IsLocked, ForceUnlock, ExecuteOnKey, PutMaxIdle}
 use Rattle.map_records.specs.declared.records.Idle.{Idle}
 use Rattle.map_records.specs.declared.records.MapRecord.{MapRecord}
 use Rattle.map_records.specs.MapEntries.{empty_entry}

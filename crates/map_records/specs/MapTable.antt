@@ -8,8 +8,8 @@ use Rattle.entry_processors.specs.Places.{item_at}
 use Rattle.entry_processors.specs.Processors.{ProcessorForm, outcome_at}
 use Rattle.key_locks.specs.Ends.{end_of}
 use Rattle.key_locks.specs.Locks.{may_write, may_lock, is_held_by, after_try_lock, after_unlock}
-use Rattle.map_records.specs.declared.calls.MapCall.{MapCall}
-use Rattle.map_records.specs.declared.calls.MapCall.TheVariants.{Put, Set, PutIfAbsent, Get, ContainsKey, Remove, Delete, Replace, ReplaceIfSame, RemoveIfSame, TryLock, Unlock, IsLocked, ForceUnlock, ExecuteOnKey, PutMaxIdle, SetMaxIdle}
+use Rattle.grid_base.specs.declared.calls.MapCall.{MapCall}
+use Rattle.grid_base.specs.declared.calls.MapCall.TheVariants.{Put, Set, PutIfAbsent, Get, ContainsKey, Remove, Delete, Replace, ReplaceIfSame, RemoveIfSame, TryLock, Unlock, IsLocked, ForceUnlock, ExecuteOnKey, PutMaxIdle, SetMaxIdle}
 use Rattle.map_records.specs.declared.records.MapRecord.{MapRecord}
 use Rattle.map_records.specs.Idling.{idle_of}
 use Rattle.map_records.specs.MapEntries.{cleaned, without_value, with_lock, with_value, with_value_if_absent, replaced, is_value, replaced_if_same, removed_if_same, with_outcome, touched}

@@ -4,7 +4,7 @@ ghost use Rattle.std.specs.Prelude.{ℕ, ℤ, List};
 ghost use Rattle.grid_base.specs.declared.names.Owner.{Owner as OwnerOf};
 ghost use Rattle.entry_processors.specs.Processors.{ProcessorForm};
 ghost use Rattle.key_locks.specs.declared.locks.Lock.{Lock as LockOf};
-ghost use Rattle.map_records.specs.declared.calls.MapCall.{MapCall as Call};
+ghost use Rattle.grid_base.specs.declared.calls.MapCall.{MapCall as Call};
 ghost use Rattle.map_records.specs.declared.records.MapRecord.{MapRecord as RecordOf};
 ghost use Rattle.map_records.specs.EntryFacts.{RefusalChangesNothing, ExpiredIsAbsent, LivesUntilItsEnd, OwnerAloneWrites, UseBeginsTheSpanAnew, OthersLeaveTheSpan, StaysWhole, LookChangesNothing};
 

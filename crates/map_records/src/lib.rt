@@ -1,12 +1,10 @@
 //! A map's entry as one thread sees it: what a call on it answers, and what it leaves.
 #![tactic(auto)]
 
-mod calls;
 pub mod laws;
 mod records;
 mod run;
 mod standing;
 
-pub use calls::MapCall;
 pub use records::{Idle, MapRecord, is_expired};
 pub use run::run_map;

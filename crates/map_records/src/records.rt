@@ -15,7 +15,7 @@ pub struct Idle {
 }
 
 /// What is kept of one entry of a map. A value that goes takes its expiry and idle span along.
-#[derive(Debug, Drop)]
+#[derive(Debug, PartialEq, Eq, Drop)]
 pub struct MapRecord {
     pub value: Option<Bytes>,
     /// The moment at which the value expires, if it does.

@@ -2,11 +2,10 @@ ghost use Rattle.std.specs.Prelude.{◌≡◌, map, IfOk, option_copied};
 ghost use Rattle.entry_processors.specs.Processors.{outcome_at};
 ghost use Rattle.map_records.specs.MapTable.{answer as answer_of, after as after_of, row, writer as writer_of, processed as processed_of};
 
-use crate::calls::MapCall;
 use crate::records::{MapRecord, max_idle};
 use crate::standing::Standing;
 use entry_processors::{Outcome, ProcessorRefused, Registry};
-use grid_base::{Answer, Bytes, Memory, Moment, Owner};
+use grid_base::{Answer, Bytes, MapCall, Memory, Moment, Owner};
 use key_locks::ends_at;
 use std::alloc::{AllocError, Global};
 
