@@ -1,12 +1,14 @@
 -- The frames behind the first are read as the parts that they hold.
-use Rattle.std.proofs.Common.{◌≡◌, ℕ, Bool, true, false, cond, List, [], ◌∷◌, drop, Option, Some, None, Result, Ok, Err, refl, ap, subst, ◌∙◌}
+use Rattle.std.proofs.Common.{◌≡◌, ℕ, Bool, true, false, cond, List, [], ◌∷◌, drop, All, Option, Some, None, Result, Ok, Err, refl, ap, subst, ◌∙◌}
 use Rattle.std.specs.Result.{result_ok}
 use Rattle.std.specs.Str.{IsUtf8, is_utf8}
 use Rattle.std.proofs.lemmas.Str.{IsUtf8-from_is_utf8, is_utf8-from_IsUtf8}
+use Rattle.std.proofs.lemmas.List.Elements.{All-nil, All-cons, All-head, All-drop}
+use Rattle.frame_codec.specs.declared.flags.TheConstants.{NULL}
 use Rattle.frame_codec.specs.declared.frames.Frame.{Frame}
 use Rattle.fixed_fields.specs.declared.refusal.FieldRefused.{FieldRefused}
 use Rattle.fixed_fields.specs.declared.refusal.FieldRefused.TheVariants.{NoFrame, NotUtf8}
-use Rattle.fixed_fields.specs.Structures.{is_plain}
+use Rattle.fixed_fields.specs.Structures.{has_flag, is_plain}
 use Rattle.fixed_fields.specs.Frames.{content_of, not_null, next_data, as_text}
 use Rattle.fixed_fields.specs.Requests.{data_in, text_in}
 use Rattle.fixed_fields.specs.Spelled.{HoldParts, with_parts}
@@ -59,3 +61,20 @@ first_holds (frame ∷ frames) part parts e h = go (is_plain frame) (content_of 
     go true (Some bytes) p c s = let same : bytes ≡ part = cc in ((p, c ∙ ap Some same), h)
     go true None p c s = absurd cc
     go false content p c s = absurd cc
+
+-- ---- what each payload is, each part is
+
+pub data_all : (P : List ℕ → Type 0) (frames : List Frame) (part : List ℕ) → All (λ frame. P frame.payload) frames → next_data frames ≡ Ok part → P part
+data_all P [] part all e = absurd cc
+data_all P (frame ∷ frames) part all e = go (is_plain frame) (has_flag NULL frame) e
+  where
+    go : (plain null : Bool) → not_null (cond plain (Ok (cond null None (Some frame.payload))) (Err NoFrame)) ≡ Ok part → P part
+    go true false s = let same : frame.payload ≡ part = cc in subst P same (All-head (λ frame. P frame.payload) frame frames all)
+    go true true s = absurd cc
+    go false null s = absurd cc
+
+pub parts_all : (P : List ℕ → Type 0) (frames : List Frame) (parts : List (List ℕ)) → All (λ frame. P frame.payload) frames → HoldParts frames parts → All P parts
+parts_all P frames [] all h = All-nil P
+parts_all P frames (part ∷ parts) all h =
+    let first = first_held frames part parts h in
+    All-cons P part parts (data_all P frames part all first.0) (parts_all P (drop 1 frames) parts (All-drop (λ frame. P frame.payload) 1 frames all) first.1)

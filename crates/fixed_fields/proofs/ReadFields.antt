@@ -9,7 +9,7 @@ use Rattle.std.proofs.lemmas.List.Elements.{All-get_or, All-take, All-drop, All-
 use Rattle.std.proofs.lemmas.Nat.{le_bytes_4, le_bytes_8}
 use Rattle.std.proofs.Math.Facts.{sfits_to_z}
 use Rattle.frame_codec.specs.Laws.{IsBytes}
-use Rattle.fixed_fields.specs.Fields.{int32_of, int32_bytes, int64_at, int64_of, int64_bytes, uuid_at, uuid_of}
+use Rattle.fixed_fields.specs.Fields.{int32_at, int32_of, int32_bytes, int64_at, int64_of, int64_bytes, uuid_at, uuid_of}
 use Rattle.fixed_fields.specs.Requests.{kind_of}
 use Rattle.fixed_fields.specs.Spelled.{SpellsUuid}
 
@@ -58,6 +58,26 @@ int64_is payload at n bytes e = go (leb (at + 8) (length payload)) refl e
     go true there s =
         let same : int64_of field ≡ n = cc in
         subst (Is64 payload at) same (record { room = leb-true (at + 8) (length payload) there; fits = sfits_to_z (record { fits = below_64 field each }); spelled = spelled_64 field (field_length 8 at payload there) each })
+    go false there s = absurd cc
+
+pub record Is32 (payload : List ℕ) (at : ℕ) (n : ℤ) : Type 0 where
+  pub room : at + 4 ≤ length payload
+  pub fits : SFits w32 n
+  pub spelled : int32_bytes n ≡ take 4 (drop at payload)
+
+pub int32_is : (payload : List ℕ) (at : ℕ) (n : ℤ) → IsBytes payload → int32_at payload at ≡ Some n → Is32 payload at n
+int32_is payload at n bytes e = go (leb (at + 4) (length payload)) refl e
+  where
+    field : List ℕ
+    field = take 4 (drop at payload)
+
+    each : (i : ℕ) → get_or field i 0 < 256
+    each = field_bytes_at 4 at payload bytes
+
+    go : (b : Bool) → leb (at + 4) (length payload) ≡ b → option_map int32_of (cond b (Some field) None) ≡ Some n → Is32 payload at n
+    go true there s =
+        let same : int32_of field ≡ n = cc in
+        subst (Is32 payload at) same (record { room = leb-true (at + 4) (length payload) there; fits = sfits_to_z (record { fits = below_32 field each }); spelled = spelled_32 field (field_length 4 at payload there) each })
     go false there s = absurd cc
 
 -- the type at the beginning of a payload

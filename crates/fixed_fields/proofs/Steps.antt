@@ -21,3 +21,12 @@ if_some false x y e = absurd cc
 pub ok_or_some : {A E : Type 0} (o : Option A) (why : E) (x : A) → ok_or o why ≡ Ok x → o ≡ Some x
 ok_or_some (Some y) why x e = cc
 ok_or_some None why x e = absurd cc
+
+-- what holds behind a step that gave a value
+pub behind : {A B : Type 0} (Goal : Type 0) (o : Option A) (f : A → Option B) (y : B) → (o >>= f) ≡ Some y → ((x : A) → o ≡ Some x → f x ≡ Some y → Goal) → Goal
+behind Goal (Some x) f y e then = then x refl e
+behind Goal None f y e then = absurd cc
+
+-- the value at the end
+pub given : {A : Type 0} (x y : A) → Some x ≡ Some y → x ≡ y
+given x y e = cc

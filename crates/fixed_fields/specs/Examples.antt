@@ -1,9 +1,11 @@
 -- Worked examples, which the definitions compute.
-use Rattle.std.specs.Prelude.{◌≡◌, ℕ, ◌+◌, ◌^◌, pos, negsuc, List, [], ◌∷◌, ◌++◌, replicate, Some, None, Ok, Err, refl}
+use Rattle.std.specs.Prelude.{◌≡◌, ℕ, ◌+◌, ◌^◌, true, pos, negsuc, List, [], ◌∷◌, ◌++◌, replicate, Some, None, Ok, Err, refl}
 use Rattle.std.specs.Str.{is_utf8, chars}
+use Rattle.grid_base.specs.declared.calls.Answer.TheVariants.{Flag, Number, Maybe, KeyLocked}
 use Rattle.frame_codec.specs.declared.frames.Frame.{Frame}
 use Rattle.fixed_fields.specs.declared.refusal.FieldRefused.TheVariants.{NoFrame, NotUtf8}
 use Rattle.fixed_fields.specs.Fields.{byte_at, int32_at, int64_at, uuid_at, uuid_bytes}
+use Rattle.fixed_fields.specs.Replies.{reply_bytes}
 use Rattle.fixed_fields.specs.Frames.{next_nullable, next_data, next_text, next_structure}
 
 -- numbers
@@ -86,3 +88,23 @@ a_frame_with_both_flags_opens = refl
 
 a_plain_frame_is_no_structure : next_structure (plain_frame ∷ begin_frame ∷ end_frame ∷ []) ≡ Err NoFrame
 a_plain_frame_is_no_structure = refl
+
+-- answers
+
+abbrev correlation_2 : List ℕ
+correlation_2 = 2 ∷ replicate 7 0
+
+a_null_answers_a_put : reply_bytes 0x010100 (pos 2) (Maybe None) ≡ 19 ∷ 0 ∷ 0 ∷ 0 ∷ 0 ∷ 192 ∷ 1 ∷ 1 ∷ 1 ∷ 0 ∷ correlation_2 ++ 0 ∷ 6 ∷ 0 ∷ 0 ∷ 0 ∷ 0 ∷ 36 ∷ []
+a_null_answers_a_put = refl
+
+a_value_answers_a_get : reply_bytes 0x010200 (pos 2) (Maybe (Some (118 ∷ []))) ≡ 19 ∷ 0 ∷ 0 ∷ 0 ∷ 0 ∷ 192 ∷ 1 ∷ 2 ∷ 1 ∷ 0 ∷ correlation_2 ++ 0 ∷ 7 ∷ 0 ∷ 0 ∷ 0 ∷ 0 ∷ 32 ∷ 118 ∷ []
+a_value_answers_a_get = refl
+
+a_flag_is_a_byte : reply_bytes 0x010500 (pos 2) (Flag true) ≡ 20 ∷ 0 ∷ 0 ∷ 0 ∷ 0 ∷ 224 ∷ 1 ∷ 5 ∷ 1 ∷ 0 ∷ correlation_2 ++ 0 ∷ 1 ∷ []
+a_flag_is_a_byte = refl
+
+a_number_has_four_bytes : reply_bytes 0x030300 (pos 2) (Number 258) ≡ 23 ∷ 0 ∷ 0 ∷ 0 ∷ 0 ∷ 224 ∷ 1 ∷ 3 ∷ 3 ∷ 0 ∷ correlation_2 ++ 0 ∷ 2 ∷ 1 ∷ 0 ∷ 0 ∷ []
+a_number_has_four_bytes = refl
+
+an_error_has_type_0 : reply_bytes 0x010100 (pos 2) KeyLocked ≡ 31 ∷ 0 ∷ 0 ∷ 0 ∷ 0 ∷ 224 ∷ replicate 4 0 ++ correlation_2 ++ 0 ∷ 11 ∷ 0 ∷ 0 ∷ 0 ∷ replicate 8 0
+an_error_has_type_0 = refl

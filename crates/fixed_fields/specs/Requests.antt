@@ -1,5 +1,5 @@
--- How requests are read: their fields and frames one after the other.
-use Rattle.std.specs.Prelude.{◌≡◌, ℕ, List, Option, Some, None, Result, Ok, Err, option_map, ⊤}
+-- How requests are read: their types by a table, and their fields and frames one after the other.
+use Rattle.std.specs.Prelude.{◌≡◌, ℕ, ◌==◌, if◌then◌else◌, List, [], ◌∷◌, map, Option, Some, None, Result, Ok, Err, option_map, ⊤}
 use Rattle.std.specs.Int.{w32, cast_unsigned}
 use Rattle.std.specs.Result.{result_ok}
 use Rattle.frame_codec.specs.declared.frames.Frame.{Frame}
@@ -32,3 +32,20 @@ IsReadAs (Ok x) said = said ≡ Ok x
 IsReadAs (Err UnknownType) said = said ≡ Err UnknownType
 IsReadAs (Err BadCall) said = said ≡ Err BadCall
 IsReadAs (Err Memory) said = ⊤
+
+-- A table of requests: each type, with what reads the rest of a request of that type.
+pub record Row (Reader : Type 0) : Type 0 where
+  pub kind : ℕ
+  pub reader : Reader
+
+abbrev pub kinds_in : {Reader : Type 0} → List (Row Reader) → List ℕ
+kinds_in rows = map (λ row. row.kind) rows
+
+-- what reads a request of that type, if the table has it
+abbrev pub reader_of : {Reader : Type 0} → ℕ → List (Row Reader) → Option Reader
+reader_of kind [] = None
+reader_of kind (row ∷ rows) = if kind == row.kind then Some row.reader else reader_of kind rows
+
+abbrev pub reader_in : {Reader : Type 0} → Option ℕ → List (Row Reader) → Option Reader
+reader_in None rows = None
+reader_in (Some kind) rows = reader_of kind rows

@@ -1,3 +1,5 @@
+pub mod Numbers
 pub mod Reading
+pub mod Table
 pub mod Refusals
 pub mod Spelling

@@ -1,181 +1,215 @@
--- What is read as a call is one of its client, and its message spells it.
-use Rattle.std.proofs.Common.{◌≡◌, ℕ, ◌+◌, ◌≤◌, ℤ, pos, ◌≤ℤ◌, Bool, true, false, cond, leb, List, [], ◌∷◌, ◌++◌, length, take, drop, Option, Some, None, Ok, Err, refl, sym, ap, subst, ◌∙◌, arith}
-use Rattle.std.specs.Prelude.{int_le, ◌==◌}
-use Rattle.std.specs.Option.{ok_or}
-use Rattle.std.specs.Int.{w32, to_le_bytes}
-use Rattle.std.proofs.lemmas.Bool.{leb-true, eqb-true}
-use Rattle.std.proofs.lemmas.Int.{ints}
-use Rattle.std.proofs.lemmas.List.{length-take, length-drop, take-append-drop, drop-drop}
+-- What calls of one shape are read of, and how they are read again.
+use Rattle.std.proofs.Common.{◌≡◌, ℕ, ℤ, leb, List, [], ◌∷◌, ◌++◌, length, drop, All, Option, Some, None, Ok, refl, sym, ap, subst, ◌∙◌, arith}
+use Rattle.std.specs.Prelude.{IfSome}
+use Rattle.std.specs.Str.{IsUtf8}
+use Rattle.std.specs.Int.{w32}
+use Rattle.std.specs.Int.RustNames.{FitsSigned}
+use Rattle.std.proofs.lemmas.Bool.{leb-true}
+use Rattle.std.proofs.lemmas.List.{length-drop, take-append-drop}
+use Rattle.std.proofs.lemmas.List.Elements.{All-nil, All-cons, All-drop}
+use Rattle.grid_base.specs.Limits.{FitsFrame}
 use Rattle.grid_base.specs.declared.names.ClientKey.{ClientKey}
 use Rattle.grid_base.specs.declared.names.Owner.{Owner}
 use Rattle.grid_base.specs.declared.calls.MapCall.{MapCall}
-use Rattle.grid_base.specs.declared.calls.MapCall.TheVariants.{Put, Get}
-use Rattle.grid_base.specs.declared.refusal.CallRefused.TheVariants.{UnknownType, BadCall}
+use Rattle.grid_base.specs.declared.calls.MapCall.TheVariants.{ExecuteOnKey}
 use Rattle.frame_codec.specs.Laws.{IsBytes}
 use Rattle.frame_codec.specs.declared.frames.Frame.{Frame}
-use Rattle.fixed_fields.specs.Fields.{int64_at}
+use Rattle.fixed_fields.specs.Fields.{int32_at, int32_bytes, int64_at}
 use Rattle.fixed_fields.specs.Frames.{next_data}
-use Rattle.fixed_fields.specs.Requests.{◌>>=◌, kind_of, data_in, text_in}
+use Rattle.fixed_fields.specs.Requests.{data_in, text_in}
 use Rattle.fixed_fields.specs.Spelled.{HoldParts}
-use Rattle.fixed_fields.proofs.Parts.{data_of, text_of, first_holds}
-use Rattle.fixed_fields.proofs.ReadFields.{Is64, int64_is, kind_is, take_on}
-use Rattle.fixed_fields.proofs.Steps.{bind_some, if_some, ok_or_some}
-use Rattle.message_frames.specs.Assembly.{first_payload}
-use Rattle.message_frames.specs.declared.message.Message.{Message}
-use Rattle.map_codecs.specs.Calls.{put_kind, get_kind, owner_in, ttl_in, key_in, put_in, get_in, call_in, map_call_of}
-use Rattle.map_codecs.specs.SpelledCalls.{IsKey, IsThreadOf, IsEndless, IsCallOf, kind_of_call, call_fields, parts_of, Spells}
+use Rattle.fixed_fields.proofs.Parts.{data_of, text_of, first_holds, data_all, parts_all}
+use Rattle.fixed_fields.proofs.ReadFields.{int32_is}
+use Rattle.fixed_fields.proofs.Steps.{behind, given, if_some}
+use Rattle.map_codecs.specs.Calls.{Processor, owner_in, key_in, processor_in, bare_in, keyed_in, leased_in, valued_in, compared_in, stored_in, idle_in, executed_in}
+use Rattle.map_codecs.specs.SpelledCalls.{IsKey}
+use Rattle.map_codecs.proofs.Numbers.{StandAt}
 
-endless : (ttl : ℤ) → int_le ttl (pos 0) ≡ true → ttl ≤ℤ pos 0
-endless ttl e = grind (arith, ints)
+-- what is read of a call: who makes it, its name, its key, its numbers, and its parts where the frames are bytes
+pub record IsRead (client : ClientKey) (payload : List ℕ) (frames : List Frame) (name key : List ℕ) (caller : Option Owner) (numbers : List ℤ) (parts values : List (List ℕ)) (processor : Option ℤ) : Type 0 where
+  pub text : IsUtf8 name
+  pub long : IsKey key
+  pub whose : IfSome caller (λ owner. owner.client ≡ client)
+  pub stand : StandAt payload 16 numbers
+  pub held : All (λ frame. IsBytes frame.payload) frames → HoldParts frames parts
+  pub run : All (λ frame. IsBytes frame.payload) frames → IfSome processor (FitsSigned w32)
+  pub fit : All (λ frame. FitsFrame frame.payload) frames → FitsFrame name × FitsFrame key × All FitsFrame values
 
 -- ---- the parts
 
--- what was read of the caller
-record OwnerFound (client : ClientKey) (payload : List ℕ) (owner : Owner) : Type 0 where
-  caller : IsThreadOf client owner
-  field : Is64 payload 16 owner.thread
+owner_read : (client : ClientKey) (payload : List ℕ) (owner : Owner) → owner_in client payload ≡ Some owner → (owner.client ≡ client) × (int64_at payload 16 ≡ Some owner.thread)
+owner_read client payload owner e =
+    let Read : Owner → Type 0 = λ o. (o.client ≡ client) × (int64_at payload 16 ≡ Some o.thread) in
+    behind (Read owner) (int64_at payload 16) _ owner e (λ thread read e. subst Read (given (record { client = client; thread = thread }) owner e) (refl, read))
 
-owner_found : (client : ClientKey) (payload : List ℕ) (owner : Owner) → IsBytes payload → owner_in client payload ≡ Some owner → OwnerFound client payload owner
-owner_found client payload owner bytes e =
-    let thread = bind_some (int64_at payload 16) (λ thread. Some (record { client = client; thread = thread })) owner e in
-    let is : record { client = client; thread = thread.0 } ≡ owner = cc in
-    let field = int64_is payload 16 thread.0 bytes thread.1 in
-    subst (OwnerFound client payload) is (record { caller = record { whose = refl; thread = field.fits }; field = field })
+key_read : (frames : List Frame) (key : List ℕ) → key_in frames ≡ Some key → IsKey key × (next_data frames ≡ Ok key)
+key_read frames key e = behind (IsKey key × (next_data frames ≡ Ok key)) (data_in frames) _ key e (λ found read e.
+    let is = if_some (leb 8 (length found)) found key e in
+    let here : IsKey found × (next_data frames ≡ Ok found) = (leb-true 8 (length found) is.0, data_of frames found read) in
+    subst (λ key. IsKey key × (next_data frames ≡ Ok key)) is.1 here)
 
-record TtlFound (payload : List ℕ) (ttl : ℤ) : Type 0 where
-  ends : IsEndless ttl
-  field : Is64 payload 24 ttl
-
-ttl_found : (payload : List ℕ) (ttl : ℤ) → IsBytes payload → ttl_in payload ≡ Some ttl → TtlFound payload ttl
-ttl_found payload ttl bytes e =
-    let read = bind_some (int64_at payload 24) (λ ttl. cond (int_le ttl (pos 0)) (Some ttl) None) ttl e in
-    let is = if_some (int_le read.0 (pos 0)) read.0 ttl read.2 in
-    let field = int64_is payload 24 read.0 bytes read.1 in
-    subst (TtlFound payload) is.1 (record { ends = record { fits = field.fits; endless = endless read.0 is.0 }; field = field })
-
-key_found : (frames : List Frame) (key : List ℕ) → key_in frames ≡ Some key → IsKey key × (next_data frames ≡ Ok key)
-key_found frames key e =
-    let read = bind_some (data_in frames) (λ key. cond (leb 8 (length key)) (Some key) None) key e in
-    let is = if_some (leb 8 (length read.0)) read.0 key read.2 in
-    let here : IsKey read.0 × (next_data frames ≡ Ok read.0) = (leb-true 8 (length read.0) is.0, data_of frames read.0 read.1) in
-    subst (λ key. IsKey key × (next_data frames ≡ Ok key)) is.1 here
-
--- ---- calls
-
--- what was read of a call, but for its type
-record CallFound (client : ClientKey) (payload : List ℕ) (frames : List Frame) (call : MapCall) : Type 0 where
-  stage : IsCallOf client call
-  room : 16 + length (call_fields call) ≤ length payload
-  fields : call_fields call ≡ take (length (call_fields call)) (drop 16 payload)
-  parts : HoldParts frames (parts_of call)
-
--- a call with the type that its message has
-abbrev Found : ClientKey → Message → MapCall → Type 0
-Found client message call = IsCallOf client call × Spells message call
-
-module _ (client : ClientKey) (payload : List ℕ) (frames : List Frame) (bytes : IsBytes payload) where
-  put_found : (owner : Owner) (ttl : ℤ) (name key value : List ℕ) → owner_in client payload ≡ Some owner → ttl_in payload ≡ Some ttl → text_in frames ≡ Some name → key_in (drop 1 frames) ≡ Some key → data_in (drop 1 (drop 1 frames)) ≡ Some value
-      → CallFound client payload frames (Put name key owner value ttl)
-  put_found owner ttl name key value o t n k v =
-      let behind : List Frame = drop 1 frames in
-      let whose = owner_found client payload owner bytes o in
-      let lives = ttl_found payload ttl bytes t in
+-- the parts of a call whose name and key come first, and then the values
+module _ (client : ClientKey) (payload : List ℕ) (frames : List Frame) (name key : List ℕ) (caller : Option Owner) (numbers : List ℤ) (values : List (List ℕ)) where
+  entry_read : text_in frames ≡ Some name → key_in (drop 1 frames) ≡ Some key → IfSome caller (λ owner. owner.client ≡ client) → StandAt payload 16 numbers → HoldParts (drop 1 (drop 1 frames)) values
+      → IsRead client payload frames name key caller numbers (name ∷ key ∷ values) values None
+  entry_read n k c s v =
       let named = text_of frames name n in
-      let keyed = key_found behind key k in
-      let last = first_holds (drop 1 behind) value [] (data_of (drop 1 behind) value v) tt in
+      let keyed = key_read (drop 1 frames) key k in
+      let held = first_holds frames name (key ∷ values) named.0 (first_holds (drop 1 frames) key values keyed.1 v) in
       record {
-        stage = (named.1, keyed.0, whose.caller, lives.ends);
-        room = lives.field.room;
-        fields = (λ i. whose.field.spelled i ++ lives.field.spelled i) ∙ ap (λ (t : List ℕ). take 8 (drop 16 payload) ++ take 8 t) (sym (drop-drop 8 16 payload)) ∙ take_on 8 8 (drop 16 payload);
-        parts = first_holds frames name (key ∷ value ∷ []) named.0 (first_holds behind key (value ∷ []) keyed.1 last);
+        text = named.1;
+        long = keyed.0;
+        whose = c;
+        stand = s;
+        held = λ _. held;
+        run = λ _. tt;
+        fit = λ fit.
+            let later = All-drop (λ frame. FitsFrame frame.payload) 1 frames fit in
+            (data_all FitsFrame frames name fit named.0, data_all FitsFrame (drop 1 frames) key later keyed.1, parts_all FitsFrame (drop 1 (drop 1 frames)) values (All-drop (λ frame. FitsFrame frame.payload) 1 (drop 1 frames) later) v);
       }
 
-  get_found : (owner : Owner) (name key : List ℕ) → owner_in client payload ≡ Some owner → text_in frames ≡ Some name → key_in (drop 1 frames) ≡ Some key → CallFound client payload frames (Get name key owner)
-  get_found owner name key o n k =
-      let whose = owner_found client payload owner bytes o in
+-- a processor's number and argument, in the bytes that hold both
+pub record IsRun (frames : List Frame) (processor : Processor) : Type 0 where
+  pub bytes : List ℕ
+  pub there : next_data frames ≡ Ok bytes
+  pub number : int32_at bytes 0 ≡ Some processor.number
+  pub argument : processor.argument ≡ drop 4 bytes
+
+rest_fits : (bytes rest : List ℕ) → rest ≡ drop 4 bytes → FitsFrame bytes → FitsFrame rest
+rest_fits bytes rest e fit =
+    let shorter : FitsFrame (drop 4 bytes) = omega (arith, fit, length-drop 4 bytes) in
+    subst FitsFrame (sym e) shorter
+
+processor_read : (frames : List Frame) (processor : Processor) → processor_in frames ≡ Some processor → IsRun frames processor
+processor_read frames processor e =
+    behind (IsRun frames processor) (data_in frames) _ processor e (λ bytes d e.
+    behind (IsRun frames processor) (int32_at bytes 0) _ processor e (λ number n e.
+    let read : Processor = record { number = number; argument = drop 4 bytes } in
+    let whole : IsRun frames read = record { bytes = bytes; there = data_of frames bytes d; number = n; argument = refl } in
+    subst (IsRun frames) (given read processor e) whole))
+
+module _ (client : ClientKey) (payload : List ℕ) (frames : List Frame) (name key : List ℕ) (owner : Owner) (processor : Processor) where
+  run_read : (owner.client ≡ client) × (int64_at payload 16 ≡ Some owner.thread) → text_in frames ≡ Some name → processor_in (drop 1 frames) ≡ Some processor → key_in (drop 1 (drop 1 frames)) ≡ Some key
+      → IsRead client payload frames name key (Some owner) (owner.thread ∷ []) (name ∷ (int32_bytes processor.number ++ processor.argument) ∷ key ∷ []) (processor.argument ∷ []) (Some processor.number)
+  run_read whose n p k =
+      let second : List Frame = drop 1 frames in
+      let third : List Frame = drop 1 second in
       let named = text_of frames name n in
-      let keyed = key_found (drop 1 frames) key k in
+      let keyed = key_read third key k in
+      let run = processor_read second processor p in
+      let bytes_of : All (λ frame. IsBytes frame.payload) frames → IsBytes run.bytes = λ all. data_all IsBytes second run.bytes (All-drop (λ frame. IsBytes frame.payload) 1 frames all) run.there in
       record {
-        stage = (named.1, keyed.0, whose.caller);
-        room = whose.field.room;
-        fields = whose.field.spelled;
-        parts = first_holds frames name (key ∷ []) named.0 (first_holds (drop 1 frames) key [] keyed.1 tt);
+        text = named.1;
+        long = keyed.0;
+        whose = whose.0;
+        stand = (whose.1, tt);
+        held = λ all.
+            let number = int32_is run.bytes 0 processor.number (bytes_of all) run.number in
+            let whole : int32_bytes processor.number ++ processor.argument ≡ run.bytes = (λ i. number.spelled i ++ run.argument i) ∙ take-append-drop 4 run.bytes in
+            let held : next_data second ≡ Ok (int32_bytes processor.number ++ processor.argument) = run.there ∙ ap Ok (sym whole) in
+            let front : List ℕ = int32_bytes processor.number ++ processor.argument in
+            first_holds frames name (front ∷ key ∷ []) named.0 (first_holds second front (key ∷ []) held (first_holds third key [] keyed.1 tt));
+        run = λ all. (int32_is run.bytes 0 processor.number (bytes_of all) run.number).fits;
+        fit = λ fit.
+            let later = All-drop (λ frame. FitsFrame frame.payload) 1 frames fit in
+            let last = All-drop (λ frame. FitsFrame frame.payload) 1 second later in
+            let all_of : FitsFrame run.bytes = data_all FitsFrame second run.bytes later run.there in
+            let argument = rest_fits run.bytes processor.argument run.argument all_of in
+            (data_all FitsFrame frames name fit named.0, data_all FitsFrame third key last keyed.1, All-cons FitsFrame processor.argument [] argument (All-nil FitsFrame));
       }
 
-  -- what was read of a call of that type
-  abbrev FoundAs : ℕ → MapCall → Type 0
-  FoundAs kind call = CallFound client payload frames call × (kind_of_call call ≡ kind)
+-- ---- calls of one shape
 
-  a_put_found : (call : MapCall) → put_in client payload frames ≡ Some call → FoundAs put_kind call
-  a_put_found call e = go (owner_in client payload) (ttl_in payload) (text_in frames) (key_in (drop 1 frames)) (data_in (drop 1 (drop 1 frames))) refl refl refl refl refl e
-    where
-      go : (o : Option Owner) (t : Option ℤ) (n k v : Option (List ℕ)) → owner_in client payload ≡ o → ttl_in payload ≡ t → text_in frames ≡ n → key_in (drop 1 frames) ≡ k → data_in (drop 1 (drop 1 frames)) ≡ v
-          → (o >>= (λ owner. t >>= (λ ttl. n >>= (λ name. k >>= (λ key. v >>= (λ value. Some (Put name key owner value ttl))))))) ≡ Some call → FoundAs put_kind call
-      go (Some owner) (Some ttl) (Some name) (Some key) (Some value) po pt pn pk pv s =
-          let is : Put name key owner value ttl ≡ call = cc in
-          subst (FoundAs put_kind) is (put_found owner ttl name key value po pt pn pk pv, refl)
-      go None t n k v po pt pn pk pv s = absurd cc
-      go (Some owner) None n k v po pt pn pk pv s = absurd cc
-      go (Some owner) (Some ttl) None k v po pt pn pk pv s = absurd cc
-      go (Some owner) (Some ttl) (Some name) None v po pt pn pk pv s = absurd cc
-      go (Some owner) (Some ttl) (Some name) (Some key) None po pt pn pk pv s = absurd cc
+module _ (client : ClientKey) (payload : List ℕ) (frames : List Frame) where
+  abbrev Parts : List ℕ → List ℕ → Option Owner → List ℤ → List (List ℕ) → List (List ℕ) → Option ℤ → Type 0
+  Parts = IsRead client payload frames
 
-  a_get_found : (call : MapCall) → get_in client payload frames ≡ Some call → FoundAs get_kind call
-  a_get_found call e = go (owner_in client payload) (text_in frames) (key_in (drop 1 frames)) refl refl refl e
-    where
-      go : (o : Option Owner) (n k : Option (List ℕ)) → owner_in client payload ≡ o → text_in frames ≡ n → key_in (drop 1 frames) ≡ k
-          → (o >>= (λ owner. n >>= (λ name. k >>= (λ key. Some (Get name key owner))))) ≡ Some call → FoundAs get_kind call
-      go (Some owner) (Some name) (Some key) po pn pk s =
-          let is : Get name key owner ≡ call = cc in
-          subst (FoundAs get_kind) is (get_found owner name key po pn pk, refl)
-      go None n k po pn pk s = absurd cc
-      go (Some owner) None k po pn pk s = absurd cc
-      go (Some owner) (Some name) None po pn pk s = absurd cc
+  -- What holds of each call of a shape that is made of what was read, holds of a call that was read.
 
--- the fields are the front of the payload
-fields_joined : (payload : List ℕ) (kind : ℕ) (fields : List ℕ) → to_le_bytes w32 kind ≡ take 4 payload → fields ≡ take (length fields) (drop 16 payload)
-    → payload ≡ (to_le_bytes w32 kind ++ take 12 (drop 4 payload) ++ fields) ++ drop (16 + length fields) payload
-fields_joined payload kind fields k f =
-    let size : ℕ = length fields in
-    let front : to_le_bytes w32 kind ++ take 12 (drop 4 payload) ++ fields ≡ take (16 + size) payload =
-    (λ i. k i ++ take 12 (drop 4 payload) ++ f i) ∙ ap (λ (t : List ℕ). t ++ take size (drop 16 payload)) (take_on 4 12 payload) ∙ take_on 16 size payload
-    in
-    sym (take-append-drop (16 + size) payload) ∙ ap (λ (t : List ℕ). t ++ drop (16 + size) payload) (sym front)
+  pub bare_read : (make : List ℕ → List ℕ → MapCall) (Is : MapCall → Type 0) (call : MapCall) → bare_in make client payload frames ≡ Some call
+      → ((name key : List ℕ) → Parts name key None [] (name ∷ key ∷ []) [] None → Is (make name key)) → Is call
+  bare_read make Is call e each =
+      behind (Is call) (text_in frames) _ call e (λ name n e.
+      behind (Is call) (key_in (drop 1 frames)) _ call e (λ key k e.
+      subst Is (given (make name key) call e) (each name key (entry_read client payload frames name key None [] [] n k tt tt tt))))
 
-all_found : (client : ClientKey) (message : Message) (call : MapCall) → IsBytes (first_payload message.frames) → kind_of (first_payload message.frames) ≡ Some (kind_of_call call)
-    → CallFound client (first_payload message.frames) (drop 1 message.frames) call → Found client message call
-all_found client message call bytes k c =
-    let payload : List ℕ = first_payload message.frames in (
-      c.stage,
-      record {
-        between = take 12 (drop 4 payload);
-        twelve = omega (arith, c.room, length-take 12 (drop 4 payload), length-drop 4 payload);
-        more = drop (16 + length (call_fields call)) payload;
-        fields = fields_joined payload (kind_of_call call) (call_fields call) (kind_is payload (kind_of_call call) bytes k) c.fields;
-        parts = c.parts;
-      },
-    )
+  pub keyed_read : (make : List ℕ → List ℕ → Owner → MapCall) (Is : MapCall → Type 0) (call : MapCall) → keyed_in make client payload frames ≡ Some call
+      → ((name key : List ℕ) (owner : Owner) → Parts name key (Some owner) (owner.thread ∷ []) (name ∷ key ∷ []) [] None → Is (make name key owner)) → Is call
+  keyed_read make Is call e each =
+      behind (Is call) (owner_in client payload) _ call e (λ owner o e.
+      behind (Is call) (text_in frames) _ call e (λ name n e.
+      behind (Is call) (key_in (drop 1 frames)) _ call e (λ key k e.
+      let whose = owner_read client payload owner o in
+      subst Is (given (make name key owner) call e) (each name key owner (entry_read client payload frames name key (Some owner) (owner.thread ∷ []) [] n k whose.0 (whose.1, tt) tt)))))
 
-pub call_found : (client : ClientKey) (message : Message) (call : MapCall) → IsBytes (first_payload message.frames) → map_call_of client message ≡ Ok call → IsCallOf client call × Spells message call
-unfolding map_call_of
-call_found client message call bytes e = go (kind_of payload) refl e
-  where
-    payload : List ℕ
-    payload = first_payload message.frames
+  pub leased_read : (make : List ℕ → List ℕ → Owner → ℤ → MapCall) (Is : MapCall → Type 0) (call : MapCall) → leased_in make client payload frames ≡ Some call
+      → ((name key : List ℕ) (owner : Owner) (lease : ℤ) → Parts name key (Some owner) (owner.thread ∷ lease ∷ []) (name ∷ key ∷ []) [] None → Is (make name key owner lease)) → Is call
+  leased_read make Is call e each =
+      behind (Is call) (owner_in client payload) _ call e (λ owner o e.
+      behind (Is call) (int64_at payload 24) _ call e (λ lease t e.
+      behind (Is call) (text_in frames) _ call e (λ name n e.
+      behind (Is call) (key_in (drop 1 frames)) _ call e (λ key k e.
+      let whose = owner_read client payload owner o in
+      subst Is (given (make name key owner lease) call e) (each name key owner lease (entry_read client payload frames name key (Some owner) (owner.thread ∷ lease ∷ []) [] n k whose.0 (whose.1, (t, tt)) tt))))))
 
-    frames : List Frame
-    frames = drop 1 message.frames
+  last_held : (frames : List Frame) (value : List ℕ) → data_in frames ≡ Some value → HoldParts frames (value ∷ [])
+  last_held frames value v = first_holds frames value [] (data_of frames value v) tt
 
-    of_kind : (kind : ℕ) (put get : Bool) → kind_of payload ≡ Some kind → (kind == put_kind) ≡ put → (kind == get_kind) ≡ get
-        → cond put (ok_or (put_in client payload frames) BadCall) (cond get (ok_or (get_in client payload frames) BadCall) (Err UnknownType)) ≡ Ok call → Found client message call
-    of_kind kind true get k p q s =
-        let found = a_put_found client payload frames bytes call (ok_or_some (put_in client payload frames) BadCall call s) in
-        all_found client message call bytes (k ∙ ap Some (eqb-true kind put_kind p ∙ sym found.1)) found.0
-    of_kind kind false true k p q s =
-        let found = a_get_found client payload frames bytes call (ok_or_some (get_in client payload frames) BadCall call s) in
-        all_found client message call bytes (k ∙ ap Some (eqb-true kind get_kind q ∙ sym found.1)) found.0
-    of_kind kind false false k p q s = absurd cc
+  pub valued_read : (make : List ℕ → List ℕ → Owner → List ℕ → MapCall) (Is : MapCall → Type 0) (call : MapCall) → valued_in make client payload frames ≡ Some call
+      → ((name key : List ℕ) (owner : Owner) (value : List ℕ) → Parts name key (Some owner) (owner.thread ∷ []) (name ∷ key ∷ value ∷ []) (value ∷ []) None → Is (make name key owner value)) → Is call
+  valued_read make Is call e each =
+      behind (Is call) (owner_in client payload) _ call e (λ owner o e.
+      behind (Is call) (text_in frames) _ call e (λ name n e.
+      behind (Is call) (key_in (drop 1 frames)) _ call e (λ key k e.
+      behind (Is call) (data_in (drop 1 (drop 1 frames))) _ call e (λ value v e.
+      let whose = owner_read client payload owner o in
+      let held = last_held (drop 1 (drop 1 frames)) value v in
+      subst Is (given (make name key owner value) call e) (each name key owner value (entry_read client payload frames name key (Some owner) (owner.thread ∷ []) (value ∷ []) n k whose.0 (whose.1, tt) held))))))
 
-    go : (kind : Option ℕ) → kind_of payload ≡ kind → call_in client kind payload frames ≡ Ok call → Found client message call
-    go None k s = absurd cc
-    go (Some kind) k s = of_kind kind (kind == put_kind) (kind == get_kind) k refl refl s
+  pub compared_read : (make : List ℕ → List ℕ → Owner → List ℕ → List ℕ → MapCall) (Is : MapCall → Type 0) (call : MapCall) → compared_in make client payload frames ≡ Some call
+      → ((name key : List ℕ) (owner : Owner) (test value : List ℕ) → Parts name key (Some owner) (owner.thread ∷ []) (name ∷ key ∷ test ∷ value ∷ []) (test ∷ value ∷ []) None → Is (make name key owner test value)) → Is call
+  compared_read make Is call e each =
+      let later : List Frame = drop 1 (drop 1 frames) in
+      behind (Is call) (owner_in client payload) _ call e (λ owner o e.
+      behind (Is call) (text_in frames) _ call e (λ name n e.
+      behind (Is call) (key_in (drop 1 frames)) _ call e (λ key k e.
+      behind (Is call) (data_in later) _ call e (λ test t e.
+      behind (Is call) (data_in (drop 1 later)) _ call e (λ value v e.
+      let whose = owner_read client payload owner o in
+      let held = first_holds later test (value ∷ []) (data_of later test t) (last_held (drop 1 later) value v) in
+      subst Is (given (make name key owner test value) call e) (each name key owner test value (entry_read client payload frames name key (Some owner) (owner.thread ∷ []) (test ∷ value ∷ []) n k whose.0 (whose.1, tt) held)))))))
+
+  pub stored_read : (make : List ℕ → List ℕ → Owner → List ℕ → ℤ → MapCall) (Is : MapCall → Type 0) (call : MapCall) → stored_in make client payload frames ≡ Some call
+      → ((name key : List ℕ) (owner : Owner) (value : List ℕ) (ttl : ℤ) → Parts name key (Some owner) (owner.thread ∷ ttl ∷ []) (name ∷ key ∷ value ∷ []) (value ∷ []) None → Is (make name key owner value ttl)) → Is call
+  stored_read make Is call e each =
+      behind (Is call) (owner_in client payload) _ call e (λ owner o e.
+      behind (Is call) (int64_at payload 24) _ call e (λ ttl t e.
+      behind (Is call) (text_in frames) _ call e (λ name n e.
+      behind (Is call) (key_in (drop 1 frames)) _ call e (λ key k e.
+      behind (Is call) (data_in (drop 1 (drop 1 frames))) _ call e (λ value v e.
+      let whose = owner_read client payload owner o in
+      let held = last_held (drop 1 (drop 1 frames)) value v in
+      subst Is (given (make name key owner value ttl) call e) (each name key owner value ttl (entry_read client payload frames name key (Some owner) (owner.thread ∷ ttl ∷ []) (value ∷ []) n k whose.0 (whose.1, (t, tt)) held)))))))
+
+  pub idle_read : (make : List ℕ → List ℕ → Owner → List ℕ → ℤ → ℤ → MapCall) (Is : MapCall → Type 0) (call : MapCall) → idle_in make client payload frames ≡ Some call
+      → ((name key : List ℕ) (owner : Owner) (value : List ℕ) (ttl idle : ℤ) → Parts name key (Some owner) (owner.thread ∷ ttl ∷ idle ∷ []) (name ∷ key ∷ value ∷ []) (value ∷ []) None → Is (make name key owner value ttl idle)) → Is call
+  idle_read make Is call e each =
+      behind (Is call) (owner_in client payload) _ call e (λ owner o e.
+      behind (Is call) (int64_at payload 24) _ call e (λ ttl t e.
+      behind (Is call) (int64_at payload 32) _ call e (λ idle i e.
+      behind (Is call) (text_in frames) _ call e (λ name n e.
+      behind (Is call) (key_in (drop 1 frames)) _ call e (λ key k e.
+      behind (Is call) (data_in (drop 1 (drop 1 frames))) _ call e (λ value v e.
+      let whose = owner_read client payload owner o in
+      let held = last_held (drop 1 (drop 1 frames)) value v in
+      subst Is (given (make name key owner value ttl idle) call e) (each name key owner value ttl idle (entry_read client payload frames name key (Some owner) (owner.thread ∷ ttl ∷ idle ∷ []) (value ∷ []) n k whose.0 (whose.1, (t, (i, tt))) held))))))))
+
+  pub executed_read : (Is : MapCall → Type 0) (call : MapCall) → executed_in client payload frames ≡ Some call
+      → ((name key : List ℕ) (owner : Owner) (number : ℤ) (argument : List ℕ) → Parts name key (Some owner) (owner.thread ∷ []) (name ∷ (int32_bytes number ++ argument) ∷ key ∷ []) (argument ∷ []) (Some number) → Is (ExecuteOnKey name key owner number argument)) → Is call
+  executed_read Is call e each =
+      behind (Is call) (owner_in client payload) _ call e (λ owner o e.
+      behind (Is call) (text_in frames) _ call e (λ name n e.
+      behind (Is call) (processor_in (drop 1 frames)) _ call e (λ processor p e.
+      behind (Is call) (key_in (drop 1 (drop 1 frames))) _ call e (λ key k e.
+      let whose = owner_read client payload owner o in
+      subst Is (given (ExecuteOnKey name key owner processor.number processor.argument) call e) (each name key owner processor.number processor.argument (run_read client payload frames name key owner processor whose n p k))))))

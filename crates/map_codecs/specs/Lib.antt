@@ -1,4 +1,4 @@
 pub mod Calls
-pub mod Replies
+pub mod Shapes
 pub mod SpelledCalls
 pub mod Examples

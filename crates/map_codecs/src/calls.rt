@@ -1,110 +1,62 @@
-ghost use Rattle.std.specs.Prelude.{◌≡◌, drop, None, IfOk, IfErr, OnOk};
-ghost use Rattle.std.specs.Option.{ok_or};
-ghost use Rattle.fixed_fields.specs.Requests.{IsReadAs};
-ghost use Rattle.map_codecs.specs.Calls.{owner_in, ttl_in, key_in, put_in, get_in, map_call_of};
+ghost use Rattle.std.specs.Prelude.{◌≡◌, IfOk};
+ghost use Rattle.fixed_fields.specs.Requests.{IsReadAs, reader_of};
+ghost use Rattle.map_codecs.specs.Calls.{call_by, map_calls, map_call_of};
 
-use fixed_fields::{Cursor, int64_at, kind_of};
+use crate::kinds::{
+    CONTAINS_KEY_KIND, DELETE_KIND, EXECUTE_ON_KEY_KIND, FORCE_UNLOCK_KIND, GET_KIND,
+    IS_LOCKED_KIND, PUT_IF_ABSENT_KIND, PUT_KIND, PUT_MAX_IDLE_KIND, REMOVE_IF_SAME_KIND,
+    REMOVE_KIND, REPLACE_IF_SAME_KIND, REPLACE_KIND, SET_KIND, SET_MAX_IDLE_KIND, TRY_LOCK_KIND,
+    UNLOCK_KIND,
+};
+use crate::shapes::{
+    Bare, Idle, Keyed, Stored, Valued, read_bare, read_compared, read_executed, read_idle_stored,
+    read_keyed, read_leased, read_stored, read_valued,
+};
+use fixed_fields::kind_of;
 use frame_codec::Frame;
-use grid_base::{Bytes, CallRefused, ClientKey, MapCall, Owner};
+use grid_base::{CallRefused, ClientKey, MapCall};
 use message_frames::Message;
 use std::alloc::Global;
 
-/// The message type of a put.
-pub const PUT_KIND: u32 = 0x01_01_00;
-
-/// The message type of a get.
-pub const GET_KIND: u32 = 0x01_02_00;
-
-/// Where the first payload of a call has the caller's thread.
-const THREAD_OFFSET: usize = 16;
-
-/// Where a put's has the time to live.
-const TTL_OFFSET: usize = 24;
-
-/// How many bytes a key has at least: those before its content.
-const SHORTEST_KEY: usize = 8;
-
-/// Who makes the call that begins with this frame.
-fn read_owner(client: ClientKey, first: &Frame) -> Result<Owner, CallRefused>
-    ensures { result ≡ ok_or (owner_in client first.now.payload) CallRefused.BadCall }
-{
-    let thread = int64_at(first, THREAD_OFFSET)?;
-    Ok(Owner { client, thread })
-}
-
-/// The time to live of the put that begins with this frame, which never ends.
-fn read_ttl(first: &Frame) -> Result<i64, CallRefused>
-    ensures { result ≡ ok_or (ttl_in first.now.payload) CallRefused.BadCall }
-{
-    let ttl = int64_at(first, TTL_OFFSET)?;
-    if ttl > 0 {
-        return Err(CallRefused::BadCall);
-    }
-    Ok(ttl)
-}
-
-/// Passes a key.
-fn read_key<'a>(cursor: &mut Cursor<'a>) -> Result<&'a Bytes, CallRefused>
-    ensures read { IfOk result (λ key. key_in cursor.old ≡ Some key.now) }
-    ensures passed { OnOk result (cursor.new ≡ drop 1 cursor.old) }
-    ensures bad { IfErr result (λ why. (why ≡ CallRefused.BadCall) × (key_in cursor.old ≡ None)) }
-{
-    let key = cursor.data()?;
-    if key.len() < SHORTEST_KEY {
-        return Err(CallRefused::BadCall);
-    }
-    Ok(key)
-}
-
-fn read_put(
+/// The call of that type which begins with this frame, and goes on with those behind it.
+fn read_call(
     alloc: Global,
+    kind: u32,
     client: ClientKey,
     first: &Frame,
     frames: &[Frame],
 ) -> Result<MapCall, CallRefused>
-    ensures { IsReadAs result (ok_or (put_in client first.now.payload frames.now) CallRefused.BadCall) }
+    ensures { IsReadAs result (call_by client first.now.payload frames.now (reader_of kind map_calls)) }
 {
-    let mut cursor = Cursor::new(frames);
-    let owner = read_owner(client, first)?;
-    let ttl = read_ttl(first)?;
-    let name = cursor.text()?;
-    let key = read_key(&mut cursor)?;
-    let value = cursor.data()?;
-    Ok(MapCall::Put {
-        name: name.copied(alloc)?,
-        key: key.copied(alloc)?,
-        owner,
-        value: value.copied(alloc)?,
-        ttl,
-    })
-}
-
-fn read_get(
-    alloc: Global,
-    client: ClientKey,
-    first: &Frame,
-    frames: &[Frame],
-) -> Result<MapCall, CallRefused>
-    ensures { IsReadAs result (ok_or (get_in client first.now.payload frames.now) CallRefused.BadCall) }
-{
-    let mut cursor = Cursor::new(frames);
-    let owner = read_owner(client, first)?;
-    let name = cursor.text()?;
-    let key = read_key(&mut cursor)?;
-    Ok(MapCall::Get {
-        name: name.copied(alloc)?,
-        key: key.copied(alloc)?,
-        owner,
-    })
+    match kind {
+        PUT_KIND => read_stored(alloc, Stored::Put, client, first, frames),
+        GET_KIND => read_keyed(alloc, Keyed::Get, client, first, frames),
+        REMOVE_KIND => read_keyed(alloc, Keyed::Remove, client, first, frames),
+        REPLACE_KIND => read_valued(alloc, Valued::Replace, client, first, frames),
+        REPLACE_IF_SAME_KIND => read_compared(alloc, client, first, frames),
+        CONTAINS_KEY_KIND => read_keyed(alloc, Keyed::ContainsKey, client, first, frames),
+        REMOVE_IF_SAME_KIND => read_valued(alloc, Valued::RemoveIfSame, client, first, frames),
+        DELETE_KIND => read_keyed(alloc, Keyed::Delete, client, first, frames),
+        PUT_IF_ABSENT_KIND => read_stored(alloc, Stored::PutIfAbsent, client, first, frames),
+        SET_KIND => read_stored(alloc, Stored::Set, client, first, frames),
+        TRY_LOCK_KIND => read_leased(alloc, client, first, frames),
+        IS_LOCKED_KIND => read_bare(alloc, Bare::IsLocked, client, first, frames),
+        UNLOCK_KIND => read_keyed(alloc, Keyed::Unlock, client, first, frames),
+        EXECUTE_ON_KEY_KIND => read_executed(alloc, client, first, frames),
+        FORCE_UNLOCK_KIND => read_bare(alloc, Bare::ForceUnlock, client, first, frames),
+        PUT_MAX_IDLE_KIND => read_idle_stored(alloc, Idle::PutMaxIdle, client, first, frames),
+        SET_MAX_IDLE_KIND => read_idle_stored(alloc, Idle::SetMaxIdle, client, first, frames),
+        _ => Err(CallRefused::UnknownType),
+    }
 }
 
 /// The call that a message is, made by a thread of the client `owner`.
 ///
-/// `UnknownType` where the message's type is neither a put nor a get. `BadCall` where a field of the
-/// first payload isn't wholly there, where the frames behind it aren't the map's name, a text, then the
-/// key, of at least eight bytes, and of a put the value, or where the time to live, in milliseconds, is
-/// greater than 0. What follows these fields and frames is ignored, and the partition isn't looked at.
-/// Costs the name, the key and the value, each copied once.
+/// `UnknownType` where no call on a map's entry has the message's type. `BadCall` where a field of the
+/// first payload isn't wholly there, where the frames behind it aren't those of the call, each data, of
+/// which the map's name is UTF-8, the key has at least eight bytes, and a processor at least four. What
+/// follows these fields and frames is ignored, and the partition isn't looked at. Costs the name, the
+/// key, and what else the call brings, each copied once.
 #[tactic(auto, unfolding(crate::specs::Calls::map_call_of))]
 pub fn read_map_call(
     alloc: Global,
@@ -117,9 +69,8 @@ pub fn read_map_call(
         return Err(CallRefused::UnknownType);
     };
     match kind_of(first) {
-        Some(PUT_KIND) => read_put(alloc, owner, first, frames),
-        Some(GET_KIND) => read_get(alloc, owner, first, frames),
-        _ => Err(CallRefused::UnknownType),
+        Some(kind) => read_call(alloc, kind, owner, first, frames),
+        None => Err(CallRefused::UnknownType),
     }
 }
 

@@ -1,4 +1,4 @@
-use Rattle.map_codecs.proofs.Reading.{call_found}
+use Rattle.map_codecs.proofs.Table.{call_found}
 use Rattle.map_codecs.proofs.Spelling.{call_again, sent_again}
 use Rattle.map_codecs.proofs.laws.map_calls_are_read_as_spelled.Goals as goal
 

@@ -1,8 +1,8 @@
--- What a call on a map's entry is answered, as bytes.
-use Rattle.std.specs.Prelude.{ℕ, ◌≤◌, Bool, if◌then◌else◌, ℤ, pos, List, [], ◌∷◌, ◌++◌, length, ⊤, IfSome}
+-- What a call on an object is answered, as bytes.
+use Rattle.std.specs.Prelude.{ℕ, Bool, if◌then◌else◌, ℤ, pos, List, [], ◌∷◌, ◌++◌, ⊤, IfSome}
 use Rattle.std.specs.Int.{w32, to_le_bytes}
-use Rattle.frame_codec.specs.declared.frames.TheConstants.{MAX_PAYLOAD}
 use Rattle.grid_base.specs.Errors.{key_locked, not_owner, unknown_processor}
+use Rattle.grid_base.specs.Limits.{FitsFrame}
 use Rattle.grid_base.specs.declared.calls.Answer.{Answer}
 use Rattle.grid_base.specs.declared.calls.Answer.TheVariants.{Void, Flag, Number, Maybe, KeyLocked, NotOwner, UnknownProcessor}
 use Rattle.fixed_fields.specs.Responses.{unfragmented, framed, response_head, response_of, void_bytes, nullable_frame, error_bytes}
@@ -23,10 +23,6 @@ reply_bytes kind correlation (Maybe value) = framed unfragmented (response_head 
 reply_bytes kind correlation KeyLocked = object_error correlation key_locked
 reply_bytes kind correlation NotOwner = object_error correlation not_owner
 reply_bytes kind correlation UnknownProcessor = object_error correlation unknown_processor
-
--- what fits a frame
-abbrev pub FitsFrame : List ℕ → Type 0
-FitsFrame bytes = length bytes ≤ MAX_PAYLOAD
 
 -- an answer whose value, where it has one, fits a frame
 abbrev pub AnswerFits : Answer → Type 0

@@ -1,0 +1,32 @@
+-- Only another type is unknown, and no message says that memory is wanting.
+use Rattle.std.proofs.Common.{◌≡◌, ◌≢◌, ◌↔◌, ℕ, List, Option, Some, None, All, Err, refl}
+use Rattle.std.specs.Prelude.{drop}
+use Rattle.grid_base.specs.declared.refusal.CallRefused.TheVariants.{UnknownType, Memory}
+use Rattle.frame_codec.specs.declared.frames.Frame.{Frame}
+use Rattle.fixed_fields.specs.Requests.{kind_of, kinds_in, reader_in}
+use Rattle.fixed_fields.proofs.Refusals.{bad_not_unknown, bad_not_memory}
+use Rattle.fixed_fields.proofs.Tables.{none_in}
+use Rattle.message_frames.specs.Assembly.{first_payload}
+use Rattle.message_frames.specs.declared.message.Message.{Message}
+use Rattle.queue_codecs.specs.Calls.{Reader, placed_in, queue_calls, call_by, queue_call_of}
+
+module _ (payload : List ℕ) (frames : List Frame) where
+  unknown_by : (reader : Option Reader) → (call_by payload frames reader ≡ Err UnknownType) ↔ (reader ≡ None)
+  unknown_by None = ((λ e. refl), (λ none. refl))
+  unknown_by (Some reader) = ((λ e. absurd (bad_not_unknown (placed_in reader payload frames) e)), (λ none. absurd cc))
+
+  memory_by : (reader : Option Reader) → call_by payload frames reader ≢ Err Memory
+  memory_by None e = cc
+  memory_by (Some reader) e = bad_not_memory (placed_in reader payload frames) e
+
+pub only_unknown : (message : Message) → (queue_call_of message ≡ Err UnknownType) ↔ All (λ kind. kind_of (first_payload message.frames) ≢ Some kind) (kinds_in queue_calls)
+unfolding queue_call_of
+only_unknown message =
+    let payload : List ℕ = first_payload message.frames in
+    let by = unknown_by payload (drop 1 message.frames) (reader_in (kind_of payload) queue_calls) in
+    let among = none_in (kind_of payload) queue_calls in
+    ((λ e. among.0 (by.0 e)), (λ all. by.1 (among.1 all)))
+
+pub not_wanting : (message : Message) → queue_call_of message ≢ Err Memory
+unfolding queue_call_of
+not_wanting message = let payload : List ℕ = first_payload message.frames in memory_by payload (drop 1 message.frames) (reader_in (kind_of payload) queue_calls)

@@ -1,0 +1,4 @@
+pub mod Calls
+pub mod SpelledCalls
+pub mod Shapes
+pub mod Examples
