@@ -1,5 +1,7 @@
 -- What a reader stands for as more bytes come.
 use Rattle.std.proofs.Common.{◌≡◌, ℕ, ◌+◌, ◌-◌, ◌^◌, ◌<◌, ◌≤◌, min, Bool, true, false, List, [], ◌∷◌, ◌++◌, length, drop, append-nil, length-append, length-drop, refl, sym, ◌∙◌, ap, subst, ◌⊎◌, inl, inr, Option, Some, None, arith}
+use Rattle.std.specs.Prelude.{is_some}
+use Rattle.std.proofs.lemmas.Bool.{false≢true}
 use Rattle.frame_codec.specs.FrameReaders.{InProgress, next_place, kept, standing as frames_standing, StandsFor as FramesStandFor}
 use Rattle.frame_codec.specs.Reading.{Reading, reading}
 use Rattle.frame_codec.specs.declared.malformed.Malformed.{Malformed}
@@ -266,3 +268,12 @@ is_failed prefix text piece fault messages stands no_messages = record {
   given = ap (λ ms. messages_of prefix text ++ ms) no_messages ∙ failed_messages prefix text piece fault stands;
   first = sym (failed_fault prefix text piece fault stands);
 }
+
+pub stays_failed : (prefix : Bool) (text piece : List ℕ) (fault : Option Malformed) (own : Bool) (begun : ℕ) (frame : InProgress) (state : Assembly) (messages : List Message) → is_some fault ≡ true →
+    StandsFor (hearing fault own begun frame state) prefix text → messages ≡ [] → IsFed prefix text piece (hearing fault own begun frame state) messages fault
+stays_failed prefix text piece None own begun frame state messages shown stands no_messages = absurd (false≢true shown)
+stays_failed prefix text piece (Some fault) own begun frame state messages shown stands no_messages = is_failed prefix text piece fault messages stands no_messages
+
+pub none_shown : (fault : Option Malformed) → is_some fault ≡ false → fault ≡ None
+none_shown None shown = refl
+none_shown (Some fault) shown = absurd (false≢true (sym shown))

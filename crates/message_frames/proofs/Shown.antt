@@ -1,5 +1,5 @@
 -- What a reader shows of a fault is the first one of the text that it stands for.
-use Rattle.std.proofs.Common.{◌≡◌, ℕ, Bool, true, false, List, [], length, Option, Some, None, refl}
+use Rattle.std.proofs.Common.{◌≡◌, ℕ, Bool, true, false, List, [], length, Option, Some, None, Result, Ok, Err, OnOk, refl}
 use Rattle.frame_codec.specs.declared.malformed.Malformed.{Malformed}
 use Rattle.frame_codec.specs.Reading.{reading}
 use Rattle.frame_codec.specs.FrameReaders.{InProgress, standing as frames_standing}
@@ -29,3 +29,7 @@ standing_first false = refl
 pub shown_fault-hearing : (fault : Option Malformed) (prefix : Bool) (begun : ℕ) (frame : InProgress) (assembly : Assembly) → shown_fault (hearing fault prefix begun frame assembly) ≡ fault
 shown_fault-hearing None prefix begun frame assembly = refl
 shown_fault-hearing (Some fault) prefix begun frame assembly = refl
+
+pub on_ok_always : {A E : Type 0} {P : Type 0} (result : Result A E) → P → OnOk result P
+on_ok_always (Ok value) p = p
+on_ok_always (Err error) p = tt

@@ -29,17 +29,20 @@ pub record IsRoomForLists (after : Control) (kept : Vec (Vec Frame)) : Type 0 wh
   pub none : kept.items ≡ []
   pub room : length after.chains.items < vec_capacity kept
 
--- There is room for the lists of all open messages, or they needn't be moved.
-abbrev pub HoldsLists : Assembler → Option (Vec (Vec Frame)) → Type 0
-HoldsLists a None = HasFewLists a
-HoldsLists a (Some kept) = IsRoomForLists a.control kept
+-- Of so many lists there is room for those of all open messages, or they are few and needn't be moved.
+abbrev pub HoldsAfter : ℕ → Control → Option (Vec (Vec Frame)) → Type 0
+HoldsAfter lists after None = lists ≤ most_lists
+HoldsAfter lists after (Some kept) = IsRoomForLists after kept
 
--- room for the messages that are complete between two states of control, and for the lists of the later one
-pub record IsRoomAfter (before after : Control) (room : Room) : Type 0 where
+abbrev pub HoldsLists : Assembler → Option (Vec (Vec Frame)) → Type 0
+HoldsLists a kept = HoldsAfter (vec_len a.lists) a.control kept
+
+-- room for the messages that are complete between two states of control, and for so many lists
+pub record IsRoomAfter (lists : ℕ) (before after : Control) (room : Room) : Type 0 where
   pub none : room.messages.items ≡ []
   pub empty : vec_len room.messages ≡ 0
   pub numbers : after.complete - before.complete ≤ vec_capacity room.messages
-  pub kept : IsRoomForLists after room.kept
+  pub kept : HoldsAfter lists after room.kept
 
 -- room for where each frame goes
 pub record IsRoomForTrack (room : Room) (frames : List PlacedFrame) : Type 0 where
@@ -48,5 +51,5 @@ pub record IsRoomForTrack (room : Room) (frames : List PlacedFrame) : Type 0 whe
 
 pub record IsRoomFor (a : Assembler) (room : Room) (frames : List PlacedFrame) : Type 0 where
   pub lists : HaveRoom a.shortest (rooms_in a.lists.items) frames a.control
-  pub rest : IsRoomAfter a.control (after_all a.shortest frames a.control) room
+  pub rest : IsRoomAfter (vec_len a.lists) a.control (after_all a.shortest frames a.control) room
   pub track : IsRoomForTrack room frames

@@ -1,5 +1,6 @@
 -- The state of a reader of messages, and the way back over one piece.
-use Rattle.std.specs.Prelude.{◌≡◌, ℕ, ◌≤◌, List, length, None, All, vec_len}
+use Rattle.std.specs.Prelude.{◌≡◌, ℕ, ◌≤◌, Bool, List, [], length, Option, Some, None, All, vec_len}
+use Rattle.std.specs.Global.{Box}
 use Rattle.frame_codec.specs.FrameReaders.{InProgress, StandsFor as FramesStandFor}
 use Rattle.frame_codec.specs.Marks.{IsMarkOf, back_at}
 use Rattle.frame_codec.specs.declared.marks.FrameMark.{FrameMark}
@@ -13,6 +14,7 @@ use Rattle.message_frames.specs.declared.assembler.Taken.{Taken}
 use Rattle.message_frames.specs.declared.message.Message.{Message}
 use Rattle.message_frames.specs.declared.stream.Stream.{Stream}
 use Rattle.message_frames.specs.declared.stream.StreamMark.{StreamMark}
+use Rattle.message_frames.specs.declared.stream.MarkedStream.{MarkedStream}
 
 abbrev pub heard_by : Stream → Hearing
 heard_by s = hearing s.fault s.prefix s.begun s.frames (state_of s.assembler)
@@ -29,6 +31,15 @@ pub record IsHearing (s : Stream) : Type 0 where
 pub record IsAtRest (s : Stream) : Type 0 where
   pub hearing : IsHearing s
   pub few : HasFewLists s.assembler
+
+-- what a reader has heard: nothing where it has no stream yet
+abbrev pub heard_in : Bool → Option (Box MarkedStream) → Hearing
+heard_in prefix None = standing prefix []
+heard_in prefix (Some heard) = heard_by heard.value.stream
+
+abbrev pub RestsIn : Option (Box MarkedStream) → Type 0
+RestsIn None = Unit {0}
+RestsIn (Some heard) = IsAtRest heard.value.stream
 
 -- the way back
 
@@ -86,4 +97,3 @@ pub record IsPending (s : Stream) (mark : StreamMark) (taken : Taken) : Type 0 w
   pub hearing : IsHearing s
   pub back : GoesBack s mark taken
   pub kept : HoldsLists s.assembler taken.kept
-  pub fault : taken.fault ≡ s.fault

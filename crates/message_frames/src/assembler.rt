@@ -1,8 +1,7 @@
 //! The messages in progress: the control and the frames that it speaks of, in numbered lists.
 ghost use Rattle.std.specs.Prelude.{◌≡◌, ℕ, ◌+◌, ◌-◌, ◌^◌, ◌<◌, ◌≤◌, [], ◌∷◌, ◌++◌, length, vec_len, vec_capacity, slice_index, slice_set, All, None, OnOk, OnErr, IfOk};
-ghost use Rattle.message_frames.specs.Messages.{or_else};
 ghost use Rattle.message_frames.specs.Assembly.{assembled, nothing_yet};
-ghost use Rattle.message_frames.specs.Assemblers.{state_of, IsSoundAssembler, IsRoomAfter, IsRoomFor, HoldsLists, HasFewLists, most_lists, IsRoomForTrack};
+ghost use Rattle.message_frames.specs.Assemblers.{state_of, IsSoundAssembler, IsRoomAfter, IsRoomFor, HoldsLists, HoldsAfter, HasFewLists, most_lists, IsRoomForTrack};
 ghost use Rattle.message_frames.specs.Tracks.{held_in, way_to, without_frame, taken_back, frame_back, first_back, LeadsBelow, IsPayloadOf, IsTrackOf};
 ghost use Rattle.message_frames.specs.Turns.{JoinsBelow, HasRoom, HaveRoom, after_all};
 ghost use Rattle.message_frames.specs.Lists.{list_at, frames_in, rooms_in, GetRoom, LosesRoom, KeepsRoom, HasNumber, given, ended, assembly_of, AreSound, IsSound, renumbered, lists_of, IsBelow, spot_with, spot_lists};
@@ -16,21 +15,27 @@ use grid_base::Memory;
 use std::alloc::Global;
 use std::mem;
 
+/// How many lists may stay between pieces: one for each open chain at most, and one for a message in progress.
+const MOST_LISTS: usize = MOST_CHAINS + 1;
+
 /// The messages in progress on a connection.
 #[derive(Debug, Drop)]
 pub(crate) struct Assembler {
     /// How many bytes a first payload has at least.
     pub(crate) shortest: usize,
     pub(crate) control: Control,
+    /// Where it looks ahead, to see what room frames need.
+    pub(crate) ahead: Control,
     pub(crate) lists: Vec<Vec<Frame>>,
 }
 
-/// Room for the messages that frames give, for where each frame goes, and for the lists that they leave.
+/// Room for the messages that frames give, for where each frame goes, and for the lists that they leave, if those have to
+/// be numbered anew.
 #[derive(Drop)]
 pub(crate) struct Room {
     pub(crate) messages: Vec<Message>,
     pub(crate) track: Vec<Way>,
-    pub(crate) kept: Vec<Vec<Frame>>,
+    pub(crate) kept: Option<Vec<Vec<Frame>>>,
 }
 
 /// Where a frame went.
@@ -44,29 +49,25 @@ pub(crate) enum Way {
     Apart(Frame),
 }
 
-/// What frames gave, where each of them went, and room for the lists that they leave, if there were any frames.
+/// What frames gave, where each of them went, and room for the lists that they leave, if those have to be numbered anew.
 #[derive(Drop)]
 pub(crate) struct Taken {
     pub(crate) messages: Vec<Message>,
-    pub(crate) fault: Option<Malformed>,
     pub(crate) track: Vec<Way>,
     pub(crate) kept: Option<Vec<Vec<Frame>>>,
 }
 
 impl Taken {
-    /// With that fault where none has shown.
-    pub(crate) fn or_fault(self, later: Option<Malformed>) -> Self
-        ensures { result ≡ record self { fault = or_else self.fault later } }
+    /// That of no frames. Takes no memory.
+    pub(crate) fn nothing(alloc: Global) -> Self
+        ensures messages { result.messages.items ≡ [] }
+        ensures track { result.track.items ≡ [] }
+        ensures kept { result.kept ≡ None }
     {
-        let fault = match self.fault {
-            Some(fault) => Some(fault),
-            None => later,
-        };
         Taken {
-            messages: self.messages,
-            fault,
-            track: self.track,
-            kept: self.kept,
+            messages: Vec::new(alloc),
+            track: Vec::new(alloc),
+            kept: None,
         }
     }
 }
@@ -82,6 +83,7 @@ impl Assembler {
         Assembler {
             shortest,
             control: Control::new(),
+            ahead: Control::new(),
             lists: Vec::new(alloc),
         }
     }
@@ -96,7 +98,14 @@ impl Assembler {
         ensures room { IfOk result (λ room. IsRoomFor self.new room frames.now) }
         ensures err { OnErr result (vec_len self.new.lists ≤ vec_len self.old.lists) }
     {
-        match room_for(alloc, self.shortest, &self.control, &mut self.lists, frames) {
+        match room_for(
+            alloc,
+            self.shortest,
+            &self.control,
+            &mut self.ahead,
+            &mut self.lists,
+            frames,
+        ) {
             Ok(room) => Ok(room),
             Err(memory) => {
                 self.lists.truncate(self.control.lists);
@@ -105,19 +114,25 @@ impl Assembler {
         }
     }
 
-    /// Takes frames for which there is room, up to the first fault, and gives the messages that they complete. Takes no memory.
-    pub(crate) fn take(&mut self, alloc: Global, frames: Vec<PlacedFrame>, room: Room) -> Taken
+    /// Takes frames for which there is room, up to the first fault, which it answers, and gives the messages that they complete.
+    /// Takes no memory.
+    pub(crate) fn take(
+        &mut self,
+        alloc: Global,
+        frames: Vec<PlacedFrame>,
+        room: Room,
+    ) -> (Taken, Option<Malformed>)
         requires sound { IsSoundAssembler self.old }
         requires room { IsRoomFor self.old room frames.items }
         ensures shortest { self.new.shortest ≡ self.old.shortest }
-        ensures messages { result.messages.items ≡ (assembled self.old.shortest frames.items (state_of self.old)).messages }
-        ensures fault { result.fault ≡ (assembled self.old.shortest frames.items (state_of self.old)).fault }
+        ensures messages { result.0.messages.items ≡ (assembled self.old.shortest frames.items (state_of self.old)).messages }
+        ensures fault { result.1 ≡ (assembled self.old.shortest frames.items (state_of self.old)).fault }
         ensures state { state_of self.new ≡ (assembled self.old.shortest frames.items (state_of self.old)).after }
         ensures sound { IsSoundAssembler self.new }
-        ensures kept { HoldsLists self.new result.kept }
-        ensures back { taken_back result.track.items (held_in self.new.lists.items result.messages.items) ≡ held_in self.old.lists.items [] }
-        ensures first { IsPayloadOf (first_back None result.track.items (held_in self.new.lists.items result.messages.items)) frames.items }
-        ensures below { All (LeadsBelow (vec_len self.new.lists)) result.track.items }
+        ensures kept { HoldsLists self.new result.0.kept }
+        ensures back { taken_back result.0.track.items (held_in self.new.lists.items result.0.messages.items) ≡ held_in self.old.lists.items [] }
+        ensures first { IsPayloadOf (first_back None result.0.track.items (held_in self.new.lists.items result.0.messages.items)) frames.items }
+        ensures below { All (LeadsBelow (vec_len self.new.lists)) result.0.track.items }
         ensures count { vec_len self.new.lists ≡ vec_len self.old.lists }
     {
         let Room {
@@ -134,12 +149,12 @@ impl Assembler {
             &mut messages,
             &mut track,
         );
-        Taken {
+        let taken = Taken {
             messages,
-            fault,
             track,
-            kept: Some(kept),
-        }
+            kept,
+        };
+        (taken, fault)
     }
 
     /// Numbers the lists of open messages anew, where there is room kept for them, and lets the others go. Takes no memory.
@@ -160,20 +175,20 @@ impl Assembler {
     /// Answers the frame that went first. Takes no memory.
     pub(crate) fn put_back(
         &mut self,
-        before: Control,
+        before: &Control,
         mut messages: Vec<Message>,
         track: Vec<Way>,
     ) -> Option<Frame>
-        requires sound { IsSound before (taken_back track.items (held_in self.old.lists.items messages.items)).lists }
-        requires count { before.lists ≤ vec_len self.old.lists }
+        requires sound { IsSound before.now (taken_back track.items (held_in self.old.lists.items messages.items)).lists }
+        requires count { before.now.lists ≤ vec_len self.old.lists }
         requires below { All (LeadsBelow (vec_len self.old.lists)) track.items }
         ensures shortest { self.new.shortest ≡ self.old.shortest }
-        ensures state { state_of self.new ≡ assembly_of before (taken_back track.items (held_in self.old.lists.items messages.items)).lists }
+        ensures state { state_of self.new ≡ assembly_of before.now (taken_back track.items (held_in self.old.lists.items messages.items)).lists }
         ensures sound { IsSoundAssembler self.new }
         ensures first { result ≡ first_back None track.items (held_in self.old.lists.items messages.items) }
-        ensures count { vec_len self.new.lists ≤ before.lists }
+        ensures count { vec_len self.new.lists ≤ before.now.lists }
     {
-        self.control = before;
+        self.control.copy_from(before);
         let first = take_back(&mut self.lists, &mut messages, track);
         self.lists.truncate(self.control.lists);
         first
@@ -223,29 +238,46 @@ fn make_room(
     }
 }
 
-/// Room for what frames bring, up to the first that fails. Answers the control after them.
+/// Room for what frames bring, up to the first that fails. Looks ahead to the control after them.
 fn plan(
     alloc: Global,
     shortest: usize,
     control: &Control,
+    after: &mut Control,
     lists: &mut Vec<Vec<Frame>>,
     frames: &[PlacedFrame],
-) -> Result<Control, Memory>
+) -> Result<(), Memory>
     requires sound { IsSound control.now (frames_in lists.old.items) }
     requires count { control.now.lists ≤ vec_len lists.old }
     ensures same { GetRoom lists.old.items lists.new.items }
-    ensures after { IfOk result (λ after. after ≡ after_all shortest frames.now control.now) }
+    ensures after { OnOk result (after.new ≡ after_all shortest frames.now control.now) }
     ensures room { OnOk result (HaveRoom shortest (rooms_in lists.new.items) frames.now control.now) }
 {
-    let mut after = control.copied();
+    after.copy_from(control);
     for new in frames {
         let turn = after.next(shortest, new);
         if turn.is_failing() {
-            return Ok(after);
+            return Ok(());
         }
         make_room(alloc, lists, after.lists, &turn)?;
     }
-    Ok(after)
+    Ok(())
+}
+
+/// Room for the lists of all messages that are open then, unless there are few lists, which can stay.
+fn room_for_lists(
+    alloc: Global,
+    lists: usize,
+    after: &Control,
+) -> Result<Option<Vec<Vec<Frame>>>, Memory>
+    ensures { IfOk result (HoldsAfter lists after.now) }
+{
+    if lists <= MOST_LISTS {
+        return Ok(None);
+    }
+    let mut kept = Vec::new(alloc);
+    kept.reserve(after.chains.len() + 1)?;
+    Ok(Some(kept))
 }
 
 /// Room for what frames bring: in the lists, for the messages, and for the lists that they leave.
@@ -253,6 +285,7 @@ fn room_for(
     alloc: Global,
     shortest: usize,
     control: &Control,
+    after: &mut Control,
     lists: &mut Vec<Vec<Frame>>,
     frames: &[PlacedFrame],
 ) -> Result<Room, Memory>
@@ -260,16 +293,15 @@ fn room_for(
     requires count { control.now.lists ≤ vec_len lists.old }
     ensures same { GetRoom lists.old.items lists.new.items }
     ensures room { OnOk result (HaveRoom shortest (rooms_in lists.new.items) frames.now control.now) }
-    ensures rest { IfOk result (λ room. IsRoomAfter control.now (after_all shortest frames.now control.now) room) }
+    ensures rest { IfOk result (λ room. IsRoomAfter (vec_len lists.new) control.now (after_all shortest frames.now control.now) room) }
     ensures track { IfOk result (λ room. IsRoomForTrack room frames.now) }
 {
-    let after = plan(alloc, shortest, control, lists, frames)?;
+    plan(alloc, shortest, control, after, lists, frames)?;
     let mut messages = Vec::new(alloc);
     messages.reserve(after.complete.saturating_sub(control.complete) as usize)?;
     let mut track = Vec::new(alloc);
     track.reserve(frames.len())?;
-    let mut kept = Vec::new(alloc);
-    kept.reserve(after.chains.len() + 1)?;
+    let kept = room_for_lists(alloc, lists.len(), after)?;
     Ok(Room {
         messages,
         track,

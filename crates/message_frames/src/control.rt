@@ -99,20 +99,17 @@ impl Control {
         }
     }
 
-    /// A second one, to look ahead with.
-    pub(crate) fn copied(&self) -> Self
-        ensures { result ≡ self.now }
+    /// Becomes as another is, at the cost of its open chains.
+    pub(crate) fn copy_from(&mut self, other: &Control)
+        ensures { self.new ≡ other.now }
     {
-        let mut chains = ArrayVec::new();
-        chains
-            .try_extend_from_slice(self.chains.as_slice())
+        self.spot = other.spot;
+        self.chains.clear();
+        self.chains
+            .try_extend_from_slice(other.chains.as_slice())
             .unwrap();
-        Control {
-            spot: self.spot,
-            chains,
-            lists: self.lists,
-            complete: self.complete,
-        }
+        self.lists = other.lists;
+        self.complete = other.complete;
     }
 
     /// Where the chain of that id is among the open ones. There are few of them.

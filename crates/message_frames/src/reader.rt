@@ -2,15 +2,15 @@ ghost use Rattle.std.specs.Prelude.{◌≡◌, ℕ, ◌≤◌, Bool, List, [], �
 ghost use Rattle.message_frames.specs.Messages.{messages_of, fault_of};
 ghost use Rattle.message_frames.specs.Assemblers.{most_lists};
 ghost use Rattle.message_frames.specs.MessageReaders.{StandsFor, shown_fault};
+ghost use Rattle.message_frames.specs.Streams.{heard_by, IsAtRest};
 
 use crate::assembler::Taken;
 use crate::message::Message;
-use crate::stream::{Stream, StreamMark};
+use crate::stream::MarkedStream;
 use frame_codec::Malformed;
 use grid_base::Memory;
 use std::alloc::Global;
 use std::marker::Model;
-use std::mem;
 
 /// What a feed gave: the messages that its piece completed, and the first fault of the stream if it has shown.
 #[derive(Debug, Drop)]
@@ -22,26 +22,28 @@ pub struct FedMessages {
 /// A reader of messages, whose stream comes in any pieces.
 #[derive(Debug, Drop)]
 pub struct MessageReader {
-    stream: Stream,
+    /// Whether the stream begins with `CP2`.
+    prefix: bool,
+    /// None where nothing has come, also while a feed has it. It lies on the heap, so that a feed takes it by a pointer.
+    heard: Option<Box<MarkedStream>>,
 }
 
 impl Model for MessageReader {
     ghost use Rattle.message_frames.specs.MessageReaders.{Hearing};
-    ghost use Rattle.message_frames.specs.Streams.{heard_by, IsAtRest};
+    ghost use Rattle.message_frames.specs.Streams.{heard_in, RestsIn};
 
     ghost Value = { Hearing };
 
-    ghost view = { λ r. heard_by r.stream };
+    ghost view = { λ r. heard_in r.prefix r.heard };
 
-    ghost invariant = { λ r. IsAtRest r.stream };
+    ghost invariant = { λ r. RestsIn r.heard };
 }
 
 /// A feed that isn't settled: the state of its reader, and the way back to the one before it. `MessageReader::commit`
 /// takes it, or `MessageReader::cancel`.
 #[derive(Drop)]
 pub struct PendingFeed {
-    stream: Stream,
-    mark: StreamMark,
+    heard: Box<MarkedStream>,
     taken: Taken,
 }
 
@@ -50,9 +52,9 @@ impl Model for PendingFeed {
 
     ghost Value = { Pending };
 
-    ghost view = { λ f. pending f.stream f.mark f.taken };
+    ghost view = { λ f. pending f.heard.value.stream f.heard.value.mark f.taken };
 
-    ghost invariant = { λ f. IsPending f.stream f.mark f.taken };
+    ghost invariant = { λ f. IsPending f.heard.value.stream f.heard.value.mark f.taken };
 }
 
 impl PendingFeed {
@@ -67,17 +69,18 @@ impl PendingFeed {
     pub fn fault(&self) -> Option<Malformed>
         ensures { result ≡ shown_fault self.now.after }
     {
-        self.taken.fault
+        self.heard.stream.fault
     }
 }
 
 impl MessageReader {
     /// A reader of a stream that begins with `CP2`, or of one without a prefix. Takes no memory.
-    pub fn new(alloc: Global, prefix: bool) -> Self
+    pub fn new(_alloc: Global, prefix: bool) -> Self
         ensures { StandsFor result prefix [] }
     {
         MessageReader {
-            stream: Stream::new(alloc, prefix),
+            prefix,
+            heard: None,
         }
     }
 
@@ -86,14 +89,20 @@ impl MessageReader {
         ensures shown { result ≡ shown_fault self.now }
         ensures first { (prefix : Bool) (text : List ℕ) → StandsFor self.now prefix text → result ≡ fault_of prefix text }
     {
-        self.stream.fault
+        match &self.heard {
+            Some(heard) => heard.stream.fault,
+            None => None,
+        }
     }
 
-    /// How many lists of frames the reader keeps: one for each open chain at most, and one for a message in progress.
+    /// How many lists of frames the reader keeps: no more than there can be open chains, and one.
     pub fn kept_lists(&self) -> usize
         ensures { result ≤ most_lists }
     {
-        self.stream.assembler.lists.len()
+        match &self.heard {
+            Some(heard) => heard.stream.assembler.lists.len(),
+            None => 0,
+        }
     }
 
     /// Takes the next piece of the stream, at the cost of its length, and gives the messages that it completes.
@@ -114,7 +123,8 @@ impl MessageReader {
 
     /// Takes the next piece as `feed` does, but lets the caller see what it gives before the reader stands there: `commit`
     /// settles the feed, `cancel` takes it back. All that needs memory is done here. Want of memory changes nothing.
-    /// Until one of the two the reader lends its state to the feed, and stands where a new one does.
+    /// Until one of the two the reader lends its state to the feed, and stands where a new one does. A piece that completes
+    /// no frame costs its bytes and a constant; the first piece also takes memory for the state, of a constant size.
     pub fn prepare(&mut self, alloc: Global, piece: &[u8]) -> Result<PendingFeed, Memory>
         ensures before { IfOk result (λ feed. feed.before ≡ self.old) }
         ensures after { IfOk result (λ feed. (prefix : Bool) (text : List ℕ) → StandsFor self.old prefix text → StandsFor feed.after prefix (text ++ piece.now)) }
@@ -125,15 +135,27 @@ impl MessageReader {
         ensures lent { OnOk result ((prefix : Bool) × StandsFor self.new prefix []) }
         ensures err { OnErr result (self.new ≡ self.old) }
     {
-        let mark = self.stream.mark();
-        let taken = self.stream.take_piece(alloc, piece)?;
-        let new = Stream::new(alloc, self.stream.prefix);
-        let stream = mem::replace(&mut self.stream, new);
-        Ok(PendingFeed {
-            stream,
-            mark,
-            taken,
-        })
+        let mut heard = self.take_heard(alloc)?;
+        match heard.take_piece(alloc, piece) {
+            Ok(taken) => Ok(PendingFeed { heard, taken }),
+            Err(memory) => {
+                self.heard = Some(heard);
+                Err(memory)
+            }
+        }
+    }
+
+    /// What the reader has heard. It then stands where a new one does.
+    fn take_heard(&mut self, alloc: Global) -> Result<Box<MarkedStream>, Memory>
+        ensures heard { IfOk result (λ heard. heard_by heard.value.stream ≡ self.old) }
+        ensures rest { IfOk result (λ heard. IsAtRest heard.value.stream) }
+        ensures lent { OnOk result ((prefix : Bool) × StandsFor self.new prefix []) }
+        ensures err { OnErr result (self.new ≡ self.old) }
+    {
+        match self.heard.take() {
+            Some(heard) => Ok(heard),
+            None => Ok(Box::new(alloc, MarkedStream::new(alloc, self.prefix))?),
+        }
     }
 
     /// Settles a feed: the reader stands after its piece. Takes no memory, and costs no more than a few moves.
@@ -142,16 +164,13 @@ impl MessageReader {
         ensures messages { result.messages.items ≡ feed.messages }
         ensures fault { result.fault ≡ shown_fault feed.after }
     {
-        let PendingFeed {
-            mut stream,
-            mark: _,
-            taken,
-        } = feed;
-        stream.assembler.keep(alloc, taken.kept);
-        self.stream = stream;
+        let PendingFeed { mut heard, taken } = feed;
+        heard.keep(alloc, taken.kept);
+        let fault = heard.stream.fault;
+        self.heard = Some(heard);
         FedMessages {
             messages: taken.messages,
-            fault: taken.fault,
+            fault,
         }
     }
 
@@ -160,13 +179,9 @@ impl MessageReader {
     pub fn cancel(&mut self, feed: PendingFeed)
         ensures { self.new ≡ feed.before }
     {
-        let PendingFeed {
-            mut stream,
-            mark,
-            taken,
-        } = feed;
-        stream.put_back(mark, taken);
-        self.stream = stream;
+        let PendingFeed { mut heard, taken } = feed;
+        heard.put_back(taken);
+        self.heard = Some(heard);
     }
 }
 
