@@ -2,14 +2,14 @@
 use Rattle.std.proofs.Common.{◌≡◌, ℕ, ◌+◌, Bool, true, false, cond, List, [], ◌∷◌, ◌++◌, length, take, Result, Ok, Err, refl, sym, ap, subst, ◌∙◌, ⊎_elim, add-zero, length-append, arith}
 use Rattle.std.specs.Prelude.{if◌then◌else◌}
 use Rattle.std.proofs.lemmas.Bool.{false≢true}
-use Rattle.member_wire.specs.declared.refusal.WireRefused.{WireRefused}
-use Rattle.member_wire.specs.declared.refusal.WireRefused.TheVariants.{Order}
-use Rattle.member_wire.specs.Places.{Place}
-use Rattle.member_wire.specs.Parts.{IsByte, byte_at}
+use Rattle.wire_parts.specs.declared.refusal.WireRefused.{WireRefused}
+use Rattle.wire_parts.specs.declared.refusal.WireRefused.TheVariants.{Order}
+use Rattle.wire_parts.specs.Places.{Place}
+use Rattle.wire_parts.specs.Parts.{IsByte, byte_at}
 use Rattle.member_wire.specs.Reading.{fitting_at}
-use Rattle.member_wire.proofs.Formats.{IsBytes, place, Begins, BeginsNone, FailsAt, Fault, Takes, IsFormat, Spells}
-use Rattle.member_wire.proofs.Following.{bind_ok, bind_err}
-use Rattle.member_wire.proofs.PartFormats.{SpellsByte, byte_format, no_byte}
+use Rattle.wire_parts.proofs.Formats.{IsBytes, place, Begins, BeginsNone, FailsAt, Fault, Takes, IsFormat, Spells}
+use Rattle.wire_parts.proofs.Following.{bind_ok, bind_err}
+use Rattle.wire_parts.proofs.PartFormats.{SpellsByte, byte_format, no_byte}
 
 -- ---- a byte that passes a test
 
@@ -37,7 +37,7 @@ module _ (fits : ℕ → Bool) (some : (byte : ℕ) × IsByte byte × (fits byte
   fitting_taken : (p q : Place) (byte : ℕ) → IsBytes p.rest → fitting_at fits p ≡ Ok (byte, q) → Takes (SpellsFitting fits) p byte q
   fitting_taken p q byte are e =
       let x = bind_ok (byte_at p) (tested p) (byte, q) e in
-      let t = byte_format.takes p x.0.1 x.0.0 are x.1 in
+      let t = byte_format.reads.takes p x.0.1 x.0.0 are x.1 in
       let g = test_ok (fits x.0.0) (Order p.at) x.0 (byte, q) x.2 in
       subst (λ (got : ℕ × Place). Takes (SpellsFitting fits) p got.0 got.1) g.1
       (record { text = t.text; spells = record { fits = (t.spells.fits, g.0); is = t.spells.is }; parts = t.parts; moved = t.moved; bytes = t.bytes })
@@ -66,10 +66,10 @@ module _ (fits : ℕ → Bool) (some : (byte : ℕ) × IsByte byte × (fits byte
   fitting_fault p e are is =
       ⊎_elim (λ first. no_byte (SpellsFitting fits) some_fitting p.at p.rest e first)
       (λ second.
-      let t = byte_format.takes p second.0.1 second.0.0 are second.1 in
+      let t = byte_format.reads.takes p second.0.1 second.0.0 are second.1 in
       let g = test_err (fits second.0.0) (Order p.at) e second.0 second.2 in
       subst (Fault (SpellsFitting fits) p) g.1 (out_of_order p second.0.1 second.0.0 g.0 t))
       (bind_err (byte_at p) (tested p) e is)
 
   pub fitting_format : IsFormat (fitting_at fits) (SpellsFitting fits)
-  fitting_format = record { takes = fitting_taken; again = fitting_again; some = some_fitting; faults = fitting_fault }
+  fitting_format = record { reads = record { takes = fitting_taken; again = fitting_again }; some = some_fitting; faults = fitting_fault }

@@ -4,7 +4,7 @@ use Rattle.std.specs.List.{flat_map}
 use Rattle.std.proofs.lemmas.List.Concat.{flat_map-cons}
 use Rattle.partition_table.specs.declared.Row.{Row}
 use Rattle.partition_table.specs.declared.RowMember.{RowMember}
-use Rattle.member_wire.specs.Parts.{number, mark}
+use Rattle.wire_parts.specs.Parts.{number, mark}
 use Rattle.member_wire.specs.Spelling.{member_bytes, row_bytes}
 
 length-mark : (b : Bool) → length (mark b) ≡ 1

@@ -1,13 +1,9 @@
 pub mod FittingFormat
-pub mod Following
-pub mod Formats
 pub mod Lengths
 pub mod Loop
 pub mod Members
 pub mod MembersFormat
 pub mod MessageFormat
 pub mod NewNumbers
-pub mod PartFormats
 pub mod RowFormat
-pub mod SizedFormat
 pub mod WireLaws

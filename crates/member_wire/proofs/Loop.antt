@@ -1,19 +1,11 @@
 -- The members of a row one after the other, as a loop reads them.
 use Rattle.std.proofs.Common.{◌≡◌, ℕ, suc, ◌-◌, ◌+◌, ◌≤◌, ◌<◌, List, [], ◌∷◌, ◌++◌, Result, Ok, refl, sym, ◌∙◌, arith}
 use Rattle.partition_table.specs.declared.RowMember.{RowMember}
-use Rattle.member_wire.specs.declared.refusal.WireRefused.{WireRefused}
-use Rattle.member_wire.specs.declared.refusal.WireRefused.TheVariants.{Short, Tag, Order, Rest, Memory}
-use Rattle.member_wire.specs.Places.{Place}
-use Rattle.member_wire.specs.Parts.{◌>>=◌, Fails}
+use Rattle.wire_parts.specs.declared.refusal.WireRefused.{WireRefused}
+use Rattle.wire_parts.specs.Places.{Place}
+use Rattle.wire_parts.specs.Parts.{◌>>=◌, Fails}
+use Rattle.wire_parts.proofs.Refusals.{Fails-bind}
 use Rattle.member_wire.specs.Reading.{member_at, members_at}
-
--- what fails at the first step fails
-pub Fails-bind : {A B : Type 0} (e : WireRefused) (read : Result A WireRefused) (f : A → Result B WireRefused) → Fails e read → Fails e (read >>= f)
-Fails-bind (Short at) read f is = rw is refl
-Fails-bind (Tag at) read f is = rw is refl
-Fails-bind (Order at) read f is = rw is refl
-Fails-bind (Rest at) read f is = rw is refl
-Fails-bind Memory read f is = tt
 
 pub goes_on : (listed : List RowMember) (count i : ℕ) (p after : Place) (member : RowMember) (total : Result (List RowMember × Place) WireRefused) → i < count → member_at listed p ≡ Ok (member, after)
     → members_at listed (count - i) p ≡ total → members_at (listed ++ member ∷ []) (count - (i + 1)) after ≡ total

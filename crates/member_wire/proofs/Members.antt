@@ -6,7 +6,7 @@ use Rattle.std.proofs.lemmas.Bool.Decides.{nat_tests}
 use Rattle.partition_table.specs.declared.RowMember.{RowMember}
 use Rattle.partition_table.specs.Rows.{is_among, number_of}
 use Rattle.partition_table.specs.RowFacts.{are_distinct}
-use Rattle.member_wire.specs.Parts.{IsByte}
+use Rattle.wire_parts.specs.Parts.{IsByte}
 use Rattle.member_wire.proofs.NewNumbers.{true_or_false}
 
 abbrev pub has : List RowMember → ℕ → Bool

@@ -7,12 +7,12 @@ use Rattle.std.proofs.lemmas.List.Concat.{flat_map-cons}
 use Rattle.partition_table.specs.declared.RowMember.{RowMember}
 use Rattle.partition_table.specs.Rows.{number_of}
 use Rattle.partition_table.specs.RowFacts.{are_distinct}
-use Rattle.member_wire.specs.Parts.{◌>>=◌, mark_at, mark}
+use Rattle.wire_parts.specs.Parts.{◌>>=◌, mark_at, mark}
 use Rattle.member_wire.specs.Reading.{fitting_at, is_new, member_at, members_at}
 use Rattle.member_wire.specs.Spelling.{member_bytes}
-use Rattle.member_wire.proofs.Formats.{IsFormat, Spells, said_as}
-use Rattle.member_wire.proofs.Following.{Follows, followed, IsDone, ended, Made, made}
-use Rattle.member_wire.proofs.PartFormats.{SpellsMark, mark_format}
+use Rattle.wire_parts.proofs.Formats.{IsFormat, Spells, said_as}
+use Rattle.wire_parts.proofs.Following.{Follows, followed, IsDone, ended, Made, made}
+use Rattle.wire_parts.proofs.PartFormats.{SpellsMark, mark_format}
 use Rattle.member_wire.proofs.NewNumbers.{fresh}
 use Rattle.member_wire.proofs.Members.{NewMember, AllNew, AllBytes, bytes_of_new, distinct_of_new, all_new}
 use Rattle.member_wire.proofs.FittingFormat.{SpellsFitting, fitting_format}

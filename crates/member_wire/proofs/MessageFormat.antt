@@ -8,17 +8,17 @@ use Rattle.member_wire.specs.declared.kind.Kind.{Kind}
 use Rattle.member_wire.specs.declared.kind.Kind.TheVariants as kinds
 use Rattle.member_wire.specs.declared.message.MemberMessage.{MemberMessage}
 use Rattle.member_wire.specs.declared.message.MemberMessage.TheVariants as said
-use Rattle.member_wire.specs.declared.refusal.WireRefused.{WireRefused}
-use Rattle.member_wire.specs.declared.refusal.WireRefused.TheVariants.{Tag}
-use Rattle.member_wire.specs.Places.{Place}
-use Rattle.member_wire.specs.Parts.{◌>>=◌, byte_at, number_at, number, sized_at, sized}
+use Rattle.wire_parts.specs.declared.refusal.WireRefused.{WireRefused}
+use Rattle.wire_parts.specs.declared.refusal.WireRefused.TheVariants.{Tag}
+use Rattle.wire_parts.specs.Places.{Place}
+use Rattle.wire_parts.specs.Parts.{◌>>=◌, byte_at, number_at, number, sized_at, sized}
 use Rattle.member_wire.specs.Kinds.{kind_byte, kind_of, all_kinds}
 use Rattle.member_wire.specs.Reading.{row_at, row_message_at, sync_at, effect_at, ack_at, joined_at, freeze_at, frozen_at, bridge_at, known_kind, kind_at, fields_at, message_at}
 use Rattle.member_wire.specs.Spelling.{row_bytes, kind_of_message, field_bytes, spelling, IsSpelled}
-use Rattle.member_wire.proofs.Formats.{IsBytes, place, ok_is, Begins, BeginsNone, FailsAt, Fault, Takes, IsFormat, Spells, said_as}
-use Rattle.member_wire.proofs.Following.{bind_ok, bind_err, Follows, followed, Made, made}
-use Rattle.member_wire.proofs.PartFormats.{SpellsByte, byte_format, no_byte, SpellsNumber, number_format}
-use Rattle.member_wire.proofs.SizedFormat.{SpellsSized, sized_format}
+use Rattle.wire_parts.proofs.Formats.{IsBytes, place, ok_is, Begins, BeginsNone, FailsAt, Fault, Takes, IsFormat, Spells, said_as}
+use Rattle.wire_parts.proofs.Following.{bind_ok, bind_err, Follows, followed, Made, made}
+use Rattle.wire_parts.proofs.PartFormats.{SpellsByte, byte_format, no_byte, SpellsNumber, number_format}
+use Rattle.wire_parts.proofs.SizedFormat.{SpellsSized, sized_format}
 use Rattle.member_wire.proofs.RowFormat.{SpellsRow, row_format, both}
 
 -- ---- the kind
@@ -61,7 +61,7 @@ some_kind = record { value = kinds.Row; text = 1 ∷ []; spells = record { fits 
 kind_taken : (p q : Place) (k : Kind) → IsBytes p.rest → kind_at p ≡ Ok (k, q) → Takes SpellsKind p k q
 kind_taken p q k are e =
     let x = bind_ok (byte_at p) (λ byte. known_kind p.at (kind_of byte.0) byte.1) (k, q) e in
-    let t = byte_format.takes p x.0.1 x.0.0 are x.1 in
+    let t = byte_format.reads.takes p x.0.1 x.0.0 are x.1 in
     let known = known_ok p.at (kind_of x.0.0) x.0.1 q k x.2 in
     subst (Takes SpellsKind p k) known.1
     (record { text = t.text; spells = record { fits = tt; is = t.spells.is ∙ ap (λ (b : ℕ). b ∷ []) (byte_of_kind x.0.0 k known.0) }; parts = t.parts; moved = t.moved; bytes = t.bytes })
@@ -90,13 +90,13 @@ kind_fault : (p : Place) (e : WireRefused) → IsBytes p.rest → kind_at p ≡ 
 kind_fault p e are is =
     ⊎_elim (λ first. no_byte SpellsKind some_kind p.at p.rest e first)
     (λ second.
-    let t = byte_format.takes p second.0.1 second.0.0 are second.1 in
+    let t = byte_format.reads.takes p second.0.1 second.0.0 are second.1 in
     let known = known_err p.at (kind_of second.0.0) second.0.1 e second.2 in
     subst (Fault SpellsKind p) known.1 (no_kind p second.0.1 second.0.0 known.0 t))
     (bind_err (byte_at p) (λ byte. known_kind p.at (kind_of byte.0) byte.1) e is)
 
 kind_format : IsFormat kind_at SpellsKind
-kind_format = record { takes = kind_taken; again = kind_again; some = some_kind; faults = kind_fault }
+kind_format = record { reads = record { takes = kind_taken; again = kind_again }; some = some_kind; faults = kind_fault }
 
 -- ---- the fields
 

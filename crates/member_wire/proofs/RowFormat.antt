@@ -6,12 +6,12 @@ use Rattle.std.proofs.lemmas.Bool.{and_parts, leb-true}
 use Rattle.std.proofs.lemmas.Bool.Decides.{nat_tests}
 use Rattle.partition_table.specs.declared.Row.{Row}
 use Rattle.partition_table.specs.declared.RowMember.{RowMember}
-use Rattle.member_wire.specs.Parts.{◌>>=◌, IsByte, number_at, number, mark_at, mark}
+use Rattle.wire_parts.specs.Parts.{◌>>=◌, IsByte, number_at, number, mark_at, mark}
 use Rattle.member_wire.specs.Reading.{fitting_at, members_at, row_at}
 use Rattle.member_wire.specs.Spelling.{is_count, IsSpelledRow, member_bytes, row_bytes}
-use Rattle.member_wire.proofs.Formats.{IsFormat, Spells, said_as}
-use Rattle.member_wire.proofs.Following.{Follows, followed, Made, made}
-use Rattle.member_wire.proofs.PartFormats.{SpellsNumber, number_format, SpellsMark, mark_format}
+use Rattle.wire_parts.proofs.Formats.{IsFormat, Spells, said_as}
+use Rattle.wire_parts.proofs.Following.{Follows, followed, Made, made}
+use Rattle.wire_parts.proofs.PartFormats.{SpellsNumber, number_format, SpellsMark, mark_format}
 use Rattle.member_wire.proofs.FittingFormat.{SpellsFitting, fitting_format}
 use Rattle.member_wire.proofs.MembersFormat.{SpellsMembers, members_format}
 

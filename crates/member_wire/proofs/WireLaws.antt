@@ -6,15 +6,15 @@ use Rattle.std.proofs.lemmas.List.{append-nil, nil_from_length, take_at}
 use Rattle.partition_table.specs.declared.Row.{Row}
 use Rattle.member_wire.specs.declared.message.MemberMessage.{MemberMessage}
 use Rattle.member_wire.specs.declared.message.MemberMessage.TheVariants as said
-use Rattle.member_wire.specs.declared.refusal.WireRefused.{WireRefused}
-use Rattle.member_wire.specs.declared.refusal.WireRefused.TheVariants.{Short, Tag, Order, Rest, Memory}
-use Rattle.member_wire.specs.Places.{Place, start}
-use Rattle.member_wire.specs.Parts.{◌>>=◌, end_at, IsByte, IsUnlessMemory}
+use Rattle.wire_parts.specs.declared.refusal.WireRefused.{WireRefused}
+use Rattle.wire_parts.specs.declared.refusal.WireRefused.TheVariants.{Short, Tag, Order, Rest, Memory}
+use Rattle.wire_parts.specs.Places.{Place, start}
+use Rattle.wire_parts.specs.Parts.{◌>>=◌, end_at, IsByte, IsUnlessMemory}
 use Rattle.member_wire.specs.Reading.{message_at, reading}
 use Rattle.member_wire.specs.Spelling.{spelling, IsSpelledRow, IsSpelled, LengthsFit}
 use Rattle.member_wire.specs.Faults as faults
-use Rattle.member_wire.proofs.Formats.{IsBytes, place, ok_is, Begins, FailsAt, Fault, Takes, one_text}
-use Rattle.member_wire.proofs.Following.{bind_ok, bind_err}
+use Rattle.wire_parts.proofs.Formats.{IsBytes, place, ok_is, Begins, FailsAt, Fault, Takes, one_text}
+use Rattle.wire_parts.proofs.Following.{bind_ok, bind_err}
 use Rattle.member_wire.proofs.RowFormat.{few_members}
 use Rattle.member_wire.proofs.MessageFormat.{SpellsMessage, message_format}
 
@@ -35,7 +35,7 @@ reading_takes bytes m are e =
     let x = bind_ok (message_at (start bytes)) ending m e in
     let end = bind_ok (end_at x.0.1) (λ p. Ok x.0.0) m x.2 in
     let nothing : x.0.1.rest ≡ [] = nil_from_length x.0.1.rest (eqb-true _ _ (ended_ok (eqb (length x.0.1.rest) 0) x.0.1.at x.0.1 end.0 end.1)) in
-    let t = message_format.takes (start bytes) x.0.1 x.0.0 are x.1 in
+    let t = message_format.reads.takes (start bytes) x.0.1 x.0.0 are x.1 in
     let whole : bytes ≡ spelling x.0.0 = t.parts ∙ ap (λ (r : List ℕ). t.text ++ r) nothing ∙ append-nil t.text ∙ t.spells.is in
     subst (λ (y : MemberMessage). IsSpelled y × (bytes ≡ spelling y)) (ok_is x.0.0 m end.2) (t.spells.fits, whole)
 
@@ -43,7 +43,7 @@ pub reading_again : (m : MemberMessage) → IsSpelled m → reading (spelling m)
 unfolding reading
 reading_again m fits =
     let text = spelling m in
-    let read : message_at (place 0 text) ≡ Ok (m, place (0 + length text) []) = ap (λ (t : List ℕ). message_at (place 0 t)) (sym (append-nil text)) ∙ message_format.again 0 m text [] (record { fits = fits; is = refl }) in
+    let read : message_at (place 0 text) ≡ Ok (m, place (0 + length text) []) = ap (λ (t : List ℕ). message_at (place 0 t)) (sym (append-nil text)) ∙ message_format.reads.again 0 m text [] (record { fits = fits; is = refl }) in
     ap (λ (r : Result (MemberMessage × Place) WireRefused). r >>= ending) read
 
 begins_message : (front : List ℕ) → Begins SpellsMessage front → faults.BeginsMessage front
@@ -85,7 +85,7 @@ reading_faults bytes e are is =
     (λ second.
     ⊎_elim
     (λ end.
-    let t = message_format.takes (start bytes) second.0.1 second.0.0 are second.1 in
+    let t = message_format.reads.takes (start bytes) second.0.1 second.0.0 are second.1 in
     let g = ended_err (eqb (length second.0.1.rest) 0) second.0.1.at second.0.1 e end in
     subst (faults.IsFirstFault bytes) g.1 (goes_on bytes second.0.0 second.0.1 t g.0))
     (λ past. let clash : Ok second.0.0 ≡ Err e = past.2 in absurd cc)
@@ -110,7 +110,7 @@ pub is_only : (bytes : List ℕ) (r : Result MemberMessage WireRefused) → IsUn
 is_only bytes r given m fits is = subst (IsUnlessMemory r) (ap reading is ∙ reading_again m fits) given
 
 pub stay_apart : (m n : MemberMessage) (x y : List ℕ) → IsSpelled m → IsSpelled n → spelling m ++ x ≡ spelling n ++ y → (m ≡ n) × (x ≡ y)
-stay_apart m n x y one two same = one_text message_at SpellsMessage message_format m n (spelling m) (spelling n) x y (record { fits = one; is = refl }) (record { fits = two; is = refl }) same
+stay_apart m n x y one two same = one_text message_at SpellsMessage message_format.reads m n (spelling m) (spelling n) x y (record { fits = one; is = refl }) (record { fits = two; is = refl }) same
 
 few_in_row : (row : Row) → IsSpelledRow row → IsByte (length row.members)
 few_in_row row fits = few_members row.lost (length row.members) fits.count

@@ -1,8 +1,8 @@
 -- What a refusal says of the bytes, whatever way they are read.
 use Rattle.std.specs.Prelude.{◌≡◌, ℕ, ◌+◌, ◌<◌, ◌≤◌, List, ◌++◌, length, take}
 use Rattle.member_wire.specs.declared.message.MemberMessage.{MemberMessage}
-use Rattle.member_wire.specs.declared.refusal.WireRefused.{WireRefused}
-use Rattle.member_wire.specs.declared.refusal.WireRefused.TheVariants.{Short, Tag, Order, Rest, Memory}
+use Rattle.wire_parts.specs.declared.refusal.WireRefused.{WireRefused}
+use Rattle.wire_parts.specs.declared.refusal.WireRefused.TheVariants.{Short, Tag, Order, Rest, Memory}
 use Rattle.member_wire.specs.Spelling.{spelling, IsSpelled}
 
 -- the bytes are a message

@@ -1,5 +1,3 @@
-pub mod Places
-pub mod Parts
 pub mod Kinds
 pub mod Spelling
 pub mod Reading

@@ -6,14 +6,14 @@ use Rattle.partition_table.specs.declared.RowMember.{RowMember}
 use Rattle.partition_table.specs.Rows.{is_among, number_of}
 use Rattle.member_wire.specs.declared.message.MemberMessage.{MemberMessage}
 use Rattle.member_wire.specs.declared.message.MemberMessage.TheVariants as said
-use Rattle.member_wire.specs.declared.refusal.WireRefused.{WireRefused}
-use Rattle.member_wire.specs.declared.refusal.WireRefused.TheVariants.{Tag, Order}
+use Rattle.wire_parts.specs.declared.refusal.WireRefused.{WireRefused}
+use Rattle.wire_parts.specs.declared.refusal.WireRefused.TheVariants.{Tag, Order}
 use Rattle.member_wire.specs.declared.kind.Kind.{Kind}
 use Rattle.member_wire.specs.declared.kind.Kind.TheVariants as kinds
 use Rattle.member_wire.specs.Kinds.{kind_of}
-use Rattle.member_wire.specs.Places.{Place, start}
+use Rattle.wire_parts.specs.Places.{Place, start}
 use Rattle.member_wire.specs.Spelling.{is_count}
-use Rattle.member_wire.specs.Parts.{◌>>=◌, byte_at, number_at, sized_at, mark_at, end_at}
+use Rattle.wire_parts.specs.Parts.{◌>>=◌, byte_at, number_at, sized_at, mark_at, end_at}
 
 -- a byte that has to pass a test, and is out of order where it doesn't
 abbrev pub fitting_at : (ℕ → Bool) → Place → Result (ℕ × Place) WireRefused

@@ -10,7 +10,7 @@ use Rattle.member_wire.specs.declared.kind.Kind.{Kind}
 use Rattle.member_wire.specs.declared.kind.Kind.TheVariants as kinds
 use Rattle.member_wire.specs.Kinds.{kind_byte}
 use Rattle.member_wire.specs.declared.message.TheConstants.{MAX_MEMBERS}
-use Rattle.member_wire.specs.Parts.{IsByte, IsNumber, number, sized, mark}
+use Rattle.wire_parts.specs.Parts.{IsByte, IsNumber, number, sized, mark}
 
 abbrev pub member_bytes : RowMember → List ℕ
 member_bytes r = r.member ∷ mark r.eligible

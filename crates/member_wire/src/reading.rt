@@ -3,16 +3,15 @@ ghost use Rattle.partition_table.specs.Rows.{is_among, number_of};
 ghost use Rattle.member_wire.specs.Faults.{IsFirstFault};
 ghost use Rattle.member_wire.specs.Spelling.{is_count, spelling, IsSpelled};
 ghost use Rattle.member_wire.specs.declared.message.MemberMessage.{MemberMessage as MemberMessageOf};
-ghost use Rattle.member_wire.specs.Parts.{Gives, IsUnlessMemory};
+ghost use Rattle.wire_parts.specs.Parts.{Gives, IsUnlessMemory};
 ghost use Rattle.member_wire.specs.Reading.{member_at, members_at, row_at, sync_at, effect_at, ack_at, joined_at, freeze_at, frozen_at, bridge_at, kind_at, fields_at, message_at, reading};
 
-use crate::cursor::Cursor;
 use crate::kind::Kind;
 use crate::message::{MAX_MEMBERS, MemberMessage};
-use crate::refusal::WireRefused;
 use grid_base::{Bytes, MemberId};
 use partition_table::{Row, RowMember, RowMembers};
 use std::alloc::Global;
+use wire_parts::{Cursor, WireRefused};
 
 fn is_listed(listed: &[RowMember], member: MemberId) -> bool
     ensures { result ≡ is_among (map number_of listed.now) member }

@@ -2,6 +2,7 @@ use super::*;
 use std::alloc::Global;
 use std::process::Abort;
 use std::test::Fail;
+use wire_parts::WireRefused;
 
 /// One message of each kind, as an independent program spells it.
 const MESSAGES: [&[u8]; 8] = [

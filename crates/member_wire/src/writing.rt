@@ -1,6 +1,6 @@
 ghost use Rattle.std.specs.Prelude.{◌≡◌, ◌+◌, ◌*◌, ◌^◌, ◌<◌, ◌≤◌, ◌++◌, length, OnOk, IfOk};
 ghost use Rattle.std.specs.List.{flat_map};
-ghost use Rattle.member_wire.specs.Parts.{number, sized, mark};
+ghost use Rattle.wire_parts.specs.Parts.{number, sized, mark};
 ghost use Rattle.member_wire.specs.Spelling.{member_bytes, row_bytes, field_bytes, spelling, LengthsFit};
 
 use crate::message::MemberMessage;

@@ -1,5 +1,5 @@
 ghost use Rattle.std.specs.Prelude.{◌≡◌};
-ghost use Rattle.member_wire.specs.declared.refusal.WireRefused.TheVariants.{Memory};
+ghost use Rattle.wire_parts.specs.declared.refusal.WireRefused.TheVariants.{Memory};
 
 use std::alloc::{AllocError, AllocFailed};
 use thiserror::Error;

@@ -1,8 +1,8 @@
 ghost use Rattle.std.specs.Prelude.{◌≡◌, ◌≢◌, ℕ, List, Err, OnErr};
 ghost use Rattle.std.specs.Borrow.{Bor};
-ghost use Rattle.std.specs.Int.{w32};
-ghost use Rattle.member_wire.specs.Places.{start};
-ghost use Rattle.member_wire.specs.Parts.{Gives, byte_at, number_at, sized_at, mark_at, end_at};
+ghost use Rattle.std.specs.Int.{w32, w64, w128};
+ghost use Rattle.wire_parts.specs.Places.{start};
+ghost use Rattle.wire_parts.specs.Parts.{Gives, byte_at, number_at, sized_at, mark_at, end_at};
 
 use crate::refusal::WireRefused;
 use std::marker::Model;
@@ -18,7 +18,7 @@ pub struct Cursor<'a> {
 
 impl<'a> Model for Cursor<'a> {
     ghost use Rattle.std.specs.Prelude.{◌+◌, ◌<◌, ◌^◌, length};
-    ghost use Rattle.member_wire.specs.Places.{Place};
+    ghost use Rattle.wire_parts.specs.Places.{Place};
 
     ghost Value = { Place };
 
@@ -71,6 +71,42 @@ impl<'a> Cursor<'a> {
         self.at += 4;
         self.rest = rest;
         Ok(u32::from_le_bytes([number[0], number[1], number[2], number[3]]))
+    }
+
+    /// A number of eight bytes, the low byte first.
+    pub fn long(&mut self) -> Result<u64, WireRefused>
+        ensures read { Gives (λ n. (n, self.new)) result (number_at w64 self.old) }
+        ensures err { OnErr result (self.new ≡ self.old) }
+        ensures never_memory { result ≢ Err WireRefused.Memory }
+    {
+        if self.rest.len() < 8 {
+            return Err(WireRefused::Short { at: self.at });
+        }
+        let (number, rest) = self.rest.split_at(8);
+        self.at += 8;
+        self.rest = rest;
+        Ok(u64::from_le_bytes([
+            number[0], number[1], number[2], number[3], number[4], number[5], number[6], number[7],
+        ]))
+    }
+
+    /// A number of sixteen bytes, the low byte first.
+    pub fn wide(&mut self) -> Result<u128, WireRefused>
+        ensures read { Gives (λ n. (n, self.new)) result (number_at w128 self.old) }
+        ensures err { OnErr result (self.new ≡ self.old) }
+        ensures never_memory { result ≢ Err WireRefused.Memory }
+    {
+        if self.rest.len() < 16 {
+            return Err(WireRefused::Short { at: self.at });
+        }
+        let (number, rest) = self.rest.split_at(16);
+        self.at += 16;
+        self.rest = rest;
+        Ok(u128::from_le_bytes([
+            number[0], number[1], number[2], number[3], number[4], number[5], number[6], number[7],
+            number[8], number[9], number[10], number[11], number[12], number[13], number[14],
+            number[15],
+        ]))
     }
 
     /// Bytes behind their length, which is a number. Where they end early, the fault is at the length.

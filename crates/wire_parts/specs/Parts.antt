@@ -1,15 +1,18 @@
 -- The parts of a message: numbers, marks, and bytes behind their length; how each is spelled, and how it is read at a place.
 -- Reading gives the part and the place behind it, or the first fault. Where the bytes end inside a part, the fault is where that part begins.
-use Rattle.std.specs.Prelude.{◌≡◌, ℕ, zero, suc, ◌+◌, ◌^◌, ◌<◌, Bool, true, false, List, [], ◌∷◌, ◌++◌, length, take, Result, Ok, Err, nat_lt, ◌==◌, if◌then◌else◌}
+use Rattle.std.specs.Prelude.{◌≡◌, ℕ, zero, suc, ◌+◌, ◌^◌, ◌<◌, Bool, true, false, List, [], ◌∷◌, ◌++◌, length, take, Result, Ok, Err, nat_lt, ◌==◌, All, if◌then◌else◌}
 use Rattle.std.specs.Int.{Width, w32, byte_len, to_le_bytes, from_le_bytes}
-use Rattle.member_wire.specs.declared.refusal.WireRefused.{WireRefused}
-use Rattle.member_wire.specs.declared.refusal.WireRefused.TheVariants.{Short, Tag, Rest, Memory}
-use Rattle.member_wire.specs.Places.{Place, skipped}
+use Rattle.wire_parts.specs.declared.refusal.WireRefused.{WireRefused}
+use Rattle.wire_parts.specs.declared.refusal.WireRefused.TheVariants.{Short, Tag, Rest, Memory}
+use Rattle.wire_parts.specs.Places.{Place, skipped}
 
 -- Spelling. A byte and a number have their ranges, and a number has its low byte first.
 
 abbrev pub IsByte : ℕ → Type 0
 IsByte n = n < 2 ^ 8
+
+abbrev pub AreBytes : List ℕ → Type 0
+AreBytes bytes = All IsByte bytes
 
 abbrev pub IsNumber : ℕ → Type 0
 IsNumber n = n < 2 ^ 32

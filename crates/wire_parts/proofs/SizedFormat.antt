@@ -4,13 +4,13 @@ use Rattle.std.specs.Prelude.{if◌then◌else◌}
 use Rattle.std.specs.Int.{w32}
 use Rattle.std.proofs.lemmas.Bool.{ltb-false, ltb-true, le-ltb}
 use Rattle.std.proofs.lemmas.List.{take_at, drop_at, take-append-drop, length-take}
-use Rattle.member_wire.specs.declared.refusal.WireRefused.{WireRefused}
-use Rattle.member_wire.specs.declared.refusal.WireRefused.TheVariants.{Short}
-use Rattle.member_wire.specs.Places.{Place}
-use Rattle.member_wire.specs.Parts.{IsNumber, number_at, number, sized, sized_at}
-use Rattle.member_wire.proofs.Formats.{IsBytes, place, gives, Begins, Fault, Takes, IsFormat, Spells}
-use Rattle.member_wire.proofs.Following.{bind_ok, bind_err}
-use Rattle.member_wire.proofs.PartFormats.{IsBytes-drop, zeros, length-zeros, guard_ok, guard_err, SpellsNumber, number_begun, number_taken, number_again}
+use Rattle.wire_parts.specs.declared.refusal.WireRefused.{WireRefused}
+use Rattle.wire_parts.specs.declared.refusal.WireRefused.TheVariants.{Short}
+use Rattle.wire_parts.specs.Places.{Place}
+use Rattle.wire_parts.specs.Parts.{IsNumber, number_at, number, sized, sized_at}
+use Rattle.wire_parts.proofs.Formats.{IsBytes, place, gives, Begins, Fault, Takes, IsFormat, Spells}
+use Rattle.wire_parts.proofs.Following.{bind_ok, bind_err}
+use Rattle.wire_parts.proofs.PartFormats.{IsBytes-drop, zeros, length-zeros, guard_ok, guard_err, SpellsNumber, number_begun, number_taken, number_again}
 
 abbrev pub SpellsSized : List ℕ → List ℕ → Type 0
 SpellsSized = Spells (λ bytes. IsNumber (length bytes)) sized
@@ -87,8 +87,7 @@ sized_fault p e are is =
 
 pub sized_format : IsFormat sized_at SpellsSized
 sized_format = record {
-  takes = sized_taken;
-  again = sized_again;
+  reads = record { takes = sized_taken; again = sized_again };
   some = short_length [] (λ i. omega arith) (omega arith);
   faults = sized_fault;
 }

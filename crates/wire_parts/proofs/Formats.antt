@@ -1,8 +1,8 @@
 -- Formats: what reading and spelling have to do with one another, and that formats may follow one another.
 use Rattle.std.proofs.Common.{◌≡◌, ℕ, ◌+◌, ◌≤◌, ◌<◌, List, [], ◌++◌, length, get_or, take, Result, Ok, Err, sym, ap, ◌∙◌}
-use Rattle.member_wire.specs.declared.refusal.WireRefused.{WireRefused}
-use Rattle.member_wire.specs.declared.refusal.WireRefused.TheVariants.{Short, Tag, Order, Rest, Memory}
-use Rattle.member_wire.specs.Places.{Place}
+use Rattle.wire_parts.specs.declared.refusal.WireRefused.{WireRefused}
+use Rattle.wire_parts.specs.declared.refusal.WireRefused.TheVariants.{Short, Tag, Order, Rest, Memory}
+use Rattle.wire_parts.specs.Places.{Place}
 
 abbrev pub IsBytes : List ℕ → Type 0
 IsBytes bytes = (i : ℕ) → get_or bytes i 0 < 256
@@ -63,11 +63,16 @@ pub record Takes {C : Type 0} (S : C → List ℕ → Type 0) (p : Place) (c : C
   pub moved : q.at ≡ p.at + length text
   pub bytes : IsBytes q.rest
 
-pub record IsFormat {C : Type 0} (R : Reader C) (S : C → List ℕ → Type 0) : Type 0 where
+-- what is spelled is read, and nothing else; which fault anything else is stays open
+pub record Reads {C : Type 0} (R : Reader C) (S : C → List ℕ → Type 0) : Type 0 where
   -- what is read is spelled so
   pub takes : (p q : Place) (c : C) → IsBytes p.rest → R p ≡ Ok (c, q) → Takes S p c q
   -- what is spelled so is read
   pub again : (at : ℕ) (c : C) (text rest : List ℕ) → S c text → R (place at (text ++ rest)) ≡ Ok (c, place (at + length text) rest)
+
+-- and each fault is at the first place that fails
+pub record IsFormat {C : Type 0} (R : Reader C) (S : C → List ℕ → Type 0) : Type 0 where
+  pub reads : Reads R S
   -- something is spelled
   pub some : Begins S []
   pub faults : (p : Place) (e : WireRefused) → IsBytes p.rest → R p ≡ Err e → Fault S p e
@@ -79,7 +84,7 @@ pub ok_is : {A : Type 0} (x y : A) → done x ≡ done y → x ≡ y
 ok_is x y e = cc
 
 -- a text is that of one value, whatever follows it
-pub one_text : {C : Type 0} (R : Reader C) (S : C → List ℕ → Type 0) → IsFormat R S → (c d : C) (s t x y : List ℕ) → S c s → S d t → s ++ x ≡ t ++ y → (c ≡ d) × (x ≡ y)
+pub one_text : {C : Type 0} (R : Reader C) (S : C → List ℕ → Type 0) → Reads R S → (c d : C) (s t x y : List ℕ) → S c s → S d t → s ++ x ≡ t ++ y → (c ≡ d) × (x ≡ y)
 one_text {C} R S f c d s t x y one two same =
     let both : gives c (place (0 + length s) x) ≡ gives d (place (0 + length t) y) = sym (f.again 0 c s x one) ∙ ap (λ (text : List ℕ). R (place 0 text)) same ∙ f.again 0 d t y two in
     let pair = ok_is (c, place (0 + length s) x) (d, place (0 + length t) y) both in
@@ -87,17 +92,22 @@ one_text {C} R S f c d s t x y one two same =
 
 -- ---- the same format, said in other words
 
-pub said_as : {C : Type 0} (R : Reader C) (S T : C → List ℕ → Type 0) → ((c : C) (text : List ℕ) → S c text → T c text) → ((c : C) (text : List ℕ) → T c text → S c text) → IsFormat R S → IsFormat R T
-said_as {C} R S T to from f = record {
-  takes = λ p q c bytes is. taken (f.takes p q c bytes is);
-  again = λ at c text rest spells. f.again at c text rest (from c text spells);
-  some = begun [] f.some;
-  faults = λ p e bytes is. fault p e (f.faults p e bytes is);
+pub reads_as : {C : Type 0} (R : Reader C) (S T : C → List ℕ → Type 0) → ((c : C) (text : List ℕ) → S c text → T c text) → ((c : C) (text : List ℕ) → T c text → S c text) → Reads R S → Reads R T
+reads_as {C} R S T to from r = record {
+  takes = λ p q c bytes is. taken (r.takes p q c bytes is);
+  again = λ at c text rest spells. r.again at c text rest (from c text spells);
 }
   where
     taken : {p q : Place} {c : C} → Takes S p c q → Takes T p c q
     taken t = record { text = t.text; spells = to _ t.text t.spells; parts = t.parts; moved = t.moved; bytes = t.bytes }
 
+pub said_as : {C : Type 0} (R : Reader C) (S T : C → List ℕ → Type 0) → ((c : C) (text : List ℕ) → S c text → T c text) → ((c : C) (text : List ℕ) → T c text → S c text) → IsFormat R S → IsFormat R T
+said_as {C} R S T to from f = record {
+  reads = reads_as R S T to from f.reads;
+  some = begun [] f.some;
+  faults = λ p e bytes is. fault p e (f.faults p e bytes is);
+}
+  where
     begun : (front : List ℕ) → Begins S front → Begins T front
     begun front b = record { value = b.value; text = b.text; spells = to b.value b.text b.spells; rest = b.rest; whole = b.whole }
 

@@ -4,22 +4,30 @@ use Rattle.std.specs.Int.{w32, from_le_bytes}
 use Rattle.std.proofs.lemmas.Bool.{cases_lt, ltb-false, ltb-true, le-ltb}
 use Rattle.std.proofs.lemmas.List.{take_at, drop_at, take-append-drop, length-take, get_or-drop, get_or-take, get_or_past}
 use Rattle.std.proofs.lemmas.Nat.{le_bytes_4, from_le_bytes-to_le_bytes_4}
-use Rattle.member_wire.specs.declared.refusal.WireRefused.{WireRefused}
-use Rattle.member_wire.specs.declared.refusal.WireRefused.TheVariants.{Short, Tag}
-use Rattle.member_wire.specs.Places.{Place}
-use Rattle.member_wire.specs.Parts.{◌>>=◌, IsByte, IsNumber, first_of, byte_at, number_at, number, mark, marked_by, mark_at}
-use Rattle.member_wire.proofs.Formats.{IsBytes, place, gives, ok_is, Begins, Fault, Takes, IsFormat, Spells}
+use Rattle.wire_parts.specs.declared.refusal.WireRefused.{WireRefused}
+use Rattle.wire_parts.specs.declared.refusal.WireRefused.TheVariants.{Short, Tag}
+use Rattle.wire_parts.specs.Places.{Place}
+use Rattle.wire_parts.specs.Parts.{◌>>=◌, IsByte, AreBytes, IsNumber, first_of, byte_at, number_at, number, mark, marked_by, mark_at}
+use Rattle.wire_parts.proofs.Formats.{IsBytes, place, gives, ok_is, Begins, Fault, Takes, IsFormat, Spells}
 
 -- ---- bytes
 
 pub IsBytes-drop : (n : ℕ) (bytes : List ℕ) → IsBytes bytes → IsBytes (drop n bytes)
 IsBytes-drop n bytes h i = rw get_or-drop (h (n + i))
 
-IsBytes-take : (n : ℕ) (bytes : List ℕ) → IsBytes bytes → IsBytes (take n bytes)
+pub IsBytes-take : (n : ℕ) (bytes : List ℕ) → IsBytes bytes → IsBytes (take n bytes)
 IsBytes-take n bytes h i =
     elim (cases_lt i n) [
       | inl lt ↦ rw (get_or-take n bytes i 0 lt) (h i)
       | inr le ↦ rw (get_or_past (take n bytes) i 0 (omega (arith, length-take n bytes))) (omega arith)
+    ]
+
+-- past the end there is a 0
+pub IsBytes-from_all : (bytes : List ℕ) → AreBytes bytes → IsBytes bytes
+IsBytes-from_all bytes all i =
+    elim (cases_lt i (length bytes)) [
+      | inl lt ↦ all i 0 lt
+      | inr le ↦ rw (get_or_past bytes i 0 le) (omega arith)
     ]
 
 IsBytes-rest : (byte : ℕ) (bytes : List ℕ) → IsBytes (byte ∷ bytes) → IsBytes bytes
@@ -73,8 +81,10 @@ no_byte S some at (b ∷ rest) e is = absurd cc
 
 pub byte_format : IsFormat byte_at SpellsByte
 byte_format = record {
-  takes = λ p q byte bytes e. byte_taken p.at p.rest q byte bytes e;
-  again = λ at byte text rest s. rw s.is refl;
+  reads = record {
+    takes = λ p q byte bytes e. byte_taken p.at p.rest q byte bytes e;
+    again = λ at byte text rest s. rw s.is refl;
+  };
   some = byte_some;
   faults = λ p e bytes is. no_byte SpellsByte byte_some p.at p.rest e is;
 }
@@ -121,8 +131,7 @@ number_fault p e bytes is =
 
 pub number_format : IsFormat (number_at w32) SpellsNumber
 number_format = record {
-  takes = number_taken;
-  again = number_again;
+  reads = record { takes = number_taken; again = number_again };
   some = number_begun [] (IsBytes-zeros 0) (omega arith);
   faults = number_fault;
 }
@@ -170,8 +179,10 @@ mark_fault at (suc (suc b) ∷ rest) e is =
 pub mark_format : IsFormat mark_at SpellsMark
 unfolding mark_at
 mark_format = record {
-  takes = λ p q is bytes e. mark_taken p.at p.rest q is bytes e;
-  again = λ at is text rest s. rw s.is (mark_again at is rest);
+  reads = record {
+    takes = λ p q is bytes e. mark_taken p.at p.rest q is bytes e;
+    again = λ at is text rest s. rw s.is (mark_again at is rest);
+  };
   some = mark_some;
   faults = λ p e bytes is. mark_fault p.at p.rest e is;
 }
