@@ -1,0 +1,17 @@
+pub mod EffectFormat
+pub mod EffectLaws
+pub mod EntryFormat
+pub mod NameLaws
+pub mod ObjectFormat
+pub mod OptionFormat
+pub mod OwnerFormat
+pub mod PartitionLaws
+pub mod QueueFormat
+pub mod ReadLoops
+pub mod ReadRecords
+pub mod ReadWhole
+pub mod SnapshotLaws
+pub mod StoredFormat
+pub mod TableLaws
+pub mod WholeText
+pub mod WriteLoop

@@ -1,0 +1,10 @@
+pub mod Codes
+pub mod Effects
+pub mod Examples
+pub mod Names
+pub mod Partitions
+pub mod Reading
+pub mod Records
+pub mod Spelling
+pub mod Stored
+pub mod Tables
