@@ -1,0 +1,2 @@
+pub mod ExecutionLaws
+pub mod ShelfSteps

@@ -1,0 +1,12 @@
+pub mod Calls
+pub mod Changes
+pub mod EffectLaws
+pub mod Effects
+pub mod Env
+pub mod Executions
+pub mod Fitting
+pub mod Limits
+pub mod Objects
+pub mod SameEntries
+pub mod ShelfLaws
+pub mod Within
