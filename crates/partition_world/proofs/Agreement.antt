@@ -56,21 +56,20 @@ nothing_more old new member node next there nodes same q =
 
 module _ {S Env C State : Type 0} (o : Object C State) (state : S → State) (old new : World S Env C) (w : Machine C) (member : ℕ) (node : Node S)
     (a : Agrees o state old w) (there : slice_get old.nodes.items member ≡ Some node) (setup : setup_of new ≡ setup_of old) where
-  pub members : new.members ≡ w.members
+  pub members : vec_len new.nodes ≡ w.members
   members = ap (λ (u : Setup). u.members) setup ∙ a.members
 
   pub there_too : slice_get w.nodes member ≡ Some (protocol_node node)
   there_too = ap (λ ns. slice_get ns member) (sym a.nodes) ∙ get_map protocol_node old.nodes.items member node there
 
   -- one node is another one with the same facts and contents, and some of the answers
-  pub agrees_set : (next : Node S) → new.nodes.items ≡ slice_set old.nodes.items member next → vec_len new.nodes ≡ vec_len old.nodes → protocol_node next ≡ protocol_node node → state next.shelf ≡ state node.shelf
+  pub agrees_set : (next : Node S) → new.nodes.items ≡ slice_set old.nodes.items member next → protocol_node next ≡ protocol_node node → state next.shelf ≡ state node.shelf
       → new.trail.entries.items ≡ old.trail.entries.items → ((q : ℕ) (answer : Released) → Contains (waiting new q) answer → Contains (waiting old q) answer) → Agrees o state new w
-  agrees_set next nodes size says contents same fewer = record {
+  agrees_set next nodes says contents same fewer = record {
     members = members;
     nodes =
         ap (map protocol_node) nodes ∙ map_set protocol_node old.nodes.items member next ∙ ap (slice_set (map protocol_node old.nodes.items) member) says
         ∙ set_itself (map protocol_node old.nodes.items) member (protocol_node node) (get_map protocol_node old.nodes.items member node there) ∙ a.nodes;
-    size = size ∙ a.size;
     shelves = λ q x e. shelf q x (get_set old.nodes.items member q next x (ap (λ ns. slice_get ns q) (sym nodes) ∙ e));
     trail = ap (map entry_of) same ∙ a.trail;
     waiting = λ q answer c. a.waiting q answer (fewer q answer c);
@@ -82,7 +81,7 @@ module _ {S Env C State : Type 0} (o : Object C State) (state : S → State) (ol
       shelf q x (inr e) = a.shelves q x e.1
 
   pub agrees_kept : HasKept state old new member node → Agrees o state new w
-  agrees_kept k = agrees_set k.next k.nodes k.size k.says k.contents k.trail (λ q answer c. subst (λ xs. Contains xs answer) (nothing_more old new member node k.next there k.nodes k.released q) c)
+  agrees_kept k = agrees_set k.next k.nodes k.says k.contents k.trail (λ q answer c. subst (λ xs. Contains xs answer) (nothing_more old new member node k.next there k.nodes k.released q) c)
 
   pub waits_kept : HasKept state old new member node → (q : ℕ) → waiting new q ≡ waiting old q
   waits_kept k = nothing_more old new member node k.next there k.nodes k.released
@@ -210,7 +209,6 @@ module _ {S Env C State : Type 0} (o : Object C State) (state : S → State) (ol
       nodes =
           ap (map protocol_node) h.nodes ∙ map_set protocol_node old.nodes.items member h.next ∙ ap (slice_set (map protocol_node old.nodes.items) member) says
           ∙ ap (λ ns. slice_set ns member (settled after)) a.nodes;
-      size = h.size ∙ a.size;
       shelves = λ q z e. shelf q z (get_set old.nodes.items member q h.next z (ap (λ ns. slice_get ns q) (sym h.nodes) ∙ e));
       trail =
           entry_is ∙ ap (λ es. es ++ Called x ∷ []) a.trail ∙ sym (lone.trail_gains o w a.alone member id.conn id.number call now n there_too);

@@ -5,5 +5,6 @@ pub mod LoneCalls
 pub mod Agreement
 pub mod Unchanged
 pub mod Starts
+pub mod SmallStates
 pub mod Stands
 pub mod Given

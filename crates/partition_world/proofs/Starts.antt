@@ -55,25 +55,25 @@ none_waits {S = S} world none member = go (slice_get world.nodes.items member) r
     go None at = refl
     go (Some node) at = all_at (λ (node : Node S). node.replica.released.items ≡ []) world.nodes.items member node none at
 
-pub starts : {S Env C State : Type 0} (o : Object C State) (state : S → State) (world : World S Env C) → world.members ≡ 1 → vec_len world.nodes ≡ world.members
-    → map protocol_node world.nodes.items ≡ map (opening_node (initial_row world.partition world.members world.backups)) (numbers_below world.members)
+pub starts : {S Env C State : Type 0} (o : Object C State) (limits : C → Type 0) (state : S → State) (world : World S Env C) (members : ℕ) → members ≡ 1 → vec_len world.nodes ≡ members
+    → map protocol_node world.nodes.items ≡ map (opening_node (initial_row world.partition members world.backups)) (numbers_below members)
     → All (λ (node : Node S). state node.shelf ≡ o.empty) world.nodes.items → All (λ (node : Node S). node.replica.released.items ≡ []) world.nodes.items
-    → world.trail.entries.items ≡ [] → world.steps ≡ 0 → StandsFor o state world []
-starts {S} {Env} {C} o state world one size nodes empty none entries steps = record {
+    → world.trail.entries.items ≡ [] → world.steps ≡ 0 → StandsFor o limits state world []
+starts {S} {Env} {C} o limits state world members one size nodes empty none entries steps = record {
   agrees = record {
     members = refl;
-    nodes = nodes;
-    size = size;
-    shelves = λ member node at. all_at (λ (node : Node S). state node.shelf ≡ o.empty) world.nodes.items member node empty at ∙ sym (start_state o world.partition world.members world.backups (protocol_node node).pair);
-    trail = ap (map entry_of) entries ∙ sym (trail_alone (start world.partition world.members world.backups) alone);
+    nodes = nodes ∙ ap (λ n. map (opening_node (initial_row world.partition n world.backups)) (numbers_below n)) (sym size);
+    shelves = λ member node at. all_at (λ (node : Node S). state node.shelf ≡ o.empty) world.nodes.items member node empty at ∙ sym (start_state o world.partition (vec_len world.nodes) world.backups (protocol_node node).pair);
+    trail = ap (map entry_of) entries ∙ sym (trail_alone (start world.partition (vec_len world.nodes) world.backups) alone);
     waiting = λ member answer c. absurd (nobody answer (subst (λ xs. Contains xs answer) (none_waits world none member) c));
     alone = alone;
   };
   steps = steps;
+  within = λ k d l. absurd (omega (arith, l));
 }
   where
-    alone : IsAlone (start {C = C} world.partition world.members world.backups)
-    alone = subst (λ members. IsAlone (start {C = C} world.partition members world.backups)) (sym one) (start_alone world.partition world.backups)
+    alone : IsAlone (start {C = C} world.partition (vec_len world.nodes) world.backups)
+    alone = subst (λ members. IsAlone (start {C = C} world.partition members world.backups)) (sym (size ∙ one)) (start_alone world.partition world.backups)
 
     nobody : (answer : Released) → Contains [] answer → ⊥
     nobody answer (k, within, e) = absurd (omega arith)

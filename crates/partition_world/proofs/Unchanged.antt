@@ -1,7 +1,6 @@
 -- An event that changes nothing: a call to nobody, and a call that is refused.
-use Rattle.std.proofs.Common.{◌≡◌, ℕ, nat_lt, not, ◌&&◌, if◌then◌else◌, Bool, true, false, [], ◌++◌, length, Option, Some, slice_get, refl, ap, sym, ◌∙◌, append-nil}
+use Rattle.std.proofs.Common.{◌≡◌, ℕ, nat_lt, not, ◌&&◌, if◌then◌else◌, Bool, true, false, [], ◌++◌, vec_len, Option, Some, slice_get, refl, ap, sym, ◌∙◌, append-nil}
 use Rattle.std.specs.List.{filter_map}
-use Rattle.std.proofs.lemmas.List.{length-map}
 use Rattle.std.proofs.Math.Seq.{drop-length}
 use Rattle.grid_base.specs.Objects.{Object}
 use Rattle.grid_base.specs.declared.calls.Change.{Change}
@@ -23,18 +22,13 @@ and_true false = refl
 
 module _ {S Env C State : Type 0} (o : Object C State) (state : S → State) (world : World S Env C) (w : Machine C) (a : Agrees o state world w) where
   -- nobody has crashed
-  pub live : (q : ℕ) → is_live w q ≡ nat_lt q world.members
+  pub live : (q : ℕ) → is_live w q ≡ nat_lt q (vec_len world.nodes)
   live q =
       ap (λ crashed. nat_lt q w.members && not (is_among crashed q)) a.alone.crashed ∙ and_true (nat_lt q w.members)
       ∙ ap (nat_lt q) (sym a.members)
 
-  -- there is a node for each member
-  pub nodes_there : length world.nodes.items ≡ world.members
-  nodes_there =
-      sym (length-map world.nodes.items protocol_node) ∙ ap length a.nodes ∙ ap length a.alone.nodes ∙ sym a.alone.members ∙ sym a.members
-
   module _ (member conn number : ℕ) (call : C) (now : ℕ) where
-    pub not_there : nat_lt member world.members ≡ false → happens o w (Call member conn number call now) ≡ nothing w
+    pub not_there : nat_lt member (vec_len world.nodes) ≡ false → happens o w (Call member conn number call now) ≡ nothing w
     not_there e =
         ap (λ b. if b then map_or (slice_get w.nodes member) (nothing w) (calling o w member conn number call now) else nothing w) (live member ∙ e)
 

@@ -22,6 +22,11 @@ abbrev pub happened_of : Happened → Outcome
 happened_of Nothing = NothingDone
 happened_of (Called outcome) = outcome_of outcome
 
--- the call that the event brings keeps to the limits
+-- the call that the protocol's event brings keeps to the limits, if it brings one
+abbrev pub EventWithin : {C : Type 0} → (C → Type 0) → ProtocolEvent C → Type 0
+EventWithin limits (CallEvent member conn number call now) = limits call
+EventWithin limits event = Unit {0}
+
+-- and so does that of an event of the code
 abbrev pub IsWithinLimits : {C : Type 0} → (C → Type 0) → Event C → Type 0
-IsWithinLimits limits (Call member id call now) = limits call
+IsWithinLimits limits event = EventWithin limits (event_of event)

@@ -1,5 +1,5 @@
 -- What one member's step does to the world of the code.
-use Rattle.std.specs.Prelude.{◌≡◌, ℕ, [], ◌∷◌, ◌++◌, Option, slice_set, vec_len}
+use Rattle.std.specs.Prelude.{◌≡◌, ℕ, [], ◌∷◌, ◌++◌, Option, slice_set}
 use Rattle.grid_base.specs.Objects.{Object}
 use Rattle.grid_base.specs.declared.names.CallId.{CallId}
 use Rattle.grid_base.specs.declared.calls.Change.{Change}
@@ -13,7 +13,6 @@ use Rattle.partition_world.specs.Nodes.{protocol_node}
 pub record HasKept {S Env C State : Type 0} (state : S → State) (old new : World S Env C) (member : ℕ) (node : Node S) : Type 0 where
   pub next : Node S
   pub nodes : new.nodes.items ≡ slice_set old.nodes.items member next
-  pub size : vec_len new.nodes ≡ vec_len old.nodes
   pub says : protocol_node next ≡ protocol_node node
   pub contents : state next.shelf ≡ state node.shelf
   pub released : next.replica.released.items ≡ node.replica.released.items
@@ -24,7 +23,6 @@ pub record HasExecuted {S Env C State : Type 0} (o : Object C State) (change_of 
     (member : ℕ) (node : Node S) (id : CallId) (call : C) (now : ℕ) (seen : ℕ) : Type 0 where
   pub next : Node S
   pub nodes : new.nodes.items ≡ slice_set old.nodes.items member next
-  pub size : vec_len new.nodes ≡ vec_len old.nodes
   pub says : protocol_node next ≡ settled (executing (o.changes (state node.shelf) call now) id.conn id.number (protocol_node node))
   pub contents : state next.shelf ≡ o.after (state node.shelf) call now
   pub saw : seen ≡ next.replica.count

@@ -1,5 +1,6 @@
 pub mod Alone
 pub mod Answers
+pub mod ContentsOf
 pub mod Entries
 pub mod Events
 pub mod Executions

@@ -1,5 +1,5 @@
 -- The world of the code stands for the protocol's run of a list of events.
-use Rattle.std.specs.Prelude.{◌≡◌, ℕ, List, [], map, length, Some, slice_get, vec_len, Contains}
+use Rattle.std.specs.Prelude.{◌≡◌, ℕ, List, [], map, length, Some, slice_get, vec_len, Contains, All}
 use Rattle.grid_base.specs.Objects.{Object}
 use Rattle.partition_protocol.specs.History.{Executed, Called}
 use Rattle.partition_protocol.specs.World.{World as Machine, map_or, start, pair_state, trail}
@@ -9,6 +9,7 @@ use Rattle.partition_world.specs.declared.node.Released.{Released}
 use Rattle.partition_world.specs.declared.world.World.{World}
 use Rattle.partition_world.specs.Nodes.{protocol_node}
 use Rattle.partition_world.specs.Entries.{entry_of}
+use Rattle.partition_world.specs.Events.{EventWithin}
 use Rattle.partition_world.specs.Alone.{IsAlone}
 
 -- what a world is made for, and keeps
@@ -18,7 +19,7 @@ pub record Setup : Type 0 where
   pub backups : ℕ
 
 abbrev pub setup_of : {S Env C : Type 0} → World S Env C → Setup
-setup_of world = record { partition = world.partition; members = world.members; backups = world.backups }
+setup_of world = record { partition = world.partition; members = vec_len world.nodes; backups = world.backups }
 
 -- how many events were run
 abbrev pub steps_of : {S Env C : Type 0} → World S Env C → ℕ
@@ -43,9 +44,8 @@ pub record IsReleased {C : Type 0} (w : Machine C) (answer : Released) : Type 0 
 
 -- The code says what the protocol says, and each shelf has the state that its member's pair names
 pub record Agrees {S Env C State : Type 0} (o : Object C State) (state : S → State) (world : World S Env C) (w : Machine C) : Type 0 where
-  pub members : world.members ≡ w.members
+  pub members : vec_len world.nodes ≡ w.members
   pub nodes : map protocol_node world.nodes.items ≡ w.nodes
-  pub size : vec_len world.nodes ≡ w.members
   pub shelves : (member : ℕ) (node : Node S) → slice_get world.nodes.items member ≡ Some node → state node.shelf ≡ pair_state o w (protocol_node node).pair
   pub trail : map entry_of world.trail.entries.items ≡ trail w
   pub waiting : (member : ℕ) (answer : Released) → Contains (waiting world member) answer → IsReleased w answer
@@ -53,9 +53,10 @@ pub record Agrees {S Env C State : Type 0} (o : Object C State) (state : S → S
 
 -- the protocol's world after these events
 abbrev pub run_of : {S Env C State : Type 0} → Object C State → World S Env C → List (Event C) → Machine C
-run_of o world events = run o (start world.partition world.members world.backups) events
+run_of o world events = run o (start world.partition (vec_len world.nodes) world.backups) events
 
--- The world is that of these events, where the shelves are this object
-pub record StandsFor {S Env C State : Type 0} (o : Object C State) (state : S → State) (world : World S Env C) (events : List (Event C)) : Type 0 where
+-- The world is that of these events, where the shelves are this object and no call broke its limits
+pub record StandsFor {S Env C State : Type 0} (o : Object C State) (limits : C → Type 0) (state : S → State) (world : World S Env C) (events : List (Event C)) : Type 0 where
   pub agrees : Agrees o state world (run_of o world events)
   pub steps : steps_of world ≡ length events
+  pub within : All (EventWithin limits) events

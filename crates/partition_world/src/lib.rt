@@ -2,11 +2,13 @@
 //! At this stage a world has one member, and the one event is a call.
 #![tactic(auto)]
 
+mod contents;
 mod event;
 mod node;
 mod trail;
 mod world;
 
+pub use contents::Contents;
 pub use event::{CallOutcome, Event, Happened};
 pub use node::Released;
 pub use trail::Entry;

@@ -3,8 +3,11 @@ ghost use Rattle.std.specs.VecDeque.{deque_len, deque_capacity};
 ghost use Rattle.partition_table.specs.Rows.{backups_of};
 ghost use Rattle.partition_protocol.specs.Node.{opening_node, settled};
 ghost use Rattle.partition_protocol.specs.Execution.{executing, reached};
+ghost use Rattle.partition_world.specs.ContentsOf.{pair_of};
 ghost use Rattle.partition_world.specs.Nodes.{node_of, reached_of};
+ghost use Rattle.grid_base.specs.Objects.{IsSmall};
 
+use crate::contents::Contents;
 use grid_base::{Bytes, CallId, Change, Executed, MemberId, Memory, Moment, Shelf};
 use partition_table::Row;
 use std::alloc::Global;
@@ -134,6 +137,17 @@ impl<S: Shelf> Node<S> {
         })
     }
 
+    pub(crate) fn contents(&self) -> Contents<'_, S>
+        ensures pair { pair_of result ≡ (node_of self.now.replica).pair }
+        ensures shelf { result.shelf.now ≡ self.now.shelf }
+    {
+        Contents {
+            version: self.replica.version,
+            count: self.replica.count,
+            shelf: &self.shelf,
+        }
+    }
+
     /// Executes a call, and gives a copy of its reply. Its answer is released.
     pub(crate) fn call(
         &mut self,
@@ -144,6 +158,7 @@ impl<S: Shelf> Node<S> {
         now: Moment,
     ) -> Result<Called, Memory>
         requires limits { S.within_limits call.now }
+        requires small { IsSmall S.within (S.state self.old.shelf) }
         requires alone { backups_of self.old.replica.known ≡ [] }
         requires fits { self.old.replica.count + 1 < 2 ^ 32 }
         ensures node { OnOk result (node_of self.new.replica ≡ settled (executing ((S.object env.now).changes (S.state self.old.shelf) call.now now) id.conn id.number (node_of self.old.replica))) }

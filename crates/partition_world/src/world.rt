@@ -1,4 +1,5 @@
 ghost use Rattle.std.specs.Prelude.{◌≡◌, ◌≢◌, ℕ, ◌+◌, ◌<◌, ◌≤◌, ◌^◌, ◌↔◌, List, [], ◌∷◌, ◌++◌, Some, slice_get, length, map, nat_lt, vec_len, All, IsNone, IfSome, IfNone, IfOk, OnOk, OnErr};
+ghost use Rattle.grid_base.specs.Objects.{IsSmall};
 ghost use Rattle.partition_table.specs.Rows.{backups_of};
 ghost use Rattle.partition_protocol.specs.Node.{opening_node};
 ghost use Rattle.partition_protocol.specs.Service.{numbers_below};
@@ -9,11 +10,13 @@ ghost use Rattle.partition_protocol.specs.Claims.{IsSafe, IsFaithful};
 ghost use Rattle.partition_protocol.specs.Events.{Event as ProtocolEvent, Call as CallEvent, happens};
 ghost use Rattle.partition_world.specs.Nodes.{protocol_node};
 ghost use Rattle.partition_world.specs.Entries.{entry_of};
+ghost use Rattle.partition_world.specs.ContentsOf.{pair_at, contents_at, pair_of};
 ghost use Rattle.partition_world.specs.Events.{event_of, happened_of, IsWithinLimits};
 ghost use Rattle.partition_world.specs.Answers.{released_at};
 ghost use Rattle.partition_world.specs.Executions.{HasExecuted, HasKept};
 ghost use Rattle.partition_world.specs.Worlds.{Agrees, StandsFor, IsReleased, run_of, setup_of, steps_of, trail_length, waiting};
 
+use crate::contents::Contents;
 use crate::event::{CallOutcome, Event, Happened};
 use crate::node::{Called, Node, Reached, Released};
 use crate::trail::{Entry, Trail};
@@ -26,12 +29,13 @@ pub const MOST_EVENTS: u32 = 4_294_967_294;
 
 /// One partition: its members' nodes, and its recorded history.
 ///
-/// To contracts a world stands for a list of events: it is as the protocol's run of them.
+/// To contracts a world stands for a list of events, whose calls keep to their limits: it is as the
+/// protocol's run of them.
 #[derive(Drop)]
 pub struct World<S: Shelf> {
     partition: PartitionId,
-    members: u8,
     backups: u8,
+    /// One of each member.
     nodes: Vec<Node<S>>,
     trail: Trail<S::Call>,
     steps: u32,
@@ -48,7 +52,7 @@ impl<S: Shelf> World<S> {
         requires partition { partition < PARTITIONS }
         requires members { members ≡ 1 }
         requires backups { backups ≤ 6 }
-        ensures stands { IfOk result (λ world. (env : S.Env) → StandsFor (S.object env) S.state world []) }
+        ensures stands { IfOk result (λ world. (env : S.Env) → StandsFor (S.object env) S.within_limits S.state world []) }
         ensures setup { IfOk result (λ world. setup_of world ≡ record { partition = partition; members = members; backups = backups }) }
         ensures waiting { IfOk result (λ world. (member : ℕ) → waiting world member ≡ []) }
         ensures steps { IfOk result (λ world. steps_of world ≡ 0) }
@@ -56,7 +60,6 @@ impl<S: Shelf> World<S> {
         let row = Row::initial(alloc, partition, members, backups)?;
         Ok(World {
             partition,
-            members,
             backups,
             nodes: opening_nodes(alloc, members, &row)?,
             trail: Trail::new(alloc),
@@ -76,23 +79,23 @@ impl<S: Shelf> World<S> {
         S::Call: Drop,
         requires limits { IsWithinLimits S.within_limits event }
         requires room { steps_of self.old < MOST_EVENTS }
-        requires stands { (events : List (ProtocolEvent S.Call)) × StandsFor (S.object env.now) S.state self.old events }
+        requires stands { (events : List (ProtocolEvent S.Call)) × StandsFor (S.object env.now) S.within_limits S.state self.old events }
 
         // The outcome is the protocol's, and the world then stands for one event more.
-        ensures outcome { (events : List (ProtocolEvent S.Call)) → let o = S.object env.now in StandsFor o S.state self.old events
+        ensures outcome { (events : List (ProtocolEvent S.Call)) → let o = S.object env.now in StandsFor o S.within_limits S.state self.old events
             → IfOk result (λ happened. happened_of happened ≡ (happens o (run_of o self.old events) (event_of event)).outcome) }
-        ensures stands { (events : List (ProtocolEvent S.Call)) → let o = S.object env.now in StandsFor o S.state self.old events
-            → OnOk result (StandsFor o S.state self.new (events ++ event_of event ∷ [])) }
+        ensures stands { (events : List (ProtocolEvent S.Call)) → let o = S.object env.now in StandsFor o S.within_limits S.state self.old events
+            → OnOk result (StandsFor o S.within_limits S.state self.new (events ++ event_of event ∷ [])) }
         ensures steps { OnOk result (steps_of self.new ≡ steps_of self.old + 1) }
 
         // What it releases comes last among the answers that wait at its member.
-        ensures waiting { (events : List (ProtocolEvent S.Call)) → let o = S.object env.now in StandsFor o S.state self.old events
+        ensures waiting { (events : List (ProtocolEvent S.Call)) → let o = S.object env.now in StandsFor o S.within_limits S.state self.old events
             → OnOk result ((member : ℕ) → waiting self.new member ≡ waiting self.old member
             ++ released_at o (S.change_of env.now) (run_of o self.old events) (event_of event) member) }
 
         // Want of memory is no event, and changes nothing.
-        ensures err { (events : List (ProtocolEvent S.Call)) → let o = S.object env.now in StandsFor o S.state self.old events
-            → OnErr result (StandsFor o S.state self.new events) }
+        ensures err { (events : List (ProtocolEvent S.Call)) → let o = S.object env.now in StandsFor o S.within_limits S.state self.old events
+            → OnErr result (StandsFor o S.within_limits S.state self.new events) }
         ensures err_waiting { OnErr result ((member : ℕ) → waiting self.new member ≡ waiting self.old member) }
         ensures err_steps { OnErr result (steps_of self.new ≡ steps_of self.old) }
 
@@ -117,12 +120,12 @@ impl<S: Shelf> World<S> {
         ensures none { IsNone result ↔ (waiting self.old member ≡ []) }
         ensures kept { IfNone result (waiting self.new member ≡ waiting self.old member) }
         ensures others { (other : ℕ) → other ≢ member → waiting self.new other ≡ waiting self.old other }
-        ensures released { (env : S.Env) (events : List (ProtocolEvent S.Call)) → let o = S.object env in StandsFor o S.state self.old events
+        ensures released { (env : S.Env) (events : List (ProtocolEvent S.Call)) → let o = S.object env in StandsFor o S.within_limits S.state self.old events
             → IfSome result (IsReleased (run_of o self.old events)) }
 
         // It is no event.
-        ensures stands { (env : S.Env) (events : List (ProtocolEvent S.Call)) → let o = S.object env in StandsFor o S.state self.old events
-            → StandsFor o S.state self.new events }
+        ensures stands { (env : S.Env) (events : List (ProtocolEvent S.Call)) → let o = S.object env in StandsFor o S.within_limits S.state self.old events
+            → StandsFor o S.within_limits S.state self.new events }
         ensures steps { steps_of self.new ≡ steps_of self.old }
         ensures setup { setup_of self.new ≡ setup_of self.old }
     {
@@ -136,7 +139,7 @@ impl<S: Shelf> World<S> {
     /// How many entries the recorded history has. Takes no memory.
     pub fn trail_len(&self) -> usize
         ensures length { result ≡ trail_length self.now }
-        ensures trail { (env : S.Env) (events : List (ProtocolEvent S.Call)) → let o = S.object env in StandsFor o S.state self.now events
+        ensures trail { (env : S.Env) (events : List (ProtocolEvent S.Call)) → let o = S.object env in StandsFor o S.within_limits S.state self.now events
             → result ≡ length (trail (run_of o self.now events)) }
     {
         self.trail.len()
@@ -145,7 +148,7 @@ impl<S: Shelf> World<S> {
     /// The entry at a place of the recorded history, from 0, in constant time and with no memory.
     pub fn trail_at(&self, place: usize) -> &Entry<S::Call>
         requires { place < trail_length self.now }
-        ensures { (env : S.Env) (events : List (ProtocolEvent S.Call)) → let o = S.object env in StandsFor o S.state self.now events
+        ensures { (env : S.Env) (events : List (ProtocolEvent S.Call)) → let o = S.object env in StandsFor o S.within_limits S.state self.now events
             → slice_get (trail (run_of o self.now events)) place ≡ Some (entry_of result.now) }
     {
         self.trail.at(place)
@@ -160,16 +163,27 @@ impl<S: Shelf> World<S> {
 
     /// Whether a member takes steps. Another number is no member's. Takes no memory.
     pub fn is_live(&self, member: MemberId) -> bool
-        ensures { (env : S.Env) (events : List (ProtocolEvent S.Call)) → let o = S.object env in StandsFor o S.state self.now events
+        ensures { (env : S.Env) (events : List (ProtocolEvent S.Call)) → let o = S.object env in StandsFor o S.within_limits S.state self.now events
             → result ≡ is_live (run_of o self.now events) member }
     {
         self.is_member(member)
     }
 
-    fn is_member(&self, member: MemberId) -> bool
-        ensures { result ≡ nat_lt member self.now.members }
+    /// What a member has of the partition, in constant time and with no memory.
+    pub fn contents(&self, member: MemberId) -> Contents<'_, S>
+        requires { member < (setup_of self.now).members }
+        ensures pair { (env : S.Env) (events : List (ProtocolEvent S.Call)) → let o = S.object env in StandsFor o S.within_limits S.state self.now events
+            → pair_of result ≡ pair_at (run_of o self.now events) member }
+        ensures state { (env : S.Env) (events : List (ProtocolEvent S.Call)) → let o = S.object env in StandsFor o S.within_limits S.state self.now events
+            → S.state result.shelf.now ≡ contents_at o (run_of o self.now events) member }
     {
-        member < self.members
+        self.nodes[usize::from(member)].contents()
+    }
+
+    fn is_member(&self, member: MemberId) -> bool
+        ensures { result ≡ nat_lt member (setup_of self.now).members }
+    {
+        usize::from(member) < self.nodes.len()
     }
 
     /// A call reaches a member.
@@ -185,6 +199,7 @@ impl<S: Shelf> World<S> {
     where
         S::Call: Drop,
         requires limits { S.within_limits call }
+        requires small { (node : Node S) → slice_get self.old.nodes.items member ≡ Some node → IsSmall S.within (S.state node.shelf) }
         requires fits { (node : Node S) → slice_get self.old.nodes.items member ≡ Some node → node.replica.count + 1 < 2 ^ 32 }
         requires agrees { (w : Machine S.Call) × Agrees (S.object env.now) S.state self.old w }
         ensures outcome { (w : Machine S.Call) → let o = S.object env.now in Agrees o S.state self.old w
@@ -208,7 +223,6 @@ impl<S: Shelf> World<S> {
 
     /// What a call comes to that isn't executed. None where the member executes it.
     fn refusal(&self, member: MemberId) -> Option<Happened>
-        requires { vec_len self.now.nodes ≡ self.now.members }
         ensures refused { (env : S.Env) (w : Machine S.Call) → let o = S.object env in Agrees o S.state self.now w
             → IfSome result (λ happened. (conn number : ℕ) (call : S.Call) (now : ℕ) → happens o w (CallEvent member conn number call now) ≡ record { world = w; outcome = happened_of happened }) }
         ensures there { IfNone result (member < vec_len self.now.nodes) }
@@ -241,6 +255,7 @@ impl<S: Shelf> World<S> {
     where
         S::Call: Drop,
         requires limits { S.within_limits call }
+        requires small { (node : Node S) → slice_get self.old.nodes.items member ≡ Some node → IsSmall S.within (S.state node.shelf) }
         requires there { member < vec_len self.old.nodes }
         requires alone { (node : Node S) → slice_get self.old.nodes.items member ≡ Some node → backups_of node.replica.known ≡ [] }
         requires fits { (node : Node S) → slice_get self.old.nodes.items member ≡ Some node → node.replica.count + 1 < 2 ^ 32 }
@@ -287,6 +302,6 @@ fn opening_nodes<S: Shelf>(alloc: Global, members: u8, row: &Row) -> Result<Vec<
 /// history is that of one thread, it has every answer that was released, and it has calls that were
 /// made, in order, each at most once.
 pub fn every_world_is_safe<S: Shelf>(world: &World<S>)
-    ensures { (env : S.Env) (events : List (ProtocolEvent S.Call)) → let o = S.object env in StandsFor o S.state world.now events → NamedOnce (map name (arrivals events))
+    ensures { (env : S.Env) (events : List (ProtocolEvent S.Call)) → let o = S.object env in StandsFor o S.within_limits S.state world.now events → NamedOnce (map name (arrivals events))
         → IsSafe o (run_of o world.now events) × IsFaithful events (run_of o world.now events) }
 {}

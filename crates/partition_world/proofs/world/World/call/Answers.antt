@@ -1,14 +1,11 @@
 -- What a call does to the world, by what it does to the member's node.
-use Rattle.std.proofs.Common.{◌≡◌, ◌<◌, length, Some, slice_get, refl, sym, ◌∙◌, arith}
+use Rattle.std.proofs.Common.{◌≡◌, ◌<◌, length, Some, slice_get, refl, arith}
 use Rattle.partition_world.specs.declared.node.Node.{Node}
 use Rattle.partition_world.proofs.Effects.{on_err}
 use Rattle.partition_world.proofs.Places.{there_at}
 use Rattle.partition_world.proofs.LoneCalls.{alone_there}
 use Rattle.partition_world.proofs.Agreement.{there_too, agrees_kept, waits_kept, outcome, waiting_gains, agrees_executed}
 use Rattle.partition_world.proofs.world.World.call.Goals as goal
-
-pub refusal-requires : goal.refusal-requires
-refusal-requires g c = let a = c.requires.agrees.1 in a.size ∙ sym a.members
 
 pub execute-requires-clause-alone : goal.execute-requires-clause-alone
 execute-requires-clause-alone g c node there =

@@ -16,7 +16,6 @@ returns-in_err-reserve-clause-err g c node there =
     let kept : HasKept g.S.Shelf.state old (record old { trail = c.reserve.new.self }) c.args.member node = record {
       next = node;
       nodes = sym (set_itself old.nodes.items c.args.member node there);
-      size = refl;
       says = refl;
       contents = refl;
       released = refl;
@@ -41,7 +40,6 @@ returns-in_err-version-clause-err g c node there =
     let kept : HasKept g.S.Shelf.state old (record old { nodes = with_item old.nodes c.from.result c.call.new.self; trail = c.reserve.new.self }) c.args.member node = record {
       next = c.call.new.self;
       nodes = ap (λ i. slice_set old.nodes.items i c.call.new.self) c.from.ensures;
-      size = refl;
       says = c.in_err-version.ensures.err_node ∙ ap protocol_node is;
       contents = c.in_err-version.ensures.err_contents ∙ ap (λ (z : Node _). g.S.Shelf.state z.shelf) is;
       released = c.in_err-version.ensures.err_released ∙ ap (λ (z : Node _). z.replica.released.items) is;
@@ -57,7 +55,6 @@ returns-clause-executed g c node there =
     record {
       next = c.call.new.self;
       nodes = ap (λ i. slice_set c.args.self.now.nodes.items i c.call.new.self) c.from.ensures;
-      size = refl;
       says = said.node ∙ ap (λ (z : Node _). settled (executing (o.changes (g.S.Shelf.state z.shelf) c.args.call c.args.now) c.args.id.conn c.args.id.number (protocol_node z))) is;
       contents = said.contents ∙ ap (λ (z : Node _). o.after (g.S.Shelf.state z.shelf) c.args.call c.args.now) is;
       saw = said.seen;

@@ -12,14 +12,13 @@ pub returns-clause-stands : goal.returns-clause-stands
 returns-clause-stands g c env =
     let world : World _ _ _ = record {
       partition = c.args.partition;
-      members = c.args.members;
       backups = c.args.backups;
       nodes = c.in_ok-opening_nodes.field-0;
       trail = c.new.result;
       steps = 0;
     } in
     let opened = c.in_ok-opening_nodes.ensures in
-    starts (g.S.Shelf.object env) g.S.Shelf.state world c.requires.members opened.len
+    starts (g.S.Shelf.object env) g.S.Shelf.within_limits g.S.Shelf.state world c.args.members c.requires.members opened.len
     (opened.nodes ∙ ap (λ (row : Row). map (opening_node row) (numbers_below c.args.members)) c.in_ok-row.ensures.row)
     (subst (λ empty. All (λ (node : Node _). g.S.Shelf.state node.shelf ≡ empty) world.nodes.items) (sym (g.met.S.Shelf.begins_empty env)) opened.empty)
     opened.released c.new.ensures refl

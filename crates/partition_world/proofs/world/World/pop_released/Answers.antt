@@ -78,5 +78,5 @@ returns-clause-stands g c env events stands =
     let nodes : new.nodes.items ≡ slice_set old.nodes.items c.args.member next = ap (λ i. slice_set old.nodes.items i next) c.from-place.ensures in
     let o = g.S.Shelf.object env in
     let w = run_of o old events in
-    stands_on o g.S.Shelf.state old new events stands refl refl
-    (agrees_set o g.S.Shelf.state old new w c.args.member node stands.agrees there refl next nodes refl c.pop_released.ensures.node refl refl (fewer old new c.args.member node next there nodes c.pop_released.result c.pop_released.ensures.given))
+    stands_on o g.S.Shelf.within_limits g.S.Shelf.state old new events stands refl refl
+    (agrees_set o g.S.Shelf.state old new w c.args.member node stands.agrees there refl next nodes c.pop_released.ensures.node refl refl (fewer old new c.args.member node next there nodes c.pop_released.result c.pop_released.ensures.given))
