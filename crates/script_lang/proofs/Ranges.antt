@@ -16,7 +16,7 @@ use Rattle.script_lang.specs.declared.fields.Field.TheVariants.{Hex as HexField}
 use Rattle.script_lang.specs.declared.keywords.Keyword.{Keyword}
 use Rattle.script_lang.specs.declared.keywords.Keyword.TheVariants as Keywords
 use Rattle.script_lang.specs.declared.line.Line.{Line}
-use Rattle.script_lang.specs.declared.line.Line.TheVariants.{Grid, OpenConn, Arrive, Trail, End}
+use Rattle.script_lang.specs.declared.line.Line.TheVariants.{Grid, OpenConn, Arrive, Clock, Dump, Trail, End}
 use Rattle.script_lang.specs.declared.reading.Value.{Value}
 use Rattle.script_lang.specs.declared.reading.Value.TheVariants as Values
 use Rattle.script_lang.specs.declared.refusal.LineWhy.{LineWhy}
@@ -81,6 +81,12 @@ IsWithin-line_with members size Keywords.Open (Values.Number conn ∷ Values.Num
 IsWithin-line_with members size Keywords.Bytes (Values.Number conn ∷ Values.Bytes bytes ∷ []) line some fit sized e =
     let read : ◌≡◌ {A = Result Line LineWhy} (Ok (Arrive conn bytes)) (Ok line) = e in
     subst (IsWithin members size) (let same : Arrive conn bytes ≡ line = cc in same) (fit.0.1, sized.1.0.0, sized.1.0.1)
+IsWithin-line_with members size Keywords.Clock (Values.Number member ∷ Values.Number moment ∷ []) line some fit sized e =
+    let read : ◌≡◌ {A = Result Line LineWhy} (Ok (Clock member moment)) (Ok line) = e in
+    subst (IsWithin members size) (let same : Clock member moment ≡ line = cc in same) (omega (arith, fit.0.1, some refl), fit.1.0.1)
+IsWithin-line_with members size Keywords.Dump (Values.Number partition ∷ Values.Number member ∷ []) line some fit sized e =
+    let read : ◌≡◌ {A = Result Line LineWhy} (Ok (Dump partition member)) (Ok line) = e in
+    subst (IsWithin members size) (let same : Dump partition member ≡ line = cc in same) (fit.0.1, omega (arith, fit.1.0.1, some refl))
 IsWithin-line_with members size Keywords.Trail (Values.Number partition ∷ []) line some fit sized e =
     let read : ◌≡◌ {A = Result Line LineWhy} (Ok (Trail partition)) (Ok line) = e in
     subst (IsWithin members size) (let same : Trail partition ≡ line = cc in same) fit.0.1

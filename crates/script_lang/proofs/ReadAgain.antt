@@ -8,10 +8,10 @@ use Rattle.script_lang.specs.Words.{space}
 use Rattle.script_lang.specs.Lines.{range_of, value_of, values_of, line_with, line_of_words, is_comment, line_of, ◌>>=◌}
 use Rattle.script_lang.specs.Spelling.{spelled, lines_are_read_as_spelled, comments_say_nothing}
 use Rattle.script_lang.specs.declared.fields.Field.{Field}
-use Rattle.script_lang.specs.declared.fields.Field.TheVariants.{Members, Backups, Capacity, Connection, Member, Partition, Hex as HexField}
+use Rattle.script_lang.specs.declared.fields.Field.TheVariants.{Members, Backups, Capacity, Connection, Member, Moment, Partition, Hex as HexField}
 use Rattle.script_lang.specs.declared.keywords.Keyword.TheVariants as Keywords
 use Rattle.script_lang.specs.declared.line.Line.{Line}
-use Rattle.script_lang.specs.declared.line.Line.TheVariants.{Grid, OpenConn, Arrive, Trail, Comment, End}
+use Rattle.script_lang.specs.declared.line.Line.TheVariants.{Grid, OpenConn, Arrive, Clock, Dump, Trail, Comment, End}
 use Rattle.script_lang.specs.declared.reading.Value.{Value}
 use Rattle.script_lang.specs.declared.reading.Value.TheVariants as Values
 use Rattle.script_lang.specs.declared.refusal.LineWhy.{LineWhy}
@@ -63,6 +63,28 @@ arrive_again members size conn bytes are within =
     (IsWord-literal (codes "bytes") refl, (IsWord-decimal conn (omega (arith, within.0)), (IsWord-encode_lower bytes are, tt)))
     (ap (λ (read : Result (List Value) LineWhy). read >>= line_with Keywords.Bytes) values)
 
+clock_again : (members member moment : ℕ) → members ≤ 8 → (member < members) × (moment ≤ 18446744073709551615) → line_of false members (spelled (Clock member moment)) ≡ Ok (Clock member moment)
+clock_again members member moment few within =
+    let last : values_of members (Moment ∷ []) (decimal moment ∷ []) ≡ Ok (Values.Number moment ∷ []) =
+    values_of-cons members Moment [] (decimal moment) [] (Values.Number moment) [] (number_value-decimal (range_of members Moment) moment (omega (arith, within.1)) (omega arith, within.1)) refl in
+    let values : values_of members (Member ∷ Moment ∷ []) (decimal member ∷ decimal moment ∷ []) ≡ Ok (Values.Number member ∷ Values.Number moment ∷ []) =
+    values_of-cons members Member (Moment ∷ []) (decimal member) (decimal moment ∷ []) (Values.Number member) (Values.Number moment ∷ [])
+    (number_value-decimal (range_of members Member) member (omega (arith, within.0)) (omega arith, omega (arith, within.0))) last in
+    line_of-joined false members (codes "clock") (decimal member ∷ decimal moment ∷ []) (Clock member moment) refl
+    (IsWord-literal (codes "clock") refl, (IsWord-decimal member (omega (arith, within.0)), (IsWord-decimal moment (omega (arith, within.1)), tt)))
+    (ap (λ (read : Result (List Value) LineWhy). read >>= line_with Keywords.Clock) values)
+
+dump_again : (members partition member : ℕ) → members ≤ 8 → (partition ≤ 270) × (member < members) → line_of false members (spelled (Dump partition member)) ≡ Ok (Dump partition member)
+dump_again members partition member few within =
+    let last : values_of members (Member ∷ []) (decimal member ∷ []) ≡ Ok (Values.Number member ∷ []) =
+    values_of-cons members Member [] (decimal member) [] (Values.Number member) [] (number_value-decimal (range_of members Member) member (omega (arith, within.1)) (omega arith, omega (arith, within.1))) refl in
+    let values : values_of members (Partition ∷ Member ∷ []) (decimal partition ∷ decimal member ∷ []) ≡ Ok (Values.Number partition ∷ Values.Number member ∷ []) =
+    values_of-cons members Partition (Member ∷ []) (decimal partition) (decimal member ∷ []) (Values.Number partition) (Values.Number member ∷ [])
+    (number_value-decimal (range_of members Partition) partition (omega (arith, within.0)) (omega arith, within.0)) last in
+    line_of-joined false members (codes "dump") (decimal partition ∷ decimal member ∷ []) (Dump partition member) refl
+    (IsWord-literal (codes "dump") refl, (IsWord-decimal partition (omega (arith, within.0)), (IsWord-decimal member (omega (arith, within.1)), tt)))
+    (ap (λ (read : Result (List Value) LineWhy). read >>= line_with Keywords.Dump) values)
+
 trail_again : (members partition : ℕ) → partition ≤ 270 → line_of false members (spelled (Trail partition)) ≡ Ok (Trail partition)
 trail_again members partition within =
     let values : values_of members (Partition ∷ []) (decimal partition ∷ []) ≡ Ok (Values.Number partition ∷ []) =
@@ -74,6 +96,8 @@ pub read_again : lines_are_read_as_spelled
 read_again members (Grid n backups capacity) few brings within = grid_again members n backups capacity within
 read_again members (OpenConn conn member) few brings within = open_again members conn member few within
 read_again members (Arrive conn bytes) few brings within = arrive_again members (length (spelled (Arrive conn bytes))) conn bytes brings within
+read_again members (Clock member moment) few brings within = clock_again members member moment few within
+read_again members (Dump partition member) few brings within = dump_again members partition member few within
 read_again members (Trail partition) few brings within = trail_again members partition within
 read_again members Comment few brings within = refl
 read_again members End few brings within = line_of-joined false members (codes "end") [] End refl (IsWord-literal (codes "end") refl, tt) refl

@@ -3,7 +3,7 @@ use Rattle.std.specs.Prelude.{◌≡◌, ℕ, true, false, List, [], ◌∷◌, 
 use Rattle.hex.specs.Hex.{decode_pairs}
 use Rattle.script_lang.specs.Lines.{line_of}
 use Rattle.script_lang.specs.declared.line.Line.{Line}
-use Rattle.script_lang.specs.declared.line.Line.TheVariants.{Grid, OpenConn, Arrive, Trail, Comment, End}
+use Rattle.script_lang.specs.declared.line.Line.TheVariants.{Grid, OpenConn, Arrive, Clock, Dump, Trail, Comment, End}
 use Rattle.script_lang.specs.declared.refusal.LineWhy.{LineWhy}
 use Rattle.script_lang.specs.declared.refusal.LineWhy.TheVariants.{Word, NoGrid, Count, Number, Hex, NotBuilt}
 
@@ -31,6 +31,15 @@ a_client_connects = refl
 bytes_arrive : later_line (codes "bytes 0 43503200fF") ≡ Ok (Arrive 0 (67 ∷ 80 ∷ 50 ∷ 0 ∷ 255 ∷ []))
 unfolding decode_pairs
 bytes_arrive = refl
+
+a_clock_is_set : later_line (codes "clock 0 1500") ≡ Ok (Clock 0 1500)
+a_clock_is_set = refl
+
+a_clock_shows_64_bits : later_line (codes "clock 0 18446744073709551615") ≡ Ok (Clock 0 18446744073709551615)
+a_clock_shows_64_bits = refl
+
+a_part_is_printed : later_line (codes "dump 270 0") ≡ Ok (Dump 270 0)
+a_part_is_printed = refl
 
 a_history_is_printed : later_line (codes "trail 270") ≡ Ok (Trail 270)
 a_history_is_printed = refl
@@ -102,6 +111,15 @@ a_number_has_no_sign = refl
 
 a_member_is_one_of_the_grid : later_line (codes "open 0 1") ≡ Err Number
 a_member_is_one_of_the_grid = refl
+
+a_moment_has_64_bits : later_line (codes "clock 0 18446744073709551616") ≡ Err Number
+a_moment_has_64_bits = refl
+
+only_a_member_has_a_clock : later_line (codes "clock 1 0") ≡ Err Number
+only_a_member_has_a_clock = refl
+
+only_a_member_has_a_part : later_line (codes "dump 0 1") ≡ Err Number
+only_a_member_has_a_part = refl
 
 a_number_comes_before_the_bytes : later_line (codes "bytes 64 zz") ≡ Err Number
 a_number_comes_before_the_bytes = refl

@@ -9,7 +9,7 @@ use Rattle.script_lang.specs.declared.keywords.Keyword.TheVariants as Keywords
 use Rattle.script_lang.specs.declared.reading.Value.{Value}
 use Rattle.script_lang.specs.declared.reading.Value.TheVariants as Values
 use Rattle.script_lang.specs.declared.line.Line.{Line}
-use Rattle.script_lang.specs.declared.line.Line.TheVariants.{Grid, OpenConn, Arrive, Trail, Comment, End}
+use Rattle.script_lang.specs.declared.line.Line.TheVariants.{Grid, OpenConn, Arrive, Clock, Dump, Trail, Comment, End}
 use Rattle.script_lang.specs.declared.refusal.LineWhy.{LineWhy}
 use Rattle.script_lang.specs.declared.refusal.LineWhy.TheVariants.{Word, NoGrid, Count, Number, Hex, NotBuilt, NoEnd}
 
@@ -118,6 +118,8 @@ line_with Keywords.Grid (Values.Number members ∷ Values.Number backups ∷ Val
     if (members == 1) && (backups == 0) then Ok (Grid members backups capacity) else Err NotBuilt
 line_with Keywords.Open (Values.Number conn ∷ Values.Number member ∷ []) = Ok (OpenConn conn member)
 line_with Keywords.Bytes (Values.Number conn ∷ Values.Bytes bytes ∷ []) = Ok (Arrive conn bytes)
+line_with Keywords.Clock (Values.Number member ∷ Values.Number moment ∷ []) = Ok (Clock member moment)
+line_with Keywords.Dump (Values.Number partition ∷ Values.Number member ∷ []) = Ok (Dump partition member)
 line_with Keywords.Trail (Values.Number partition ∷ []) = Ok (Trail partition)
 line_with Keywords.End [] = Ok End
 line_with keyword values = Err NotBuilt
@@ -164,6 +166,8 @@ abbrev pub IsWithin : ℕ → ℕ → Line → Type 0
 IsWithin members size (Grid n backups capacity) = (n ≡ 1) × (backups ≡ 0) × (capacity ≤ 2147483647)
 IsWithin members size (OpenConn conn member) = (conn ≤ 63) × (member < members)
 IsWithin members size (Arrive conn bytes) = (conn ≤ 63) × (1 ≤ length bytes) × (2 * length bytes ≤ size)
+IsWithin members size (Clock member moment) = (member < members) × (moment ≤ 18446744073709551615)
+IsWithin members size (Dump partition member) = (partition ≤ 270) × (member < members)
 IsWithin members size (Trail partition) = partition ≤ 270
 IsWithin members size Comment = Unit {0}
 IsWithin members size End = Unit {0}

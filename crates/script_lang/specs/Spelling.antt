@@ -5,12 +5,14 @@ use Rattle.hex.specs.Hex.{encode_lower, IsBytes}
 use Rattle.script_lang.specs.Words.{space}
 use Rattle.script_lang.specs.Lines.{IsWithin, line_of}
 use Rattle.script_lang.specs.declared.line.Line.{Line}
-use Rattle.script_lang.specs.declared.line.Line.TheVariants.{Grid, OpenConn, Arrive, Trail, Comment, End}
+use Rattle.script_lang.specs.declared.line.Line.TheVariants.{Grid, OpenConn, Arrive, Clock, Dump, Trail, Comment, End}
 
 abbrev pub spelled_words : Line → List (List ℕ)
 spelled_words (Grid members backups capacity) = codes "grid" ∷ decimal members ∷ decimal backups ∷ decimal capacity ∷ []
 spelled_words (OpenConn conn member) = codes "open" ∷ decimal conn ∷ decimal member ∷ []
 spelled_words (Arrive conn bytes) = codes "bytes" ∷ decimal conn ∷ encode_lower bytes ∷ []
+spelled_words (Clock member moment) = codes "clock" ∷ decimal member ∷ decimal moment ∷ []
+spelled_words (Dump partition member) = codes "dump" ∷ decimal partition ∷ decimal member ∷ []
 spelled_words (Trail partition) = codes "trail" ∷ decimal partition ∷ []
 spelled_words Comment = codes "#" ∷ []
 spelled_words End = codes "end" ∷ []

@@ -1,7 +1,7 @@
 ghost use Rattle.std.specs.Prelude.{◌≡◌};
 ghost use Rattle.script_lang.specs.Lines.{is_end};
 
-use grid_base::{Bytes, MemberId, PartitionId};
+use grid_base::{Bytes, MemberId, Moment, PartitionId};
 
 /// A line of a script.
 #[derive(Debug, Drop)]
@@ -21,6 +21,16 @@ pub enum Line {
     Arrive {
         conn: u32,
         bytes: Bytes,
+    },
+    /// Sets a member's clock.
+    Clock {
+        member: MemberId,
+        moment: Moment,
+    },
+    /// Prints what a member has of a partition.
+    Dump {
+        partition: PartitionId,
+        member: MemberId,
     },
     /// Prints the history of a partition.
     Trail {

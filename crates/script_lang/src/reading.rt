@@ -80,6 +80,18 @@ fn line_with(keyword: Keyword, values: Values) -> Result<Line, LineWhy>
                 bytes,
             },
         ),
+        (Keyword::Clock, Some(Value::Number(member)), Some(Value::Number(moment)), None) => Ok(
+            Line::Clock {
+                member: member as MemberId,
+                moment,
+            },
+        ),
+        (Keyword::Dump, Some(Value::Number(partition)), Some(Value::Number(member)), None) => Ok(
+            Line::Dump {
+                partition: partition as PartitionId,
+                member: member as MemberId,
+            },
+        ),
         (Keyword::Trail, Some(Value::Number(partition)), None, None) => Ok(Line::Trail {
             partition: partition as PartitionId,
         }),

@@ -6,8 +6,7 @@ use Rattle.std.specs.Ordering.{int_eq}
 use Rattle.std.proofs.lemmas.Bool.Decides.{Decides-int_eq}
 use Rattle.grid_base.specs.Errors.{wrong_partition}
 use Rattle.grid_base.specs.declared.names.CallId.{CallId}
-use Rattle.grid_base.specs.declared.calls.MapCall.{MapCall}
-use Rattle.grid_base.specs.declared.calls.GridCall.TheVariants.{Map}
+use Rattle.grid_base.specs.declared.calls.GridCall.{GridCall}
 use Rattle.grid_base.specs.declared.refusal.CallRefused.{CallRefused}
 use Rattle.message_frames.specs.declared.message.Message.{Message}
 use Rattle.session_core.specs.Items.{kind_of, correlation_of, stated_partition, error_to, call_item}
@@ -18,11 +17,12 @@ pub ok_same : {A E : Type 0} (r : Result A E) (x y : A) → x ≡ y → IfOk r (
 ok_same (Ok z) x y e h = h ∙ e
 ok_same (Err why) x y e h = tt
 
-pub wrong_item : (id : CallId) (message : Message) (said : Result MapCall CallRefused) (call : MapCall) → said ≡ Ok call → int_eq (stated_partition message) (pos (partition_of_call call)) ≡ false
-    → call_item id message said ≡ error_to message wrong_partition (stated_partition message) (pos (partition_of_call call))
+pub wrong_item : (id : CallId) (message : Message) (said : Result GridCall CallRefused) (call : GridCall) → said ≡ Ok call → int_eq (stated_partition message) (pos (partition_of_call (stated_partition message) call)) ≡ false
+    → call_item id message said ≡ error_to message wrong_partition (stated_partition message) (pos (partition_of_call (stated_partition message) call))
 wrong_item id message said call e apart =
+    let own = partition_of_call (stated_partition message) call in
     ap (call_item id message) e
-    ∙ ap (λ b. cond b (Call (record { id = id; correlation = correlation_of message; kind = kind_of message; partition = partition_of_call call; call = Map call })) (error_to message wrong_partition (stated_partition message) (pos (partition_of_call call)))) apart
+    ∙ ap (λ b. cond b (Call (record { id = id; correlation = correlation_of message; kind = kind_of message; partition = own; call = call })) (error_to message wrong_partition (stated_partition message) (pos own))) apart
 
 false_or_not : (b : Bool) → (b ≡ true → ⊥) → b ≡ false
 false_or_not true h = absurd (h refl)

@@ -1,16 +1,17 @@
 -- A call among the items of messages is that of the message at its place.
 use Rattle.std.specs.Prelude.{slice_get, take, negsuc, unsigned_abs}
-use Rattle.std.proofs.Common.{◌≡◌, ℕ, zero, suc, ◌+◌, ◌<◌, ◌%◌, ◌==◌, Bool, true, false, cond, List, [], ◌∷◌, ◌++◌, length, Option, Some, None, Result, Ok, Err, pos, refl, ap, sym, ◌∙◌, subst, arith}
+use Rattle.std.proofs.Common.{◌≡◌, ℕ, zero, suc, ◌+◌, ◌<◌, ◌%◌, ◌==◌, Bool, true, false, cond, List, [], ◌∷◌, ◌++◌, length, Option, Some, None, Result, Ok, Err, ℤ, pos, refl, ap, sym, ◌∙◌, subst, arith}
 use Rattle.std.specs.Ordering.{int_eq}
 use Rattle.std.proofs.Math.Nat.{mod-lt}
 use Rattle.std.proofs.lemmas.Bool.Decides.{Decides-int_eq}
 use Rattle.grid_base.specs.Errors.{not_authenticated, wrong_partition}
+use Rattle.grid_base.specs.Limits.{CallFits}
+use Rattle.grid_base.specs.Names.{key_of}
 use Rattle.grid_base.specs.declared.TheConstants.{PARTITIONS}
 use Rattle.grid_base.specs.declared.names.CallId.{CallId}
 use Rattle.grid_base.specs.declared.names.ClientKey.{ClientKey}
-use Rattle.grid_base.specs.declared.calls.MapCall.{MapCall}
-use Rattle.grid_base.specs.declared.calls.MapCall.TheVariants.{Put, Get}
-use Rattle.grid_base.specs.declared.calls.GridCall.TheVariants.{Map}
+use Rattle.grid_base.specs.declared.calls.GridCall.{GridCall}
+use Rattle.grid_base.specs.declared.calls.GridCall.TheVariants.{Map, Queue}
 use Rattle.grid_base.specs.declared.calls.Request.{Request}
 use Rattle.grid_base.specs.declared.refusal.CallRefused.{CallRefused}
 use Rattle.fixed_fields.specs.Responses.{void_bytes}
@@ -19,46 +20,47 @@ use Rattle.message_frames.specs.Messages.{messages_of}
 use Rattle.message_frames.proofs.Fitting.{AllFit, MessagesFit, messages_fit}
 use Rattle.client_codecs.specs.Authentications.{authentication_kind, ping_kind, authentication_of}
 use Rattle.client_codecs.specs.declared.authentications.Authentication.{Authentication}
-use Rattle.map_codecs.specs.Calls.{map_call_of}
 use Rattle.murmur_partition.specs.Keys.{key_hash_of}
-use Rattle.session_core.specs.Items.{kind_of, correlation_of, stated_partition, identity_after, identity_after_all, error_to, authentication_item, call_item, served, item_of, items_from, items_of}
-use Rattle.session_core.specs.Places.{partition_of_key, partition_of_call}
-use Rattle.session_core.specs.Sessions.{CallFits}
+use Rattle.session_core.specs.Items.{kind_of, correlation_of, stated_partition, identity_after, identity_after_all, error_to, authentication_item, call_of, call_item, served, item_of, items_from, items_of}
+use Rattle.session_core.specs.Places.{partition_of_key, partition_of_call, SaysWhere}
 use Rattle.session_core.specs.Laws.{IsCallAt, IsPlaced, every_call_is_numbered, every_call_is_placed, every_partition_is_stated, every_call_fits}
 use Rattle.session_core.specs.declared.item.Item.{Item}
 use Rattle.session_core.specs.declared.item.Item.TheVariants.{Call, Reply}
-use Rattle.session_core.proofs.CallsRead.{call_read, frames_fit}
+use Rattle.session_core.proofs.CallsRead.{call_read}
 
-abbrev request_with : CallId → Message → MapCall → Request
-request_with id message call = record { id = id; correlation = correlation_of message; kind = kind_of message; partition = partition_of_call call; call = Map call }
+abbrev own_partition : Message → GridCall → ℕ
+own_partition message call = partition_of_call (stated_partition message) call
+
+abbrev request_with : CallId → Message → GridCall → Request
+request_with id message call = record { id = id; correlation = correlation_of message; kind = kind_of message; partition = own_partition message call; call = call }
 
 -- A message of this client is this call.
 pub record IsCallOf (id : CallId) (client : ClientKey) (message : Message) (request : Request) : Type 0 where
-  pub call : MapCall
-  pub read : map_call_of client message ≡ Ok call
-  pub stated : stated_partition message ≡ pos (partition_of_call call)
+  pub call : GridCall
+  pub read : call_of client message ≡ Ok call
+  pub stated : stated_partition message ≡ pos (own_partition message call)
   pub request_is : request_with id message call ≡ request
 
 -- one message
 
 module _ (id : CallId) (client : ClientKey) (message : Message) (request : Request) where
-  read_call : (said : Result MapCall CallRefused) → map_call_of client message ≡ said → call_item id message said ≡ Call request → IsCallOf id client message request
+  read_call : (said : Result GridCall CallRefused) → call_of client message ≡ said → call_item id message said ≡ Call request → IsCallOf id client message request
   read_call (Err why) read e = absurd cc
-  read_call (Ok call) read e = go (int_eq (stated_partition message) (pos (partition_of_call call))) refl e
+  read_call (Ok call) read e = go (int_eq (stated_partition message) (pos (own_partition message call))) refl e
     where
-      go : (b : Bool) → int_eq (stated_partition message) (pos (partition_of_call call)) ≡ b
-          → cond b (Call (request_with id message call)) (error_to message wrong_partition (stated_partition message) (pos (partition_of_call call))) ≡ Call request → IsCallOf id client message request
+      go : (b : Bool) → int_eq (stated_partition message) (pos (own_partition message call)) ≡ b
+          → cond b (Call (request_with id message call)) (error_to message wrong_partition (stated_partition message) (pos (own_partition message call))) ≡ Call request → IsCallOf id client message request
       go true same s =
           let is : request_with id message call ≡ request = cc in
-          record { call = call; read = read; stated = (Decides-int_eq (stated_partition message) (pos (partition_of_call call))).0 same; request_is = is }
+          record { call = call; read = read; stated = (Decides-int_eq (stated_partition message) (pos (own_partition message call))).0 same; request_is = is }
       go false other s = absurd cc
 
   served_call : served id client message ≡ Call request → IsCallOf id client message request
   served_call e = go (kind_of message == ping_kind) e
     where
-      go : (b : Bool) → cond b (Reply (void_bytes ping_kind (correlation_of message))) (call_item id message (map_call_of client message)) ≡ Call request → IsCallOf id client message request
+      go : (b : Bool) → cond b (Reply (void_bytes ping_kind (correlation_of message))) (call_item id message (call_of client message)) ≡ Call request → IsCallOf id client message request
       go true s = absurd cc
-      go false s = read_call (map_call_of client message) refl s
+      go false s = read_call (call_of client message) refl s
 
 authentication_no_call : (member : ℕ) (message : Message) (said : Result Authentication CallRefused) (request : Request) → authentication_item member message said ≡ Call request → ⊥
 authentication_no_call member message (Ok authentication) request e = cc
@@ -116,14 +118,21 @@ below_partitions key = go (int_eq (key_hash_of key) (negsuc 0x7fff_ffff))
     go true = omega arith
     go false = mod-lt (unsigned_abs (key_hash_of key)) (omega arith)
 
-placed_with : (id : CallId) (message : Message) (call : MapCall) → IsPlaced (request_with id message call)
-placed_with id message (Put name key owner value ttl) = record { own = refl; within = below_partitions key }
-placed_with id message (Get name key owner) = record { own = refl; within = below_partitions key }
+-- A stated partition is the number that it is.
+stated_below : (stated : ℤ) (partition : ℕ) → stated ≡ pos partition → partition < PARTITIONS → unsigned_abs stated < PARTITIONS
+stated_below stated partition e within = subst (λ n. n < PARTITIONS) (sym (ap unsigned_abs e)) within
+
+placed_with : (id : CallId) (message : Message) (call : GridCall) → SaysWhere (stated_partition message) call → IsPlaced (request_with id message call)
+placed_with id message (Map call) says = record { own = refl; within = below_partitions (key_of call) }
+placed_with id message (Queue call) says =
+    let within = stated_below (stated_partition message) says.0 says.1 says.2 in
+    record { own = within; within = within }
 
 pub placed_call : every_call_is_placed
 placed_call conn member messages place request e =
     let at = call_at conn member messages place request e in
-    subst IsPlaced at.is.request_is (placed_with (record { conn = conn; number = 0 + place }) at.message at.is.call)
+    let read = call_read at.client at.message at.is.call at.is.read in
+    subst IsPlaced at.is.request_is (placed_with (record { conn = conn; number = 0 + place }) at.message at.is.call read.where_is)
 
 same_some : {X : Type 0} (o : Option X) (x y : X) → o ≡ Some x → o ≡ Some y → x ≡ y
 same_some o x y e f = cc
@@ -143,7 +152,7 @@ pub fitting_call : every_call_fits
 fitting_call conn member text place request e =
     let at = call_at conn member (messages_of true text) place request e in
     let fit = fits_at (messages_of true text) place at.message (messages_fit true text) at.there in
-    let parts = (call_read at.client at.message at.is.call at.is.read).fits (frames_fit at.message fit) in
+    let parts = (call_read at.client at.message at.is.call at.is.read).fits fit in
     subst (λ (r : Request). CallFits r.call) at.is.request_is parts
 
 -- the calls of a piece

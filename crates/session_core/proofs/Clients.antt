@@ -1,6 +1,6 @@
 -- Who the client of a connection is after its messages.
 use Rattle.std.specs.Prelude.{slice_get, take, All}
-use Rattle.std.proofs.Common.{◌≡◌, ℕ, zero, suc, ◌+◌, ◌==◌, Bool, true, false, cond, List, [], ◌∷◌, Option, Some, None, Result, Ok, Err, pos, refl, ap, sym, ◌∙◌, ◌⊎◌, inl, inr, arith}
+use Rattle.std.proofs.Common.{◌≡◌, ℕ, zero, suc, ◌+◌, ◌==◌, Bool, true, false, cond, List, [], ◌∷◌, Option, Some, None, Result, Ok, Err, pos, refl, ap, sym, ◌∙◌, subst, ◌⊎◌, inl, inr, arith}
 use Rattle.std.specs.Cmp.Lexicographic.{same_text, other_text}
 use Rattle.std.proofs.lemmas.Bool.Decides.{nat_tests}
 use Rattle.std.proofs.lemmas.List.Elements.{All-nil, All-cons, All-head, All-tail}
@@ -13,7 +13,7 @@ use Rattle.message_frames.specs.declared.message.Message.{Message}
 use Rattle.client_codecs.specs.Authentications.{authentication_kind, authentication_of}
 use Rattle.client_codecs.specs.declared.authentications.Authentication.{Authentication}
 use Rattle.session_core.specs.Items.{kind_of, cluster_name, is_accepted, client_of, identity_by, identity_after, identity_after_all, authentication_item, error_to, item_of, items_from}
-use Rattle.session_core.specs.Laws.{Accepts, AcceptsNone, IsLastAccepted, client_in, the_last_accepted_is_the_client, every_call_is_authenticated, nothing_else_is_served_before}
+use Rattle.session_core.specs.Laws.{Accepts, AcceptsNone, IsLastAccepted, IsOf, the_last_accepted_is_the_client, every_call_is_authenticated, nothing_else_is_served_before}
 use Rattle.session_core.proofs.ItemLists.{identity_after_all-append}
 use Rattle.session_core.proofs.CallsRead.{call_read}
 use Rattle.session_core.proofs.CallsAt.{call_at}
@@ -134,8 +134,7 @@ pub authenticated_call : every_call_is_authenticated
 authenticated_call conn member messages place request e =
     let at = call_at conn member messages place request e in
     let read = call_read at.client at.message at.is.call at.is.read in
-    let its : client_in request.call ≡ at.client = sym (ap (λ (r : Request). client_in r.call) at.is.request_is) ∙ read.client_is in
-    client_is_last conn (take place messages) (client_in request.call) (at.known ∙ ap Some (sym its))
+    (at.client, client_is_last conn (take place messages) at.client at.known, subst (λ (r : Request). IsOf at.client r.call) at.is.request_is read.client_is)
 
 item_at : (conn member number : ℕ) (identity : Option ClientKey) (messages : List Message) (place : ℕ) (message : Message) → slice_get messages place ≡ Some message
     → slice_get (items_from conn member number identity messages) place ≡ Some (item_of member (record { conn = conn; number = number + place }) (identity_after_all conn identity (take place messages)) message)

@@ -7,7 +7,9 @@ use Rattle.grid_base.specs.declared.names.CallId.{CallId}
 use Rattle.grid_base.specs.declared.names.ClientKey.{ClientKey}
 use Rattle.grid_base.specs.declared.names.ClientKey.TheVariants.{Known, OfConn}
 use Rattle.grid_base.specs.declared.calls.MapCall.{MapCall}
-use Rattle.grid_base.specs.declared.calls.GridCall.TheVariants.{Map}
+use Rattle.grid_base.specs.declared.calls.QueueCall.{QueueCall}
+use Rattle.grid_base.specs.declared.calls.GridCall.{GridCall}
+use Rattle.grid_base.specs.declared.calls.GridCall.TheVariants.{Map, Queue}
 use Rattle.grid_base.specs.declared.refusal.CallRefused.{CallRefused}
 use Rattle.grid_base.specs.declared.refusal.CallRefused.TheVariants.{UnknownType, BadCall, Memory}
 use Rattle.fixed_fields.specs.Fields.{int32_at, int64_at}
@@ -19,6 +21,7 @@ use Rattle.client_codecs.specs.Authentications.{authentication_kind, ping_kind, 
 use Rattle.client_codecs.specs.Replies.{authentication_reply}
 use Rattle.client_codecs.specs.declared.authentications.Authentication.{Authentication}
 use Rattle.map_codecs.specs.Calls.{map_call_of}
+use Rattle.queue_codecs.specs.Calls.{queue_call_of}
 use Rattle.session_core.specs.Places.{partition_of_call}
 use Rattle.session_core.specs.declared.item.Item.{Item}
 use Rattle.session_core.specs.declared.item.Item.TheVariants.{Call, Reply}
@@ -82,20 +85,31 @@ abbrev pub authentication_item : ℕ → Message → Result Authentication CallR
 authentication_item member message (Err why) = refused message why
 authentication_item member message (Ok authentication) = Reply (authentication_reply (correlation_of message) (is_accepted authentication) member)
 
--- A call states its key's partition; another one is answered with both.
-abbrev pub call_item : CallId → Message → Result MapCall CallRefused → Item
+-- What is no call on a map's entry by its type may be one on a queue.
+abbrev pub either_call : Result MapCall CallRefused → Result QueueCall CallRefused → Result GridCall CallRefused
+either_call (Ok call) queue = Ok (Map call)
+either_call (Err UnknownType) (Ok call) = Ok (Queue call)
+either_call (Err UnknownType) (Err why) = Err why
+either_call (Err why) queue = Err why
+
+-- the call of that client which a message is, or why it is none
+abbrev pub call_of : ClientKey → Message → Result GridCall CallRefused
+call_of client message = either_call (map_call_of client message) (queue_call_of message)
+
+-- A call states the partition that it is in. On a map's entry another one is answered with both; a queue is where the message says.
+abbrev pub call_item : CallId → Message → Result GridCall CallRefused → Item
 call_item id message (Err why) = refused message why
 call_item id message (Ok call) =
-    let partition = partition_of_call call in
+    let partition = partition_of_call (stated_partition message) call in
     if int_eq (stated_partition message) (pos partition) then
-    Call (record { id = id; correlation = correlation_of message; kind = kind_of message; partition = partition; call = Map call })
+    Call (record { id = id; correlation = correlation_of message; kind = kind_of message; partition = partition; call = call })
     else error_to message wrong_partition (stated_partition message) (pos partition)
 
 -- what a message of a known client gives that is no authentication
 abbrev pub served : CallId → ClientKey → Message → Item
 served id client message =
     if kind_of message == ping_kind then Reply (void_bytes ping_kind (correlation_of message))
-    else call_item id message (map_call_of client message)
+    else call_item id message (call_of client message)
 
 -- An authentication is always looked at; before an accepted one nothing else is.
 abbrev pub item_of : ℕ → CallId → Option ClientKey → Message → Item

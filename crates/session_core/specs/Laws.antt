@@ -1,23 +1,20 @@
 -- What holds of the items of a connection.
-use Rattle.std.specs.Prelude.{◌≡◌, ◌≢◌, ℕ, ◌<◌, true, pos, List, ◌∷◌, ◌++◌, length, take, slice_get, All, Some, None, Ok}
+use Rattle.std.specs.Prelude.{◌≡◌, ◌≢◌, ℕ, ◌<◌, true, pos, List, ◌∷◌, ◌++◌, length, take, slice_get, All, Some, None, IfSome, Ok, ⊤}
 use Rattle.grid_base.specs.Errors.{not_authenticated}
-use Rattle.grid_base.specs.Names.{object_of}
+use Rattle.grid_base.specs.Limits.{CallFits}
 use Rattle.grid_base.specs.declared.TheConstants.{PARTITIONS}
 use Rattle.grid_base.specs.declared.names.ClientKey.{ClientKey}
-use Rattle.grid_base.specs.declared.names.Owner.{Owner}
-use Rattle.grid_base.specs.declared.calls.MapCall.{MapCall}
-use Rattle.grid_base.specs.declared.calls.MapCall.TheVariants.{Put, Get}
 use Rattle.grid_base.specs.declared.calls.GridCall.{GridCall}
-use Rattle.grid_base.specs.declared.calls.GridCall.TheVariants.{Map}
+use Rattle.grid_base.specs.declared.calls.GridCall.TheVariants.{Map, Queue}
 use Rattle.grid_base.specs.declared.calls.Request.{Request}
 use Rattle.frame_codec.specs.declared.malformed.Malformed.{Malformed}
 use Rattle.message_frames.specs.Messages.{messages_of, fault_of}
 use Rattle.message_frames.specs.declared.message.Message.{Message}
 use Rattle.client_codecs.specs.Authentications.{authentication_kind, authentication_of}
 use Rattle.client_codecs.specs.declared.authentications.Authentication.{Authentication}
+use Rattle.map_codecs.specs.SpelledCalls.{caller_of}
 use Rattle.session_core.specs.Items.{kind_of, stated_partition, cluster_name, client_of, identity_after_all, error_to, items_of}
-use Rattle.session_core.specs.Places.{partition_of_key}
-use Rattle.session_core.specs.Sessions.{CallFits}
+use Rattle.session_core.specs.Places.{BelongsTo}
 use Rattle.session_core.specs.declared.item.Item.{Item}
 use Rattle.session_core.specs.declared.item.Item.TheVariants.{Call}
 
@@ -69,19 +66,16 @@ the_last_accepted_is_the_client =
 abbrev pub IsCallAt : ℕ → ℕ → List Message → ℕ → Request → Type 0
 IsCallAt conn member messages place request = slice_get (items_of conn member messages) place ≡ Some (Call request)
 
-abbrev pub owner_in : MapCall → Owner
-owner_in (Put name key owner value ttl) = owner
-owner_in (Get name key owner) = owner
-
--- the client that a call is of
-abbrev pub client_in : GridCall → ClientKey
-client_in (Map call) = (owner_in call).client
+-- A call that says who makes it is of this client.
+abbrev pub IsOf : ClientKey → GridCall → Type 0
+IsOf client (Map call) = IfSome (caller_of call) (λ owner. owner.client ≡ client)
+IsOf client (Queue call) = ⊤
 
 -- Before each call an authentication was accepted, and the call is of the client that the last one made known.
 abbrev pub every_call_is_authenticated : Type 0
 every_call_is_authenticated =
     (conn member : ℕ) (messages : List Message) (place : ℕ) (request : Request) → IsCallAt conn member messages place request →
-    IsLastAccepted conn (take place messages) (client_in request.call)
+    (client : ClientKey) × IsLastAccepted conn (take place messages) client × IsOf client request.call
 
 -- Where none was accepted before, each message but an authentication is answered so.
 abbrev pub nothing_else_is_served_before : Type 0
@@ -96,15 +90,16 @@ every_call_is_numbered =
     (conn member : ℕ) (messages : List Message) (place : ℕ) (request : Request) → IsCallAt conn member messages place request →
     request.id ≡ record { conn = conn; number = place }
 
--- Its partition is its key's, which its message states, and is one of the grid's.
+-- An entry's partition is its key's, and each is one of the grid's.
 pub record IsPlaced (request : Request) : Type 0 where
-  pub own : request.partition ≡ partition_of_key (object_of request.call).key
+  pub own : BelongsTo request.call request.partition
   pub within : request.partition < PARTITIONS
 
 abbrev pub every_call_is_placed : Type 0
 every_call_is_placed =
     (conn member : ℕ) (messages : List Message) (place : ℕ) (request : Request) → IsCallAt conn member messages place request → IsPlaced request
 
+-- It is the one that the message states.
 abbrev pub every_partition_is_stated : Type 0
 every_partition_is_stated =
     (conn member : ℕ) (messages : List Message) (place : ℕ) (message : Message) (request : Request) → slice_get messages place ≡ Some message →

@@ -1,11 +1,6 @@
 -- What a session stands for: all bytes of its connection so far, however they were cut.
 use Rattle.std.specs.Prelude.{◌≡◌, ℕ, true, List, length, Option, None}
 use Rattle.grid_base.specs.declared.names.ClientKey.{ClientKey}
-use Rattle.map_codecs.specs.Replies.{FitsFrame}
-use Rattle.grid_base.specs.declared.calls.MapCall.{MapCall}
-use Rattle.grid_base.specs.declared.calls.MapCall.TheVariants.{Put, Get}
-use Rattle.grid_base.specs.declared.calls.GridCall.{GridCall}
-use Rattle.grid_base.specs.declared.calls.GridCall.TheVariants.{Map}
 use Rattle.message_frames.specs.MessageReaders.{Hearing, standing}
 use Rattle.message_frames.specs.Messages.{messages_of}
 use Rattle.session_core.specs.Items.{identity_after_all}
@@ -30,11 +25,3 @@ session_after conn member text = record {
 
 abbrev pub StandsFor : SessionState → List ℕ → Type 0
 StandsFor session text = session ≡ session_after session.conn session.member text
-
--- The parts of a call that was read from a message each fit a frame.
-abbrev pub PartsFit : MapCall → Type 0
-PartsFit (Put name key owner value ttl) = FitsFrame name × FitsFrame key × FitsFrame value
-PartsFit (Get name key owner) = FitsFrame name × FitsFrame key
-
-abbrev pub CallFits : GridCall → Type 0
-CallFits (Map call) = PartsFit call

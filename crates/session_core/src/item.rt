@@ -3,7 +3,7 @@ use grid_base::{Bytes, Request};
 /// What a message of a connection gives.
 #[derive(Debug, Drop)]
 pub enum Item {
-    /// A call of a known client, which states its key's partition.
+    /// A call of a known client, in the partition that its message states. An entry's is that of its key.
     Call(Request),
     /// The bytes of an answer or a refusal that the session gives itself.
     Reply(Bytes),

@@ -1,10 +1,9 @@
 ghost use Rattle.std.specs.Prelude.{◌≡◌, ◌+◌, ◌≤◌, ◌<◌, ◌^◌, length, IsErr, IfOk};
 ghost use Rattle.fixed_fields.specs.Responses.{error_bytes};
 ghost use Rattle.client_codecs.specs.Authentications.{authentication_of};
-ghost use Rattle.map_codecs.specs.Calls.{map_call_of};
-ghost use Rattle.session_core.specs.Places.{partition_of_key};
-ghost use Rattle.session_core.specs.Items.{kind_of, correlation_of, stated_partition, is_accepted, client_of, identity_by, identity_after, identity_after_all, refused, authentication_item, call_item, served, item_of, items_from};
-ghost use Rattle.grid_base.specs.Names.{entry_of};
+ghost use Rattle.fixed_fields.specs.Requests.{IsReadAs};
+ghost use Rattle.session_core.specs.Places.{partition_of_key, partition_of_call, SaysWhere};
+ghost use Rattle.session_core.specs.Items.{kind_of, correlation_of, stated_partition, is_accepted, client_of, identity_by, identity_after, identity_after_all, refused, authentication_item, call_of, call_item, served, item_of, items_from};
 
 use crate::item::Item;
 use client_codecs::{
@@ -13,13 +12,11 @@ use client_codecs::{
 };
 use fixed_fields::{int32_at, int64_at};
 use grid_base::errors::{BAD_CALL, NOT_AUTHENTICATED, UNKNOWN_TYPE, WRONG_PARTITION};
-use grid_base::{
-    Bytes, CallId, CallRefused, ClientKey, GridCall, MapCall, MemberId, Memory, PartitionId,
-    Request,
-};
+use grid_base::{CallId, CallRefused, ClientKey, GridCall, MemberId, Memory, PartitionId, Request};
 use map_codecs::read_map_call;
 use message_frames::Message;
 use murmur_partition::{key_hash, partition_of};
+use queue_codecs::read_queue_call;
 use std::alloc::{AllocError, Global};
 
 /// The name of this grid's cluster.
@@ -144,15 +141,6 @@ fn authenticated(
     }
 }
 
-/// The key of a call.
-fn key_of(call: &MapCall) -> &Bytes
-    ensures { result.now ≡ (entry_of call.now).key }
-{
-    match call {
-        MapCall::Put { key, .. } | MapCall::Get { key, .. } => key,
-    }
-}
-
 /// The partition of a key.
 fn partition_of_key(key: &[u8]) -> PartitionId
     requires { 8 ≤ length key.now }
@@ -161,21 +149,45 @@ fn partition_of_key(key: &[u8]) -> PartitionId
     partition_of(key_hash(key).unwrap())
 }
 
-/// The call that a message of a client is, or the error that answers it.
+/// The partition that a call is in whose message states this one.
+fn partition_of_call(stated: i32, call: &GridCall) -> PartitionId
+    requires { SaysWhere stated call.now }
+    ensures { result ≡ partition_of_call stated call.now }
+{
+    match call {
+        GridCall::Map(call) => partition_of_key(call.key().as_slice()),
+        GridCall::Queue(_) => stated as PartitionId,
+    }
+}
+
+/// The call that a message of a client is.
+fn read_call(alloc: Global, client: ClientKey, message: &Message) -> Result<GridCall, CallRefused>
+    ensures { IsReadAs result (call_of client message.now) }
+{
+    match read_map_call(alloc, message, client) {
+        Ok(call) => Ok(GridCall::Map(call)),
+        Err(CallRefused::UnknownType) => Ok(GridCall::Queue(read_queue_call(alloc, message)?)),
+        Err(why) => Err(why),
+    }
+}
+
+/// The call that a message of this type and client is, or the error that answers it.
 fn call_item(
     alloc: Global,
     id: CallId,
     client: ClientKey,
+    kind: u32,
     message: &Message,
 ) -> Result<Item, Memory>
-    ensures { IfOk result (λ item. item ≡ call_item id message.now (map_call_of client message.now)) }
+    requires { kind ≡ kind_of message.now }
+    ensures { IfOk result (λ item. item ≡ call_item id message.now (call_of client message.now)) }
 {
-    let call = match read_map_call(alloc, message, client) {
+    let call = match read_call(alloc, client, message) {
         Ok(call) => call,
         Err(why) => return refused(alloc, message, why),
     };
     let stated = stated_partition(message);
-    let partition = partition_of_key(key_of(&call).as_slice());
+    let partition = partition_of_call(stated, &call);
     if stated != i32::from(partition) {
         return error_to(
             alloc,
@@ -188,21 +200,28 @@ fn call_item(
     Ok(Item::Call(Request {
         id,
         correlation: correlation_of(message),
-        kind: kind_of(message),
+        kind,
         partition,
-        call: GridCall::Map(call),
+        call,
     }))
 }
 
-/// What a message of a client gives that is no authentication.
-fn served(alloc: Global, id: CallId, client: ClientKey, message: &Message) -> Result<Item, Memory>
+/// What a message of this type and client gives that is no authentication.
+fn served(
+    alloc: Global,
+    id: CallId,
+    client: ClientKey,
+    kind: u32,
+    message: &Message,
+) -> Result<Item, Memory>
+    requires { kind ≡ kind_of message.now }
     ensures { IfOk result (λ item. item ≡ served id client message.now) }
 {
-    if kind_of(message) == PING_KIND {
+    if kind == PING_KIND {
         let reply = write_void(alloc, PING_KIND, correlation_of(message))?;
         return Ok(Item::Reply(reply));
     }
-    call_item(alloc, id, client, message)
+    call_item(alloc, id, client, kind, message)
 }
 
 /// What the message of that id gives at a member, where the client is known or not.
@@ -216,11 +235,12 @@ fn given_by(
     ensures item { IfOk result (λ given. given.item ≡ item_of member id identity message.now) }
     ensures identity { IfOk result (λ given. given.identity ≡ identity_after id.conn identity message.now) }
 {
-    if kind_of(message) == AUTHENTICATION_KIND {
+    let kind = kind_of(message);
+    if kind == AUTHENTICATION_KIND {
         return authenticated(alloc, member, id.conn, identity, message);
     }
     let item = match identity {
-        Some(client) => served(alloc, id, client, message)?,
+        Some(client) => served(alloc, id, client, kind, message)?,
         None => error_to(alloc, message, NOT_AUTHENTICATED, 0, 0)?,
     };
     Ok(Given { item, identity })

@@ -32,6 +32,26 @@ fn reads_each_line_that_is_built(rt: HostRuntime) -> Result<(), Fail> {
     );
     let trail = read_later(alloc, "trail 270")?;
     assert!(rt; matches!(trail, Line::Trail { partition: 270 }));
+    let clock = read_later(alloc, "clock 0 18446744073709551615")?;
+    assert!(rt;
+        matches!(
+            clock,
+            Line::Clock {
+                member: 0,
+                moment: u64::MAX
+            }
+        )
+    );
+    let dump = read_line(alloc, b"dump 270 7", false, 8)?;
+    assert!(rt;
+        matches!(
+            dump,
+            Line::Dump {
+                partition: 270,
+                member: 7
+            }
+        )
+    );
     let comment = read_later(alloc, "# two words")?;
     assert!(rt; matches!(comment, Line::Comment));
     let end = read_later(alloc, "end")?;
@@ -56,6 +76,11 @@ fn says_the_first_cause(rt: HostRuntime) {
         ("bytes 0", "count"),
         ("open 64 x", "number"),
         ("open 00 0", "number"),
+        ("clock 1 0", "number"),
+        ("clock 0 18446744073709551616", "number"),
+        ("dump 0", "count"),
+        ("dump 271 0", "number"),
+        ("dump 0 1", "number"),
         ("bytes 64 zz", "number"),
         ("bytes 0 ", "hex"),
         ("bytes 0 012", "hex"),

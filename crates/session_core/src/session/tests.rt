@@ -1,5 +1,5 @@
 use super::*;
-use grid_base::{GridCall, MapCall, Request};
+use grid_base::{GridCall, MapCall, QueueCall, Request};
 use std::test::Fail;
 
 /// An authentication of client 7 for the cluster `dev`, and one for `xyz`.
@@ -11,8 +11,8 @@ const AUTH_FOR_XYZ: &[u8] =
     b"\x28\0\0\0\0\xc0\0\x01\0\0\0\0\0\0\0\0\0\0\xff\xff\xff\xff\0\0\0\0\0\0\0\0\0\x08\0\0\0\0\0\0\0\x01\
     \x09\0\0\0\0\x20xyz";
 
-/// A put of a value on a key of partition 5, and gets of it: one that states the partition, one that states another, and one
-/// without the key.
+/// A put of a value on a key of partition 5, and gets of it: one that states the partition, one that states 6, one that
+/// states -1, and one without the key.
 const PUT: &[u8] =
     b"\x26\0\0\0\0\xc0\0\x01\x01\0\x01\0\0\0\0\0\0\0\x05\0\0\0\x01\0\0\0\0\0\0\0\0\0\0\0\0\0\0\0\
     \x07\0\0\0\0\0m\x0f\0\0\0\0\0\0\0\0\x05\xff\xff\xff\xf5k\x0f\0\0\0\0\x20\0\0\0\0\xff\xff\xff\xf5v";
@@ -24,9 +24,36 @@ const GET_ELSEWHERE: &[u8] =
     b"\x1e\0\0\0\0\xc0\0\x02\x01\0\x02\0\0\0\0\0\0\0\x06\0\0\0\x01\0\0\0\0\0\0\0\
     \x07\0\0\0\0\0m\x0f\0\0\0\0\x20\0\0\0\x05\xff\xff\xff\xf5k";
 
+const GET_BELOW_0: &[u8] =
+    b"\x1e\0\0\0\0\xc0\0\x02\x01\0\x02\0\0\0\0\0\0\0\xff\xff\xff\xff\x01\0\0\0\0\0\0\0\
+    \x07\0\0\0\0\0m\x0f\0\0\0\0\x20\0\0\0\x05\xff\xff\xff\xf5k";
+
 const GET_WITHOUT_KEY: &[u8] =
     b"\x1e\0\0\0\0\xc0\0\x02\x01\0\x02\0\0\0\0\0\0\0\x05\0\0\0\x01\0\0\0\0\0\0\0\
     \x07\0\0\0\0\x20m";
+
+/// Whether the key is locked, which no thread has to say.
+const IS_LOCKED: &[u8] = b"\x16\0\0\0\0\xc0\0\x12\x01\0\x03\0\0\0\0\0\0\0\x05\0\0\0\
+    \x07\0\0\0\0\0m\x0f\0\0\0\0\x20\0\0\0\x05\xff\xff\xff\xf5k";
+
+/// An offer of a value to a queue in partition 270, and polls of it: one in partition 0, one that states 271, one that states
+/// -1, and one without the name.
+const OFFER: &[u8] = b"\x16\0\0\0\0\xc0\0\x01\x03\0\x04\0\0\0\0\0\0\0\x0e\x01\0\0\
+    \x07\0\0\0\0\0q\x0f\0\0\0\0\x20\0\0\0\0\xff\xff\xff\xf5v";
+
+const POLL: &[u8] = b"\x16\0\0\0\0\xc0\0\x05\x03\0\x02\0\0\0\0\0\0\0\0\0\0\0\x07\0\0\0\0\x20q";
+
+const POLL_AT_271: &[u8] =
+    b"\x16\0\0\0\0\xc0\0\x05\x03\0\x02\0\0\0\0\0\0\0\x0f\x01\0\0\x07\0\0\0\0\x20q";
+
+const POLL_BELOW_0: &[u8] =
+    b"\x16\0\0\0\0\xc0\0\x05\x03\0\x02\0\0\0\0\0\0\0\xff\xff\xff\xff\x07\0\0\0\0\x20q";
+
+const POLL_WITHOUT_NAME: &[u8] = b"\x16\0\0\0\0\xe0\0\x05\x03\0\x02\0\0\0\0\0\0\0\0\0\0\0";
+
+/// A message of a type that no request on a queue has.
+const UNKNOWN_TO_QUEUES: &[u8] =
+    b"\x16\0\0\0\0\xc0\0\x02\x03\0\x02\0\0\0\0\0\0\0\0\0\0\0\x07\0\0\0\0\x20q";
 
 /// A ping, and a message of a type that no request has.
 const PING: &[u8] = b"\x16\0\0\0\0\xe0\0\x0b\0\0\x02\0\0\0\0\0\0\0\xff\xff\xff\xff";
@@ -40,18 +67,39 @@ const ACCEPTED: &[u8] =
 const NOT_ACCEPTED: &[u8] =
     b"\x29\0\0\0\0\xe0\x01\x01\0\0\0\0\0\0\0\0\0\0\0\x01\x01\0\0\0\0\0\0\0\0\0\0\0\0\0\0\0\0\x0f\x01\0\0;";
 
+/// The errors that answer a type of no request, and a call that can't be read.
+const UNKNOWN_TYPE: &[u8] =
+    b"\x1f\0\0\0\0\xe0\0\0\0\0\x02\0\0\0\0\0\0\0\0\x03\0\0\0\0\0\0\0\0\0\0\0;";
+
+const BAD_CALL: &[u8] = b"\x1f\0\0\0\0\xe0\0\0\0\0\x02\0\0\0\0\0\0\0\0\x04\0\0\0\0\0\0\0\0\0\0\0;";
+
 const PONG: &[u8] = b"\x13\0\0\0\0\xe0\x01\x0b\0\0\x02\0\0\0\0\0\0\0\0;";
 
 /// What comes before a connection's first message.
 const PREFIX: &[u8] = b"CP2";
 
-/// A call by its id, its partition, its correlation and its client.
+/// The client of a put or a get, and what another call is.
+fn kind_text(alloc: Global, call: &GridCall) -> Result<String, Memory> {
+    match call {
+        GridCall::Map(MapCall::Put { owner, .. } | MapCall::Get { owner, .. }) => {
+            format!(in alloc; "{:?}", owner.client)
+        }
+        GridCall::Map(MapCall::IsLocked { .. }) => format!(in alloc; "locked"),
+        GridCall::Queue(QueueCall::Offer { .. }) => format!(in alloc; "offer"),
+        GridCall::Queue(QueueCall::Poll { .. }) => format!(in alloc; "poll"),
+        _ => format!(in alloc; "another"),
+    }
+}
+
+/// A call by its id, its partition, its correlation, and its client or what it is.
 fn call_text(alloc: Global, request: &Request) -> Result<String, Memory> {
-    let GridCall::Map(MapCall::Put { owner, .. } | MapCall::Get { owner, .. }) = &request.call;
-    let client = owner.client;
+    let kind = kind_text(alloc, &request.call)?;
     format!(in alloc;
-        "call {} {} {} {client:?};",
-        request.id, request.partition, request.correlation
+        "call {} {} {} {};",
+        request.id,
+        request.partition,
+        request.correlation,
+        kind.as_str()
     )
 }
 
@@ -127,6 +175,7 @@ fn refuses_in_order(rt: HostRuntime) -> Result<(), Fail> {
             UNKNOWN,
             GET_WITHOUT_KEY,
             GET_ELSEWHERE,
+            GET_BELOW_0,
         ],
     )?;
     let wanted = joined(
@@ -134,9 +183,53 @@ fn refuses_in_order(rt: HostRuntime) -> Result<(), Fail> {
         &[
             b"\x1f\0\0\0\0\xe0\0\0\0\0\x02\0\0\0\0\0\0\0\0\x02\0\0\0\0\0\0\0\0\0\0\0;",
             ACCEPTED,
-            b"\x1f\0\0\0\0\xe0\0\0\0\0\x02\0\0\0\0\0\0\0\0\x03\0\0\0\0\0\0\0\0\0\0\0;",
-            b"\x1f\0\0\0\0\xe0\0\0\0\0\x02\0\0\0\0\0\0\0\0\x04\0\0\0\0\0\0\0\0\0\0\0;",
+            UNKNOWN_TYPE,
+            BAD_CALL,
             b"\x1f\0\0\0\0\xe0\0\0\0\0\x02\0\0\0\0\0\0\0\0\x05\0\0\0\x06\0\0\0\x05\0\0\0;",
+            b"\x1f\0\0\0\0\xe0\0\0\0\0\x02\0\0\0\0\0\0\0\0\x05\0\0\0\xff\xff\xff\xff\x05\0\0\0;",
+        ],
+    )?;
+    assert_eq!(rt; told.as_slice(), wanted.as_slice());
+    Ok(())
+}
+
+#[test]
+fn serves_calls_of_no_caller(rt: HostRuntime) -> Result<(), Fail> {
+    let told = told_of(rt.alloc(), &[PREFIX, AUTH, OFFER, POLL, IS_LOCKED])?;
+    let wanted = joined(
+        rt.alloc(),
+        &[
+            ACCEPTED,
+            b"call 3 1 270 4 offer;call 3 2 0 2 poll;call 3 3 5 3 locked;",
+        ],
+    )?;
+    assert_eq!(rt; told.as_slice(), wanted.as_slice());
+    Ok(())
+}
+
+#[test]
+fn refuses_calls_on_queues(rt: HostRuntime) -> Result<(), Fail> {
+    let told = told_of(
+        rt.alloc(),
+        &[
+            PREFIX,
+            AUTH,
+            POLL_AT_271,
+            POLL_BELOW_0,
+            POLL_WITHOUT_NAME,
+            UNKNOWN_TO_QUEUES,
+            POLL,
+        ],
+    )?;
+    let wanted = joined(
+        rt.alloc(),
+        &[
+            ACCEPTED,
+            BAD_CALL,
+            BAD_CALL,
+            BAD_CALL,
+            UNKNOWN_TYPE,
+            b"call 3 5 0 2 poll;",
         ],
     )?;
     assert_eq!(rt; told.as_slice(), wanted.as_slice());
