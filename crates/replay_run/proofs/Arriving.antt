@@ -88,9 +88,10 @@ apart_updated (k ∷ ks) new apart = (λ j i. away j (in_mapped (in_place new) k
     away : (j : Connection) → (x : Connection) × In x ks × (in_place new x ≡ j) → j.conn ≢ (in_place new k).conn
     away j (x, i, e) s = apart.0 x i (sym (in_place_number new x) ∙ ap (λ (c : Connection). c.conn) e ∙ s ∙ in_place_number new k)
 
--- a line is counted
-pub quiet : {State : Type 0} (o : Object Request State) (r : Run) (ks : List Connection) → RunOk o r → AreApart ks → Grows r ks → RunOk o (record r { lines = r.lines + 1; connections = ks })
-quiet o r ks ok apart grows = record {
+-- a line is counted, which may set a clock
+pub quiet : {State : Type 0} (o : Object Request State) (r : Run) (moments : List ℕ) (ks : List Connection) → RunOk o r → AreApart ks → Grows r ks
+    → RunOk o (record r { lines = r.lines + 1; moments = moments; connections = ks })
+quiet o r moments ks ok apart grows = record {
   members = ok.members;
   connections = apart;
   of_arrivals = record {

@@ -4,7 +4,10 @@ use Rattle.std.proofs.lemmas.List.Sums.{sum_by-cons, sum_by-append}
 use Rattle.std.specs.List.{find, sum_by}
 use Rattle.std.specs.Prelude.{is_some}
 use Rattle.grid_base.specs.Errors.{want_of_memory}
+use Rattle.grid_base.specs.Objects.{Object}
+use Rattle.grid_base.specs.declared.calls.Request.{Request}
 use Rattle.grid_base.specs.declared.names.CallId.{CallId}
+use Rattle.object_store.specs.Partitions.{Partition}
 use Rattle.partition_protocol.proofs.Lists.{In, contains_in, cases}
 use Rattle.partition_protocol.proofs.RowFacts.{false_or_not}
 use Rattle.session_core.specs.declared.item.Item.{Item}
@@ -12,8 +15,7 @@ use Rattle.session_core.specs.declared.item.Item.TheVariants.{Call as Asks, Repl
 use Rattle.script_lang.specs.Limits.{most_lines, most_line_bytes}
 use Rattle.script_lang.specs.Lines.{IsWithin}
 use Rattle.script_lang.specs.declared.line.Line.{Line}
-use Rattle.script_lang.specs.declared.line.Line.TheVariants.{Grid, OpenConn, Arrive, Trail, Comment, End}
-use Rattle.replay_run.specs.PartitionObjects.{partition_object}
+use Rattle.script_lang.specs.declared.line.Line.TheVariants.{Grid, OpenConn, Arrive, Clock, Dump, Trail, Comment, End}
 use Rattle.replay_run.specs.Runs.{Run, Connection, Arrival, is_connection, connection_of, messages_on, bytes_of, updated, with_bytes, took_bytes, opened, next_line, fault_on, items_by, told, refusal, arrival_at, happening, arrived, is_skipped, asked, bytes_arrived, after_line, handled_all}
 use Rattle.replay_run.specs.Linearizability.{Before}
 use Rattle.replay_run.specs.ScriptRuns.{IsRun}
@@ -128,16 +130,16 @@ apart_found (j ∷ js) k apart (inr i) =
 
 -- events and calls
 
-pub events_fewer : (r : Run) → IsRun r → length r.events ≤ length r.arrivals
+pub events_fewer : {o : Object Request Partition} (r : Run) → IsRun o r → length r.events ≤ length r.arrivals
 events_fewer r is = (run_ok is).of_arrivals.events
 
-pub arrivals_fewer : (r : Run) → IsRun r → length r.arrivals ≤ messages_in r
-arrivals_fewer r is =
+pub arrivals_fewer : {o : Object Request Partition} (r : Run) → IsRun o r → length r.arrivals ≤ messages_in r
+arrivals_fewer {o} r is =
     let all = all_counted r.arrivals r.connections there in
     let each = sum_more (λ (k : Connection). count (is_on_conn k.conn) r.arrivals) messages_at r.connections fewer in
     omega (arith, all, each)
   where
-    ok : RunOk partition_object r
+    ok : RunOk o r
     ok = run_ok is
 
     there : (a : Arrival) → In a r.arrivals → (k : Connection) × In k r.connections × (a.id.conn ≡ k.conn)
@@ -156,7 +158,7 @@ arrivals_fewer r is =
     fewer : (k : Connection) → In k r.connections → count (is_on_conn k.conn) r.arrivals ≤ messages_at k
     fewer k j = let messages = rising_fewer k.conn 0 (length (messages_on k)) r.arrivals (omega arith) ok.of_arrivals.rising (below k j) in omega (arith, messages)
 
-pub events_within : (r : Run) → IsRun r → length r.events ≤ messages_in r
+pub events_within : {o : Object Request Partition} (r : Run) → IsRun o r → length r.events ≤ messages_in r
 events_within r is = let a = events_fewer r is in let b = arrivals_fewer r is in omega (arith, a, b)
 
 -- what bytes add
@@ -187,7 +189,7 @@ sum_updated weight new (j ∷ js) k apart (inr i) e =
     let rest = sum_updated weight new js k apart.1 i e in
     omega (arith, after, before, rest)
 
-module _ (r : Run) (k : Connection) (bytes : List ℕ) (is : IsRun r) (there : connection_of r k.conn ≡ Some k) where
+module _ {o : Object Request Partition} (r : Run) (k : Connection) (bytes : List ℕ) (is : IsRun o r) (there : connection_of r k.conn ≡ Some k) where
   taken : (weight : Connection → ℕ) → sum_by weight (took_bytes r k bytes).connections + weight k ≡ sum_by weight r.connections + weight (with_bytes k bytes)
   taken weight = sum_updated weight (with_bytes k bytes) r.connections k (run_ok is).connections (find_some (is_connection k.conn) r.connections k there).0 refl
 
@@ -219,24 +221,24 @@ opened_no_more r c member =
     let more = sum_by-append bytes_at r.connections (new ∷ []) in
     omega (arith, more)
 
-pub handled_no_more : (skips : List CallId) (r : Run) (k : Connection) (items : List Item) → bytes_of (handled_all partition_object skips r k items) ≡ bytes_of r
-handled_no_more skips r k items = ap (sum_by bytes_at) (handled_all_come partition_object skips r k items).connections
+pub handled_no_more : (o : Object Request Partition) (skips : List CallId) (r : Run) (k : Connection) (items : List Item) → bytes_of (handled_all o skips r k items) ≡ bytes_of r
+handled_no_more o skips r k items = ap (sum_by bytes_at) (handled_all_come o skips r k items).connections
 
 -- what items add to the events: one at most for each
 
-asked_event : (skips : List CallId) (r : Run) (a : Arrival) → length (asked partition_object skips r a).events ≤ length r.events + 1
-asked_event skips r a = go (is_skipped skips a.id)
+asked_event : (o : Object Request Partition) (skips : List CallId) (r : Run) (a : Arrival) → length (asked o skips r a).events ≤ length r.events + 1
+asked_event o skips r a = go (is_skipped skips a.id)
   where
-    go : (b : Bool) → length (cond b (arrived r a [] (refusal a.line a.request (pos want_of_memory) 0 ∷ [])) (arrived r a (its_event a ∷ []) (happening partition_object r a))).events ≤ length r.events + 1
+    go : (b : Bool) → length (cond b (arrived r a [] (refusal a.line a.request (pos want_of_memory) 0 ∷ [])) (arrived r a (its_event a ∷ []) (happening o r a))).events ≤ length r.events + 1
     go true = let more = length-append r.events [] in omega (arith, more)
     go false = let more = length-append r.events (its_event a ∷ []) in omega (arith, more)
 
-pub handled_events : (skips : List CallId) (r : Run) (k : Connection) (items : List Item) → length (handled_all partition_object skips r k items).events ≤ length r.events + length items
-handled_events skips r k [] = omega arith
-handled_events skips r k (Reply bytes ∷ items) = let rest = handled_events skips (told r k.conn bytes) k items in omega (arith, rest)
-handled_events skips r k (Asks request ∷ items) =
-    let one = asked_event skips r (arrival_at r k.member request) in
-    let rest = handled_events skips (asked partition_object skips r (arrival_at r k.member request)) k items in
+pub handled_events : (o : Object Request Partition) (skips : List CallId) (r : Run) (k : Connection) (items : List Item) → length (handled_all o skips r k items).events ≤ length r.events + length items
+handled_events o skips r k [] = omega arith
+handled_events o skips r k (Reply bytes ∷ items) = let rest = handled_events o skips (told r k.conn bytes) k items in omega (arith, rest)
+handled_events o skips r k (Asks request ∷ items) =
+    let one = asked_event o skips r (arrival_at r k.member request) in
+    let rest = handled_events o skips (asked o skips r (arrival_at r k.member request)) k items in
     omega (arith, one, rest)
 
 -- lines
@@ -246,16 +248,16 @@ abbrev pub length_of : Line → ℕ
 length_of (Arrive c bytes) = length bytes
 length_of line = 0
 
-module _ (skips : List CallId) (r : Run) (is : IsRun r) where
+module _ {o : Object Request Partition} (skips : List CallId) (r : Run) (is : IsRun o r) where
   bytes_more : (c : ℕ) (bytes : List ℕ) (found : Option Connection) → connection_of r c ≡ found
-      → bytes_of (elim found [ None ↦ next_line r | Some k ↦ bytes_arrived partition_object skips r k bytes ]) ≤ bytes_of r + length bytes
+      → bytes_of (elim found [ None ↦ next_line r | Some k ↦ bytes_arrived o skips r k bytes ]) ≤ bytes_of r + length bytes
   bytes_more c bytes None there = omega arith
   bytes_more c bytes (Some k) there = go (is_some (fault_on k))
     where
-      go : (closed : Bool) → bytes_of (cond closed (next_line r) (handled_all partition_object skips (took_bytes r k bytes) k (items_by k bytes))) ≤ bytes_of r + length bytes
+      go : (closed : Bool) → bytes_of (cond closed (next_line r) (handled_all o skips (took_bytes r k bytes) k (items_by k bytes))) ≤ bytes_of r + length bytes
       go true = omega arith
       go false =
-          let all = handled_no_more skips (took_bytes r k bytes) k (items_by k bytes) in
+          let all = handled_no_more o skips (took_bytes r k bytes) k (items_by k bytes) in
           let more = bytes_taken_more r k bytes is (connection_there r c k there) in
           omega (arith, all, more)
 
@@ -264,19 +266,21 @@ module _ (skips : List CallId) (r : Run) (is : IsRun r) where
   open_more c member false = let same = opened_no_more r c member in omega (arith, same)
 
   -- A line adds no more than its bytes.
-  pub line_adds : (line : Line) → bytes_of (after_line partition_object skips r line) ≤ bytes_of r + length_of line
+  pub line_adds : (line : Line) → bytes_of (after_line o skips r line) ≤ bytes_of r + length_of line
   line_adds (Grid members backups capacity) = omega arith
   line_adds (OpenConn c member) = open_more c member (is_some (connection_of r c))
   line_adds (Arrive c bytes) = bytes_more c bytes (connection_of r c) refl
+  line_adds (Clock member moment) = omega arith
+  line_adds (Dump partition member) = omega arith
   line_adds (Trail partition) = omega arith
   line_adds Comment = omega arith
   line_adds End = omega arith
 
   -- and so many lines have no more bytes than their texts have room for
-  pub stays_small : (line : Line) → IsSmall r → 2 * length_of line ≤ most_line_bytes → IsSmall (after_line partition_object skips r line)
+  pub stays_small : (line : Line) → IsSmall r → 2 * length_of line ≤ most_line_bytes → IsSmall (after_line o skips r line)
   stays_small line small size =
       let adds = line_adds line in
-      let lines = (line_counts skips r line).lines in
+      let lines = (line_counts o skips r line).lines in
       omega (arith, small, size, adds, lines)
 
 -- a line within the limit of bytes
@@ -284,6 +288,8 @@ pub line_within : (members size : ℕ) (line : Line) → IsWithin members size l
 line_within members size (Grid n backups capacity) h = omega arith
 line_within members size (OpenConn conn member) h = omega arith
 line_within members size (Arrive conn bytes) h = h.2
+line_within members size (Clock member moment) h = omega arith
+line_within members size (Dump partition member) h = omega arith
 line_within members size (Trail partition) h = omega arith
 line_within members size Comment h = omega arith
 line_within members size End h = omega arith

@@ -1,23 +1,24 @@
 -- A line of bytes on an open connection: what its session gave, and that the items are yet to be handled.
 use Rattle.std.proofs.Common.{◌≡◌, ℕ, ◌+◌, List, [], ◌++◌, Option, Some, None, subst, ap, ◌∙◌}
+use Rattle.call_engine.specs.Calls.{Settings}
 use Rattle.session_core.specs.Sessions.{session_after, StandsFor}
 use Rattle.session_core.specs.declared.session.FedSession.{FedSession}
 use Rattle.replay_run.specs.declared.grid.Grid.{Grid}
 use Rattle.replay_run.specs.Runs.{Run, fault_on, with_bytes}
 use Rattle.replay_run.specs.Tables.{Table, Opened, opened_at, with_session, Gives, FeedGives}
-use Rattle.replay_run.specs.Grids.{IsConnection, Stands}
+use Rattle.replay_run.specs.Grids.{FormOf, IsConnection, Stands}
 use Rattle.replay_run.specs.WorldCalls.{open_member_in, Brings, HasHandledSome}
 use Rattle.replay_run.proofs.GridLines.{with_table, IsOpen, is_open, begun_some}
 use Rattle.replay_run.proofs.LineFacts.{slot, slot_stands, fed_session, they_bring, closed_as}
 
 -- The connection took its bytes, which bring these items, and none of them was handled.
-pub record HasBegun (new : Grid) (r : Run) (conn member : ℕ) (bytes : List ℕ) (fed : FedSession) (text : List ℕ) : Type 0 where
+pub record HasBegun {V : Type 0} {T : V → Type 0} (form : FormOf V T) (settings : Settings) (new : Grid V T) (r : Run) (conn member : ℕ) (bytes : List ℕ) (fed : FedSession) (text : List ℕ) : Type 0 where
   pub open_there : IsOpen r conn member
-  pub brings : Brings r open_there.connection bytes fed.items.items
-  pub none_handled : HasHandledSome new r open_there.connection bytes [] text text
+  pub brings : Brings settings r open_there.connection bytes fed.items.items
+  pub none_handled : HasHandledSome form settings new r open_there.connection bytes [] text text
   pub closed : fed.closed ≡ fault_on (with_bytes open_there.connection bytes)
 
-module _ (grid : Grid) (r : Run) (s : Stands grid r) (conn member : ℕ) (is : open_member_in r conn ≡ Some member) (bytes : List ℕ) (gave : Option FedSession)
+module _ {V : Type 0} {T : V → Type 0} {form : FormOf V T} {settings : Settings} (grid : Grid V T) (r : Run) (s : Stands form settings grid r) (conn member : ℕ) (is : open_member_in r conn ≡ Some member) (bytes : List ℕ) (gave : Option FedSession)
     (gives : (o : Opened) (text : List ℕ) → opened_at grid.connections conn ≡ Some o → StandsFor o.session text → Gives gave o.session.conn o.session.member text bytes) where
   abbrev its : IsOpen r conn member
   its = is_open r conn member is
@@ -35,10 +36,10 @@ module _ (grid : Grid) (r : Run) (s : Stands grid r) (conn member : ℕ) (is : o
   pub not_refused : gave ≡ None → ⊥
   not_refused none = subst (λ fed. Gives fed opened_slot.0.session.conn opened_slot.0.session.member its.connection.bytes bytes) none something_given
 
-  pub has_begun : (new : Grid) (number : ℕ) (text : List ℕ) (fed : FedSession) (table : Table) → number ≡ r.lines + 1 → gave ≡ Some fed
+  pub has_begun : (new : Grid V T) (number : ℕ) (text : List ℕ) (fed : FedSession) (table : Table) → number ≡ r.lines + 1 → gave ≡ Some fed
       → ((o : Opened) (text : List ℕ) → opened_at grid.connections conn ≡ Some o → StandsFor o.session text
       → table ≡ with_session grid.connections conn (session_after o.session.conn o.session.member (text ++ bytes)))
-      → new ≡ with_table grid number table → HasBegun new r conn member bytes fed text
+      → new ≡ with_table grid number table → HasBegun form settings new r conn member bytes fed text
   has_begun new number text fed table at_line one took made =
       let given : FeedGives fed opened_slot.0.session.conn opened_slot.0.session.member its.connection.bytes bytes =
       subst (λ x. Gives x opened_slot.0.session.conn opened_slot.0.session.member its.connection.bytes bytes) one something_given in

@@ -1,12 +1,15 @@
 -- The calls that a line brings have names of their own.
 use Rattle.std.proofs.Common.{◌≡◌, ◌≢◌, ℕ, ◌+◌, ◌≤◌, Bool, true, false, cond, List, [], ◌∷◌, Option, Some, None, refl, ap, sym, ◌∙◌, inl, inr, arith}
 use Rattle.std.specs.Prelude.{is_some}
+use Rattle.grid_base.specs.Objects.{Object}
+use Rattle.grid_base.specs.declared.calls.Request.{Request}
 use Rattle.grid_base.specs.declared.names.CallId.{CallId}
+use Rattle.object_store.specs.Partitions.{Partition}
 use Rattle.partition_protocol.proofs.Lists.{In, contains_in}
 use Rattle.session_core.specs.declared.item.Item.{Item}
 use Rattle.session_core.specs.declared.item.Item.TheVariants.{Call as Asks, Reply}
 use Rattle.script_lang.specs.declared.line.Line.{Line}
-use Rattle.script_lang.specs.declared.line.Line.TheVariants.{Grid, OpenConn, Arrive, Trail, Comment, End}
+use Rattle.script_lang.specs.declared.line.Line.TheVariants.{Grid, OpenConn, Arrive, Clock, Dump, Trail, Comment, End}
 use Rattle.replay_run.specs.Runs.{Run, Connection, Arrival, connection_of, fault_on, items_by}
 use Rattle.replay_run.specs.ScriptRuns.{IsRun, calls_in}
 use Rattle.replay_run.specs.Skips.{items_at, calls_at}
@@ -22,7 +25,7 @@ in_numbered conn number (Asks request ∷ items) id numbered (inl e) =
     (ap (λ (c : CallId). c.conn) (sym e ∙ numbered.0.0), omega (arith, at))
 in_numbered conn number (Asks request ∷ items) id numbered (inr i) = let more = in_numbered conn (number + 1) items id numbered.1 i in (more.0, omega (arith, more.1))
 
-module _ (r : Run) (is : IsRun r) (b : Arrival) (i : In b r.arrivals) (id : CallId) where
+module _ {o : Object Request Partition} (r : Run) (is : IsRun o r) (b : Arrival) (i : In b r.arrivals) (id : CallId) where
   of_items : (k : Connection) (bytes : List ℕ) → connection_of r k.conn ≡ Some k → In id (calls_in (items_by k bytes)) → b.id ≢ id
   of_items k bytes there j same =
       let at = in_numbered k.conn _ (items_by k bytes) id (items_room k bytes).0 j in
@@ -42,6 +45,8 @@ module _ (r : Run) (is : IsRun r) (b : Arrival) (i : In b r.arrivals) (id : Call
   calls_are_new (Grid members backups capacity) j = absurd j
   calls_are_new (OpenConn c member) j = absurd j
   calls_are_new (Arrive c bytes) j = of_connection c bytes (connection_of r c) refl j
+  calls_are_new (Clock member moment) j = absurd j
+  calls_are_new (Dump partition member) j = absurd j
   calls_are_new (Trail partition) j = absurd j
   calls_are_new Comment j = absurd j
   calls_are_new End j = absurd j

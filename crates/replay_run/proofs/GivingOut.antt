@@ -1,19 +1,25 @@
 -- A world that gives out the answers which wait at a member, one after another.
-use Rattle.std.proofs.Common.{◌≡◌, ◌≢◌, ℕ, List, [], ◌∷◌, ◌++◌, map, ap, sym, ◌∙◌, append_assoc}
+use Rattle.std.proofs.Common.{◌≡◌, ◌≢◌, ℕ, List, [], ◌∷◌, ◌++◌, map, refl, ap, sym, subst, ◌∙◌, append_assoc}
+use Rattle.grid_base.specs.Objects.{Object}
 use Rattle.grid_base.specs.declared.calls.Request.{Request}
 use Rattle.partition_protocol.specs.Events.{Event}
 use Rattle.partition_world.specs.declared.node.Released.{Released}
+use Rattle.partition_world.specs.declared.world.World.{World}
 use Rattle.partition_world.specs.Worlds.{StandsFor, setup_of, waiting}
-use Rattle.replay_run.specs.MapLists.{partition_of}
-use Rattle.replay_run.specs.PartitionObjects.{partition_object}
+use Rattle.call_engine.specs.declared.shelf.GridShelf.{GridShelf}
+use Rattle.call_engine.specs.declared.env.GridEnv.{GridEnv}
+use Rattle.call_engine.specs.Calls.{Settings}
+use Rattle.call_engine.specs.Env.{settings_of}
+use Rattle.call_engine.specs.Limits.{RequestFits}
+use Rattle.call_engine.specs.Objects.{partition_object}
 use Rattle.replay_run.specs.Printing.{appended_text}
 use Rattle.replay_run.specs.Tables.{Table, with_answer}
-use Rattle.replay_run.specs.Grids.{MapWorld}
+use Rattle.replay_run.specs.Grids.{FormOf, GridWorld, StandsForEvents}
 use Rattle.replay_run.specs.WorldCalls.{texts_of, message_of, with_answers, GivesOut}
 
 -- Some of the answers were given out.
-pub record GaveOut (old new : MapWorld) (member : ℕ) : Type 0 where
-  pub stands : (events : List (Event Request)) → StandsFor partition_object partition_of old events → StandsFor partition_object partition_of new events
+pub record GaveOut {S Env C State : Type 0} (object : Env → Object C State) (limits : C → Type 0) (state : S → State) (old new : World S Env C) (member : ℕ) : Type 0 where
+  pub stands : (env : Env) (events : List (Event C)) → StandsFor (object env) limits state old events → StandsFor (object env) limits state new events
   pub setup : setup_of new ≡ setup_of old
   pub others : (other : ℕ) → other ≢ member → waiting new other ≡ waiting old other
 
@@ -25,17 +31,37 @@ more_text line out answer answers rest e =
 pub more_table : (line : ℕ) (table : Table) (answer : Released) (answers rest : List Released) → answers ≡ answer ∷ rest → with_answers (with_answer table answer.id line) line rest ≡ with_answers table line answers
 more_table line table answer answers rest e = ap (with_answers table line) (sym e)
 
-pub gave_more : (first second third : MapWorld) (member : ℕ) → GaveOut first second member → GaveOut second third member → GaveOut first third member
-gave_more first second third member a b = record {
-  stands = λ events s. b.stands events (a.stands events s);
-  setup = b.setup ∙ a.setup;
-  others = λ other apart. b.others other apart ∙ a.others other apart;
+module _ {S Env C State : Type 0} {object : Env → Object C State} {limits : C → Type 0} {state : S → State} where
+  pub gave_none : (world : World S Env C) (member : ℕ) → GaveOut object limits state world world member
+  gave_none world member = record { stands = λ env events s. s; setup = refl; others = λ other apart. refl }
+
+  pub gave_more : (first second third : World S Env C) (member : ℕ) → GaveOut object limits state first second member → GaveOut object limits state second third member → GaveOut object limits state first third member
+  gave_more first second third member a b = record {
+    stands = λ env events s. b.stands env events (a.stands env events s);
+    setup = b.setup ∙ a.setup;
+    others = λ other apart. b.others other apart ∙ a.others other apart;
+  }
+
+  -- a world that gave out at most one answer
+  pub popped : (old new : World S Env C) (member : ℕ) → ((env : Env) (events : List (Event C)) → StandsFor (object env) limits state old events → StandsFor (object env) limits state new events) → setup_of new ≡ setup_of old
+      → ((other : ℕ) → other ≢ member → waiting new other ≡ waiting old other) → GaveOut object limits state old new member
+  popped old new member stands setup others = record { stands = stands; setup = setup; others = others }
+
+  pub gives_out : (old new : World S Env C) (member : ℕ) → GaveOut object limits state old new member → waiting new member ≡ [] → GivesOut object limits state old new member
+  gives_out old new member gave given = record { stands = gave.stands; setup = gave.setup; given = given; others = gave.others }
+
+-- the same of a grid's world that goes by settings
+pub record HasGivenOut {V : Type 0} {T : V → Type 0} (settings : Settings) (old new : GridWorld V T) (member : ℕ) : Type 0 where
+  pub stands : (events : List (Event Request)) → StandsForEvents settings old events → StandsForEvents settings new events
+  pub setup : setup_of new ≡ setup_of old
+  pub given : waiting new member ≡ []
+  pub others : (other : ℕ) → other ≢ member → waiting new other ≡ waiting old other
+
+pub has_given_out : {V : Type 0} {T : V → Type 0} (form : FormOf V T) (settings : Settings) (env : GridEnv V T) (old new : GridWorld V T) (member : ℕ) → settings_of form env ≡ settings
+    → GivesOut (λ (e : GridEnv V T). partition_object (settings_of form e)) RequestFits (λ (shelf : GridShelf). shelf) old new member → HasGivenOut settings old new member
+has_given_out form settings env old new member goes_by out = record {
+  stands = λ events. subst (λ s. StandsForEvents s old events → StandsForEvents s new events) goes_by (out.stands env events);
+  setup = out.setup;
+  given = out.given;
+  others = out.others;
 }
-
--- a world that gave out at most one answer
-pub popped : (old new : MapWorld) (member : ℕ) → (Unit {0} → (events : List (Event Request)) → StandsFor partition_object partition_of old events → StandsFor partition_object partition_of new events) → setup_of new ≡ setup_of old
-    → ((other : ℕ) → other ≢ member → waiting new other ≡ waiting old other) → GaveOut old new member
-popped old new member stands setup others = record { stands = stands tt; setup = setup; others = others }
-
-pub gives_out : (old new : MapWorld) (member : ℕ) → GaveOut old new member → waiting new member ≡ [] → GivesOut old new member
-gives_out old new member gave given = record { stands = gave.stands; setup = gave.setup; given = given; others = gave.others }

@@ -12,15 +12,19 @@ use Rattle.partition_world.specs.declared.node.Released.{Released}
 use Rattle.partition_world.specs.Answers.{released_by as answers_by}
 use Rattle.partition_world.specs.Worlds.{waiting}
 use Rattle.replay_run.specs.declared.grid.Grid.{Grid}
-use Rattle.replay_run.specs.PartitionObjects.{partition_object}
+use Rattle.call_engine.specs.Calls.{Settings}
+use Rattle.call_engine.specs.Changes.{change_of}
+use Rattle.call_engine.specs.Objects.{partition_object}
+use Rattle.call_engine.specs.Env.{settings_of}
 use Rattle.grid_base.specs.Errors.{want_of_memory}
-use Rattle.replay_run.specs.Runs.{Run, Arrival, Appended, connection_of, events_at, arrival_at, call_of, world_at, happening, refused_by, refusal, answer_to, released_by, asked, arrived, is_skipped}
+use Rattle.replay_run.specs.Runs.{Run, Arrival, Appended, connection_of, events_at, moment_of, arrival_at, call_of, world_at, happening, refused_by, refusal, answer_to, released_by, asked, arrived, is_skipped}
 use Rattle.replay_run.specs.Printing.{partitions, new_messages}
 use Rattle.replay_run.specs.ScriptRuns.{IsRun, IsNext}
 use Rattle.replay_run.specs.Tables.{Table, Opened, opened_at, with_arrival}
-use Rattle.replay_run.specs.Grids.{MapWorld, IsConnection, HasTable, IsCounting, HasWorld, Holds}
-use Rattle.replay_run.specs.WorldCalls.{no_change, arrival_to, message_of, with_answers, texts_of, IsCalled, IsSkipped, GivesOut, HasAsked}
+use Rattle.replay_run.specs.Grids.{FormOf, GridWorld, IsConnection, HasTable, IsCounting, HasWorld, Holds}
+use Rattle.replay_run.specs.WorldCalls.{arrival_to, message_of, with_answers, texts_of, IsCalled, IsSkipped, HasAsked}
 use Rattle.replay_run.proofs.Arriving.{its_event}
+use Rattle.replay_run.proofs.GivingOut.{HasGivenOut}
 use Rattle.replay_run.proofs.Answering.{refusals_answer_none}
 use Rattle.replay_run.proofs.Places.{same_call_refl}
 use Rattle.replay_run.proofs.RunsOfLines.{unheard_unanswered}
@@ -34,25 +38,27 @@ abbrev pub call_text : List ℕ → ℕ → List ℕ → List Released → List 
 call_text written line added answers = (written ++ added) ++ texts_of (map (message_of line) answers)
 
 -- The table and the worlds of the code after a call.
-pub record IsAfter (grid new : Grid) (line partition conn : ℕ) (world : MapWorld) (answers : List Released) : Type 0 where
+pub record IsAfter {V : Type 0} {T : V → Type 0} (grid new : Grid V T) (line partition conn : ℕ) (world : GridWorld V T) (answers : List Released) : Type 0 where
+  pub env : new.env ≡ grid.env
   pub lines : new.lines ≡ line
   pub members : new.members ≡ grid.members
+  pub moments : new.moments.items ≡ grid.moments.items
   pub table : new.connections ≡ with_answers (with_arrival grid.connections conn line) line answers
   pub worlds : new.worlds.items ≡ slice_set grid.worlds.items partition world
 
-module _ (grid : Grid) (r : Run) (run : IsRun r) (h : Holds grid r) (member : ℕ) (request : Request) (next : IsNext r request) (count : IsCounting grid.connections r request.id.conn request.id.number) (low : request.partition < partitions)
-    (new : Grid) (called world : MapWorld) (added written text : List ℕ)
+module _ {V : Type 0} {T : V → Type 0} {form : FormOf V T} {settings : Settings} (grid : Grid V T) (r : Run) (run : IsRun (partition_object settings) r) (h : Holds form settings grid r) (member : ℕ) (request : Request) (next : IsNext r request) (count : IsCounting grid.connections r request.id.conn request.id.number) (low : request.partition < partitions)
+    (new : Grid V T) (called world : GridWorld V T) (added written text : List ℕ)
     (after : IsAfter grid new r.lines request.partition request.id.conn world (waiting called member))
-    (out : GivesOut called world member)
+    (out : HasGivenOut settings called world member)
     (wrote : text ≡ call_text written r.lines added (waiting called member)) where
-  abbrev old : HasWorld grid.worlds.items r request.partition
+  abbrev old : HasWorld settings grid.worlds.items r request.partition
   old = h.worlds request.partition low
 
   abbrev a : Arrival
   a = arrival_at r member request
 
   abbrev before : World Request
-  before = world_at partition_object r request.partition
+  before = world_at (partition_object settings) r request.partition
 
   slot : (o : Opened) × (opened_at grid.connections request.id.conn ≡ Some o) × IsConnection o next.connection
   slot = found_opened grid.connections r h.table request.id.conn next.connection (ap (connection_of r) next.on ∙ next.may.there)
@@ -77,53 +83,56 @@ module _ (grid : Grid) (r : Run) (run : IsRun r) (h : Holds grid r) (member : �
       (counting_called grid.connections r request.id.conn request.id.number r.lines count))
 
   -- the call was run
-  module _ (did : IsCalled (h.worlds request.partition low).world called (events_at request.partition r.events) (arrival_at r member request) added) where
+  module _ (did : IsCalled settings (h.worlds request.partition low).world called (events_at request.partition r.events) (arrival_at r member request) added) where
     abbrev then_world : World Request
-    then_world = (happens partition_object before (call_of a)).world
+    then_world = (happens (partition_object settings) before (call_of a)).world
 
     abbrev refused : List Appended
-    refused = refused_by r.lines request (happens partition_object before (call_of a)).outcome
+    refused = refused_by r.lines request (happens (partition_object settings) before (call_of a)).outcome
 
     abbrev given : List Appended
     given = map (answer_to r.lines) (released_by before then_world)
 
     abbrev called_run : Run
-    called_run = arrived r a (its_event a ∷ []) (happening partition_object r a)
+    called_run = arrived r a (its_event a ∷ []) (happening (partition_object settings) r a)
 
-    released_is : waiting called member ≡ answers_by partition_object no_change before then_world
+    released_is : waiting called member ≡ answers_by (partition_object settings) (change_of settings) before then_world
     released_is =
         released_here grid.worlds.items r a world called_run old refl refl called added did out refl
-        ∙ ap (λ b. cond b (answers_by partition_object no_change before then_world) []) (eq-eqb member member refl)
+        ∙ ap (λ b. cond b (answers_by (partition_object settings) (change_of settings) before then_world) []) (eq-eqb member member refl)
 
     messages_are : map (message_of r.lines) (waiting called member) ≡ map (answer_to r.lines) (released_by before then_world)
-    messages_are = ap (map (message_of r.lines)) released_is ∙ answers_given r.lines then_world (drop (length before.released) then_world.released)
+    messages_are = ap (map (message_of r.lines)) released_is ∙ answers_given settings r.lines then_world (drop (length before.released) then_world.released)
 
     called_table : HasTable new.connections called_run
     called_table =
-        let first = refusals_table refused called_one counted (refusals_answer_none r.lines request (happens partition_object before (call_of a)).outcome) counted_table in
+        let first = refusals_table refused called_one counted (refusals_answer_none r.lines request (happens (partition_object settings) before (call_of a)).outcome) counted_table in
         let all = answers_table r.lines (waiting called member) called_one (record counted { appended = r.appended ++ refused }) first in
         let same = append_assoc r.appended refused (map (message_of r.lines) (waiting called member)) ∙ ap (λ (ms : List Appended). r.appended ++ (refused ++ ms)) messages_are in
         let whole = subst (λ (ms : List Appended). HasTable (with_answers called_one r.lines (waiting called member)) (record counted { appended = ms })) same all in
         subst (λ t. HasTable t called_run) (sym after.table) (record { size = whole.size; connections = whole.connections; calls = whole.calls })
 
-    called_holds : Holds new called_run
+    called_holds : Holds form settings new called_run
     called_holds = record {
+      goes_by = ap (settings_of form) after.env ∙ h.goes_by;
       lines = after.lines;
       members = after.members ∙ h.members;
+      moments = after.moments ∙ h.moments;
+      clocks = h.clocks;
       table = called_table;
-      worlds = λ q below. subst (λ ws. HasWorld ws called_run q) (sym after.worlds) (called_worlds grid.worlds.items r a world called_run old refl refl called added did out refl q (h.worlds q below));
+      worlds = λ q below. subst (λ ws. HasWorld settings ws called_run q) (sym after.worlds) (called_worlds grid.worlds.items r a world called_run old refl refl called added did out refl q (h.worlds q below));
     }
 
     added_is : added ≡ texts_of refused
-    added_is = did.text ∙ ap (λ w. texts_of (refused_by r.lines request (happens partition_object w (call_of a)).outcome)) (run_is old.world r request.partition old.is)
+    added_is = did.text ∙ ap (λ w. texts_of (refused_by r.lines request (happens (partition_object settings) w (call_of a)).outcome)) (run_is old.world r request.partition old.is)
 
     called_text : text ≡ written ++ texts_of (new_messages r called_run)
     called_text =
         wrote ∙ (λ i. (written ++ added_is i) ++ texts_of (messages_are i))
         ∙ append_assoc written (texts_of refused) (texts_of given)
-        ∙ ap (λ xs. written ++ xs) (sym (ap texts_of (new_with r called_run (happening partition_object r a) refl) ∙ texts-append refused given))
+        ∙ ap (λ xs. written ++ xs) (sym (ap texts_of (new_with r called_run (happening (partition_object settings) r a) refl) ∙ texts-append refused given))
 
-    pub call_ran : HasAsked new r member request written text
+    pub call_ran : HasAsked form settings new r member request written text
     call_ran = record {
       skips = [];
       its_own = λ id there. absurd (in_contains id [] there);
@@ -133,7 +142,7 @@ module _ (grid : Grid) (r : Run) (run : IsRun r) (h : Holds grid r) (member : �
     }
 
   -- the call found no memory
-  module _ (did : IsSkipped (h.worlds request.partition low).world called (events_at request.partition r.events) (arrival_at r member request) added) where
+  module _ (did : IsSkipped settings (h.worlds request.partition low).world called (events_at request.partition r.events) (arrival_at r member request) added) where
     abbrev excuse : List Appended
     excuse = refusal r.lines request (pos want_of_memory) 0 ∷ []
 
@@ -143,8 +152,8 @@ module _ (grid : Grid) (r : Run) (run : IsRun r) (h : Holds grid r) (member : �
     skip_it : is_skipped (request.id ∷ []) request.id ≡ true
     skip_it = let same : is_same_call request.id request.id ≡ true = same_call_refl request.id in rw same refl
 
-    asked_is : asked partition_object (request.id ∷ []) r a ≡ skipped_run
-    asked_is = ap (λ b. cond b skipped_run (arrived r a (its_event a ∷ []) (happening partition_object r a))) skip_it
+    asked_is : asked (partition_object settings) (request.id ∷ []) r a ≡ skipped_run
+    asked_is = ap (λ b. cond b skipped_run (arrived r a (its_event a ∷ []) (happening (partition_object settings) r a))) skip_it
 
     waits : waiting called member ≡ []
     waits = nothing_waits grid.worlds.items r a world skipped_run old refl refl called added did out (append-nil r.events) member
@@ -159,12 +168,15 @@ module _ (grid : Grid) (r : Run) (run : IsRun r) (h : Holds grid r) (member : �
         subst (λ t. HasTable t skipped_run) (sym (after.table ∙ ap (with_answers called_one r.lines) waits))
         (record { size = whole.size; connections = whole.connections; calls = whole.calls })
 
-    skipped_holds : Holds new skipped_run
+    skipped_holds : Holds form settings new skipped_run
     skipped_holds = record {
+      goes_by = ap (settings_of form) after.env ∙ h.goes_by;
       lines = after.lines;
       members = after.members ∙ h.members;
+      moments = after.moments ∙ h.moments;
+      clocks = h.clocks;
       table = skipped_table;
-      worlds = λ q below. subst (λ ws. HasWorld ws skipped_run q) (sym after.worlds)
+      worlds = λ q below. subst (λ ws. HasWorld settings ws skipped_run q) (sym after.worlds)
           (skipped_worlds grid.worlds.items r a world skipped_run old refl refl called added did out (append-nil r.events) q (h.worlds q below));
     }
 
@@ -180,22 +192,22 @@ module _ (grid : Grid) (r : Run) (run : IsRun r) (h : Holds grid r) (member : �
     skipped_counting : IsCounting new.connections skipped_run request.id.conn (request.id.number + 1)
     skipped_counting = record { here = counting_now.here; others = counting_now.others }
 
-    pub call_skipped : HasAsked new r member request written text
+    pub call_skipped : HasAsked form settings new r member request written text
     call_skipped = record {
       skips = request.id ∷ [];
       its_own = its_own_call;
-      holds = subst (Holds new) (sym asked_is) skipped_holds;
+      holds = subst (Holds form settings new) (sym asked_is) skipped_holds;
       counting = subst (λ x. IsCounting new.connections x request.id.conn (request.id.number + 1)) (sym asked_is) skipped_counting;
       added = skipped_text ∙ ap (λ (n : Run). written ++ texts_of (new_messages r n)) (sym asked_is);
     }
 
 -- A call that reached its world, which then gave out all that waited.
-pub asked_grid : (grid : Grid) (r : Run) (run : IsRun r) (h : Holds grid r) (member : ℕ) (request : Request) → IsNext r request → IsCounting grid.connections r request.id.conn request.id.number → (low : request.partition < partitions)
-    → (new : Grid) (old called world : MapWorld) (line : ℕ) (added written text : List ℕ) → slice_get grid.worlds.items request.partition ≡ Some old → line ≡ r.lines
-    → IsAfter grid new line request.partition request.id.conn world (waiting called member) → GivesOut called world member
-    → IsCalled old called (events_at request.partition r.events) (arrival_to line member request) added ⊎ IsSkipped old called (events_at request.partition r.events) (arrival_to line member request) added
-    → text ≡ call_text written line added (waiting called member) → HasAsked new r member request written text
-asked_grid grid r run h member request next count low new old called world line added written text there at_line after out did wrote = ⊎_elim ran skipped did
+pub asked_grid : {V : Type 0} {T : V → Type 0} {form : FormOf V T} {settings : Settings} (grid : Grid V T) (r : Run) (run : IsRun (partition_object settings) r) (h : Holds form settings grid r) (member : ℕ) (request : Request) → IsNext r request → IsCounting grid.connections r request.id.conn request.id.number → (low : request.partition < partitions)
+    → (new : Grid V T) (old called world : GridWorld V T) (line now : ℕ) (added written text : List ℕ) → slice_get grid.worlds.items request.partition ≡ Some old → line ≡ r.lines → now ≡ moment_of r member
+    → IsAfter grid new line request.partition request.id.conn world (waiting called member) → HasGivenOut settings called world member
+    → IsCalled settings old called (events_at request.partition r.events) (arrival_to line member now request) added ⊎ IsSkipped settings old called (events_at request.partition r.events) (arrival_to line member now request) added
+    → text ≡ call_text written line added (waiting called member) → HasAsked form settings new r member request written text
+asked_grid {form = form} {settings = settings} grid r run h member request next count low new old called world line now added written text there at_line at_moment after out did wrote = ⊎_elim ran skipped did
   where
     same_world : old ≡ (h.worlds request.partition low).world
     same_world =
@@ -208,14 +220,16 @@ asked_grid grid r run h member request next count low new old called world line 
     wrote_it : text ≡ call_text written r.lines added (waiting called member)
     wrote_it = wrote ∙ (λ i. call_text written (at_line i) added (waiting called member))
 
-    ran : IsCalled old called (events_at request.partition r.events) (arrival_to line member request) added → HasAsked new r member request written text
+    ran : IsCalled settings old called (events_at request.partition r.events) (arrival_to line member now request) added → HasAsked form settings new r member request written text
     ran d =
         call_ran grid r run h member request next count low new called world added written text after_it out wrote_it
-        (subst (λ w. IsCalled w called (events_at request.partition r.events) (arrival_at r member request) added) same_world
-        (subst (λ l. IsCalled old called (events_at request.partition r.events) (arrival_to l member request) added) at_line d))
+        (subst (λ w. IsCalled settings w called (events_at request.partition r.events) (arrival_at r member request) added) same_world
+        (subst (λ m. IsCalled settings old called (events_at request.partition r.events) (arrival_to r.lines member m request) added) at_moment
+        (subst (λ l. IsCalled settings old called (events_at request.partition r.events) (arrival_to l member now request) added) at_line d)))
 
-    skipped : IsSkipped old called (events_at request.partition r.events) (arrival_to line member request) added → HasAsked new r member request written text
+    skipped : IsSkipped settings old called (events_at request.partition r.events) (arrival_to line member now request) added → HasAsked form settings new r member request written text
     skipped d =
         call_skipped grid r run h member request next count low new called world added written text after_it out wrote_it
-        (subst (λ w. IsSkipped w called (events_at request.partition r.events) (arrival_at r member request) added) same_world
-        (subst (λ l. IsSkipped old called (events_at request.partition r.events) (arrival_to l member request) added) at_line d))
+        (subst (λ w. IsSkipped settings w called (events_at request.partition r.events) (arrival_at r member request) added) same_world
+        (subst (λ m. IsSkipped settings old called (events_at request.partition r.events) (arrival_to r.lines member m request) added) at_moment
+        (subst (λ l. IsSkipped settings old called (events_at request.partition r.events) (arrival_to l member now request) added) at_line d)))

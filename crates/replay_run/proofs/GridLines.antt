@@ -1,63 +1,86 @@
 -- The grid after each line: it stands for the run after the line, and the line's text was added.
-use Rattle.std.proofs.Common.{◌≡◌, ℕ, ◌+◌, ◌*◌, ◌<◌, ◌≤◌, true, false, cond, List, [], ◌++◌, length, Option, Some, None, refl, ap, sym, ◌∙◌, subst, ⊎_elim, append-nil, append_assoc, arith}
+use Rattle.std.proofs.Common.{◌≡◌, ℕ, ◌+◌, ◌*◌, ◌<◌, ◌≤◌, true, false, cond, List, [], ◌++◌, length, slice_get, slice_set, Option, Some, None, refl, ap, sym, ◌∙◌, subst, ⊎_elim, append-nil, append_assoc, arith}
 use Rattle.std.specs.Option.{is_some, option_and_then}
+use Rattle.std.specs.List.{find}
 use Rattle.std.proofs.lemmas.Bool.{cases_eq}
+use Rattle.std.proofs.lemmas.List.{length-set}
 use Rattle.frame_codec.specs.declared.malformed.Malformed.{Malformed}
 use Rattle.partition_protocol.proofs.Lists.{in_contains}
 use Rattle.session_core.specs.Sessions.{session_after}
 use Rattle.session_core.specs.declared.item.Item.{Item}
 use Rattle.script_lang.specs.Limits.{most_lines, most_line_bytes}
 use Rattle.script_lang.specs.declared.line.Line.{Line}
-use Rattle.script_lang.specs.declared.line.Line.TheVariants.{OpenConn, Arrive}
+use Rattle.script_lang.specs.declared.line.Line.TheVariants.{OpenConn, Arrive, Clock}
 use Rattle.replay_run.specs.declared.grid.Grid.{Grid}
-use Rattle.replay_run.specs.PartitionObjects.{partition_object}
-use Rattle.replay_run.specs.Runs.{Run, Connection, is_connection, connection_of, fault_on, messages_on, with_bytes, took_bytes, opened, next_line, after_line}
-use Rattle.replay_run.specs.Printing.{ok_text, nothing_text, close_text, outcome_text, does_nothing, line_close, line_text, new_messages}
+use Rattle.call_engine.specs.Calls.{Settings}
+use Rattle.call_engine.specs.Env.{settings_of}
+use Rattle.call_engine.specs.Objects.{partition_object}
+use Rattle.replay_run.specs.Runs.{Run, Connection, is_connection, connection_of, fault_on, messages_on, with_bytes, took_bytes, opened, next_line, clock_set, after_line}
+use Rattle.replay_run.specs.Printing.{ok_text, nothing_text, close_text, outcome_text, does_nothing, line_close, line_dump, line_text, new_messages}
 use Rattle.replay_run.specs.Skips.{AreOfLine}
-use Rattle.replay_run.specs.ScriptRuns.{line_counted, connection_opened}
+use Rattle.replay_run.specs.ScriptRuns.{line_counted, clock_was_set, connection_opened}
 use Rattle.replay_run.specs.Tables.{Table, most_connections, opened_at, with_opened, with_session}
-use Rattle.replay_run.specs.Grids.{HasTable, IsSettled, IsCounting, Holds, IsSmall, Stands, MayRun, HasRun}
+use Rattle.replay_run.specs.Grids.{FormOf, GridWorld, HasTable, IsSettled, IsCounting, Holds, IsSmall, AreReached, Stands, MayRun, HasRun}
 use Rattle.replay_run.specs.WorldCalls.{texts_of, member_if_open, open_member_in, Brings, HasHandledSome}
 use Rattle.replay_run.proofs.Bounds.{stays_small}
 use Rattle.replay_run.proofs.Items.{items_room}
 use Rattle.replay_run.proofs.LineTexts.{text_nothing, entries_text, text_without, new_with}
 use Rattle.replay_run.proofs.Midway.{begun_midway, midway_come, unopened_line, unopened_does_nothing, closed_line, closed_does_nothing, open_does_something, ended_line, ended_skips}
 use Rattle.replay_run.proofs.Places.{same_number}
+use Rattle.replay_run.proofs.Reaching.{opened_reached, taken_reached}
 use Rattle.replay_run.proofs.Trails.{find_some}
 use Rattle.replay_run.proofs.TableRuns.{none_opened, opened_table, fed_table}
 use Rattle.replay_run.proofs.TableCounts.{settled_opened, counting_fed}
 
 -- the grid once the line of that number is counted
-abbrev pub counted : Grid → ℕ → Grid
+abbrev pub counted : {V : Type 0} {T : V → Type 0} → Grid V T → ℕ → Grid V T
 counted grid number = record grid { lines = number }
 
-abbrev pub with_table : Grid → ℕ → Table → Grid
+abbrev pub with_table : {V : Type 0} {T : V → Type 0} → Grid V T → ℕ → Table → Grid V T
 with_table grid number t = record grid { lines = number; connections = t }
 
-pub counted_holds : (grid : Grid) (r : Run) (number : ℕ) (t : Table) (ks : List Connection) → Holds grid r → number ≡ r.lines + 1 → HasTable t (record r { lines = r.lines + 1; connections = ks })
-    → Holds (with_table grid number t) (record r { lines = r.lines + 1; connections = ks })
+pub counted_holds : {V : Type 0} {T : V → Type 0} {form : FormOf V T} {settings : Settings} (grid : Grid V T) (r : Run) (number : ℕ) (t : Table) (ks : List Connection) → Holds form settings grid r → number ≡ r.lines + 1 → HasTable t (record r { lines = r.lines + 1; connections = ks })
+    → Holds form settings (with_table grid number t) (record r { lines = r.lines + 1; connections = ks })
 counted_holds grid r number t ks h at_line table = record {
+  goes_by = h.goes_by;
   lines = at_line;
   members = h.members;
+  moments = h.moments;
+  clocks = h.clocks;
   table = table;
   worlds = λ p low. let w = h.worlds p low in record { world = w.world; there = w.there; is = record { stands = w.is.stands; setup = w.is.setup }; given = w.given };
 }
 
-pub counted_stands : (grid : Grid) (r : Run) (number : ℕ) → Stands grid r → number ≡ r.lines + 1 → Stands (counted grid number) (next_line r)
+pub counted_stands : {V : Type 0} {T : V → Type 0} {form : FormOf V T} {settings : Settings} (grid : Grid V T) (r : Run) (number : ℕ) → Stands form settings grid r → number ≡ r.lines + 1 → Stands form settings (counted grid number) (next_line r)
 counted_stands grid r number s at_line = record {
   run = line_counted r s.run;
   small = let small : IsSmall r = s.small in omega (arith, small);
   holds = counted_holds grid r number grid.connections r.connections s.holds at_line (record { size = s.holds.table.size; connections = s.holds.table.connections; calls = s.holds.table.calls });
   settled = s.settled;
+  reached = s.reached;
 }
 
 -- the next line
 
-pub next_number : (grid : Grid) (number : ℕ) (line : Line) → MayRun grid number line → (r : Run) → Stands grid r → number ≡ r.lines + 1
+pub next_number : {V : Type 0} {T : V → Type 0} {form : FormOf V T} {settings : Settings} (grid : Grid V T) (number : ℕ) (line : Line) → MayRun form grid number line → (r : Run) → Stands form settings grid r → number ≡ r.lines + 1
 next_number grid number line may r s = may.next ∙ ap (λ n. n + 1) (sym may.stands.holds.lines ∙ s.holds.lines)
 
-pub few_lines : (grid : Grid) (number : ℕ) (line : Line) → MayRun grid number line → (r : Run) → Stands grid r → r.lines + 1 ≤ most_lines
+pub few_lines : {V : Type 0} {T : V → Type 0} {form : FormOf V T} {settings : Settings} (grid : Grid V T) (number : ℕ) (line : Line) → MayRun form grid number line → (r : Run) → Stands form settings grid r → r.lines + 1 ≤ most_lines
 few_lines grid number line may r s = let next = next_number grid number line may r s in let within = may.within in omega (arith, next, within)
+
+pub same_members : {V : Type 0} {T : V → Type 0} {form : FormOf V T} {settings : Settings} (grid : Grid V T) (number : ℕ) (line : Line) (may : MayRun form grid number line) (r : Run) → Stands form settings grid r → may.run.members ≡ r.members
+same_members grid number line may r s = sym may.stands.holds.members ∙ s.holds.members
+
+-- the same of another line, and of another grid
+
+pub may_run_as : {V : Type 0} {T : V → Type 0} {form : FormOf V T} {grid : Grid V T} {number : ℕ} {line other : Line} → line ≡ other → MayRun form grid number line → MayRun form grid number other
+may_run_as {form = form} {grid = grid} {number = number} same = subst (MayRun form grid number) same
+
+pub has_run_as : {V : Type 0} {T : V → Type 0} {form : FormOf V T} {settings : Settings} {new : Grid V T} {r : Run} {line other : Line} {written text : List ℕ} → line ≡ other → HasRun form settings new r other written text → HasRun form settings new r line written text
+has_run_as {form = form} {settings = settings} {new = new} {r = r} {written = written} {text = text} same = subst (λ l. HasRun form settings new r l written text) (sym same)
+
+pub stands_as : {V : Type 0} {T : V → Type 0} {form : FormOf V T} {settings : Settings} {new grid : Grid V T} {r : Run} → new ≡ grid → Stands form settings grid r → Stands form settings new r
+stands_as {form = form} {settings = settings} {r = r} same = subst (λ g. Stands form settings g r) (sym same)
 
 -- a text in two parts
 pub both_texts : (written outcome entries mid text : List ℕ) → mid ≡ written ++ outcome → text ≡ mid ++ entries → text ≡ written ++ (outcome ++ entries)
@@ -68,89 +91,136 @@ no_skips : (r : Run) (line : Line) → AreOfLine r line []
 no_skips r line id there = absurd (in_contains id [] there)
 
 -- a line that is only counted
-module _ (grid new : Grid) (r : Run) (number : ℕ) (line : Line) (s : Stands grid r) (at_line : number ≡ r.lines + 1) (after : after_line partition_object [] r line ≡ next_line r)
+module _ {V : Type 0} {T : V → Type 0} {form : FormOf V T} {settings : Settings} (grid new : Grid V T) (r : Run) (number : ℕ) (line : Line) (s : Stands form settings grid r) (at_line : number ≡ r.lines + 1) (after : after_line (partition_object settings) [] r line ≡ next_line r)
     (made : new ≡ counted grid number) (written text : List ℕ) where
-  stands_after : Stands new (after_line partition_object [] r line)
-  stands_after = subst (λ g. Stands g (after_line partition_object [] r line)) (sym made) (subst (Stands (counted grid number)) (sym after) (counted_stands grid r number s at_line))
+  stands_after : Stands form settings new (after_line (partition_object settings) [] r line)
+  stands_after = subst (λ g. Stands form settings g (after_line (partition_object settings) [] r line)) (sym made) (subst (Stands form settings (counted grid number)) (sym after) (counted_stands grid r number s at_line))
 
   -- Its condition is false.
-  pub passed_line : does_nothing r line ≡ true → text ≡ written ++ nothing_text number → HasRun new r line written text
+  pub passed_line : does_nothing r line ≡ true → text ≡ written ++ nothing_text number → HasRun form settings new r line written text
   passed_line idle is = record {
     skips = [];
     of_line = no_skips r line;
     stands = stands_after;
     added = is ∙ ap (λ n. written ++ nothing_text n) at_line
-        ∙ ap (λ xs. written ++ xs) (sym (text_nothing r (after_line partition_object [] r line) line idle ∙ ap (λ (x : Run). nothing_text x.lines) after));
+        ∙ ap (λ xs. written ++ xs) (sym (text_nothing (partition_object settings) r (after_line (partition_object settings) [] r line) line idle ∙ ap (λ (x : Run). nothing_text x.lines) after));
   }
 
   -- It prints its outcome and its entries.
-  pub counted_line : does_nothing r line ≡ false → line_close (next_line r) line ≡ [] → text ≡ written ++ (outcome_text partition_object (next_line r) line ++ entries_text (next_line r) line)
-      → HasRun new r line written text
+  pub counted_line : does_nothing r line ≡ false → line_close (next_line r) line ≡ [] → text ≡ written ++ (outcome_text (partition_object settings) (next_line r) line ++ line_dump (partition_object settings) (next_line r) line ++ entries_text (partition_object settings) r (next_line r) line)
+      → HasRun form settings new r line written text
   counted_line goes open_still is = record {
     skips = [];
     of_line = no_skips r line;
     stands = stands_after;
-    added = is ∙ ap (λ xs. written ++ xs) (sym (ap (λ (x : Run). line_text partition_object r line x) after ∙ text_without r (next_line r) line goes refl open_still));
+    added = is ∙ ap (λ xs. written ++ xs) (sym (ap (λ (x : Run). line_text (partition_object settings) r line x) after ∙ text_without (partition_object settings) r (next_line r) line goes refl open_still));
   }
 
 -- `open`
 
 -- of a connection that was opened before
-pub reopened_line : (grid new : Grid) (r : Run) (number c member : ℕ) (k : Connection) (written text : List ℕ) → Stands grid r → number ≡ r.lines + 1 → connection_of r c ≡ Some k
-    → new ≡ counted grid number → text ≡ written ++ nothing_text number → HasRun new r (OpenConn c member) written text
+pub reopened_line : {V : Type 0} {T : V → Type 0} {form : FormOf V T} {settings : Settings} (grid new : Grid V T) (r : Run) (number c member : ℕ) (k : Connection) (written text : List ℕ) → Stands form settings grid r → number ≡ r.lines + 1 → connection_of r c ≡ Some k
+    → new ≡ counted grid number → text ≡ written ++ nothing_text number → HasRun form settings new r (OpenConn c member) written text
 reopened_line grid new r number c member k written text s at_line there made is =
     passed_line grid new r number (OpenConn c member) s at_line (ap (λ (o : Option Connection). cond (is_some o) (next_line r) (opened r c member)) there) made written text (ap is_some there) is
 
-pub opened_line : (grid new : Grid) (r : Run) (number c member : ℕ) (written text : List ℕ) → Stands grid r → number ≡ r.lines + 1 → c < most_connections → opened_at grid.connections c ≡ None
-    → new ≡ with_table grid number (with_opened grid.connections c member) → text ≡ written ++ ok_text number → HasRun new r (OpenConn c member) written text
-opened_line grid new r number c member written text s at_line within closed made is = record {
+pub opened_line : {V : Type 0} {T : V → Type 0} {form : FormOf V T} {settings : Settings} (grid new : Grid V T) (r : Run) (number c member : ℕ) (written text : List ℕ) → Stands form settings grid r → number ≡ r.lines + 1 → c < most_connections → member < r.members → opened_at grid.connections c ≡ None
+    → new ≡ with_table grid number (with_opened grid.connections c member) → text ≡ written ++ ok_text number → HasRun form settings new r (OpenConn c member) written text
+opened_line {form = form} {settings = settings} grid new r number c member written text s at_line within there closed made is = record {
   skips = [];
   of_line = no_skips r (OpenConn c member);
-  stands = subst (λ g. Stands g (after_line partition_object [] r (OpenConn c member))) (sym made) (subst (Stands (with_table grid number (with_opened grid.connections c member))) (sym after) stands_opened);
+  stands = subst (λ g. Stands form settings g (after_line (partition_object settings) [] r (OpenConn c member))) (sym made) (subst (Stands form settings (with_table grid number (with_opened grid.connections c member))) (sym after) stands_opened);
   added = is ∙ ap (λ n. written ++ ok_text n) at_line ∙ ap (λ xs. written ++ xs) (sym its_text);
 }
   where
     free : connection_of r c ≡ None
     free = none_opened grid.connections r s.holds.table c closed
 
-    after : after_line partition_object [] r (OpenConn c member) ≡ opened r c member
+    after : after_line (partition_object settings) [] r (OpenConn c member) ≡ opened r c member
     after = ap (λ (o : Option Connection). cond (is_some o) (next_line r) (opened r c member)) free
 
-    stands_opened : Stands (with_table grid number (with_opened grid.connections c member)) (opened r c member)
+    stands_opened : Stands form settings (with_table grid number (with_opened grid.connections c member)) (opened r c member)
     stands_opened = record {
       run = connection_opened r c member s.run free;
       small = subst IsSmall after (stays_small [] r s.run (OpenConn c member) s.small (omega arith));
       holds = counted_holds grid r number (with_opened grid.connections c member) (opened r c member).connections s.holds at_line (opened_table grid.connections r s.holds.table c member within closed);
       settled = settled_opened grid.connections r s.holds.table c member within closed s.settled;
+      reached = opened_reached r c member s.reached there;
     }
 
-    its_text : line_text partition_object r (OpenConn c member) (after_line partition_object [] r (OpenConn c member)) ≡ ok_text (r.lines + 1)
+    its_text : line_text (partition_object settings) r (OpenConn c member) (after_line (partition_object settings) [] r (OpenConn c member)) ≡ ok_text (r.lines + 1)
     its_text =
-        ap (λ (x : Run). line_text partition_object r (OpenConn c member) x) after
-        ∙ text_without r (opened r c member) (OpenConn c member) (ap is_some free) refl refl
-        ∙ append-nil (ok_text (r.lines + 1))
+        ap (λ (x : Run). line_text (partition_object settings) r (OpenConn c member) x) after
+        ∙ text_without (partition_object settings) r (opened r c member) (OpenConn c member) (ap is_some free) refl refl
+        ∙ append-nil (ok_text (r.lines + 1) ++ []) ∙ append-nil (ok_text (r.lines + 1))
+
+-- `clock`
+
+-- The line is counted, and the member's clock is set.
+pub record HasClock {V : Type 0} {T : V → Type 0} (grid new : Grid V T) (number member moment : ℕ) : Type 0 where
+  pub env : new.env ≡ grid.env
+  pub lines : new.lines ≡ number
+  pub members : new.members ≡ grid.members
+  pub moments : new.moments.items ≡ slice_set grid.moments.items member moment
+  pub connections : new.connections ≡ grid.connections
+  pub worlds : new.worlds.items ≡ grid.worlds.items
+
+module _ {V : Type 0} {T : V → Type 0} {form : FormOf V T} {settings : Settings} (grid new : Grid V T) (r : Run) (number member moment : ℕ) (s : Stands form settings grid r) (at_line : number ≡ r.lines + 1) (set : HasClock grid new number member moment) where
+  abbrev clocked : Run
+  clocked = clock_set r member moment
+
+  clocked_table : HasTable grid.connections clocked
+  clocked_table = record { size = s.holds.table.size; connections = s.holds.table.connections; calls = s.holds.table.calls }
+
+  clocked_holds : Holds form settings new clocked
+  clocked_holds = record {
+    goes_by = ap (settings_of form) set.env ∙ s.holds.goes_by;
+    lines = set.lines ∙ at_line;
+    members = set.members ∙ s.holds.members;
+    moments = set.moments ∙ ap (λ ms. slice_set ms member moment) s.holds.moments;
+    clocks = length-set r.moments member moment ∙ s.holds.clocks;
+    table = subst (λ t. HasTable t clocked) (sym set.connections) clocked_table;
+    worlds = λ p low.
+        let w = s.holds.worlds p low in
+        record { world = w.world; there = ap (λ (ws : List (GridWorld V T)). slice_get ws p) set.worlds ∙ w.there; is = record { stands = w.is.stands; setup = w.is.setup }; given = w.given };
+  }
+
+  pub clock_line : (written text : List ℕ) → text ≡ written ++ ok_text number → HasRun form settings new r (Clock member moment) written text
+  clock_line written text is = record {
+    skips = [];
+    of_line = no_skips r (Clock member moment);
+    stands = record {
+      run = clock_was_set r member moment s.run;
+      small = let small : IsSmall r = s.small in omega (arith, small);
+      holds = clocked_holds;
+      settled = subst (λ t. IsSettled t clocked) (sym set.connections) s.settled;
+      reached = s.reached;
+    };
+    added = is ∙ ap (λ n. written ++ ok_text n) at_line
+        ∙ ap (λ xs. written ++ xs) (sym (text_without (partition_object settings) r clocked (Clock member moment) refl refl refl ∙ append-nil (ok_text (r.lines + 1) ++ []) ∙ append-nil (ok_text (r.lines + 1))));
+  }
 
 -- bytes where none can arrive
 
-pub record IsIdle (r : Run) (line : Line) : Type 0 where
-  pub after : after_line partition_object [] r line ≡ next_line r
+pub record IsIdle (settings : Settings) (r : Run) (line : Line) : Type 0 where
+  pub after : after_line (partition_object settings) [] r line ≡ next_line r
   pub nothing : does_nothing r line ≡ true
 
-pub not_open : (r : Run) (c : ℕ) (bytes : List ℕ) → open_member_in r c ≡ None → IsIdle r (Arrive c bytes)
-not_open r c bytes none = go (connection_of r c) refl none
+pub not_open : (settings : Settings) (r : Run) (c : ℕ) (bytes : List ℕ) → open_member_in r c ≡ None → IsIdle settings r (Arrive c bytes)
+not_open settings r c bytes none = go (connection_of r c) refl none
   where
-    closed : (k : Connection) → connection_of r c ≡ Some k → (fault : Option Malformed) → fault_on k ≡ fault → cond (is_some fault) None (Some k.member) ≡ None → IsIdle r (Arrive c bytes)
-    closed k there (Some fault) shown e = record { after = closed_line r c bytes k there [] fault shown; nothing = closed_does_nothing r c bytes k there fault shown }
+    closed : (k : Connection) → connection_of r c ≡ Some k → (fault : Option Malformed) → fault_on k ≡ fault → cond (is_some fault) None (Some k.member) ≡ None → IsIdle settings r (Arrive c bytes)
+    closed k there (Some fault) shown e = record { after = closed_line (partition_object settings) r c bytes k there [] fault shown; nothing = closed_does_nothing r c bytes k there fault shown }
     closed k there None shown e = absurd cc
 
-    go : (found : Option Connection) → connection_of r c ≡ found → option_and_then member_if_open found ≡ None → IsIdle r (Arrive c bytes)
-    go None there e = record { after = unopened_line r c bytes [] there; nothing = unopened_does_nothing r c bytes there }
+    go : (found : Option Connection) → connection_of r c ≡ found → option_and_then member_if_open found ≡ None → IsIdle settings r (Arrive c bytes)
+    go None there e = record { after = unopened_line (partition_object settings) r c bytes [] there; nothing = unopened_does_nothing r c bytes there }
     go (Some k) there e = closed k there (fault_on k) refl e
 
-pub idle_line : (grid new : Grid) (r : Run) (number c : ℕ) (bytes written text : List ℕ) → Stands grid r → number ≡ r.lines + 1 → open_member_in r c ≡ None
-    → new ≡ counted grid number → text ≡ written ++ nothing_text number → HasRun new r (Arrive c bytes) written text
-idle_line grid new r number c bytes written text s at_line none made is =
-    let idle = not_open r c bytes none in
+pub idle_line : {V : Type 0} {T : V → Type 0} {form : FormOf V T} {settings : Settings} (grid new : Grid V T) (r : Run) (number c : ℕ) (bytes written text : List ℕ) → Stands form settings grid r → number ≡ r.lines + 1 → open_member_in r c ≡ None
+    → new ≡ counted grid number → text ≡ written ++ nothing_text number → HasRun form settings new r (Arrive c bytes) written text
+idle_line {settings = settings} grid new r number c bytes written text s at_line none made is =
+    let idle = not_open settings r c bytes none in
     passed_line grid new r number (Arrive c bytes) s at_line idle.after made written text idle.nothing is
 
 -- bytes on an open connection
@@ -181,15 +251,15 @@ is_open r c member open_to = go (connection_of r c) refl open_to
     go (Some k) there e = sound k there (fault_on k) refl e
 
 -- The line is counted and the connection has its bytes.
-pub begun_some : (grid new : Grid) (r : Run) (s : Stands grid r) (number c : ℕ) (k : Connection) → number ≡ r.lines + 1 → connection_of r c ≡ Some k → connection_of r k.conn ≡ Some k → (bytes text : List ℕ)
-    → new ≡ with_table grid number (with_session grid.connections c (session_after k.conn k.member (k.bytes ++ bytes))) → HasHandledSome new r k bytes [] text text
-begun_some grid new r s number c k at_line there itself bytes text made = record {
+pub begun_some : {V : Type 0} {T : V → Type 0} {form : FormOf V T} {settings : Settings} (grid new : Grid V T) (r : Run) (s : Stands form settings grid r) (number c : ℕ) (k : Connection) → number ≡ r.lines + 1 → connection_of r c ≡ Some k → connection_of r k.conn ≡ Some k → (bytes text : List ℕ)
+    → new ≡ with_table grid number (with_session grid.connections c (session_after k.conn k.member (k.bytes ++ bytes))) → HasHandledSome form settings new r k bytes [] text text
+begun_some {form = form} {settings = settings} grid new r s number c k at_line there itself bytes text made = record {
   skips = [];
   now = took_bytes r k bytes;
   midway = begun_midway r s.run k itself bytes;
-  holds = subst (λ g. Holds g (took_bytes r k bytes)) (sym made)
+  holds = subst (λ g. Holds form settings g (took_bytes r k bytes)) (sym made)
       (counted_holds grid r number fed (took_bytes r k bytes).connections s.holds at_line (fed_table grid.connections r s.holds.table c k there bytes));
-  counting = subst (λ (g : Grid). IsCounting g.connections (took_bytes r k bytes) k.conn (length (messages_on k) + 0)) (sym made)
+  counting = subst (λ (g : Grid _ _). IsCounting g.connections (took_bytes r k bytes) k.conn (length (messages_on k) + 0)) (sym made)
       (subst (λ n. IsCounting fed (took_bytes r k bytes) n (length (messages_on k) + 0)) (sym (its_number r c k there))
       (subst (λ n. IsCounting fed (took_bytes r k bytes) c n) none_yet (counting_fed grid.connections r s.holds.table c k there bytes s.settled)));
   added = sym (ap (λ ms. text ++ texts_of ms) (new_with r (took_bytes r k bytes) [] (sym (append-nil r.appended))) ∙ append-nil text);
@@ -201,8 +271,8 @@ begun_some grid new r s number c k at_line there itself bytes text made = record
     none_yet : length (messages_on k) ≡ length (messages_on k) + 0
     none_yet = omega arith
 
-module _ (r : Run) (c : ℕ) (k : Connection) (there : connection_of r c ≡ Some k) (bytes : List ℕ) (items : List Item) (brings : Brings r k bytes items)
-    (new : Grid) (start mid : List ℕ) (did : HasHandledSome new r k bytes items start mid) where
+module _ {V : Type 0} {T : V → Type 0} {form : FormOf V T} {settings : Settings} (r : Run) (c : ℕ) (k : Connection) (there : connection_of r c ≡ Some k) (bytes : List ℕ) (items : List Item) (brings : Brings settings r k bytes items)
+    (new : Grid V T) (start mid : List ℕ) (did : HasHandledSome form settings new r k bytes items start mid) where
   -- all items were handled
   all_settled : IsSettled new.connections did.now
   all_settled d o j at found = ⊎_elim here (λ apart. did.counting.others d o j apart at found) (cases_eq d k.conn)
@@ -223,26 +293,35 @@ module _ (r : Run) (c : ℕ) (k : Connection) (there : connection_of r c ≡ Som
   now_there : connection_of did.now c ≡ Some (with_bytes k bytes)
   now_there = ap (connection_of did.now) (sym (its_number r c k there)) ∙ did.midway.may.there
 
+  still_reached : AreReached r → AreReached did.now
+  still_reached reached =
+      let came = midway_come r brings.run k brings.there bytes items did.skips did.now did.midway in
+      λ d j found. subst (λ n. j.member < n) (sym came.members) (taken_reached r k bytes reached brings.reached d j (ap (λ ks. find (is_connection d) ks) (sym came.connections) ∙ found))
+
   module _ (sound : fault_on k ≡ None) where
-    after : after_line partition_object did.skips r (Arrive c bytes) ≡ did.now
-    after = ended_line r c bytes k there items did.skips did.now sound brings.come did.midway
+    after : after_line (partition_object settings) did.skips r (Arrive c bytes) ≡ did.now
+    after = ended_line (partition_object settings) r c bytes k there items did.skips did.now sound brings.come did.midway
 
-    its_text : line_text partition_object r (Arrive c bytes) did.now ≡ (ok_text (r.lines + 1) ++ texts_of (new_messages r did.now)) ++ close_text (r.lines + 1) c (fault_on (with_bytes k bytes))
-    its_text = rw (open_does_something r c bytes k there sound, now_there, now_lines) (append-nil ((ok_text (r.lines + 1) ++ texts_of (new_messages r did.now)) ++ close_text (r.lines + 1) c (fault_on (with_bytes k bytes))))
+    abbrev its_parts : List ℕ
+    its_parts = (ok_text (r.lines + 1) ++ texts_of (new_messages r did.now)) ++ close_text (r.lines + 1) c (fault_on (with_bytes k bytes))
 
-    pub bytes_line : (fault : Option Malformed) (number : ℕ) (written text : List ℕ) → IsSmall r → 2 * length bytes ≤ most_line_bytes → start ≡ written ++ ok_text number → number ≡ r.lines + 1
-        → fault ≡ fault_on (with_bytes k bytes) → text ≡ mid ++ close_text number c fault → HasRun new r (Arrive c bytes) written text
-    bytes_line fault number written text small size began at_line shown is = record {
+    its_text : line_text (partition_object settings) r (Arrive c bytes) did.now ≡ (ok_text (r.lines + 1) ++ texts_of (new_messages r did.now)) ++ close_text (r.lines + 1) c (fault_on (with_bytes k bytes))
+    its_text = rw (open_does_something r c bytes k there sound, now_there, now_lines) (append-nil (its_parts ++ []) ∙ append-nil its_parts)
+
+    pub bytes_line : (fault : Option Malformed) (number : ℕ) (written text : List ℕ) → IsSmall r → AreReached r → 2 * length bytes ≤ most_line_bytes → start ≡ written ++ ok_text number → number ≡ r.lines + 1
+        → fault ≡ fault_on (with_bytes k bytes) → text ≡ mid ++ close_text number c fault → HasRun form settings new r (Arrive c bytes) written text
+    bytes_line fault number written text small reached size began at_line shown is = record {
       skips = did.skips;
-      of_line = ended_skips r c bytes k there items did.skips did.now sound brings.come did.midway;
-      stands = subst (Stands new) (sym after) (record {
+      of_line = ended_skips (partition_object settings) r c bytes k there items did.skips did.now sound brings.come did.midway;
+      stands = subst (Stands form settings new) (sym after) (record {
         run = did.midway.run;
         small = subst IsSmall after (stays_small did.skips r brings.run (Arrive c bytes) small size);
         holds = did.holds;
         settled = all_settled;
+        reached = still_reached reached;
       });
       added = is ∙ (λ i. whole i ++ close_text (at_line i) c (shown i)) ∙ grouped
-          ∙ ap (λ xs. written ++ xs) (sym (ap (λ (x : Run). line_text partition_object r (Arrive c bytes) x) after ∙ its_text));
+          ∙ ap (λ xs. written ++ xs) (sym (ap (λ (x : Run). line_text (partition_object settings) r (Arrive c bytes) x) after ∙ its_text));
     }
       where
         whole : mid ≡ (written ++ ok_text (r.lines + 1)) ++ texts_of (new_messages r did.now)

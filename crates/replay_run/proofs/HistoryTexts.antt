@@ -13,18 +13,21 @@ use Rattle.partition_world.specs.Worlds.{trail_length}
 use Rattle.partition_world.specs.declared.trail.Entry.{Entry}
 use Rattle.partition_world.proofs.Places.{read_there}
 use Rattle.replay_run.specs.declared.connections.CallLines.{CallLines}
-use Rattle.replay_run.specs.PartitionObjects.{partition_object}
+use Rattle.grid_base.specs.Objects.{Object}
+use Rattle.object_store.specs.Partitions.{Partition}
+use Rattle.call_engine.specs.Calls.{Settings}
+use Rattle.call_engine.specs.Objects.{partition_object}
 use Rattle.replay_run.specs.Runs.{Run, Arrival, Appended}
 use Rattle.replay_run.specs.Printing.{printed, printed_from, entry_text, entries_of, arrival_of, answer_of}
 use Rattle.replay_run.specs.PrintedEntries.{arrived_in, answered_in, printed_as}
 use Rattle.replay_run.specs.ScriptRuns.{IsRun}
-use Rattle.replay_run.specs.Grids.{MapWorld, IsWorld, HasWorld, lines_in}
+use Rattle.replay_run.specs.Grids.{GridWorld, IsWorld, HasWorld, lines_in}
 use Rattle.replay_run.proofs.RunsOfLines.{unheard_unanswered}
 use Rattle.replay_run.proofs.WorldRuns.{run_is}
 
 -- the world that the code reads is a partition's
-pub indexed_world : (ws : List MapWorld) (r : Run) (p i : ℕ) (world : MapWorld) → HasWorld ws r p → i ≡ p → world ≡ get_or ws i world → IsWorld world r p
-indexed_world ws r p i world has same read = subst (λ w. IsWorld w r p) (sym (read_there ws p i has.world world same has.there read)) has.is
+pub indexed_world : {V : Type 0} {T : V → Type 0} {settings : Settings} (ws : List (GridWorld V T)) (r : Run) (p i : ℕ) (world : GridWorld V T) → HasWorld settings ws r p → i ≡ p → world ≡ get_or ws i world → IsWorld settings world r p
+indexed_world {settings = settings} ws r p i world has same read = subst (λ w. IsWorld settings w r p) (sym (read_there ws p i has.world world same has.there read)) has.is
 
 -- an entry
 
@@ -43,7 +46,7 @@ answered_same : (come : Option Arrival) (answer : Option Appended) → (come ≡
 answered_same None answer unheard = sym (ap (option_map (λ (m : Appended). m.line)) (unheard refl))
 answered_same (Some a) answer unheard = refl
 
-printed_is : (r : Run) → IsRun r → (p place : ℕ) (entry : Entry Request) (lines : Option CallLines) → lines ≡ lines_in r entry.id → printed_as p place entry lines ≡ printed r p place (executed_as entry)
+printed_is : {o : Object Request Partition} (r : Run) → IsRun o r → (p place : ℕ) (entry : Entry Request) (lines : Option CallLines) → lines ≡ lines_in r entry.id → printed_as p place entry lines ≡ printed r p place (executed_as entry)
 printed_is r is p place entry lines same =
     ap (printed_as p place entry) same
     ∙ (λ i. record {
@@ -79,7 +82,7 @@ abbrev pub text_below : Run → ℕ → List (ProtocolEntry Request) → ℕ →
 text_below r p es place = flat_map (entry_text r.lines) (printed_from r p 0 (take place es))
 
 -- one entry more
-pub text_more : (r : Run) → IsRun r → (p line place : ℕ) (es : List (ProtocolEntry Request)) (entry : Entry Request) (lines : Option CallLines) (written before after : List ℕ)
+pub text_more : {o : Object Request Partition} (r : Run) → IsRun o r → (p line place : ℕ) (es : List (ProtocolEntry Request)) (entry : Entry Request) (lines : Option CallLines) (written before after : List ℕ)
     → slice_get es place ≡ Some (Called (executed_as entry)) → line ≡ r.lines → lines ≡ lines_in r entry.id
     → before ≡ written ++ text_below r p es place → after ≡ before ++ entry_text line (printed_as p place entry lines) → after ≡ written ++ text_below r p es (place + 1)
 text_more r is p line place es entry lines written before after there at_line same so_far more =
@@ -111,7 +114,7 @@ printed_all r p place [] = refl
 printed_all r p place (e ∷ es) = ap (λ n. suc n) (printed_all r p (place + 1) es)
 
 -- The trail of a world that stands for its events has calls alone.
-pub entries_counted : (world : MapWorld) (r : Run) (p : ℕ) → IsWorld world r p → trail_length world ≡ length (entries_of partition_object r p)
+pub entries_counted : {V : Type 0} {T : V → Type 0} {settings : Settings} (world : GridWorld V T) (r : Run) (p : ℕ) → IsWorld settings world r p → trail_length world ≡ length (entries_of (partition_object settings) r p)
 entries_counted world r p is =
     printed_all r p 0 world.trail.entries.items
     ∙ ap (λ es. length (printed_from r p 0 es)) is.stands.agrees.trail
@@ -120,20 +123,20 @@ entries_counted world r p is =
 -- all histories
 
 -- the text of the histories of the partitions below a number
-abbrev pub texts_below : Run → ℕ → List ℕ
-texts_below r n = flat_map (entry_text r.lines) (flat_map (entries_of partition_object r) (numbers_below n))
+abbrev pub texts_below : {State : Type 0} → Object Request State → Run → ℕ → List ℕ
+texts_below o r n = flat_map (entry_text r.lines) (flat_map (entries_of o r) (numbers_below n))
 
-pub texts_more : (r : Run) (n : ℕ) (written before after : List ℕ) → before ≡ written ++ texts_below r n → after ≡ before ++ flat_map (entry_text r.lines) (entries_of partition_object r n)
-    → after ≡ written ++ texts_below r (n + 1)
-texts_more r n written before after so_far more =
-    more ∙ ap (λ xs. xs ++ flat_map (entry_text r.lines) (entries_of partition_object r n)) so_far
-    ∙ append_assoc written (texts_below r n) (flat_map (entry_text r.lines) (entries_of partition_object r n)) ∙ ap (λ xs. written ++ xs) (sym grown)
+pub texts_more : {State : Type 0} (o : Object Request State) (r : Run) (n : ℕ) (written before after : List ℕ) → before ≡ written ++ texts_below o r n → after ≡ before ++ flat_map (entry_text r.lines) (entries_of o r n)
+    → after ≡ written ++ texts_below o r (n + 1)
+texts_more o r n written before after so_far more =
+    more ∙ ap (λ xs. xs ++ flat_map (entry_text r.lines) (entries_of o r n)) so_far
+    ∙ append_assoc written (texts_below o r n) (flat_map (entry_text r.lines) (entries_of o r n)) ∙ ap (λ xs. written ++ xs) (sym grown)
   where
     next : n + 1 ≡ suc n
     next = omega arith
 
-    grown : texts_below r (n + 1) ≡ texts_below r n ++ flat_map (entry_text r.lines) (entries_of partition_object r n)
+    grown : texts_below o r (n + 1) ≡ texts_below o r n ++ flat_map (entry_text r.lines) (entries_of o r n)
     grown =
-        ap (texts_below r) next
-        ∙ ap (flat_map (entry_text r.lines)) (flat_map-append (entries_of partition_object r) (numbers_below n) (n ∷ []) ∙ ap (λ ps. flat_map (entries_of partition_object r) (numbers_below n) ++ ps) (append-nil (entries_of partition_object r n)))
-        ∙ flat_map-append (entry_text r.lines) (flat_map (entries_of partition_object r) (numbers_below n)) (entries_of partition_object r n)
+        ap (texts_below o r) next
+        ∙ ap (flat_map (entry_text r.lines)) (flat_map-append (entries_of o r) (numbers_below n) (n ∷ []) ∙ ap (λ ps. flat_map (entries_of o r) (numbers_below n) ++ ps) (append-nil (entries_of o r n)))
+        ∙ flat_map-append (entry_text r.lines) (flat_map (entries_of o r) (numbers_below n)) (entries_of o r n)

@@ -1,22 +1,26 @@
--- The items that bytes bring on a connection: there is one for each new message, and each call among them is named by its message's number, is for its key's partition, and fits frames.
+-- The items that bytes bring on a connection: there is one for each new message, and each call among them is named by its message's number, is for its object's partition, and fits frames.
 use Rattle.std.proofs.Common.{◌≡◌, ℕ, zero, suc, ◌+◌, List, [], ◌∷◌, ◌++◌, drop, length, Some, refl, ap, sym, inl, inr, subst, arith, length-drop}
 use Rattle.std.specs.Prelude.{slice_get}
+use Rattle.grid_base.specs.Limits.{CallFits}
+use Rattle.grid_base.specs.declared.calls.GridCall.{GridCall}
+use Rattle.grid_base.specs.declared.calls.GridCall.TheVariants as call
 use Rattle.grid_base.specs.declared.names.CallId.{CallId}
 use Rattle.grid_base.specs.declared.calls.Request.{Request}
 use Rattle.message_frames.specs.declared.message.Message.{Message}
 use Rattle.partition_protocol.proofs.Lists.{In}
 use Rattle.session_core.specs.Items.{items_of}
-use Rattle.session_core.specs.Sessions.{CallFits}
+use Rattle.session_core.specs.Laws.{IsPlaced as IsPlacedCall}
+use Rattle.session_core.specs.Places.{BelongsTo}
 use Rattle.session_core.specs.declared.item.Item.{Item}
 use Rattle.session_core.specs.declared.item.Item.TheVariants.{Call as Asks, Reply}
 use Rattle.session_core.proofs.CallsAt.{numbered_call, placed_call, fitting_call}
 use Rattle.session_core.proofs.ItemLists.{one_item_each}
 use Rattle.replay_run.specs.Runs.{Connection, messages_on, items_on, items_by, with_bytes}
-use Rattle.replay_run.specs.ScriptRuns.{IsPlaced}
+use Rattle.replay_run.specs.ScriptRuns.{IsPlaced, home_of}
 use Rattle.replay_run.proofs.Hearing.{no_fewer}
 use Rattle.replay_run.proofs.Parts.{in_drop}
 
--- A call is named so and is for its key's partition.
+-- A call is named so and is for its object's partition.
 abbrev pub IsNumbered : CallId → Item → Type 0
 IsNumbered id (Reply bytes) = Unit {0}
 IsNumbered id (Asks request) = (request.id ≡ id) × IsPlaced request
@@ -42,11 +46,18 @@ numbered_by conn number (item ∷ items) at = (
     first (Reply bytes) h = tt
     first (Asks request) h = subst (λ n. IsNumbered (record { conn = conn; number = n }) (Asks request)) (let here : number + 0 ≡ number = omega arith in here) (h request refl)
 
+home_belongs : (c : GridCall) (partition : ℕ) → BelongsTo c partition → home_of c partition ≡ partition
+home_belongs (call.Map c) partition belongs = sym belongs
+home_belongs (call.Queue c) partition belongs = refl
+
+placed : (request : Request) → IsPlacedCall request → IsPlaced request
+placed request is = record { own = home_belongs request.call request.partition is.own; within = is.within }
+
 items_numbered : (conn member : ℕ) (messages : List Message) → AreNumbered conn 0 (items_of conn member messages)
 items_numbered conn member messages =
     numbered_by conn 0 (items_of conn member messages) (λ place request e.
     subst (λ n. IsNumbered (record { conn = conn; number = n }) (Asks request)) (let here : place ≡ 0 + place = omega arith in here)
-    (numbered_call conn member messages place request e, sym (placed_call conn member messages place request e).own))
+    (numbered_call conn member messages place request e, placed request (placed_call conn member messages place request e)))
 
 -- parts of them
 

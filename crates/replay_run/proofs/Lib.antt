@@ -1,4 +1,3 @@
-pub mod Names
 pub mod Parts
 pub mod Counts
 pub mod Releases
@@ -19,9 +18,7 @@ pub mod SkipLaws
 pub mod Fresh
 pub mod Bounds
 pub mod Midway
-pub mod Entries
 pub mod Slots
-pub mod Spelling
 pub mod TableChanges
 pub mod TableRuns
 pub mod TableCounts
@@ -37,4 +34,6 @@ pub mod GridCalls
 pub mod GridLines
 pub mod LineCalls
 pub mod LineFacts
+pub mod Reaching
 pub mod Feeding
+pub mod DumpTexts

@@ -10,19 +10,19 @@ use Rattle.partition_protocol.proofs.Lists.{in_right, contains_in}
 use Rattle.grid_base.specs.declared.names.CallId.{CallId}
 use Rattle.grid_base.specs.declared.calls.Request.{Request}
 use Rattle.replay_run.specs.declared.grid.Grid.{Grid}
-use Rattle.replay_run.specs.PartitionObjects.{partition_object, target_of}
+use Rattle.call_engine.specs.Calls.{Settings}
+use Rattle.call_engine.specs.Objects.{partition_object}
 use Rattle.replay_run.specs.Runs.{Run, Connection, Arrival, messages_on, arrival_at, asked, told}
 use Rattle.replay_run.specs.Printing.{partitions, new_messages}
 use Rattle.replay_run.specs.ScriptRuns.{IsNext}
-use Rattle.session_core.specs.Sessions.{CallFits}
+use Rattle.grid_base.specs.Limits.{CallFits}
 use Rattle.session_core.specs.declared.item.Item.{Item}
 use Rattle.session_core.specs.declared.item.Item.TheVariants.{Call as Asks, Reply}
-use Rattle.replay_run.specs.Grids.{IsCounting, Holds}
+use Rattle.replay_run.specs.Grids.{FormOf, IsCounting, Holds}
 use Rattle.replay_run.specs.WorldCalls.{texts_of, HasAsked, HasTold, HasRoom, Brings, HasHandledSome}
 use Rattle.replay_run.proofs.Lines.{HasCome, asked_come, told_come}
 use Rattle.replay_run.proofs.LineTexts.{new_with, texts_more}
 use Rattle.replay_run.proofs.Midway.{midway_come, midway_events, its_name, next_midway, asked_midway, told_midway}
-use Rattle.replay_run.proofs.Places.{home_below}
 
 map_same : {X : Type 0} (xs : List X) → map (λ (x : X). x) xs ≡ xs
 map_same [] = refl
@@ -51,8 +51,8 @@ module _ {X Z : Type 0} (s : IntoIter X Z) (all : List X) (items : into_iter_ite
   at_end is = sym (map_same xs) ∙ (YieldsList-end (YieldsList-from_vec {s = s} all items len) xs t yielded r u is steps).0
 
 -- One item more: its messages stand behind those of the items before it.
-module _ (grid : Grid) (r : Run) (k : Connection) (bytes : List ℕ) (done : List Item) (item : Item) (rest : List Item) (brings : Brings r k bytes (done ++ item ∷ rest))
-    (written mid : List ℕ) (so_far : HasHandledSome grid r k bytes done written mid) where
+module _ {V : Type 0} {T : V → Type 0} {form : FormOf V T} {settings : Settings} (grid : Grid V T) (r : Run) (k : Connection) (bytes : List ℕ) (done : List Item) (item : Item) (rest : List Item) (brings : Brings settings r k bytes (done ++ item ∷ rest))
+    (written mid : List ℕ) (so_far : HasHandledSome form settings grid r k bytes done written mid) where
   number_more : (length (messages_on k) + length done) + 1 ≡ length (messages_on k) + length (done ++ item ∷ [])
   number_more = let parts = length-append done (item ∷ []) in omega (arith, parts)
 
@@ -65,10 +65,24 @@ module _ (grid : Grid) (r : Run) (k : Connection) (bytes : List ℕ) (done : Lis
       ∙ ap (λ ms. written ++ (texts_of (new_messages r so_far.now) ++ texts_of ms)) (new_with so_far.now next has.appended.0 grown)
       ∙ ap (λ xs. written ++ xs) (sym (texts_more r so_far.now next has.appended.0 before.appended grown))
 
+-- the same of other items, and of the connection by its number or its member
+
+pub handled_as : {V : Type 0} {T : V → Type 0} {form : FormOf V T} {settings : Settings} {grid : Grid V T} {r : Run} {k : Connection} {bytes : List ℕ} {done others : List Item} {written text : List ℕ} → done ≡ others
+    → HasHandledSome form settings grid r k bytes others written text → HasHandledSome form settings grid r k bytes done written text
+handled_as {form = form} {settings = settings} {grid = grid} {r = r} {k = k} {bytes = bytes} {written = written} {text = text} same = subst (λ items. HasHandledSome form settings grid r k bytes items written text) (sym same)
+
+pub told_on : {V : Type 0} {T : V → Type 0} {form : FormOf V T} {settings : Settings} {new : Grid V T} {r : Run} {conn other number : ℕ} {answer written text : List ℕ} → conn ≡ other
+    → HasTold form settings new r other number answer written text → HasTold form settings new r conn number answer written text
+told_on {form = form} {settings = settings} {new = new} {r = r} {number = number} {answer = answer} {written = written} {text = text} same = subst (λ n. HasTold form settings new r n number answer written text) (sym same)
+
+pub asked_at : {V : Type 0} {T : V → Type 0} {form : FormOf V T} {settings : Settings} {new : Grid V T} {r : Run} {member other : ℕ} {q : Request} {written text : List ℕ} → member ≡ other
+    → HasAsked form settings new r other q written text → HasAsked form settings new r member q written text
+asked_at {form = form} {settings = settings} {new = new} {r = r} {q = q} {written = written} {text = text} same = subst (λ m. HasAsked form settings new r m q written text) (sym same)
+
 -- an answer of the session itself
-pub told_one_more : (grid : Grid) (r : Run) (k : Connection) (bytes : List ℕ) (done : List Item) (answer : List ℕ) (rest : List Item) → Brings r k bytes (done ++ Reply answer ∷ rest)
-    → (written mid : List ℕ) (so_far : HasHandledSome grid r k bytes done written mid) (new : Grid) (text : List ℕ)
-    → HasTold new so_far.now k.conn (length (messages_on k) + length done) answer mid text → HasHandledSome new r k bytes (done ++ Reply answer ∷ []) written text
+pub told_one_more : {V : Type 0} {T : V → Type 0} {form : FormOf V T} {settings : Settings} (grid : Grid V T) (r : Run) (k : Connection) (bytes : List ℕ) (done : List Item) (answer : List ℕ) (rest : List Item) → Brings settings r k bytes (done ++ Reply answer ∷ rest)
+    → (written mid : List ℕ) (so_far : HasHandledSome form settings grid r k bytes done written mid) (new : Grid V T) (text : List ℕ)
+    → HasTold form settings new so_far.now k.conn (length (messages_on k) + length done) answer mid text → HasHandledSome form settings new r k bytes (done ++ Reply answer ∷ []) written text
 told_one_more grid r k bytes done answer rest brings written mid so_far new text did = record {
   skips = so_far.skips;
   now = told so_far.now k.conn answer;
@@ -78,17 +92,18 @@ told_one_more grid r k bytes done answer rest brings written mid so_far new text
   added = text_more grid r k bytes done (Reply answer) rest brings written mid so_far (told so_far.now k.conn answer) [] text (told_come so_far.now k.conn answer) did.added;
 }
 
--- A call may be asked: its parts fit, its partition is there, and there is room for its event.
-pub record MayAskNext (grid : Grid) (q : Request) : Type 0 where
+-- A call may be asked: its parts fit, its partition and its member are there, and there is room for its event.
+pub record MayAskNext {V : Type 0} {T : V → Type 0} (form : FormOf V T) (settings : Settings) (grid : Grid V T) (member : ℕ) (q : Request) : Type 0 where
   pub fits : CallFits q.call
   pub placed : q.partition < partitions
+  pub reached : member < grid.members
   pub run : Run
-  pub holds : Holds grid run
+  pub holds : Holds form settings grid run
   pub room : length run.events + 1 < 2 ^ 32 - 1
 
 -- a call
-module _ (grid : Grid) (r : Run) (k : Connection) (bytes : List ℕ) (done : List Item) (q : Request) (rest : List Item) (brings : Brings r k bytes (done ++ Asks q ∷ rest))
-    (written mid : List ℕ) (so_far : HasHandledSome grid r k bytes done written mid) where
+module _ {V : Type 0} {T : V → Type 0} {form : FormOf V T} {settings : Settings} (grid : Grid V T) (r : Run) (k : Connection) (bytes : List ℕ) (done : List Item) (q : Request) (rest : List Item) (brings : Brings settings r k bytes (done ++ Asks q ∷ rest))
+    (written mid : List ℕ) (so_far : HasHandledSome form settings grid r k bytes done written mid) where
   next_fits : CallFits q.call
   next_fits = brings.fit q (contains_in (Asks q) (done ++ Asks q ∷ rest) (in_right (Asks q) done (Asks q ∷ rest) (inl refl)))
 
@@ -96,7 +111,7 @@ module _ (grid : Grid) (r : Run) (k : Connection) (bytes : List ℕ) (done : Lis
   next_call = next_midway r brings.run k brings.there bytes done q rest brings.come so_far.skips so_far.now so_far.midway
 
   next_placed : q.partition < partitions
-  next_placed = subst (λ n. n < partitions) next_call.placed (home_below (target_of q))
+  next_placed = next_call.placed.within
 
   next_room : HasRoom r k bytes → length so_far.now.events + 1 < 2 ^ 32 - 1
   next_room room =
@@ -105,9 +120,14 @@ module _ (grid : Grid) (r : Run) (k : Connection) (bytes : List ℕ) (done : Lis
       let parts = length-append done (Asks q ∷ rest) in
       omega (arith, events, items, parts, room)
 
+  next_reached : k.member < grid.members
+  next_reached =
+      let same = (midway_come r brings.run k brings.there bytes done so_far.skips so_far.now so_far.midway).members in
+      subst (λ n. k.member < n) (sym (so_far.holds.members ∙ same)) brings.reached
+
   -- what the next call wants
-  pub may_ask : HasRoom r k bytes → MayAskNext grid q
-  may_ask room = record { fits = next_fits; placed = next_placed; run = so_far.now; holds = so_far.holds; room = next_room room }
+  pub may_ask : HasRoom r k bytes → MayAskNext form settings grid k.member q
+  may_ask room = record { fits = next_fits; placed = next_placed; reached = next_reached; run = so_far.now; holds = so_far.holds; room = next_room room }
 
   name : q.id ≡ record { conn = k.conn; number = length (messages_on k) + length done }
   name = its_name r brings.run k brings.there bytes done q rest brings.come so_far.skips so_far.now so_far.midway
@@ -115,16 +135,16 @@ module _ (grid : Grid) (r : Run) (k : Connection) (bytes : List ℕ) (done : Lis
   pub next_count : IsCounting grid.connections so_far.now q.id.conn q.id.number
   next_count = subst (λ (id : CallId). IsCounting grid.connections so_far.now id.conn id.number) (sym name) so_far.counting
 
-  module _ (new : Grid) (text : List ℕ) (did : HasAsked new so_far.now k.member q mid text) where
+  module _ (new : Grid V T) (text : List ℕ) (did : HasAsked form settings new so_far.now k.member q mid text) where
     abbrev now : Run
-    now = asked partition_object did.skips so_far.now (arrival_at so_far.now k.member q)
+    now = asked (partition_object settings) did.skips so_far.now (arrival_at so_far.now k.member q)
 
     count_more : IsCounting new.connections now k.conn (length (messages_on k) + length (done ++ Asks q ∷ []))
     count_more =
         subst (λ n. IsCounting new.connections now k.conn n) (number_more grid r k bytes done (Asks q) rest brings written mid so_far)
         (subst (λ (id : CallId). IsCounting new.connections now id.conn (id.number + 1)) name did.counting)
 
-    pub asked_one_more : HasHandledSome new r k bytes (done ++ Asks q ∷ []) written text
+    pub asked_one_more : HasHandledSome form settings new r k bytes (done ++ Asks q ∷ []) written text
     asked_one_more = record {
       skips = did.skips ++ so_far.skips;
       now = now;
@@ -132,5 +152,5 @@ module _ (grid : Grid) (r : Run) (k : Connection) (bytes : List ℕ) (done : Lis
       holds = did.holds;
       counting = count_more;
       added = text_more grid r k bytes done (Asks q) rest brings written mid so_far now (arrival_at so_far.now k.member q ∷ []) text
-          (asked_come partition_object did.skips so_far.now (arrival_at so_far.now k.member q)) did.added;
+          (asked_come (partition_object settings) did.skips so_far.now (arrival_at so_far.now k.member q)) did.added;
     }

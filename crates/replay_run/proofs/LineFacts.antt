@@ -2,6 +2,7 @@
 use Rattle.std.proofs.Common.{◌≡◌, ℕ, true, List, ◌++◌, length, drop, Option, Some, None, refl, ap, sym, ◌∙◌, subst}
 use Rattle.std.specs.Option.{is_some}
 use Rattle.std.proofs.lemmas.List.{drop_at}
+use Rattle.call_engine.specs.Calls.{Settings}
 use Rattle.partition_protocol.proofs.Lists.{In, in_contains}
 use Rattle.session_core.specs.Sessions.{SessionState, session_after, StandsFor}
 use Rattle.session_core.specs.declared.item.Item.TheVariants.{Call as Asks}
@@ -9,7 +10,7 @@ use Rattle.session_core.specs.declared.session.FedSession.{FedSession}
 use Rattle.replay_run.specs.declared.grid.Grid.{Grid}
 use Rattle.replay_run.specs.Runs.{Run, Connection, connection_of, fault_on, items_on, items_by, with_bytes}
 use Rattle.replay_run.specs.Tables.{Table, Opened, opened_at, with_session, FeedGives}
-use Rattle.replay_run.specs.Grids.{IsConnection, Stands}
+use Rattle.replay_run.specs.Grids.{FormOf, IsConnection, Stands}
 use Rattle.replay_run.specs.WorldCalls.{Brings}
 use Rattle.replay_run.proofs.Items.{calls_fit}
 use Rattle.replay_run.proofs.Lines.{connection_there}
@@ -24,7 +25,7 @@ its_opened (Some x) e = (x, refl)
 stands_at : (session : SessionState) (conn member : ℕ) (text : List ℕ) → session ≡ session_after conn member text → StandsFor session text
 stands_at session conn member text e = e ∙ (λ i. session_after (ap (λ (s : SessionState). s.conn) (sym e) i) (ap (λ (s : SessionState). s.member) (sym e) i) text)
 
-module _ (grid : Grid) (r : Run) (s : Stands grid r) (c : ℕ) (k : Connection) (there : connection_of r c ≡ Some k) where
+module _ {V : Type 0} {T : V → Type 0} {form : FormOf V T} {settings : Settings} (grid : Grid V T) (r : Run) (s : Stands form settings grid r) (c : ℕ) (k : Connection) (there : connection_of r c ≡ Some k) where
   pub slot : (o : Opened) × (opened_at grid.connections c ≡ Some o) × IsConnection o k
   slot = found_opened grid.connections r s.holds.table c k there
 
@@ -49,10 +50,11 @@ module _ (grid : Grid) (r : Run) (s : Stands grid r) (c : ℕ) (k : Connection) 
       come : items_by k bytes ≡ fed.items.items
       come = ap (drop (length (items_on k))) (sym its_gives.items) ∙ drop_at (items_on k) fed.items.items (length (items_on k)) refl
 
-      pub they_bring : Brings r k bytes fed.items.items
+      pub they_bring : Brings settings r k bytes fed.items.items
       they_bring = record {
         run = s.run;
         there = connection_there r c k there;
+        reached = s.reached c k there;
         come = come;
         fit = λ q i. calls_fit k bytes q (subst (λ xs. In (Asks q) xs) (sym come) (in_contains (Asks q) fed.items.items i));
       }

@@ -1,9 +1,8 @@
 -- What is printed for an object fits the run: it is the history of that object, used by one thread.
-use Rattle.std.proofs.Common.{◌≡◌, ◌≢◌, ℕ, ◌≤◌, ◌<◌, true, List, [], map, Option, Some, Contains, refl, ap, sym, ◌∙◌, subst, arith}
+use Rattle.std.proofs.Common.{◌≡◌, ◌≢◌, ℕ, ◌≤◌, ◌<◌, Bool, true, List, [], map, Option, Some, Contains, ap, sym, ◌∙◌, subst, ◌⊎◌, ⊎_elim, arith}
 use Rattle.std.specs.Prelude.{unwrap_or, option_map}
 use Rattle.grid_base.specs.Histories.{IsLegal}
-use Rattle.grid_base.specs.MapEntries.{empty_entry}
-use Rattle.grid_base.specs.Names.{ObjectName, is_same}
+use Rattle.grid_base.specs.Objects.{Object}
 use Rattle.grid_base.specs.declared.names.CallId.{CallId}
 use Rattle.grid_base.specs.declared.calls.Request.{Request}
 use Rattle.partition_protocol.specs.History.{Executed}
@@ -12,93 +11,119 @@ use Rattle.partition_protocol.specs.Arrivals.{Asked}
 use Rattle.partition_protocol.proofs.Lists.{In, in_contains, contains_in}
 use Rattle.partition_protocol.proofs.Faithful.{part_in}
 use Rattle.partition_world.specs.Answers.{id_of}
-use Rattle.script_lang.specs.declared.line.Line.TheVariants.{Grid, OpenConn, Arrive, Trail, Comment, End}
-use Rattle.replay_run.specs.PartitionObjects.{target_of, map_entry, partition_object}
+use Rattle.script_lang.specs.declared.line.Line.TheVariants.{Grid, OpenConn, Arrive, Clock, Dump, Trail, Comment, End}
+use Rattle.call_engine.specs.Calls.{Settings}
+use Rattle.call_engine.specs.Objects.{one_object, partition_object}
+use Rattle.object_store.specs.Partitions.{Partition, nothing_stored}
+use Rattle.object_store.specs.Records.{nothing_of}
+use Rattle.object_store.proofs.PartitionLaws.{record_at-nothing}
 use Rattle.replay_run.specs.Runs.{Run, begun, Arrival, Appended, world_at, after_lines}
 use Rattle.replay_run.specs.Printing.{Printed, partitions, entries_of, all_entries, printed_from, arrival_of, is_answer_to, answer_of}
-use Rattle.replay_run.specs.Linearizability.{is_on, history_of, Before, answered_call, IsOf, Fits, IsLinearizable, EveryRunIsLinearizable}
-use Rattle.replay_run.specs.SameNames.{same_name}
+use Rattle.replay_run.specs.Linearizability.{GridObject, is_on, history_of, Before, answered_call, IsOf, Fits, IsLinearizable, EveryRunIsLinearizable}
 use Rattle.replay_run.proofs.Parts.{before_first, before_second, part_filter, before_part, named_apart, in_filter, in_filtered}
 use Rattle.replay_run.specs.ScriptRuns.{home, grid_begun}
-use Rattle.replay_run.proofs.Places.{home_below, same_number}
+use Rattle.replay_run.proofs.Places.{same_number}
 use Rattle.replay_run.proofs.Trails.{executed, asked, executed_name, Prints, printed_in, in_printed, printed_before}
 use Rattle.replay_run.proofs.RunFacts.{RunOk, asked_of, arrival_name, id_name, safe, log_once, origin, origins, arrival_found, IsGivenIn, given_executed, asked_as}
 use Rattle.replay_run.proofs.RunsOfLines.{run_ok}
 use Rattle.replay_run.proofs.Lines.{lines_run}
-use Rattle.replay_run.proofs.Locality.{legal_on, history_elsewhere, history_at}
+use Rattle.replay_run.proofs.Locality.{on_partition, legal_on, history_elsewhere, history_past, history_at}
 use Rattle.replay_run.proofs.Counts.{count_before}
 use Rattle.replay_run.proofs.Answers.{trail_part, answer_named, given_at, printed_answer, answer_stands, answer_found, arrived_before}
 
-pub answered_once : (r : Run) → RunOk partition_object r → (m n : Appended) (id : CallId) → Before r.appended m n → m.answers ≡ Some id → n.answers ≢ Some id
-answered_once r ok m n id before first second =
+pub answered_once : {State : Type 0} (o : Object Request State) (r : Run) → RunOk o r → (m n : Appended) (id : CallId) → Before r.appended m n → m.answers ≡ Some id → n.answers ≢ Some id
+answered_once o r ok m n id before first second =
     count_before (is_answer_to id) r.appended m n (ok.of_answers.once id) before (answer_named id m first) (answer_named id n second)
 
-module _ (r : Run) (ok : RunOk partition_object r) (p : ℕ) where
-  abbrev pub w : World Request
-  w = world_at partition_object r p
+le_or_less : (a b : ℕ) → (a ≤ b) ⊎ (b < a)
+le_or_less a b = grind arith
 
-  abbrev pub log : List (Executed Request)
-  log = executed w.recorded.log
+-- the line at which an arrival that was found arrived
+abbrev pub line_of : Option Arrival → ℕ
+line_of found = unwrap_or (option_map (λ (a : Arrival). a.line) found) 0
 
-  -- the line at which an arrival that was found arrived
-  abbrev pub line_of : Option Arrival → ℕ
-  line_of found = unwrap_or (option_map (λ (a : Arrival). a.line) found) 0
+module _ (settings : Settings) (r : Run) (ok : RunOk (partition_object settings) r) where
+  abbrev pub o : Object Request Partition
+  o = partition_object settings
 
-  -- an entry is of the arrival of its call
-  pub is_of_arrival : (a : Arrival) (x : Executed Request) (e : Printed) → In a r.arrivals → asked_of a ≡ asked x → Prints r p x e → IsOf a e
-  is_of_arrival a x e i same prints =
-      let named : id_of x ≡ a.id = ap (λ (k : Asked Request). record { conn = k.conn; number = k.number }) (sym same) in
-      let entry = sym prints.is in
-      record {
-        id = ap (λ (f : Printed). f.id) entry ∙ named;
-        request = ap (λ (f : Printed). f.request) entry ∙ ap (λ (k : Asked Request). k.call) (sym same);
-        now = ap (λ (f : Printed). f.now) entry ∙ ap (λ (k : Asked Request). k.now) (sym same);
-        line = ap (λ (f : Printed). f.arrived) entry ∙ ap (λ c. line_of (arrival_of r c)) named ∙ ap line_of (arrival_found r ok.of_arrivals a i);
-      }
+  -- Each call of a partition's trail is on an object of the partition, which is one of the grid's.
+  pub at_home : (p : ℕ) (x : Executed Request) → In x (executed (trail (world_at o r p))) → (home x.call ≡ p) × (p < partitions)
+  at_home p x i =
+      let from = origin o r ok.members ok.of_arrivals p x (part_in (executed (trail (world_at o r p))) (executed (world_at o r p).recorded.log) x (trail_part o r ok p) i) in
+      let placed = ok.of_arrivals.placed from.0 from.1 in
+      let there = same_number from.0.request.partition p from.2 in
+      (ap (λ (k : Asked Request). home k.call) (sym from.3) ∙ placed.own ∙ there, subst (λ n. n < partitions) there placed.within)
 
-  -- it has the line of that arrival
-  pub line_of_entry : (x : Executed Request) (e : Printed) → In x log → Prints r p x e → (a : Arrival) → In a r.arrivals → arrival_name a ≡ executed_name x → e.arrived ≡ a.line
-  line_of_entry x e i prints a j same = (is_of_arrival a x e j (asked_as partition_object r ok.members ok.of_arrivals a p x j i (sym same)) prints).line
+  module _ (object : GridObject) where
+    abbrev pub p : ℕ
+    p = object.partition
 
-  -- two entries in order
-  pub record InOrder (a b : Printed) : Type 0 where
-    pub first : Executed Request
-    pub second : Executed Request
-    pub before : Before log first second
-    pub prints_first : Prints r p first a
-    pub prints_second : Prints r p second b
+    abbrev pub w : World Request
+    w = world_at o r p
 
-  module _ (name : ObjectName) where
+    abbrev pub log : List (Executed Request)
+    log = executed w.recorded.log
+
+    abbrev pub entries : List Printed
+    entries = printed_from r p 0 (trail w)
+
     abbrev pub h : List Printed
-    h = history_of name (printed_from r p 0 (trail w))
+    h = history_of object entries
+
+    abbrev pub on : Printed → Bool
+    on e = is_on object e.request
+
+    -- an entry is of the arrival of its call
+    pub is_of_arrival : (a : Arrival) (x : Executed Request) (e : Printed) → In a r.arrivals → asked_of a ≡ asked x → Prints r p x e → IsOf a e
+    is_of_arrival a x e i same prints =
+        let named : id_of x ≡ a.id = ap (λ (k : Asked Request). record { conn = k.conn; number = k.number }) (sym same) in
+        let entry = sym prints.is in
+        record {
+          id = ap (λ (f : Printed). f.id) entry ∙ named;
+          request = ap (λ (f : Printed). f.request) entry ∙ ap (λ (k : Asked Request). k.call) (sym same);
+          now = ap (λ (f : Printed). f.now) entry ∙ ap (λ (k : Asked Request). k.now) (sym same);
+          line = ap (λ (f : Printed). f.arrived) entry ∙ ap (λ c. line_of (arrival_of r c)) named ∙ ap line_of (arrival_found r ok.of_arrivals a i);
+        }
+
+    -- it has the line of that arrival
+    pub line_of_entry : (x : Executed Request) (e : Printed) → In x log → Prints r p x e → (a : Arrival) → In a r.arrivals → arrival_name a ≡ executed_name x → e.arrived ≡ a.line
+    line_of_entry x e i prints a j same = (is_of_arrival a x e j (asked_as o r ok.members ok.of_arrivals a p x j i (sym same)) prints).line
+
+    -- two entries in order
+    pub record InOrder (a b : Printed) : Type 0 where
+      pub first : Executed Request
+      pub second : Executed Request
+      pub before : Before log first second
+      pub prints_first : Prints r p first a
+      pub prints_second : Prints r p second b
 
     -- the call of an entry
-    pub entry_call : (e : Printed) → In e h → (is_on name e ≡ true) × ((x : Executed Request) × In x log × Prints r p x e)
+    pub entry_call : (e : Printed) → In e h → (is_on object e.request ≡ true) × ((x : Executed Request) × In x log × Prints r p x e)
     entry_call e i =
-        let f = in_filtered (is_on name) (printed_from r p 0 (trail w)) e i in
+        let f = in_filtered on entries e i in
         let k = printed_in r p 0 (trail w) e f.0 in
-        (f.1, (k.0, part_in (executed (trail w)) log k.0 (trail_part partition_object r ok p) k.1, k.2))
+        (f.1, (k.0, part_in (executed (trail w)) log k.0 (trail_part o r ok p) k.1, k.2))
 
     pub entries_in_order : (a b : Printed) → Before h a b → InOrder a b
     entries_in_order a b before =
-        let k = printed_before r p 0 (trail w) a b (before_part h (printed_from r p 0 (trail w)) a b (part_filter (is_on name) (printed_from r p 0 (trail w))) before) in
+        let k = printed_before r p 0 (trail w) a b (before_part h entries a b (part_filter on entries) before) in
         record {
           first = k.0;
           second = k.1.0;
-          before = before_part (executed (trail w)) log k.0 k.1.0 (trail_part partition_object r ok p) k.1.1;
+          before = before_part (executed (trail w)) log k.0 k.1.0 (trail_part o r ok p) k.1.1;
           prints_first = k.1.2;
           prints_second = k.1.3;
         }
 
-    pub legal : IsLegal map_entry empty_entry (map answered_call h)
+    pub legal : IsLegal (one_object settings object.name) (nothing_of object.name) (map answered_call h)
     legal =
-        let safe_at = (safe partition_object r ok.members ok.of_arrivals p).0 in
-        legal_on r p 0 name (λ other. empty_entry) empty_entry (trail w) (safe_at.resets ∙ ok.of_answers.resets p) refl safe_at.legal
+        let safe_at = (safe o r ok.members ok.of_arrivals p).0 in
+        legal_on settings r object 0 nothing_stored (nothing_of object.name) (trail w) (λ x i. (at_home p x i).0) (safe_at.resets ∙ ok.of_answers.resets p) (record_at-nothing object.name) safe_at.legal
 
-    pub arrived : (e : Printed) → Contains h e → (is_on name e ≡ true) × ((a : Arrival) × Contains r.arrivals a × IsOf a e)
+    pub arrived : (e : Printed) → Contains h e → (is_on object e.request ≡ true) × ((a : Arrival) × Contains r.arrivals a × IsOf a e)
     arrived e c =
         let k = entry_call e (in_contains e h c) in
-        let from = origin partition_object r ok.members ok.of_arrivals p k.1.0 k.1.1 in
+        let from = origin o r ok.members ok.of_arrivals p k.1.0 k.1.1 in
         (k.0, (from.0, contains_in from.0 r.arrivals from.1, is_of_arrival from.0 k.1.0 e from.1 from.3 k.1.2))
 
     pub unrefused : (e : Printed) (m : Appended) → Contains h e → Contains r.appended m → m.refuses ≢ Some e.id
@@ -109,41 +134,41 @@ module _ (r : Run) (ok : RunOk partition_object r) (p : ℕ) where
     pub once : (a b : Printed) → Before h a b → a.id ≢ b.id
     once a b before same =
         let k = entries_in_order a b before in
-        named_apart executed_name log k.first k.second (log_once partition_object r ok.members ok.of_arrivals p) k.before
+        named_apart executed_name log k.first k.second (log_once o r ok.members ok.of_arrivals p) k.before
         (ap id_name (ap (λ (f : Printed). f.id) k.prints_first.is ∙ same ∙ ap (λ (f : Printed). f.id) (sym k.prints_second.is)))
 
     -- an entry of the call that an answer was given to
-    pub entry_of_answer : (a : Arrival) (m : Appended) (g : IsGivenIn partition_object r p m a.id) (e : Printed) → In a r.arrivals → is_same (target_of a.request) name ≡ true
-        → answer_of r a.id ≡ Some m → In e (printed_from r p 0 (trail w)) → Prints r p g.call e
+    pub entry_of_answer : (a : Arrival) (m : Appended) (g : IsGivenIn o r p m a.id) (e : Printed) → In a r.arrivals → is_on object a.request ≡ true
+        → answer_of r a.id ≡ Some m → In e entries → Prints r p g.call e
         → Contains h e × IsOf a e × (e.reply ≡ m.bytes) × (e.answered ≡ Some m.line)
-    entry_of_answer a m g e i on found j prints =
-        let is = is_of_arrival a g.call e i (asked_as partition_object r ok.members ok.of_arrivals a p g.call i (given_executed m a.id g) (ap id_name g.call_is)) prints in (
-          contains_in e h (in_filter (is_on name) (printed_from r p 0 (trail w)) e j (ap (λ q. is_same (target_of q) name) is.request ∙ on)),
+    entry_of_answer a m g e i its found j prints =
+        let is = is_of_arrival a g.call e i (asked_as o r ok.members ok.of_arrivals a p g.call i (given_executed m a.id g) (ap id_name g.call_is)) prints in (
+          contains_in e h (in_filter on entries e j (ap (is_on object) is.request ∙ its)),
           is,
           ap (λ (f : Printed). f.reply) (sym prints.is) ∙ sym g.reply,
           ap (λ (f : Printed). f.answered) (sym prints.is) ∙ ap (λ c. option_map (λ (n : Appended). n.line) (answer_of r c)) g.call_is ∙ ap (λ n. option_map (λ (n : Appended). n.line) n) found,
         )
 
-    pub answered_there : (a : Arrival) (m : Appended) (g : IsGivenIn partition_object r p m a.id) → In a r.arrivals → is_same (target_of a.request) name ≡ true → answer_of r a.id ≡ Some m
+    pub answered_there : (a : Arrival) (m : Appended) (g : IsGivenIn o r p m a.id) → In a r.arrivals → is_on object a.request ≡ true → answer_of r a.id ≡ Some m
         → (e : Printed) × Contains h e × IsOf a e × (e.reply ≡ m.bytes) × (e.answered ≡ Some m.line)
-    answered_there a m g i on found =
-        let k = in_printed r p 0 (trail w) g.call (answer_stands partition_object r ok p m a.id g) in
-        let e = entry_of_answer a m g k.0 i on found k.1 k.2 in
+    answered_there a m g i its found =
+        let k = in_printed r p 0 (trail w) g.call (answer_stands o r ok p m a.id g) in
+        let e = entry_of_answer a m g k.0 i its found k.1 k.2 in
         (k.0, e.0, e.1, e.2, e.3)
 
-    pub answered : home name ≡ p → (a : Arrival) (m : Appended) → Contains r.arrivals a → is_same (target_of a.request) name ≡ true → Contains r.appended m → m.answers ≡ Some a.id
+    pub answered : (a : Arrival) (m : Appended) → Contains r.arrivals a → is_on object a.request ≡ true → Contains r.appended m → m.answers ≡ Some a.id
         → (e : Printed) × Contains h e × IsOf a e × (e.reply ≡ m.bytes) × (e.answered ≡ Some m.line)
-    answered at a m c on d s =
+    answered a m c its d s =
         let i = in_contains a r.arrivals c in
         let j = in_contains m r.appended d in
-        let there : a.request.partition ≡ p = sym (ok.of_arrivals.placed a i) ∙ ap home (same_name (target_of a.request) name on) ∙ at in
-        answered_there a m (subst (λ k. IsGivenIn partition_object r k m a.id) there (given_at partition_object r ok a m i j s)) i on (answer_found partition_object r ok m a.id j s)
+        let there : a.request.partition ≡ p = sym (ok.of_arrivals.placed a i).own ∙ on_partition object a.request its in
+        answered_there a m (subst (λ k. IsGivenIn o r k m a.id) there (given_at o r ok a m i j s)) i its (answer_found o r ok m a.id j s)
 
     pub given : (e : Printed) (line : ℕ) → Contains h e → e.answered ≡ Some line → (m : Appended) × Contains r.appended m × (m.answers ≡ Some e.id) × (m.line ≡ line) × (m.bytes ≡ e.reply)
     given e line c s =
         let k = entry_call e (in_contains e h c) in
         let prints = k.1.2 in
-        let found = printed_answer partition_object r ok p k.1.0 line k.1.1 (ap (λ (f : Printed). f.answered) prints.is ∙ s) in (
+        let found = printed_answer o r ok p k.1.0 line k.1.1 (ap (λ (f : Printed). f.answered) prints.is ∙ s) in (
           found.message,
           contains_in found.message r.appended found.there,
           found.answers ∙ ap (λ (f : Printed). Some f.id) prints.is,
@@ -154,15 +179,15 @@ module _ (r : Run) (ok : RunOk partition_object r) (p : ℕ) where
     pub ordered : (a b : Printed) (line : ℕ) → Before h a b → b.answered ≡ Some line → a.arrived ≤ line
     ordered a b line before s =
         let k = entries_in_order a b before in
-        let found = printed_answer partition_object r ok p k.second line (before_second log k.first k.second k.before) (ap (λ (f : Printed). f.answered) k.prints_second.is ∙ s) in
-        let by_then = arrived_before partition_object r ok p k.first k.second found.message (id_of k.second) found.given found.is k.before in
+        let found = printed_answer o r ok p k.second line (before_second log k.first k.second k.before) (ap (λ (f : Printed). f.answered) k.prints_second.is ∙ s) in
+        let by_then = arrived_before o r ok p k.first k.second found.message (id_of k.second) found.given found.is k.before in
         let at = line_of_entry k.first a (before_first log k.first k.second k.before) k.prints_first by_then.0 by_then.1 by_then.2 in
         omega (arith, at, by_then.3, found.at_line)
 
     pub same_line : (a b : Printed) → Before h a b → a.arrived ≡ b.arrived → a.id.number < b.id.number
     same_line a b before s =
         let k = entries_in_order a b before in
-        let from = origins partition_object r ok.members ok.of_arrivals p k.first k.second k.before in
+        let from = origins o r ok.members ok.of_arrivals p k.first k.second k.before in
         let first = is_of_arrival from.0 k.first a (before_first r.arrivals from.0 from.1.0 from.1.1) from.1.2 k.prints_first in
         let second = is_of_arrival from.1.0 k.second b (before_second r.arrivals from.0 from.1.0 from.1.1) from.1.3 k.prints_second in
         let one_line : from.0.line ≡ from.1.0.line = sym first.line ∙ s ∙ second.line in
@@ -172,45 +197,50 @@ module _ (r : Run) (ok : RunOk partition_object r) (p : ℕ) where
         let right = ap (λ (c : CallId). c.number) second.id in
         omega (arith, apart, left, right)
 
-    pub fits : home name ≡ p → Fits map_entry name r h
-    fits at = record {
+    -- the history in the object's own partition
+    pub fits : Fits (one_object settings object.name) object r h
+    fits = record {
       legal = legal;
       arrived = arrived;
       unrefused = unrefused;
       once = once;
-      answered = answered at;
-      answered_once = answered_once r ok;
+      answered = answered;
+      answered_once = answered_once o r ok;
       given = given;
       ordered = ordered;
       same_line = same_line;
     }
 
--- each call of a partition's trail is on an object of the partition
-pub trail_at_home : (r : Run) → RunOk partition_object r → (p : ℕ) (x : Executed Request) → In x (executed (trail (world_at partition_object r p))) → home (target_of x.call) ≡ p
-trail_at_home r ok p x i =
-    let from = origin partition_object r ok.members ok.of_arrivals p x (part_in (executed (trail (world_at partition_object r p))) (log r ok p) x (trail_part partition_object r ok p) i) in
-    ap (λ (k : Asked Request). home (target_of k.call)) (sym from.3) ∙ ok.of_arrivals.placed from.0 from.1 ∙ same_number from.0.request.partition p from.2
+    elsewhere : (q : ℕ) → p ≢ q → history_of object (entries_of o r q) ≡ []
+    elsewhere q other = history_elsewhere r q 0 object (trail (world_at o r q)) (λ x i e. other (sym e ∙ (at_home q x i).0))
 
--- the entries of all partitions on an object
-pub all_fit : (r : Run) → RunOk partition_object r → (name : ObjectName) → Fits map_entry name r (history_of name (all_entries partition_object r))
-all_fit r ok name =
-    subst (λ es. Fits map_entry name r es)
-    (sym (history_at name (entries_of partition_object r) (home name) elsewhere partitions (home_below name)))
-    (fits r ok (home name) name refl)
-  where
-    elsewhere : (q : ℕ) → home name ≢ q → history_of name (entries_of partition_object r q) ≡ []
-    elsewhere q other = history_elsewhere r q 0 name (trail (world_at partition_object r q)) (trail_at_home r ok q) other
+    -- No entry is on an object of a partition that the grid doesn't have.
+    nowhere : partitions ≤ p → h ≡ []
+    nowhere past = history_elsewhere r p 0 object (trail w) (λ x i e. let within = (at_home p x i).1 in omega (arith, past, within))
 
--- so one thread that used one map entry could have seen each history that a line prints
-pub linear : (r : Run) → RunOk partition_object r → IsLinearizable r
-linear r ok (Trail p) name shown = fits r ok p name (same_number (home name) p shown)
-linear r ok End name shown = all_fit r ok name
-linear r ok (Grid members backups capacity) name shown = absurd cc
-linear r ok (OpenConn c member) name shown = absurd cc
-linear r ok (Arrive c bytes) name shown = absurd cc
-linear r ok Comment name shown = absurd cc
+    in_all : history_of object (all_entries o r) ≡ h
+    in_all =
+        ⊎_elim (λ past. history_past object (entries_of o r) elsewhere partitions past ∙ sym (nowhere past))
+        (λ within. history_at object (entries_of o r) elsewhere partitions within)
+        (le_or_less partitions p)
+
+    -- and in all histories
+    pub all_fit : Fits (one_object settings object.name) object r (history_of object (all_entries o r))
+    all_fit = subst (λ es. Fits (one_object settings object.name) object r es) (sym in_all) fits
+
+-- So one thread that used one object could have seen each history that a line prints.
+pub linear : (settings : Settings) (r : Run) → RunOk (partition_object settings) r → IsLinearizable settings r
+linear settings r ok (Trail p) object shown =
+    subst (λ q. Fits (one_object settings object.name) object r (history_of object (entries_of (partition_object settings) r q))) (same_number object.partition p shown) (fits settings r ok object)
+linear settings r ok End object shown = all_fit settings r ok object
+linear settings r ok (Grid members backups capacity) object shown = absurd cc
+linear settings r ok (OpenConn c member) object shown = absurd cc
+linear settings r ok (Arrive c bytes) object shown = absurd cc
+linear settings r ok (Clock member moment) object shown = absurd cc
+linear settings r ok (Dump partition member) object shown = absurd cc
+linear settings r ok Comment object shown = absurd cc
 
 pub every_run_is_linearizable : EveryRunIsLinearizable
-every_run_is_linearizable members backups skips lines grid =
-    linear (after_lines partition_object skips (begun members backups) lines)
+every_run_is_linearizable settings members backups skips lines grid =
+    linear settings (after_lines (partition_object settings) skips (begun members backups) lines)
     (run_ok (lines_run skips (begun members backups) lines (grid_begun members backups grid)))

@@ -1,5 +1,5 @@
 -- Each line of a script makes a run of a run, and so does a list of lines.
-use Rattle.std.proofs.Common.{◌≡◌, ℕ, ◌+◌, ◌≤◌, ◌<◌, Bool, true, false, cond, List, [], ◌∷◌, ◌++◌, length, Option, Some, None, Contains, pos, refl, ap, sym, ◌∙◌, subst, ⊎_elim, inl, inr, ◌⊎◌, arith, length-append, append_assoc, append-nil}
+use Rattle.std.proofs.Common.{◌≡◌, ℕ, ◌+◌, ◌≤◌, ◌<◌, Bool, true, false, cond, List, [], ◌∷◌, ◌++◌, length, Option, Some, None, Contains, pos, refl, ap, sym, ◌∙◌, subst, ⊎_elim, inl, inr, ◌⊎◌, arith, length-append, append_assoc, append-nil, slice_get, unwrap_or}
 use Rattle.std.specs.List.{find, filter_map}
 use Rattle.std.specs.Option.{is_some}
 use Rattle.grid_base.specs.Errors.{want_of_memory}
@@ -12,10 +12,10 @@ use Rattle.partition_protocol.proofs.Extends.{front_trans, same}
 use Rattle.session_core.specs.declared.item.Item.{Item}
 use Rattle.session_core.specs.declared.item.Item.TheVariants.{Call as Asks, Reply}
 use Rattle.script_lang.specs.declared.line.Line.{Line}
-use Rattle.script_lang.specs.declared.line.Line.TheVariants.{Grid, OpenConn, Arrive, Trail, Comment, End}
-use Rattle.replay_run.specs.PartitionObjects.{partition_object}
-use Rattle.replay_run.specs.Runs.{Run, Connection, Arrival, At, Appended, is_connection, connection_of, fault_on, messages_on, with_bytes, took_bytes, items_by, own_answer, told, refusal, arrival_at, happening, arrived, is_skipped, asked, handled_all, opened, next_line, bytes_arrived, after_line, after_lines}
-use Rattle.replay_run.specs.ScriptRuns.{IsPlaced, MayAsk, IsNext, IsRun, line_counted, connection_opened, bytes_taken, answer_told, call_asked}
+use Rattle.script_lang.specs.declared.line.Line.TheVariants.{Grid, OpenConn, Arrive, Clock, Dump, Trail, Comment, End}
+use Rattle.object_store.specs.Partitions.{Partition}
+use Rattle.replay_run.specs.Runs.{Run, Connection, Arrival, At, Appended, is_connection, connection_of, fault_on, messages_on, with_bytes, took_bytes, moment_of, items_by, own_answer, told, refusal, arrival_at, happening, arrived, is_skipped, asked, handled_all, opened, next_line, bytes_arrived, after_line, after_lines}
+use Rattle.replay_run.specs.ScriptRuns.{IsPlaced, MayAsk, IsNext, IsRun, line_counted, clock_was_set, connection_opened, bytes_taken, answer_told, call_asked}
 use Rattle.replay_run.specs.WorldCalls.{arrival_to}
 use Rattle.replay_run.proofs.Items.{AreNumbered, numbered_front, items_room}
 use Rattle.replay_run.proofs.Places.{same_number}
@@ -35,6 +35,7 @@ pub record HasCome (r : Run) (come : List Arrival) (next : Run) : Type 0 where
   pub members : next.members ≡ r.members
   pub backups : next.backups ≡ r.backups
   pub lines : next.lines ≡ r.lines
+  pub moments : next.moments ≡ r.moments
   pub connections : next.connections ≡ r.connections
   pub arrivals : next.arrivals ≡ r.arrivals ++ come
   pub appended : IsFrontOf r.appended next.appended
@@ -44,6 +45,7 @@ come_both r mid next first then a b = record {
   members = b.members ∙ a.members;
   backups = b.backups ∙ a.backups;
   lines = b.lines ∙ a.lines;
+  moments = b.moments ∙ a.moments;
   connections = b.connections ∙ a.connections;
   arrivals = b.arrivals ∙ ap (λ xs. xs ++ then) a.arrivals ∙ append_assoc r.arrivals first then;
   appended = front_trans r.appended mid.appended next.appended a.appended b.appended;
@@ -53,36 +55,37 @@ pub asked_come : {State : Type 0} (o : Object Request State) (skips : List CallI
 asked_come o skips r a = go (is_skipped skips a.id)
   where
     is : (events : List At) (appended : List Appended) → HasCome r (a ∷ []) (arrived r a events appended)
-    is events appended = record { members = refl; backups = refl; lines = refl; connections = refl; arrivals = refl; appended = (appended, refl) }
+    is events appended = record { members = refl; backups = refl; lines = refl; moments = refl; connections = refl; arrivals = refl; appended = (appended, refl) }
 
     go : (b : Bool) → HasCome r (a ∷ []) (cond b (arrived r a [] (refusal a.line a.request (pos want_of_memory) 0 ∷ [])) (arrived r a (its_event a ∷ []) (happening o r a)))
     go true = is [] (refusal a.line a.request (pos want_of_memory) 0 ∷ [])
     go false = is (its_event a ∷ []) (happening o r a)
 
 pub told_come : (r : Run) (c : ℕ) (bytes : List ℕ) → HasCome r [] (told r c bytes)
-told_come r c bytes = record { members = refl; backups = refl; lines = refl; connections = refl; arrivals = sym (append-nil r.arrivals); appended = (own_answer r.lines c bytes ∷ [], refl) }
+told_come r c bytes = record { members = refl; backups = refl; lines = refl; moments = refl; connections = refl; arrivals = sym (append-nil r.arrivals); appended = (own_answer r.lines c bytes ∷ [], refl) }
 
--- the arrival of an item that reaches a member at a line, if it is a call
-abbrev pub arriving : ℕ → ℕ → Item → Option Arrival
-arriving line member (Asks request) = Some (arrival_to line member request)
-arriving line member (Reply bytes) = None
+-- the arrival of an item that reaches a member at a line and at a moment, if it is a call
+abbrev pub arriving : ℕ → ℕ → ℕ → Item → Option Arrival
+arriving line member now (Asks request) = Some (arrival_to line member now request)
+arriving line member now (Reply bytes) = None
 
-abbrev pub all_arriving : ℕ → ℕ → List Item → List Arrival
-all_arriving line member items = filter_map (arriving line member) items
+abbrev pub all_arriving : ℕ → ℕ → ℕ → List Item → List Arrival
+all_arriving line member now items = filter_map (arriving line member now) items
 
 pub handled_all_come : {State : Type 0} (o : Object Request State) (skips : List CallId) (r : Run) (k : Connection) (items : List Item)
-    → HasCome r (all_arriving r.lines k.member items) (handled_all o skips r k items)
-handled_all_come o skips r k [] = record { members = refl; backups = refl; lines = refl; connections = refl; arrivals = sym (append-nil r.arrivals); appended = same r.appended }
+    → HasCome r (all_arriving r.lines k.member (moment_of r k.member) items) (handled_all o skips r k items)
+handled_all_come o skips r k [] = record { members = refl; backups = refl; lines = refl; moments = refl; connections = refl; arrivals = sym (append-nil r.arrivals); appended = same r.appended }
 handled_all_come o skips r k (Reply bytes ∷ items) =
     let mid = told r k.conn bytes in
-    come_both r mid (handled_all o skips mid k items) [] (all_arriving r.lines k.member items) (told_come r k.conn bytes) (handled_all_come o skips mid k items)
+    come_both r mid (handled_all o skips mid k items) [] (all_arriving r.lines k.member (moment_of r k.member) items) (told_come r k.conn bytes) (handled_all_come o skips mid k items)
 handled_all_come o skips r k (Asks request ∷ items) =
     let a = arrival_at r k.member request in
     let one = asked_come o skips r a in
     let mid = asked o skips r a in
     let more = handled_all_come o skips mid k items in
-    come_both r mid (handled_all o skips mid k items) (a ∷ []) (all_arriving r.lines k.member items) one
-    (subst (λ line. HasCome mid (all_arriving line k.member items) (handled_all o skips mid k items)) one.lines more)
+    come_both r mid (handled_all o skips mid k items) (a ∷ []) (all_arriving r.lines k.member (moment_of r k.member) items) one
+    (subst (λ line. HasCome mid (all_arriving line k.member (moment_of r k.member) items) (handled_all o skips mid k items)) one.lines
+    (subst (λ moments. HasCome mid (all_arriving mid.lines k.member (unwrap_or (slice_get moments k.member) 0) items) (handled_all o skips mid k items)) one.moments more))
 
 -- after a call the next message's may be asked
 pub may_ask_more : {State : Type 0} (o : Object Request State) (skips : List CallId) (r : Run) (k : Connection) (number member : ℕ) (request : Request)
@@ -129,30 +132,30 @@ is_next r k number request may complete named placed = record {
 }
 
 -- All items of the messages that are complete may be handled one after the other.
-pub handled_all_run : (skips : List CallId) (r : Run) (k : Connection) (bytes : List ℕ) (number : ℕ) (items : List Item) → IsRun r → MayAsk r (with_bytes k bytes) number → AreNumbered k.conn number items
-    → number + length items ≤ length (messages_on (with_bytes k bytes)) → IsRun (handled_all partition_object skips r k items)
+pub handled_all_run : {o : Object Request Partition} (skips : List CallId) (r : Run) (k : Connection) (bytes : List ℕ) (number : ℕ) (items : List Item) → IsRun o r → MayAsk r (with_bytes k bytes) number → AreNumbered k.conn number items
+    → number + length items ≤ length (messages_on (with_bytes k bytes)) → IsRun o (handled_all o skips r k items)
 handled_all_run skips r k bytes number [] is may numbered room = is
 handled_all_run skips r k bytes number (Reply answer ∷ items) is may numbered room =
     handled_all_run skips (told r k.conn answer) k bytes (number + 1) items
     (answer_told r k.conn answer is)
     (may_ask_after r (with_bytes k bytes) number k.conn answer may)
     numbered.1 (omega (arith, room))
-handled_all_run skips r k bytes number (Asks request ∷ items) is may numbered room =
+handled_all_run {o} skips r k bytes number (Asks request ∷ items) is may numbered room =
     let next = is_next r (with_bytes k bytes) number request may (omega (arith, room)) numbered.0.0 numbered.0.1 in
-    handled_all_run skips (asked partition_object skips r (arrival_at r k.member request)) k bytes (number + 1) items
+    handled_all_run skips (asked o skips r (arrival_at r k.member request)) k bytes (number + 1) items
     (call_asked skips r k.member request is next)
-    (may_ask_more partition_object skips r (with_bytes k bytes) number k.member request may numbered.0.0)
+    (may_ask_more o skips r (with_bytes k bytes) number k.member request may numbered.0.0)
     numbered.1 (omega (arith, room))
 
 -- bytes
 
 -- what the bytes of a line lead to: its connection has them, and its calls may be asked
-pub record HasTaken (r : Run) (k : Connection) (bytes : List ℕ) : Type 0 where
-  pub run : IsRun (took_bytes r k bytes)
+pub record HasTaken (o : Object Request Partition) (r : Run) (k : Connection) (bytes : List ℕ) : Type 0 where
+  pub run : IsRun o (took_bytes r k bytes)
   pub may : MayAsk (took_bytes r k bytes) (with_bytes k bytes) (length (messages_on k))
 
-pub has_taken : (r : Run) (k : Connection) (bytes : List ℕ) → IsRun r → connection_of r k.conn ≡ Some k → HasTaken r k bytes
-has_taken r k bytes is there = record {
+pub has_taken : {o : Object Request Partition} (r : Run) (k : Connection) (bytes : List ℕ) → IsRun o r → connection_of r k.conn ≡ Some k → HasTaken o r k bytes
+has_taken {o} r k bytes is there = record {
   run = bytes_taken r k bytes is there;
   may = record {
     there = updated_found (with_bytes k bytes) r.connections k.conn k there ∙ ap Some itself;
@@ -161,7 +164,7 @@ has_taken r k bytes is there = record {
   };
 }
   where
-    ok : RunOk partition_object r
+    ok : RunOk o r
     ok = run_ok is
 
     itself : in_place (with_bytes k bytes) k ≡ with_bytes k bytes
@@ -174,8 +177,8 @@ has_taken r k bytes is there = record {
         subst (λ (x : Connection). a.id.number < length (messages_on x)) one below
 
 -- a front of the line's items
-pub part_run : (skips : List CallId) (r : Run) (k : Connection) (bytes : List ℕ) (items more : List Item) → IsRun r → connection_of r k.conn ≡ Some k → items_by k bytes ≡ items ++ more
-    → IsRun (handled_all partition_object skips (took_bytes r k bytes) k items)
+pub part_run : {o : Object Request Partition} (skips : List CallId) (r : Run) (k : Connection) (bytes : List ℕ) (items more : List Item) → IsRun o r → connection_of r k.conn ≡ Some k → items_by k bytes ≡ items ++ more
+    → IsRun o (handled_all o skips (took_bytes r k bytes) k items)
 part_run skips r k bytes items more is there e =
     let taken = has_taken r k bytes is there in
     let room = items_room k bytes in
@@ -185,30 +188,32 @@ part_run skips r k bytes items more is there e =
 
 -- lines
 
-module _ (skips : List CallId) (r : Run) (is : IsRun r) where
-  arrived_run : (k : Connection) (bytes : List ℕ) → connection_of r k.conn ≡ Some k → IsRun (bytes_arrived partition_object skips r k bytes)
+module _ {o : Object Request Partition} (skips : List CallId) (r : Run) (is : IsRun o r) where
+  arrived_run : (k : Connection) (bytes : List ℕ) → connection_of r k.conn ≡ Some k → IsRun o (bytes_arrived o skips r k bytes)
   arrived_run k bytes there = go (is_some (fault_on k))
     where
-      go : (closed : Bool) → IsRun (cond closed (next_line r) (handled_all partition_object skips (took_bytes r k bytes) k (items_by k bytes)))
+      go : (closed : Bool) → IsRun o (cond closed (next_line r) (handled_all o skips (took_bytes r k bytes) k (items_by k bytes)))
       go true = line_counted r is
       go false = part_run skips r k bytes (items_by k bytes) [] is there (sym (append-nil (items_by k bytes)))
 
-  bytes_run : (c : ℕ) (bytes : List ℕ) (found : Option Connection) → connection_of r c ≡ found → IsRun (elim found [ None ↦ next_line r | Some k ↦ bytes_arrived partition_object skips r k bytes ])
+  bytes_run : (c : ℕ) (bytes : List ℕ) (found : Option Connection) → connection_of r c ≡ found → IsRun o (elim found [ None ↦ next_line r | Some k ↦ bytes_arrived o skips r k bytes ])
   bytes_run c bytes None there = line_counted r is
   bytes_run c bytes (Some k) there = arrived_run k bytes (connection_there r c k there)
 
-  opened_run : (c member : ℕ) (found : Option Connection) → connection_of r c ≡ found → IsRun (cond (is_some found) (next_line r) (opened r c member))
+  opened_run : (c member : ℕ) (found : Option Connection) → connection_of r c ≡ found → IsRun o (cond (is_some found) (next_line r) (opened r c member))
   opened_run c member (Some k) there = line_counted r is
   opened_run c member None there = connection_opened r c member is there
 
-  pub line_run : (line : Line) → IsRun (after_line partition_object skips r line)
+  pub line_run : (line : Line) → IsRun o (after_line o skips r line)
   line_run (Grid members backups capacity) = line_counted r is
   line_run (OpenConn c member) = opened_run c member (connection_of r c) refl
   line_run (Arrive c bytes) = bytes_run c bytes (connection_of r c) refl
+  line_run (Clock member moment) = clock_was_set r member moment is
+  line_run (Dump partition member) = line_counted r is
   line_run (Trail partition) = line_counted r is
   line_run Comment = line_counted r is
   line_run End = line_counted r is
 
-pub lines_run : (skips : List CallId) (r : Run) (lines : List Line) → IsRun r → IsRun (after_lines partition_object skips r lines)
+pub lines_run : {o : Object Request Partition} (skips : List CallId) (r : Run) (lines : List Line) → IsRun o r → IsRun o (after_lines o skips r lines)
 lines_run skips r [] is = is
-lines_run skips r (line ∷ lines) is = lines_run skips (after_line partition_object skips r line) lines (line_run skips r is line)
+lines_run {o} skips r (line ∷ lines) is = lines_run skips (after_line o skips r line) lines (line_run skips r is line)

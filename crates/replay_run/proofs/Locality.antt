@@ -1,101 +1,140 @@
 -- A partition's history, of one of its objects: it is the history of that object, and no other partition has any of it.
-use Rattle.std.proofs.Common.{◌≡◌, ◌≢◌, ℕ, ◌+◌, ◌<◌, ◌≤◌, suc, zero, true, false, List, [], ◌∷◌, ◌++◌, map, filter, flat_map, refl, ap, sym, ◌∙◌, subst, ⊎_elim, inl, inr, arith, append-nil}
+use Rattle.std.proofs.Common.{◌≡◌, ◌≢◌, ℕ, ◌+◌, ◌==◌, ◌<◌, ◌≤◌, suc, zero, true, false, cond, List, [], ◌∷◌, ◌++◌, map, filter, flat_map, refl, ap, sym, ◌∙◌, subst, ⊎_elim, inl, inr, arith, append-nil, true≢false}
 use Rattle.std.proofs.lemmas.List.Elements.{filter-append}
+use Rattle.std.proofs.lemmas.Bool.Decides.{nat_tests}
 use Rattle.std.proofs.lemmas.Grind.{flat_map-append}
-use Rattle.grid_base.specs.MapEntries.{MapEntry}
 use Rattle.grid_base.specs.Histories.{IsLegal}
-use Rattle.grid_base.specs.Names.{ObjectName, is_same}
+use Rattle.grid_base.specs.Names.{is_same, object_of}
+use Rattle.grid_base.specs.declared.names.ObjectKey.{ObjectKey}
+use Rattle.grid_base.specs.declared.calls.GridCall.{GridCall}
+use Rattle.grid_base.specs.declared.calls.GridCall.TheVariants as call
 use Rattle.grid_base.specs.declared.calls.Request.{Request}
+use Rattle.object_store.specs.Records.{Record, suits}
+use Rattle.object_store.specs.Partitions.{Partition, record_at, with_record}
+use Rattle.object_store.proofs.PartitionLaws.{same_name, is_same_self, record_at-with, record_at-other}
+use Rattle.call_engine.specs.Calls.{Settings, after}
+use Rattle.call_engine.specs.Objects.{target_of, reply_to, one_object, partition_object}
 use Rattle.partition_protocol.specs.History.{Entry, Executed, Called, Reset, IsLegal as IsLegalOf}
 use Rattle.partition_protocol.specs.Service.{numbers_below}
 use Rattle.partition_protocol.specs.Claims.{is_reset}
 use Rattle.partition_protocol.proofs.Lists.{In, cases}
-use Rattle.partition_protocol.proofs.RowFacts.{false_or_not}
+use Rattle.partition_protocol.proofs.RowFacts.{false_or_not, both, both_left, both_right}
 use Rattle.partition_protocol.proofs.Forward.{le_cases}
-use Rattle.replay_run.specs.PartitionObjects.{Partition, target_of, with_entry, entry_after, reply_to, map_entry, partition_object}
 use Rattle.replay_run.specs.Runs.{Run}
 use Rattle.replay_run.specs.Printing.{Printed, printed, printed_from}
-use Rattle.replay_run.specs.Linearizability.{is_on, history_of, answered_call}
-use Rattle.replay_run.specs.SameNames.{same_name, is_same_self}
+use Rattle.replay_run.specs.Linearizability.{GridObject, is_on, history_of, answered_call}
 use Rattle.replay_run.specs.ScriptRuns.{home}
-use Rattle.replay_run.proofs.Places.{same_name_sym}
+use Rattle.replay_run.proofs.Places.{same_number}
 use Rattle.replay_run.proofs.Trails.{executed}
 
--- what a call leaves at a name
+-- which object a call is on
 
-pub entry_same : (s : Partition) (target name : ObjectName) (e : MapEntry) → is_same target name ≡ true → with_entry s target e name ≡ e
-entry_same s target name e p = let q : is_same name target ≡ true = subst (λ n. is_same n target ≡ true) (same_name target name p) (is_same_self target) in rw q refl
+pub on_partition : (object : GridObject) (request : Request) → is_on object request ≡ true → home request ≡ object.partition
+on_partition object request on = same_number (home request) object.partition (both_left (home request == object.partition) (is_same (target_of request) object.name) on)
 
-pub entry_other : (s : Partition) (target name : ObjectName) (e : MapEntry) → is_same target name ≡ false → with_entry s target e name ≡ s name
-entry_other s target name e p = let q = same_name_sym target name p in rw q refl
+on_object : (object : GridObject) (request : Request) → home request ≡ object.partition → is_same (target_of request) object.name ≡ true → is_on object request ≡ true
+on_object object request here same = both (home request == object.partition) (is_same (target_of request) object.name) (grind (arith, nat_tests, here)) same
 
--- a legal history of a partition without reopenings is legal for each of its objects
-pub legal_on : (r : Run) (p place : ℕ) (name : ObjectName) (s : Partition) (e : MapEntry) (es : List (Entry Request)) → filter is_reset es ≡ []
-    → s name ≡ e → IsLegalOf partition_object s es
-    → IsLegal map_entry e (map answered_call (history_of name (printed_from r p place es)))
-legal_on r p place name s e [] none same h = tt
-legal_on r p place name s e (Reset version ∷ es) none same h = absurd cc
-legal_on r p place name s e (Called x ∷ es) none same h =
-    ⊎_elim (λ t. here t (legal_on r p (place + 1) name after (entry_after e x.call x.now) es none (kept t) h.1))
-    (λ t. there t (legal_on r p (place + 1) name after e es none (entry_other s (target_of x.call) name left t ∙ same) h.1))
-    (cases (is_same (target_of x.call) name))
+on_other : (object : GridObject) (request : Request) → is_same (target_of request) object.name ≡ false → is_on object request ≡ false
+on_other object request other = false_or_not (is_on object request) (λ on. let same = both_right (home request == object.partition) (is_same (target_of request) object.name) on in cc)
+
+-- It doesn't matter which is named first.
+same_name_sym : (a b : ObjectKey) → is_same a b ≡ false → is_same b a ≡ false
+same_name_sym a b e = false_or_not (is_same b a) (λ s. true≢false (sym (subst (λ c. is_same a c ≡ true) (sym (same_name b a s)) (is_same_self a)) ∙ e))
+
+-- what a call leaves of its object, and of another
+
+suits_after : (settings : Settings) (kept : Record) (c : GridCall) (now : ℕ) → suits (object_of c) (after settings kept c now) ≡ true
+suits_after settings kept (call.Map c) now = refl
+suits_after settings kept (call.Queue c) now = refl
+
+module _ (settings : Settings) (s : Partition) (request : Request) (now : ℕ) where
+  abbrev pub left : Record
+  left = after settings (record_at s (target_of request)) request.call now
+
+  abbrev pub next : Partition
+  next = with_record s (target_of request) left
+
+  pub left_on : (name : ObjectKey) (kept : Record) → is_same (target_of request) name ≡ true → record_at s name ≡ kept → record_at next name ≡ after settings kept request.call now
+  left_on name kept on is =
+      ap (record_at next) (sym (same_name (target_of request) name on))
+      ∙ record_at-with s (target_of request) left (suits_after settings (record_at s (target_of request)) request.call now)
+      ∙ ap (λ k. after settings k request.call now) (ap (record_at s) (same_name (target_of request) name on) ∙ is)
+
+  pub left_off : (name : ObjectKey) (kept : Record) → is_same (target_of request) name ≡ false → record_at s name ≡ kept → record_at next name ≡ kept
+  left_off name kept other is = record_at-other s (target_of request) left name (same_name_sym (target_of request) name other) ∙ is
+
+-- Of a partition whose calls are on its own objects, a legal history without reopenings is legal for each of these.
+pub legal_on : (settings : Settings) (r : Run) (object : GridObject) (place : ℕ) (s : Partition) (kept : Record) (es : List (Entry Request))
+    → ((x : Executed Request) → In x (executed es) → home x.call ≡ object.partition) → filter is_reset es ≡ []
+    → record_at s object.name ≡ kept → IsLegalOf (partition_object settings) s es
+    → IsLegal (one_object settings object.name) kept (map answered_call (history_of object (printed_from r object.partition place es)))
+legal_on settings r object place s kept [] own none is h = tt
+legal_on settings r object place s kept (Reset version ∷ es) own none is h = absurd cc
+legal_on settings r object place s kept (Called x ∷ es) own none is h =
+    ⊎_elim (λ on. here on (legal_on settings r object (place + 1) then (after settings kept x.call.call x.now) es later none (left_on settings s x.call x.now object.name kept on is) h.1))
+    (λ other. there other (legal_on settings r object (place + 1) then kept es later none (left_off settings s x.call x.now object.name kept other is) h.1))
+    (cases (is_same (target_of x.call) object.name))
   where
-    left : MapEntry
-    left = entry_after (s (target_of x.call)) x.call x.now
+    then : Partition
+    then = next settings s x.call x.now
 
-    after : Partition
-    after = with_entry s (target_of x.call) left
+    later : (y : Executed Request) → In y (executed es) → home y.call ≡ object.partition
+    later y i = own y (inr i)
 
-    at : is_same (target_of x.call) name ≡ true → s (target_of x.call) ≡ e
-    at t = ap s (same_name (target_of x.call) name t) ∙ same
+    entry : Printed
+    entry = printed r object.partition place x
 
-    kept : is_same (target_of x.call) name ≡ true → after name ≡ entry_after e x.call x.now
-    kept t = entry_same s (target_of x.call) name left t ∙ ap (λ v. entry_after v x.call x.now) (at t)
+    entries : List Printed
+    entries = history_of object (printed_from r object.partition (place + 1) es)
 
-    here : is_same (target_of x.call) name ≡ true → IsLegal map_entry (entry_after e x.call x.now) (map answered_call (history_of name (printed_from r p (place + 1) es)))
-        → IsLegal map_entry e (map answered_call (history_of name (printed r p place x ∷ printed_from r p (place + 1) es)))
-    here t rest = rw t (h.0 ∙ ap (λ v. reply_to v x.call x.now) (at t), rest)
+    here : is_same (target_of x.call) object.name ≡ true → IsLegal (one_object settings object.name) (after settings kept x.call.call x.now) (map answered_call entries)
+        → IsLegal (one_object settings object.name) kept (map answered_call (history_of object (printed_from r object.partition place (Called x ∷ es))))
+    here on rest =
+        subst (λ b. IsLegal (one_object settings object.name) kept (map answered_call (cond b (entry ∷ entries) entries))) (sym (on_object object x.call (own x (inl refl)) on))
+        (h.0 ∙ ap (λ k. reply_to settings k x.call x.now) (ap (record_at s) (same_name (target_of x.call) object.name on) ∙ is), rest)
 
-    there : is_same (target_of x.call) name ≡ false → IsLegal map_entry e (map answered_call (history_of name (printed_from r p (place + 1) es)))
-        → IsLegal map_entry e (map answered_call (history_of name (printed r p place x ∷ printed_from r p (place + 1) es)))
-    there t rest = rw t rest
+    there : is_same (target_of x.call) object.name ≡ false → IsLegal (one_object settings object.name) kept (map answered_call entries)
+        → IsLegal (one_object settings object.name) kept (map answered_call (history_of object (printed_from r object.partition place (Called x ∷ es))))
+    there other rest =
+        subst (λ b. IsLegal (one_object settings object.name) kept (map answered_call (cond b (entry ∷ entries) entries))) (sym (on_other object x.call other)) rest
 
 -- entries of calls that are elsewhere
-pub history_elsewhere : (r : Run) (p place : ℕ) (name : ObjectName) (es : List (Entry Request)) → ((x : Executed Request) → In x (executed es) → home (target_of x.call) ≡ p) → home name ≢ p
-    → history_of name (printed_from r p place es) ≡ []
-history_elsewhere r p place name [] f other = refl
-history_elsewhere r p place name (Reset version ∷ es) f other = history_elsewhere r p (place + 1) name es f other
-history_elsewhere r p place name (Called x ∷ es) f other =
-    let no_match : is_same (target_of x.call) name ≡ false = false_or_not (is_same (target_of x.call) name)
-    (λ e. other (ap home (sym (same_name (target_of x.call) name e)) ∙ f x (inl refl))) in
-    rw no_match (history_elsewhere r p (place + 1) name es (λ y i. f y (inr i)) other)
+pub history_elsewhere : (r : Run) (p place : ℕ) (object : GridObject) (es : List (Entry Request)) → ((x : Executed Request) → In x (executed es) → home x.call ≢ object.partition)
+    → history_of object (printed_from r p place es) ≡ []
+history_elsewhere r p place object [] away = refl
+history_elsewhere r p place object (Reset version ∷ es) away = history_elsewhere r p (place + 1) object es away
+history_elsewhere r p place object (Called x ∷ es) away =
+    let rest = history_elsewhere r p (place + 1) object es (λ y i. away y (inr i)) in
+    let entries = history_of object (printed_from r p (place + 1) es) in
+    ap (λ b. cond b (printed r p place x ∷ entries) entries) (false_or_not (is_on object x.call) (λ on. away x (inl refl) (on_partition object x.call on))) ∙ rest
 
--- of the entries of many partitions, those on an object are of its own, p
-module _ (name : ObjectName) (entries : ℕ → List Printed) (p : ℕ) (elsewhere : (q : ℕ) → p ≢ q → history_of name (entries q) ≡ []) where
+-- of the entries of many partitions, those on an object are of its own
+module _ (object : GridObject) (entries : ℕ → List Printed) (elsewhere : (q : ℕ) → object.partition ≢ q → history_of object (entries q) ≡ []) where
   abbrev pub history_below : ℕ → List Printed
-  history_below n = history_of name (flat_map entries (numbers_below n))
+  history_below n = history_of object (flat_map entries (numbers_below n))
 
-  pub history_suc : (n : ℕ) → history_below (suc n) ≡ history_below n ++ history_of name (entries n)
+  pub history_suc : (n : ℕ) → history_below (suc n) ≡ history_below n ++ history_of object (entries n)
   history_suc n =
-      ap (history_of name) (flat_map-append entries (numbers_below n) (n ∷ []))
-      ∙ filter-append (is_on name) (flat_map entries (numbers_below n)) (flat_map entries (n ∷ []))
-      ∙ ap (λ es. history_below n ++ history_of name es) (append-nil (entries n))
+      ap (history_of object) (flat_map-append entries (numbers_below n) (n ∷ []))
+      ∙ filter-append (λ (e : Printed). is_on object e.request) (flat_map entries (numbers_below n)) (flat_map entries (n ∷ []))
+      ∙ ap (λ es. history_below n ++ history_of object es) (append-nil (entries n))
 
-  pub history_past : (n : ℕ) → n ≤ p → history_below n ≡ []
+  pub history_past : (n : ℕ) → n ≤ object.partition → history_below n ≡ []
   history_past zero l = refl
   history_past (suc n) l =
-      let other : p ≢ n = omega (arith, l) in
+      let other : object.partition ≢ n = omega (arith, l) in
       let before = history_past n (omega (arith, l)) in
-      history_suc n ∙ ap (λ es. es ++ history_of name (entries n)) before ∙ elsewhere n other
+      history_suc n ∙ ap (λ es. es ++ history_of object (entries n)) before ∙ elsewhere n other
 
-  pub history_at : (n : ℕ) → p < n → history_below n ≡ history_of name (entries p)
+  pub history_at : (n : ℕ) → object.partition < n → history_below n ≡ history_of object (entries object.partition)
   history_at zero l = absurd (omega (arith, l))
-  history_at (suc n) l = history_suc n ∙ ⊎_elim last (λ k. earlier k (history_at n k)) (le_cases p n (omega (arith, l)))
+  history_at (suc n) l = history_suc n ∙ ⊎_elim last (λ k. earlier k (history_at n k)) (le_cases object.partition n (omega (arith, l)))
     where
-      last : p ≡ n → history_below n ++ history_of name (entries n) ≡ history_of name (entries p)
-      last e = ap (λ es. es ++ history_of name (entries n)) (history_past n (omega (arith, e))) ∙ ap (λ k. history_of name (entries k)) (sym e)
+      last : object.partition ≡ n → history_below n ++ history_of object (entries n) ≡ history_of object (entries object.partition)
+      last e = ap (λ es. es ++ history_of object (entries n)) (history_past n (omega (arith, e))) ∙ ap (λ k. history_of object (entries k)) (sym e)
 
-      earlier : p < n → history_below n ≡ history_of name (entries p) → history_below n ++ history_of name (entries n) ≡ history_of name (entries p)
+      earlier : object.partition < n → history_below n ≡ history_of object (entries object.partition) → history_below n ++ history_of object (entries n) ≡ history_of object (entries object.partition)
       earlier k before =
-          let other : p ≢ n = omega (arith, k) in
+          let other : object.partition ≢ n = omega (arith, k) in
           ap (λ es. history_below n ++ es) (elsewhere n other) ∙ append-nil (history_below n) ∙ before

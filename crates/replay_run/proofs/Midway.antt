@@ -1,6 +1,7 @@
 -- A line of bytes, item by item: how it begins, how each item is handled, and that it ends in the run after the line.
 use Rattle.std.proofs.Common.{◌≡◌, ◌≢◌, ℕ, ◌+◌, ◌≤◌, ◌<◌, true, false, cond, ◌||◌, List, [], ◌∷◌, ◌++◌, length, Option, Some, None, Contains, refl, ap, sym, ◌∙◌, subst, ⊎_elim, inl, inr, arith, length-append, append-nil}
 use Rattle.std.specs.Prelude.{is_some}
+use Rattle.grid_base.specs.Objects.{Object}
 use Rattle.grid_base.specs.declared.names.CallId.{CallId}
 use Rattle.grid_base.specs.declared.calls.Request.{Request}
 use Rattle.frame_codec.specs.declared.malformed.Malformed.{Malformed}
@@ -8,8 +9,8 @@ use Rattle.partition_protocol.proofs.Lists.{In, in_cases, in_left, in_right, in_
 use Rattle.session_core.specs.declared.item.Item.{Item}
 use Rattle.session_core.specs.declared.item.Item.TheVariants.{Call as Asks, Reply}
 use Rattle.script_lang.specs.declared.line.Line.TheVariants.{Arrive}
-use Rattle.replay_run.specs.PartitionObjects.{partition_object}
-use Rattle.replay_run.specs.Runs.{Run, Connection, connection_of, fault_on, messages_on, bytes_of, with_bytes, took_bytes, items_by, arrival_at, is_skipped, told, asked, handled_all, next_line, after_line}
+use Rattle.object_store.specs.Partitions.{Partition}
+use Rattle.replay_run.specs.Runs.{Run, Connection, connection_of, fault_on, messages_on, bytes_of, moment_of, with_bytes, took_bytes, items_by, arrival_at, is_skipped, told, asked, handled_all, next_line, after_line}
 use Rattle.replay_run.specs.Printing.{does_nothing}
 use Rattle.replay_run.specs.Skips.{AreOfLine, calls_at}
 use Rattle.replay_run.specs.ScriptRuns.{MayAsk, IsNext, IsRun, IsMidway, answer_told, call_asked, calls_in}
@@ -31,11 +32,11 @@ calls_in-append [] then = refl
 calls_in-append (Reply bytes ∷ first) then = calls_in-append first then
 calls_in-append (Asks request ∷ first) then = ap (λ ids. request.id ∷ ids) (calls_in-append first then)
 
-module _ (r : Run) (is : IsRun r) (k : Connection) (there : connection_of r k.conn ≡ Some k) (bytes : List ℕ) where
+module _ {o : Object Request Partition} (r : Run) (is : IsRun o r) (k : Connection) (there : connection_of r k.conn ≡ Some k) (bytes : List ℕ) where
   abbrev pub first_number : ℕ
   first_number = length (messages_on k)
 
-  pub begun_midway : IsMidway r k bytes [] [] (took_bytes r k bytes)
+  pub begun_midway : IsMidway o r k bytes [] [] (took_bytes r k bytes)
   begun_midway =
       let taken = has_taken r k bytes is there in
       record {
@@ -46,20 +47,20 @@ module _ (r : Run) (is : IsRun r) (k : Connection) (there : connection_of r k.co
       }
 
   -- what the run has by then
-  pub midway_come : (done : List Item) (skips : List CallId) (now : Run) → IsMidway r k bytes done skips now → HasCome (took_bytes r k bytes) (all_arriving (r.lines + 1) k.member done) now
-  midway_come done skips now m = subst (λ n. HasCome (took_bytes r k bytes) (all_arriving (r.lines + 1) k.member done) n) (sym m.is) (handled_all_come partition_object skips (took_bytes r k bytes) k done)
+  pub midway_come : (done : List Item) (skips : List CallId) (now : Run) → IsMidway o r k bytes done skips now → HasCome (took_bytes r k bytes) (all_arriving (r.lines + 1) k.member (moment_of r k.member) done) now
+  midway_come done skips now m = subst (λ n. HasCome (took_bytes r k bytes) (all_arriving (r.lines + 1) k.member (moment_of r k.member) done) n) (sym m.is) (handled_all_come o skips (took_bytes r k bytes) k done)
 
-  pub midway_bytes : (done : List Item) (skips : List CallId) (now : Run) → IsMidway r k bytes done skips now → bytes_of now ≡ bytes_of r + length bytes
-  midway_bytes done skips now m = ap bytes_of m.is ∙ handled_no_more skips (took_bytes r k bytes) k done ∙ bytes_taken_more r k bytes is there
+  pub midway_bytes : (done : List Item) (skips : List CallId) (now : Run) → IsMidway o r k bytes done skips now → bytes_of now ≡ bytes_of r + length bytes
+  midway_bytes done skips now m = ap bytes_of m.is ∙ handled_no_more o skips (took_bytes r k bytes) k done ∙ bytes_taken_more r k bytes is there
 
   -- Each item makes one event at most.
-  pub midway_events : (done : List Item) (skips : List CallId) (now : Run) → IsMidway r k bytes done skips now → length now.events ≤ length r.events + length done
+  pub midway_events : (done : List Item) (skips : List CallId) (now : Run) → IsMidway o r k bytes done skips now → length now.events ≤ length r.events + length done
   midway_events done skips now m =
-      let more = handled_events skips (took_bytes r k bytes) k done in
+      let more = handled_events o skips (took_bytes r k bytes) k done in
       let same = ap (λ (n : Run). length n.events) m.is in
       omega (arith, more, same)
 
-  module _ (done : List Item) (item : Item) (rest : List Item) (come : items_by k bytes ≡ done ++ item ∷ rest) (skips : List CallId) (now : Run) (m : IsMidway r k bytes done skips now) where
+  module _ (done : List Item) (item : Item) (rest : List Item) (come : items_by k bytes ≡ done ++ item ∷ rest) (skips : List CallId) (now : Run) (m : IsMidway o r k bytes done skips now) where
     numbered : AreNumbered k.conn first_number (done ++ item ∷ rest)
     numbered = subst (AreNumbered k.conn first_number) come (items_room k bytes).0
 
@@ -73,20 +74,20 @@ module _ (r : Run) (is : IsRun r) (k : Connection) (there : connection_of r k.co
     one_more = let more = length-append done (item ∷ []) in omega (arith, more)
 
   -- One item more, which the session answered itself.
-  module _ (done : List Item) (answer : List ℕ) (rest : List Item) (come : items_by k bytes ≡ done ++ Reply answer ∷ rest) (skips : List CallId) (now : Run) (m : IsMidway r k bytes done skips now) where
-    pub told_midway : IsMidway r k bytes (done ++ Reply answer ∷ []) skips (told now k.conn answer)
+  module _ (done : List Item) (answer : List ℕ) (rest : List Item) (come : items_by k bytes ≡ done ++ Reply answer ∷ rest) (skips : List CallId) (now : Run) (m : IsMidway o r k bytes done skips now) where
+    pub told_midway : IsMidway o r k bytes (done ++ Reply answer ∷ []) skips (told now k.conn answer)
     told_midway = record {
       run = answer_told now k.conn answer m.run;
       is =
           ap (λ (x : Run). told x k.conn answer) m.is
-          ∙ sym (handled_all-append partition_object skips (took_bytes r k bytes) k done (Reply answer ∷ []));
+          ∙ sym (handled_all-append o skips (took_bytes r k bytes) k done (Reply answer ∷ []));
       own = λ id c. subst (λ ids. Contains ids id) (sym (calls_in-append done (Reply answer ∷ []) ∙ append-nil (calls_in done))) (m.own id c);
       may = subst (λ n. MayAsk (told now k.conn answer) (with_bytes k bytes) n) (one_more done (Reply answer) rest come skips now m)
           (may_ask_after now (with_bytes k bytes) (first_number + length done) k.conn answer m.may);
     }
 
   -- One item more, which is a call.
-  module _ (done : List Item) (q : Request) (rest : List Item) (come : items_by k bytes ≡ done ++ Asks q ∷ rest) (skips : List CallId) (now : Run) (m : IsMidway r k bytes done skips now) where
+  module _ (done : List Item) (q : Request) (rest : List Item) (come : items_by k bytes ≡ done ++ Asks q ∷ rest) (skips : List CallId) (now : Run) (m : IsMidway o r k bytes done skips now) where
     as_numbered : IsNumbered (record { conn = k.conn; number = first_number + length done }) (Asks q)
     as_numbered = numbered_at k.conn first_number done (Asks q) rest (numbered done (Asks q) rest come skips now m)
 
@@ -123,54 +124,56 @@ module _ (r : Run) (is : IsRun r) (k : Connection) (there : connection_of r k.co
           (λ i. in_left id (calls_in done) (q.id ∷ []) (in_contains id (calls_in done) (m.own id (contains_in id skips i))))
           (in_cases id own skips (in_contains id (own ++ skips) c))))
 
-      run_more : asked partition_object own now (arrival_at now k.member q) ≡ handled_all partition_object (own ++ skips) (took_bytes r k bytes) k (done ++ Asks q ∷ [])
+      run_more : asked o own now (arrival_at now k.member q) ≡ handled_all o (own ++ skips) (took_bytes r k bytes) k (done ++ Asks q ∷ [])
       run_more =
           let taken = took_bytes r k bytes in
-          asked_alike partition_object own (own ++ skips) now (arrival_at now k.member q) its_alike
-          ∙ ap (λ x. asked partition_object (own ++ skips) x (arrival_at x k.member q)) (m.is ∙ sym (handled_all_alike partition_object (own ++ skips) skips taken k done before_alike))
-          ∙ sym (handled_all-append partition_object (own ++ skips) taken k done (Asks q ∷ []))
+          asked_alike o own (own ++ skips) now (arrival_at now k.member q) its_alike
+          ∙ ap (λ x. asked o (own ++ skips) x (arrival_at x k.member q)) (m.is ∙ sym (handled_all_alike o (own ++ skips) skips taken k done before_alike))
+          ∙ sym (handled_all-append o (own ++ skips) taken k done (Asks q ∷ []))
 
       -- It found no memory, or has its event.
-      pub asked_midway : IsMidway r k bytes (done ++ Asks q ∷ []) (own ++ skips) (asked partition_object own now (arrival_at now k.member q))
+      pub asked_midway : IsMidway o r k bytes (done ++ Asks q ∷ []) (own ++ skips) (asked o own now (arrival_at now k.member q))
       asked_midway = record {
         run = call_asked own now k.member q m.run next_midway;
         is = run_more;
         own = own_more;
-        may = subst (λ n. MayAsk (asked partition_object own now (arrival_at now k.member q)) (with_bytes k bytes) n) (one_more done (Asks q) rest come skips now m)
-            (may_ask_more partition_object own now (with_bytes k bytes) (first_number + length done) k.member q m.may its_name);
+        may = subst (λ n. MayAsk (asked o own now (arrival_at now k.member q)) (with_bytes k bytes) n) (one_more done (Asks q) rest come skips now m)
+            (may_ask_more o own now (with_bytes k bytes) (first_number + length done) k.member q m.may its_name);
       }
 
 -- lines of bytes
 
 module _ (r : Run) (c : ℕ) (bytes : List ℕ) where
-  pub unopened_line : (skips : List CallId) → connection_of r c ≡ None → after_line partition_object skips r (Arrive c bytes) ≡ next_line r
-  unopened_line skips none = ap (on_bytes skips r bytes) none
-
   pub unopened_does_nothing : connection_of r c ≡ None → does_nothing r (Arrive c bytes) ≡ true
   unopened_does_nothing none = rw none refl
 
   module _ (k : Connection) (there : connection_of r c ≡ Some k) where
-    on_sound : (skips : List CallId) (fault : Option Malformed) → fault_on k ≡ fault
-        → after_line partition_object skips r (Arrive c bytes) ≡ cond (is_some fault) (next_line r) (handled_all partition_object skips (took_bytes r k bytes) k (items_by k bytes))
-    on_sound skips fault same =
-        ap (on_bytes skips r bytes) there
-        ∙ ap (λ (f : Option Malformed). cond (is_some f) (next_line r) (handled_all partition_object skips (took_bytes r k bytes) k (items_by k bytes))) same
-
-    pub closed_line : (skips : List CallId) (fault : Malformed) → fault_on k ≡ Some fault → after_line partition_object skips r (Arrive c bytes) ≡ next_line r
-    closed_line skips fault closed = on_sound skips (Some fault) closed
-
     pub closed_does_nothing : (fault : Malformed) → fault_on k ≡ Some fault → does_nothing r (Arrive c bytes) ≡ true
     closed_does_nothing fault closed = rw (there, closed) refl
 
     pub open_does_something : fault_on k ≡ None → does_nothing r (Arrive c bytes) ≡ false
     open_does_something sound = rw (there, sound) refl
 
-    -- All items were handled.
-    pub ended_line : (done : List Item) (skips : List CallId) (now : Run) → fault_on k ≡ None → items_by k bytes ≡ done → IsMidway r k bytes done skips now
-        → after_line partition_object skips r (Arrive c bytes) ≡ now
-    ended_line done skips now sound come m = on_sound skips None sound ∙ ap (handled_all partition_object skips (took_bytes r k bytes) k) come ∙ sym m.is
+module _ (o : Object Request Partition) (r : Run) (c : ℕ) (bytes : List ℕ) where
+  pub unopened_line : (skips : List CallId) → connection_of r c ≡ None → after_line o skips r (Arrive c bytes) ≡ next_line r
+  unopened_line skips none = ap (on_bytes o skips r bytes) none
 
-    pub ended_skips : (done : List Item) (skips : List CallId) (now : Run) → fault_on k ≡ None → items_by k bytes ≡ done → IsMidway r k bytes done skips now
+  module _ (k : Connection) (there : connection_of r c ≡ Some k) where
+    on_sound : (skips : List CallId) (fault : Option Malformed) → fault_on k ≡ fault
+        → after_line o skips r (Arrive c bytes) ≡ cond (is_some fault) (next_line r) (handled_all o skips (took_bytes r k bytes) k (items_by k bytes))
+    on_sound skips fault same =
+        ap (on_bytes o skips r bytes) there
+        ∙ ap (λ (f : Option Malformed). cond (is_some f) (next_line r) (handled_all o skips (took_bytes r k bytes) k (items_by k bytes))) same
+
+    pub closed_line : (skips : List CallId) (fault : Malformed) → fault_on k ≡ Some fault → after_line o skips r (Arrive c bytes) ≡ next_line r
+    closed_line skips fault closed = on_sound skips (Some fault) closed
+
+    -- All items were handled.
+    pub ended_line : (done : List Item) (skips : List CallId) (now : Run) → fault_on k ≡ None → items_by k bytes ≡ done → IsMidway o r k bytes done skips now
+        → after_line o skips r (Arrive c bytes) ≡ now
+    ended_line done skips now sound come m = on_sound skips None sound ∙ ap (handled_all o skips (took_bytes r k bytes) k) come ∙ sym m.is
+
+    pub ended_skips : (done : List Item) (skips : List CallId) (now : Run) → fault_on k ≡ None → items_by k bytes ≡ done → IsMidway o r k bytes done skips now
         → AreOfLine r (Arrive c bytes) skips
     ended_skips done skips now sound come m id i = subst (λ ids. Contains ids id) (sym calls) (m.own id i)
       where

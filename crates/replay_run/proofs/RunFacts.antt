@@ -40,7 +40,7 @@ abbrev pub is_of : ℕ → Arrival → Bool
 is_of p a = a.request.partition == p
 
 pub record ArrivalsOk (r : Run) : Type 0 where
-  -- each is of the partition that its key names
+  -- each is of the partition of its object
   pub placed : (a : Arrival) → In a r.arrivals → IsPlaced a.request
   -- no two have one name
   pub once : NamedOnce (map arrival_name r.arrivals)

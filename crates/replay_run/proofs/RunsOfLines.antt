@@ -1,14 +1,14 @@
 -- What holds of every run that lines can make.
-use Rattle.std.proofs.Common.{pos, ◌≡◌, ℕ, ◌≤◌, Bool, true, false, cond, List, [], ◌∷◌, ◌++◌, Option, Some, None, refl, ap, sym, ◌∙◌, ⊎_elim, inl, inr, arith}
+use Rattle.std.proofs.Common.{pos, ◌≡◌, ℕ, ◌≤◌, Bool, true, false, cond, List, [], ◌∷◌, ◌++◌, slice_set, Option, Some, None, refl, ap, sym, ◌∙◌, ⊎_elim, inl, inr, arith}
 use Rattle.grid_base.specs.Objects.{Object}
 use Rattle.grid_base.specs.declared.names.CallId.{CallId}
 use Rattle.grid_base.specs.declared.calls.Request.{Request}
+use Rattle.object_store.specs.Partitions.{Partition}
 use Rattle.partition_protocol.proofs.Lists.{In, in_cases}
-use Rattle.replay_run.specs.PartitionObjects.{partition_object}
 use Rattle.grid_base.specs.Errors.{want_of_memory}
 use Rattle.replay_run.specs.Runs.{Run, Connection, Arrival, Appended, begun, updated, with_bytes, own_answer, told, refusal, arrival_at, happening, arrived, is_skipped, asked}
 use Rattle.replay_run.specs.Printing.{arrival_of, answer_of, is_answer_to}
-use Rattle.replay_run.specs.ScriptRuns.{IsNext, IsRun, grid_begun, line_counted, connection_opened, bytes_taken, answer_told, call_asked}
+use Rattle.replay_run.specs.ScriptRuns.{IsNext, IsRun, grid_begun, line_counted, clock_was_set, connection_opened, bytes_taken, answer_told, call_asked}
 use Rattle.replay_run.proofs.Hearing.{no_fewer}
 use Rattle.replay_run.proofs.Counts.{count-append}
 use Rattle.replay_run.proofs.Trails.{find_some}
@@ -98,25 +98,26 @@ asked_ok o skips r member request ok next = go (is_skipped skips request.id)
           of_refusals = refusals_after o r ok member request next;
         }
 
-pub run_ok : {r : Run} → IsRun r → RunOk partition_object r
-run_ok (grid_begun members backups grid) = begun_ok partition_object members backups grid
-run_ok (line_counted r is) = let ok = run_ok is in quiet partition_object r r.connections ok ok.connections (λ c k s. (k, s, omega arith))
-run_ok (connection_opened r c member is free) =
+pub run_ok : {o : Object Request Partition} {r : Run} → IsRun o r → RunOk o r
+run_ok {o} (grid_begun members backups grid) = begun_ok o members backups grid
+run_ok {o} (line_counted r is) = let ok = run_ok is in quiet o r r.moments r.connections ok ok.connections (λ c k s. (k, s, omega arith))
+run_ok {o} (clock_was_set r member moment is) = let ok = run_ok is in quiet o r (slice_set r.moments member moment) r.connections ok ok.connections (λ c k s. (k, s, omega arith))
+run_ok {o} (connection_opened r c member is free) =
     let ok = run_ok is in
     let new : Connection = record { conn = c; member = member; bytes = [] } in
-    quiet partition_object r (r.connections ++ new ∷ []) ok (apart_opened r.connections new ok.connections free) (opened_grows r new)
-run_ok (bytes_taken r connection bytes is there) =
+    quiet o r r.moments (r.connections ++ new ∷ []) ok (apart_opened r.connections new ok.connections free) (opened_grows r new)
+run_ok {o} (bytes_taken r connection bytes is there) =
     let ok = run_ok is in
     let new : Connection = with_bytes connection bytes in
-    quiet partition_object r (updated new r.connections) ok (apart_updated r.connections new ok.connections) (updated_grows r connection new there refl (no_fewer connection.bytes bytes))
-run_ok (answer_told r c bytes is) = told_ok partition_object r c bytes (run_ok is)
-run_ok (call_asked skips r member request is next) = asked_ok partition_object skips r member request (run_ok is) next
+    quiet o r r.moments (updated new r.connections) ok (apart_updated r.connections new ok.connections) (updated_grows r connection new there refl (no_fewer connection.bytes bytes))
+run_ok {o} (answer_told r c bytes is) = told_ok o r c bytes (run_ok is)
+run_ok {o} (call_asked skips r member request is next) = asked_ok o skips r member request (run_ok is) next
 
 -- A call that did not arrive was not answered.
-pub unheard_unanswered : (r : Run) → IsRun r → (id : CallId) → arrival_of r id ≡ None → answer_of r id ≡ None
-unheard_unanswered r is id unheard = go (answer_of r id) refl
+pub unheard_unanswered : {o : Object Request Partition} (r : Run) → IsRun o r → (id : CallId) → arrival_of r id ≡ None → answer_of r id ≡ None
+unheard_unanswered {o} r is id unheard = go (answer_of r id) refl
   where
-    ok : RunOk partition_object r
+    ok : RunOk o r
     ok = run_ok is
 
     go : (answer : Option Appended) → answer_of r id ≡ answer → answer_of r id ≡ None

@@ -10,9 +10,9 @@ use Rattle.partition_protocol.proofs.RowFacts.{false_or_not}
 use Rattle.session_core.specs.declared.item.Item.{Item}
 use Rattle.session_core.specs.declared.item.Item.TheVariants.{Call as Asks, Reply}
 use Rattle.script_lang.specs.declared.line.Line.{Line}
-use Rattle.script_lang.specs.declared.line.Line.TheVariants.{Grid, OpenConn, Arrive, Trail, Comment, End}
-use Rattle.replay_run.specs.PartitionObjects.{partition_object}
-use Rattle.replay_run.specs.Runs.{Run, Connection, Arrival, connection_of, fault_on, items_by, took_bytes, next_line, after_line, bytes_arrived, told, asked, handled, handled_all, arrival_at, is_skipped, opened}
+use Rattle.script_lang.specs.declared.line.Line.TheVariants.{Grid, OpenConn, Arrive, Clock, Dump, Trail, Comment, End}
+use Rattle.object_store.specs.Partitions.{Partition}
+use Rattle.replay_run.specs.Runs.{Run, Connection, Arrival, connection_of, fault_on, items_by, moment_of, took_bytes, next_line, clock_set, after_line, bytes_arrived, told, asked, handled, handled_all, arrival_at, is_skipped, opened}
 use Rattle.replay_run.specs.ScriptRuns.{calls_in}
 use Rattle.replay_run.specs.Skips.{items_at, calls_at}
 use Rattle.replay_run.proofs.Places.{same_call}
@@ -35,10 +35,10 @@ unless_same a b different = false_or_not (is_same_call a b) (λ e. different (sa
 abbrev pub Alike : List CallId → List CallId → List CallId → Type 0
 Alike s k calls = (id : CallId) → In id calls → is_skipped s id ≡ is_skipped k id
 
-pub names_arriving : (line member : ℕ) (items : List Item) → map (λ (a : Arrival). a.id) (all_arriving line member items) ≡ calls_in items
-names_arriving line member [] = refl
-names_arriving line member (Reply bytes ∷ items) = names_arriving line member items
-names_arriving line member (Asks request ∷ items) = ap (λ ids. request.id ∷ ids) (names_arriving line member items)
+pub names_arriving : (line member now : ℕ) (items : List Item) → map (λ (a : Arrival). a.id) (all_arriving line member now items) ≡ calls_in items
+names_arriving line member now [] = refl
+names_arriving line member now (Reply bytes ∷ items) = names_arriving line member now items
+names_arriving line member now (Asks request ∷ items) = ap (λ ids. request.id ∷ ids) (names_arriving line member now items)
 
 pub asked_alike : {State : Type 0} (o : Object Request State) (s k : List CallId) (r : Run) (a : Arrival) → is_skipped s a.id ≡ is_skipped k a.id → asked o s r a ≡ asked o k r a
 asked_alike o s k r a e = same_choice (is_skipped s a.id) (is_skipped k a.id) _ _ e
@@ -62,27 +62,29 @@ handled_all-append o skips r c (item ∷ items) then = handled_all-append o skip
 
 -- lines
 
-on_open : (s k : List CallId) (r : Run) (bytes : List ℕ) (c : Connection) (closed : Bool) → Alike s k (calls_in (cond closed [] (items_by c bytes)))
-    → cond closed (next_line r) (handled_all partition_object s (took_bytes r c bytes) c (items_by c bytes))
-    ≡ cond closed (next_line r) (handled_all partition_object k (took_bytes r c bytes) c (items_by c bytes))
-on_open s k r bytes c true h = refl
-on_open s k r bytes c false h = handled_all_alike partition_object s k (took_bytes r c bytes) c (items_by c bytes) h
+on_open : (o : Object Request Partition) (s k : List CallId) (r : Run) (bytes : List ℕ) (c : Connection) (closed : Bool) → Alike s k (calls_in (cond closed [] (items_by c bytes)))
+    → cond closed (next_line r) (handled_all o s (took_bytes r c bytes) c (items_by c bytes))
+    ≡ cond closed (next_line r) (handled_all o k (took_bytes r c bytes) c (items_by c bytes))
+on_open o s k r bytes c true h = refl
+on_open o s k r bytes c false h = handled_all_alike o s k (took_bytes r c bytes) c (items_by c bytes) h
 
 -- the run after bytes on a connection, which may not have been opened
-abbrev pub on_bytes : List CallId → Run → List ℕ → Option Connection → Run
-on_bytes skips r bytes found = elim found [ None ↦ next_line r | Some c ↦ bytes_arrived partition_object skips r c bytes ]
+abbrev pub on_bytes : Object Request Partition → List CallId → Run → List ℕ → Option Connection → Run
+on_bytes o skips r bytes found = elim found [ None ↦ next_line r | Some c ↦ bytes_arrived o skips r c bytes ]
 
-on_connection : (s k : List CallId) (r : Run) (bytes : List ℕ) (found : Option Connection) → Alike s k (calls_in (items_at found bytes)) → on_bytes s r bytes found ≡ on_bytes k r bytes found
-on_connection s k r bytes None h = refl
-on_connection s k r bytes (Some c) h = on_open s k r bytes c (is_some (fault_on c)) h
+on_connection : (o : Object Request Partition) (s k : List CallId) (r : Run) (bytes : List ℕ) (found : Option Connection) → Alike s k (calls_in (items_at found bytes)) → on_bytes o s r bytes found ≡ on_bytes o k r bytes found
+on_connection o s k r bytes None h = refl
+on_connection o s k r bytes (Some c) h = on_open o s k r bytes c (is_some (fault_on c)) h
 
-pub skips_alike : (s k : List CallId) (r : Run) (line : Line) → Alike s k (calls_at r line) → after_line partition_object s r line ≡ after_line partition_object k r line
-skips_alike s k r (Grid members backups capacity) h = refl
-skips_alike s k r (OpenConn c member) h = refl
-skips_alike s k r (Arrive c bytes) h = on_connection s k r bytes (connection_of r c) h
-skips_alike s k r (Trail partition) h = refl
-skips_alike s k r Comment h = refl
-skips_alike s k r End h = refl
+pub skips_alike : (o : Object Request Partition) (s k : List CallId) (r : Run) (line : Line) → Alike s k (calls_at r line) → after_line o s r line ≡ after_line o k r line
+skips_alike o s k r (Grid members backups capacity) h = refl
+skips_alike o s k r (OpenConn c member) h = refl
+skips_alike o s k r (Arrive c bytes) h = on_connection o s k r bytes (connection_of r c) h
+skips_alike o s k r (Clock member moment) h = refl
+skips_alike o s k r (Dump partition member) h = refl
+skips_alike o s k r (Trail partition) h = refl
+skips_alike o s k r Comment h = refl
+skips_alike o s k r End h = refl
 
 -- what a line does to the lines and the arrivals
 pub record Counts (r next : Run) (calls : List CallId) : Type 0 where
@@ -94,30 +96,32 @@ pub record Counts (r next : Run) (calls : List CallId) : Type 0 where
 quiet : (r next : Run) → next.lines ≡ r.lines + 1 → next.arrivals ≡ r.arrivals → Counts r next []
 quiet r next lines arrivals = record { lines = lines; come = []; arrivals = arrivals ∙ sym (append-nil r.arrivals); names = refl }
 
-open_counts : (k : List CallId) (r : Run) (bytes : List ℕ) (c : Connection) (closed : Bool)
-    → Counts r (cond closed (next_line r) (handled_all partition_object k (took_bytes r c bytes) c (items_by c bytes))) (calls_in (cond closed [] (items_by c bytes)))
-open_counts k r bytes c true = quiet r (next_line r) refl refl
-open_counts k r bytes c false =
-    let come = handled_all_come partition_object k (took_bytes r c bytes) c (items_by c bytes) in
+open_counts : (o : Object Request Partition) (k : List CallId) (r : Run) (bytes : List ℕ) (c : Connection) (closed : Bool)
+    → Counts r (cond closed (next_line r) (handled_all o k (took_bytes r c bytes) c (items_by c bytes))) (calls_in (cond closed [] (items_by c bytes)))
+open_counts o k r bytes c true = quiet r (next_line r) refl refl
+open_counts o k r bytes c false =
+    let come = handled_all_come o k (took_bytes r c bytes) c (items_by c bytes) in
     record {
       lines = come.lines;
-      come = all_arriving (r.lines + 1) c.member (items_by c bytes);
+      come = all_arriving (r.lines + 1) c.member (moment_of r c.member) (items_by c bytes);
       arrivals = come.arrivals;
-      names = names_arriving (r.lines + 1) c.member (items_by c bytes);
+      names = names_arriving (r.lines + 1) c.member (moment_of r c.member) (items_by c bytes);
     }
 
-connection_counts : (k : List CallId) (r : Run) (bytes : List ℕ) (found : Option Connection) → Counts r (on_bytes k r bytes found) (calls_in (items_at found bytes))
-connection_counts k r bytes None = quiet r (next_line r) refl refl
-connection_counts k r bytes (Some c) = open_counts k r bytes c (is_some (fault_on c))
+connection_counts : (o : Object Request Partition) (k : List CallId) (r : Run) (bytes : List ℕ) (found : Option Connection) → Counts r (on_bytes o k r bytes found) (calls_in (items_at found bytes))
+connection_counts o k r bytes None = quiet r (next_line r) refl refl
+connection_counts o k r bytes (Some c) = open_counts o k r bytes c (is_some (fault_on c))
 
 opened_counts : (r : Run) (c member : ℕ) (there : Bool) → Counts r (cond there (next_line r) (opened r c member)) []
 opened_counts r c member true = quiet r (next_line r) refl refl
 opened_counts r c member false = quiet r (opened r c member) refl refl
 
-pub line_counts : (k : List CallId) (r : Run) (line : Line) → Counts r (after_line partition_object k r line) (calls_at r line)
-line_counts k r (Grid members backups capacity) = quiet r (next_line r) refl refl
-line_counts k r (OpenConn c member) = opened_counts r c member (is_some (connection_of r c))
-line_counts k r (Arrive c bytes) = connection_counts k r bytes (connection_of r c)
-line_counts k r (Trail partition) = quiet r (next_line r) refl refl
-line_counts k r Comment = quiet r (next_line r) refl refl
-line_counts k r End = quiet r (next_line r) refl refl
+pub line_counts : (o : Object Request Partition) (k : List CallId) (r : Run) (line : Line) → Counts r (after_line o k r line) (calls_at r line)
+line_counts o k r (Grid members backups capacity) = quiet r (next_line r) refl refl
+line_counts o k r (OpenConn c member) = opened_counts r c member (is_some (connection_of r c))
+line_counts o k r (Arrive c bytes) = connection_counts o k r bytes (connection_of r c)
+line_counts o k r (Clock member moment) = quiet r (clock_set r member moment) refl refl
+line_counts o k r (Dump partition member) = quiet r (next_line r) refl refl
+line_counts o k r (Trail partition) = quiet r (next_line r) refl refl
+line_counts o k r Comment = quiet r (next_line r) refl refl
+line_counts o k r End = quiet r (next_line r) refl refl

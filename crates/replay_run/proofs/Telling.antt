@@ -1,32 +1,36 @@
 -- The grid after a session's own answer was appended to its connection.
 use Rattle.std.proofs.Common.{◌≡◌, ℕ, ◌+◌, List, [], ◌∷◌, ◌++◌, refl, ap, sym, ◌∙◌, subst, append-nil}
 use Rattle.replay_run.specs.declared.grid.Grid.{Grid}
+use Rattle.call_engine.specs.Calls.{Settings}
 use Rattle.replay_run.specs.Runs.{Run, own_answer, told}
 use Rattle.replay_run.specs.Printing.{appended_text}
 use Rattle.replay_run.specs.Tables.{with_reply}
-use Rattle.replay_run.specs.Grids.{IsCounting, Holds}
+use Rattle.replay_run.specs.Grids.{FormOf, IsCounting, Holds}
 use Rattle.replay_run.specs.WorldCalls.{texts_of, HasTold}
 use Rattle.replay_run.proofs.LineTexts.{new_with}
 use Rattle.replay_run.proofs.TableRuns.{told_table}
 use Rattle.replay_run.proofs.TableCounts.{counting_told}
 
-module _ (grid : Grid) (r : Run) (conn number : ℕ) (answer : List ℕ) (h : Holds grid r) (count : IsCounting grid.connections r conn number) where
-  abbrev replied_grid : Grid
+module _ {V : Type 0} {T : V → Type 0} {form : FormOf V T} {settings : Settings} (grid : Grid V T) (r : Run) (conn number : ℕ) (answer : List ℕ) (h : Holds form settings grid r) (count : IsCounting grid.connections r conn number) where
+  abbrev replied_grid : Grid V T
   replied_grid = record grid { connections = with_reply grid.connections conn }
 
-  told_holds : Holds replied_grid (told r conn answer)
+  told_holds : Holds form settings replied_grid (told r conn answer)
   told_holds = record {
+    goes_by = h.goes_by;
     lines = h.lines;
     members = h.members;
+    moments = h.moments;
+    clocks = h.clocks;
     table = told_table grid.connections r conn answer h.table;
     worlds = λ p low. let w = h.worlds p low in record { world = w.world; there = w.there; is = record { stands = w.is.stands; setup = w.is.setup }; given = w.given };
   }
 
-  pub has_told : (new : Grid) (written text : List ℕ) → new ≡ record grid { connections = with_reply grid.connections conn } → text ≡ written ++ appended_text (own_answer grid.lines conn answer)
-      → HasTold new r conn number answer written text
+  pub has_told : (new : Grid V T) (written text : List ℕ) → new ≡ record grid { connections = with_reply grid.connections conn } → text ≡ written ++ appended_text (own_answer grid.lines conn answer)
+      → HasTold form settings new r conn number answer written text
   has_told new written text made is = record {
-    holds = subst (λ g. Holds g (told r conn answer)) (sym made) told_holds;
-    counting = subst (λ (g : Grid). IsCounting g.connections (told r conn answer) conn (number + 1)) (sym made)
+    holds = subst (λ g. Holds form settings g (told r conn answer)) (sym made) told_holds;
+    counting = subst (λ (g : Grid V T). IsCounting g.connections (told r conn answer) conn (number + 1)) (sym made)
         (let counting = counting_told grid.connections r conn number count in record { here = counting.here; others = counting.others });
     added = is ∙ ap (λ n. written ++ appended_text (own_answer n conn answer)) h.lines
         ∙ ap (λ xs. written ++ xs) (sym (ap texts_of (new_with r (told r conn answer) (own_answer r.lines conn answer ∷ []) refl) ∙ append-nil (appended_text (own_answer r.lines conn answer))));

@@ -1,7 +1,11 @@
 -- The grid of the code stands for a run: its worlds for the events of their partitions, its table for the connections and the calls.
 use Rattle.std.specs.Prelude.{◌≡◌, ◌≢◌, ℕ, ◌+◌, ◌*◌, ◌<◌, ◌≤◌, List, [], ◌++◌, length, Option, Some, None, option_map, slice_get}
+use Rattle.std.specs.declared.alloc.Global.{Global}
+use Rattle.std.specs.declared.dyn_box.DynBox.{DynBox}
+use Rattle.entry_processors.specs.Processors.{ProcessorForm}
 use Rattle.grid_base.specs.declared.names.CallId.{CallId}
 use Rattle.grid_base.specs.declared.calls.Request.{Request}
+use Rattle.partition_protocol.specs.Events.{Event}
 use Rattle.partition_world.specs.declared.world.World.{World}
 use Rattle.partition_world.specs.Worlds.{StandsFor, setup_of, waiting}
 use Rattle.replay_run.specs.declared.connections.CallLines.{CallLines}
@@ -10,9 +14,12 @@ use Rattle.script_lang.specs.declared.line.Line.{Line}
 use Rattle.script_lang.specs.Limits.{most_lines, most_line_bytes}
 use Rattle.script_lang.specs.Lines.{IsWithin}
 use Rattle.session_core.specs.Sessions.{session_after}
-use Rattle.replay_run.specs.declared.shelf.MapList.{MapList}
-use Rattle.replay_run.specs.MapLists.{partition_of}
-use Rattle.replay_run.specs.PartitionObjects.{partition_object}
+use Rattle.call_engine.specs.declared.shelf.GridShelf.{GridShelf}
+use Rattle.call_engine.specs.declared.env.GridEnv.{GridEnv}
+use Rattle.call_engine.specs.Calls.{Settings}
+use Rattle.call_engine.specs.Env.{settings_of}
+use Rattle.call_engine.specs.Limits.{RequestFits}
+use Rattle.call_engine.specs.Objects.{partition_object}
 use Rattle.replay_run.specs.Runs.{Run, Connection, Arrival, Appended, connection_of, messages_on, bytes_of, events_at, after_line}
 use Rattle.replay_run.specs.Printing.{partitions, arrival_of, answer_of, line_text}
 use Rattle.replay_run.specs.ScriptRuns.{IsRun}
@@ -50,52 +57,71 @@ pub record IsCounting (table : Table) (r : Run) (conn number : ℕ) : Type 0 whe
 
 -- the worlds
 
-abbrev pub MapWorld : Type 0
-MapWorld = World MapList (Unit {0}) Request
+abbrev pub GridWorld : (V : Type 0) → (V → Type 0) → Type 0
+GridWorld V T = World GridShelf (GridEnv V T) Request
+
+abbrev pub StandsForEvents : {V : Type 0} {T : V → Type 0} → Settings → GridWorld V T → List (Event Request) → Type 0
+StandsForEvents settings world events = StandsFor (partition_object settings) RequestFits (λ (shelf : GridShelf). shelf) world events
 
 -- The world is that of a partition's events.
-pub record IsWorld (world : MapWorld) (r : Run) (p : ℕ) : Type 0 where
-  pub stands : StandsFor partition_object partition_of world (events_at p r.events)
+pub record IsWorld {V : Type 0} {T : V → Type 0} (settings : Settings) (world : GridWorld V T) (r : Run) (p : ℕ) : Type 0 where
+  pub stands : StandsForEvents settings world (events_at p r.events)
   pub setup : setup_of world ≡ record { partition = p; members = r.members; backups = r.backups }
 
 -- A partition has its world, which has given out every answer that it released.
-pub record HasWorld (worlds : List MapWorld) (r : Run) (p : ℕ) : Type 0 where
-  pub world : MapWorld
+pub record HasWorld {V : Type 0} {T : V → Type 0} (settings : Settings) (worlds : List (GridWorld V T)) (r : Run) (p : ℕ) : Type 0 where
+  pub world : GridWorld V T
   pub there : slice_get worlds p ≡ Some world
-  pub is : IsWorld world r p
+  pub is : IsWorld settings world r p
   pub given : (member : ℕ) → waiting world member ≡ []
 
--- The grid has what the run has.
-pub record Holds (grid : Grid) (r : Run) : Type 0 where
+-- what contracts see of a boxed processor, and of one behind its table of methods
+abbrev pub FormOf : (V : Type 0) → (V → Type 0) → Type 0
+FormOf V T = DynBox V Global T → ProcessorForm
+
+abbrev pub boxed : {V : Type 0} {T : V → Type 0} → ((v : V) × T v → ProcessorForm) → FormOf V T
+boxed form b = form (b.vtable, b.value)
+
+-- The grid has what the run has, and goes by the settings.
+pub record Holds {V : Type 0} {T : V → Type 0} (form : FormOf V T) (settings : Settings) (grid : Grid V T) (r : Run) : Type 0 where
+  pub goes_by : settings_of form grid.env ≡ settings
   pub lines : grid.lines ≡ r.lines
   pub members : grid.members ≡ r.members
+  pub moments : grid.moments.items ≡ r.moments
+  pub clocks : length r.moments ≡ r.members
   pub table : HasTable grid.connections r
-  pub worlds : (p : ℕ) → p < partitions → HasWorld grid.worlds.items r p
+  pub worlds : (p : ℕ) → p < partitions → HasWorld settings grid.worlds.items r p
 
 -- The lines brought no more bytes than so many lines can: each byte has two digits in its line.
 abbrev pub IsSmall : Run → Type 0
 IsSmall r = 2 * bytes_of r ≤ most_line_bytes * r.lines
 
+-- Each connection is to a member of the grid.
+abbrev pub AreReached : Run → Type 0
+AreReached r = (c : ℕ) (k : Connection) → connection_of r c ≡ Some k → k.member < r.members
+
 -- between two lines
-pub record Stands (grid : Grid) (r : Run) : Type 0 where
-  pub run : IsRun r
+pub record Stands {V : Type 0} {T : V → Type 0} (form : FormOf V T) (settings : Settings) (grid : Grid V T) (r : Run) : Type 0 where
+  pub run : IsRun (partition_object settings) r
   pub small : IsSmall r
-  pub holds : Holds grid r
+  pub holds : Holds form settings grid r
   pub settled : IsSettled grid.connections r
+  pub reached : AreReached r
 
 -- lines
 
 -- The line is one that the grid's script can have next: a line of its grammar, and within the limit of lines.
-pub record MayRun (grid : Grid) (number : ℕ) (line : Line) : Type 0 where
+pub record MayRun {V : Type 0} {T : V → Type 0} (form : FormOf V T) (grid : Grid V T) (number : ℕ) (line : Line) : Type 0 where
+  pub settings : Settings
   pub run : Run
-  pub stands : Stands grid run
+  pub stands : Stands form settings grid run
   pub read : IsWithin run.members most_line_bytes line
   pub next : number ≡ run.lines + 1
   pub within : number ≤ most_lines
 
 -- The line ran: the grid stands for the run after it, and its text was added. Its calls were skipped that found no memory.
-pub record HasRun (new : Grid) (r : Run) (line : Line) (written text : List ℕ) : Type 0 where
+pub record HasRun {V : Type 0} {T : V → Type 0} (form : FormOf V T) (settings : Settings) (new : Grid V T) (r : Run) (line : Line) (written text : List ℕ) : Type 0 where
   pub skips : List CallId
   pub of_line : AreOfLine r line skips
-  pub stands : Stands new (after_line partition_object skips r line)
-  pub added : text ≡ written ++ line_text partition_object r line (after_line partition_object skips r line)
+  pub stands : Stands form settings new (after_line (partition_object settings) skips r line)
+  pub added : text ≡ written ++ line_text (partition_object settings) r line (after_line (partition_object settings) skips r line)

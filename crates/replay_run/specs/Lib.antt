@@ -1,13 +1,9 @@
-pub mod EffectLaws
-pub mod Effects
+pub mod Dumps
 pub mod Grids
 pub mod Linearizability
-pub mod MapLists
-pub mod PartitionObjects
 pub mod PrintedEntries
 pub mod Printing
 pub mod Runs
-pub mod SameNames
 pub mod ScriptRuns
 pub mod Skips
 pub mod Tables

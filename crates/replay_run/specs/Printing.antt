@@ -6,16 +6,24 @@ use Rattle.grid_base.specs.Objects.{Object}
 use Rattle.grid_base.specs.Names.{is_same_call}
 use Rattle.grid_base.specs.declared.names.CallId.{CallId}
 use Rattle.grid_base.specs.declared.calls.MapCall.{MapCall}
-use Rattle.grid_base.specs.declared.calls.MapCall.TheVariants.{Put, Get}
+use Rattle.grid_base.specs.declared.calls.MapCall.TheVariants.{Put, Set, PutIfAbsent, Get, ContainsKey, Remove, Delete, Replace, ReplaceIfSame, RemoveIfSame, TryLock, Unlock, IsLocked, ForceUnlock, ExecuteOnKey, PutMaxIdle, SetMaxIdle}
+use Rattle.grid_base.specs.declared.calls.QueueCall.{QueueCall}
+use Rattle.grid_base.specs.declared.calls.QueueCall.TheVariants.{Offer, Poll, Peek, Size, RemainingCapacity, Clear}
+use Rattle.grid_base.specs.declared.calls.GridCall.{GridCall}
+use Rattle.grid_base.specs.declared.calls.GridCall.TheVariants as call
 use Rattle.grid_base.specs.declared.calls.Request.{Request}
+use Rattle.partition_protocol.specs.Node.{Pair}
 use Rattle.partition_protocol.specs.History.{Executed, Entry, Called, Reset}
 use Rattle.partition_protocol.specs.World.{trail}
 use Rattle.partition_protocol.specs.Service.{numbers_below}
-use Rattle.replay_run.specs.PartitionObjects.{map_call_of, target_of}
+use Rattle.call_engine.specs.Objects.{target_of}
+use Rattle.object_store.specs.Partitions.{Partition}
+use Rattle.partition_world.specs.ContentsOf.{pair_at, contents_at}
+use Rattle.replay_run.specs.Dumps.{word, number, line_end, hex_word, number_or_dash, object_words, dumped_text}
 use Rattle.partition_world.specs.Answers.{id_of}
 use Rattle.replay_run.specs.Runs.{Run, Connection, Arrival, Appended, world_at, connection_of, fault_on}
 use Rattle.script_lang.specs.declared.line.Line.{Line}
-use Rattle.script_lang.specs.declared.line.Line.TheVariants.{Grid, OpenConn, Arrive, Trail, End}
+use Rattle.script_lang.specs.declared.line.Line.TheVariants.{Grid, OpenConn, Arrive, Dump, Trail, End}
 use Rattle.frame_codec.specs.declared.malformed.Malformed.{Malformed}
 use Rattle.frame_codec.specs.declared.malformed.Why.{Why}
 use Rattle.frame_codec.specs.declared.malformed.Why.TheVariants.{Prefix, TooShort, TooLong, BadFragment, OpenFragments, ManyFrames, LongMessage, ShortStart, Spent}
@@ -73,23 +81,6 @@ all_entries o r = flat_map (entries_of o r) (numbers_below partitions)
 
 -- text
 
-abbrev pub word : List ℕ → List ℕ
-word text = text ++ 32 ∷ []
-
-abbrev pub number : ℕ → List ℕ
-number n = word (decimal n)
-
-abbrev pub line_end : List ℕ
-line_end = 10 ∷ []
-
--- bytes that may be none are `x` and their hexadecimal
-abbrev pub hex_word : List ℕ → List ℕ
-hex_word bytes = 120 ∷ encode_lower bytes
-
-abbrev pub number_or_dash : Option ℕ → List ℕ
-number_or_dash None = codes "- "
-number_or_dash (Some n) = number n
-
 abbrev pub ok_text : ℕ → List ℕ
 ok_text line = number line ++ codes "ok" ++ line_end
 
@@ -97,17 +88,43 @@ ok_text line = number line ++ codes "ok" ++ line_end
 abbrev pub appended_text : Appended → List ℕ
 appended_text m = number m.line ++ codes "to " ++ number m.conn ++ encode_lower m.bytes ++ line_end
 
-abbrev pub call_name : MapCall → List ℕ
-call_name (Put name key owner value ttl) = codes "put"
-call_name (Get name key owner) = codes "get"
+abbrev pub map_call_name : MapCall → List ℕ
+map_call_name (Put name key owner value ttl) = codes "put"
+map_call_name (Set name key owner value ttl) = codes "set"
+map_call_name (PutIfAbsent name key owner value ttl) = codes "putIfAbsent"
+map_call_name (Get name key owner) = codes "get"
+map_call_name (ContainsKey name key owner) = codes "containsKey"
+map_call_name (Remove name key owner) = codes "remove"
+map_call_name (Delete name key owner) = codes "delete"
+map_call_name (Replace name key owner value) = codes "replace"
+map_call_name (ReplaceIfSame name key owner test value) = codes "replaceIfSame"
+map_call_name (RemoveIfSame name key owner test) = codes "removeIfSame"
+map_call_name (TryLock name key owner lease) = codes "tryLock"
+map_call_name (Unlock name key owner) = codes "unlock"
+map_call_name (IsLocked name key) = codes "isLocked"
+map_call_name (ForceUnlock name key) = codes "forceUnlock"
+map_call_name (ExecuteOnKey name key owner number argument) = codes "executeOnKey"
+map_call_name (PutMaxIdle name key owner value ttl idle) = codes "putMaxIdle"
+map_call_name (SetMaxIdle name key owner value ttl idle) = codes "setMaxIdle"
+
+abbrev pub queue_call_name : QueueCall → List ℕ
+queue_call_name (Offer name value) = codes "offer"
+queue_call_name (Poll name) = codes "poll"
+queue_call_name (Peek name) = codes "peek"
+queue_call_name (Size name) = codes "size"
+queue_call_name (RemainingCapacity name) = codes "remainingCapacity"
+queue_call_name (Clear name) = codes "clear"
+
+abbrev pub call_name : GridCall → List ℕ
+call_name (call.Map c) = map_call_name c
+call_name (call.Queue c) = queue_call_name c
 
 -- `I entry P PLACE CONN NUMBER ARRIVED ANSWERED NOW OP NAME KEY REPLY`
 abbrev pub entry_text : ℕ → Printed → List ℕ
 entry_text line e =
     number line ++ codes "entry " ++ number e.partition ++ number e.place ++ number e.id.conn ++ number e.id.number
     ++ number e.arrived ++ number_or_dash e.answered ++ number e.now
-    ++ word (call_name (map_call_of e.request.call)) ++ word (hex_word (target_of e.request).map) ++ word (hex_word (target_of e.request).key)
-    ++ hex_word e.reply ++ line_end
+    ++ word (call_name e.request.call) ++ object_words (target_of e.request) ++ hex_word e.reply ++ line_end
 
 -- what was appended at the last line
 abbrev pub new_messages : Run → Run → List Appended
@@ -155,7 +172,12 @@ printed_by o after line = []
 abbrev pub trail_text : ℕ → ℕ → List ℕ
 trail_text line entries = number line ++ codes "trail " ++ decimal entries ++ line_end
 
+-- `I dump VERSION COUNT`: the version of what a member has, and how many effects it counts
+abbrev pub dump_text : ℕ → Pair → List ℕ
+dump_text line pair = number line ++ codes "dump " ++ number pair.version ++ decimal pair.count ++ line_end
+
 abbrev pub outcome_text : {State : Type 0} → Object Request State → Run → Line → List ℕ
+outcome_text o after (Dump p member) = dump_text after.lines (pair_at (world_at o after p) member)
 outcome_text o after (Trail p) = trail_text after.lines (length (entries_of o after p))
 outcome_text o after line = ok_text after.lines
 
@@ -169,8 +191,13 @@ abbrev pub line_close : Run → Line → List ℕ
 line_close after (Arrive c bytes) = closing_text after.lines c (connection_of after c)
 line_close after line = []
 
--- The text of a line: its outcome, then each message that it appended, the connection that it closed, and the entries that it prints.
-abbrev pub line_text : {State : Type 0} → Object Request State → Run → Line → Run → List ℕ
+-- A dump prints each object that the member has of the partition, as its calls have left it.
+abbrev pub line_dump : Object Request Partition → Run → Line → List ℕ
+line_dump o after (Dump p member) = dumped_text after.lines (contents_at o (world_at o after p) member)
+line_dump o after line = []
+
+-- The text of a line: its outcome, then each message that it appended, the connection that it closed, the objects that it dumps, and the entries that it prints.
+abbrev pub line_text : Object Request Partition → Run → Line → Run → List ℕ
 line_text o before line after =
     if does_nothing before line then nothing_text after.lines
-    else outcome_text o after line ++ flat_map appended_text (new_messages before after) ++ line_close after line ++ flat_map (entry_text after.lines) (printed_by o after line)
+    else outcome_text o after line ++ flat_map appended_text (new_messages before after) ++ line_close after line ++ line_dump o after line ++ flat_map (entry_text after.lines) (printed_by o after line)

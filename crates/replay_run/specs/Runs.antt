@@ -1,5 +1,5 @@
 -- The run of a script: what its lines so far have made. The worlds of the partitions are not kept: each is the protocol's run of its events.
-use Rattle.std.specs.Prelude.{ℕ, ◌+◌, ◌==◌, Bool, true, if◌then◌else◌, ℤ, pos, List, [], ◌∷◌, ◌++◌, length, map, filter, drop, sum_by, Option, Some, None, is_some}
+use Rattle.std.specs.Prelude.{ℕ, ◌+◌, ◌==◌, Bool, true, if◌then◌else◌, ℤ, pos, List, [], ◌∷◌, ◌++◌, length, map, filter, drop, sum_by, replicate, slice_get, slice_set, Option, Some, None, is_some, unwrap_or}
 use Rattle.std.specs.Int.{w32, cast_signed}
 use Rattle.std.specs.List.{list_any, find, filter_map}
 use Rattle.grid_base.specs.Objects.{Object}
@@ -21,7 +21,7 @@ use Rattle.session_core.specs.Items.{items_of}
 use Rattle.session_core.specs.declared.item.Item.{Item}
 use Rattle.session_core.specs.declared.item.Item.TheVariants.{Call as Asks, Reply}
 use Rattle.script_lang.specs.declared.line.Line.{Line}
-use Rattle.script_lang.specs.declared.line.Line.TheVariants.{Grid, OpenConn, Arrive, Trail, Comment, End}
+use Rattle.script_lang.specs.declared.line.Line.TheVariants.{Grid, OpenConn, Arrive, Clock, Dump, Trail, Comment, End}
 
 -- a connection: its number, the member that it is to, and all the bytes that arrived on it, however they were cut
 pub record Connection : Type 0 where
@@ -54,6 +54,7 @@ pub record Run : Type 0 where
   pub members : ℕ
   pub backups : ℕ
   pub lines : ℕ  -- how many lines were run
+  pub moments : List ℕ  -- of each member's clock
   pub connections : List Connection
   pub events : List At  -- of all partitions, in order
   pub arrivals : List Arrival
@@ -61,7 +62,7 @@ pub record Run : Type 0 where
 
 -- after the first line
 abbrev pub begun : ℕ → ℕ → Run
-begun members backups = record { members = members; backups = backups; lines = 1; connections = []; events = []; arrivals = []; appended = [] }
+begun members backups = record { members = members; backups = backups; lines = 1; moments = replicate members 0; connections = []; events = []; arrivals = []; appended = [] }
 
 abbrev pub is_at : ℕ → At → Bool
 is_at p e = e.partition == p
@@ -132,10 +133,14 @@ own_answer line c bytes = record { conn = c; line = line; bytes = bytes; answers
 abbrev pub told : Run → ℕ → List ℕ → Run
 told r c bytes = record r { appended = r.appended ++ own_answer r.lines c bytes ∷ [] }
 
--- A message is complete and is a call: it arrives at the connection's member, at that member's moment, which is 0 at first.
+-- the moment of a member's clock, which is 0 until it is set
+abbrev pub moment_of : Run → ℕ → ℕ
+moment_of r member = unwrap_or (slice_get r.moments member) 0
+
+-- A message is complete and is a call: it arrives at the connection's member, at that member's moment.
 
 abbrev pub arrival_at : Run → ℕ → Request → Arrival
-arrival_at r member request = record { id = request.id; line = r.lines; member = member; now = 0; request = request }
+arrival_at r member request = record { id = request.id; line = r.lines; member = member; now = moment_of r member; request = request }
 
 abbrev pub call_of : Arrival → Event Request
 call_of a = Call a.member a.id.conn a.id.number a.request a.now
@@ -178,6 +183,10 @@ handled_all o skips r connection (item ∷ items) = handled_all o skips (handled
 abbrev pub next_line : Run → Run
 next_line r = record r { lines = r.lines + 1 }
 
+-- A member's clock is set, also to an earlier moment.
+abbrev pub clock_set : Run → ℕ → ℕ → Run
+clock_set r member moment = record r { lines = r.lines + 1; moments = slice_set r.moments member moment }
+
 abbrev pub opened : Run → ℕ → ℕ → Run
 opened r c member = record r { lines = r.lines + 1; connections = r.connections ++ record { conn = c; member = member; bytes = [] } ∷ [] }
 
@@ -197,11 +206,13 @@ bytes_arrived o skips r connection bytes =
     if is_some (fault_on connection) then next_line r
     else handled_all o skips (took_bytes r connection bytes) connection (items_by connection bytes)
 
--- The run after a line. A connection is opened once, and bytes arrive where it was opened. The other lines change nothing.
+-- The run after a line. A connection is opened once, and bytes arrive where it was opened. A clock is set. The other lines change nothing.
 abbrev pub after_line : {State : Type 0} → Object Request State → List CallId → Run → Line → Run
 after_line o skips r (OpenConn c member) = if is_some (connection_of r c) then next_line r else opened r c member
 after_line o skips r (Arrive c bytes) = elim (connection_of r c) [ None ↦ next_line r | Some connection ↦ bytes_arrived o skips r connection bytes ]
+after_line o skips r (Clock member moment) = clock_set r member moment
 after_line o skips r (Grid members backups capacity) = next_line r
+after_line o skips r (Dump partition member) = next_line r
 after_line o skips r (Trail partition) = next_line r
 after_line o skips r Comment = next_line r
 after_line o skips r End = next_line r

@@ -1,22 +1,31 @@
 -- The runs that the lines of scripts make, one step at a time: a line is counted, and then each of its items is handled.
 use Rattle.std.specs.Prelude.{◌≡◌, ℕ, ◌+◌, ◌<◌, ◌≤◌, List, length, Option, Some, None, Contains}
 use Rattle.std.specs.List.{filter_map}
-use Rattle.grid_base.specs.Names.{ObjectName}
+use Rattle.grid_base.specs.Names.{key_of}
+use Rattle.grid_base.specs.Objects.{Object}
+use Rattle.grid_base.specs.declared.calls.GridCall.{GridCall}
+use Rattle.grid_base.specs.declared.calls.GridCall.TheVariants as call
+use Rattle.grid_base.specs.declared.TheConstants.{PARTITIONS}
 use Rattle.grid_base.specs.declared.names.CallId.{CallId}
 use Rattle.grid_base.specs.declared.calls.Request.{Request}
-use Rattle.replay_run.specs.PartitionObjects.{target_of, partition_object}
+use Rattle.object_store.specs.Partitions.{Partition}
 use Rattle.session_core.specs.Places.{partition_of_key}
 use Rattle.session_core.specs.declared.item.Item.{Item}
 use Rattle.session_core.specs.declared.item.Item.TheVariants.{Call as Asks, Reply}
-use Rattle.replay_run.specs.Runs.{Run, Connection, Arrival, begun, connection_of, messages_on, next_line, opened, with_bytes, took_bytes, told, asked, handled_all, arrival_at}
+use Rattle.replay_run.specs.Runs.{Run, Connection, Arrival, begun, connection_of, messages_on, next_line, clock_set, opened, with_bytes, took_bytes, told, asked, handled_all, arrival_at}
 
--- the partition that an object's key names
-abbrev pub home : ObjectName → ℕ
-home name = partition_of_key name.key
+-- the partition that has a call's object: a map's entry is where its key is, and a queue where it was asked for
+abbrev pub home_of : GridCall → ℕ → ℕ
+home_of (call.Map c) stated = partition_of_key (key_of c)
+home_of (call.Queue c) stated = stated
 
--- a request is for the partition of its object
-abbrev pub IsPlaced : Request → Type 0
-IsPlaced request = home (target_of request) ≡ request.partition
+abbrev pub home : Request → ℕ
+home request = home_of request.call request.partition
+
+-- A request is for the partition of its object, which is one of the grid's.
+pub record IsPlaced (request : Request) : Type 0 where
+  pub own : home request ≡ request.partition
+  pub within : request.partition < PARTITIONS
 
 -- A call on this connection may be asked now and have this number: the calls so far of the connection have smaller ones, and those of the line are on it.
 pub record MayAsk (r : Run) (connection : Connection) (number : ℕ) : Type 0 where
@@ -32,15 +41,16 @@ pub record IsNext (r : Run) (request : Request) : Type 0 where
   pub may : MayAsk r connection request.id.number
   pub placed : IsPlaced request
 
--- the runs of scripts, also those between two calls of one line
-pub data IsRun : Run → Type 0 where
-  grid_begun : (members backups : ℕ) → 1 ≤ members → IsRun (begun members backups)
+-- the runs of scripts, also those between two calls of one line, where partitions are this object
+pub data IsRun (o : Object Request Partition) : Run → Type 0 where
+  grid_begun : (members backups : ℕ) → 1 ≤ members → IsRun o (begun members backups)
   -- a line that changes nothing
-  line_counted : (r : Run) → IsRun r → IsRun (next_line r)
-  connection_opened : (r : Run) (c member : ℕ) → IsRun r → connection_of r c ≡ None → IsRun (opened r c member)
-  bytes_taken : (r : Run) (connection : Connection) (bytes : List ℕ) → IsRun r → connection_of r connection.conn ≡ Some connection → IsRun (took_bytes r connection bytes)
-  answer_told : (r : Run) (c : ℕ) (bytes : List ℕ) → IsRun r → IsRun (told r c bytes)
-  call_asked : (skips : List CallId) (r : Run) (member : ℕ) (request : Request) → IsRun r → IsNext r request → IsRun (asked partition_object skips r (arrival_at r member request))
+  line_counted : (r : Run) → IsRun o r → IsRun o (next_line r)
+  clock_was_set : (r : Run) (member moment : ℕ) → IsRun o r → IsRun o (clock_set r member moment)
+  connection_opened : (r : Run) (c member : ℕ) → IsRun o r → connection_of r c ≡ None → IsRun o (opened r c member)
+  bytes_taken : (r : Run) (connection : Connection) (bytes : List ℕ) → IsRun o r → connection_of r connection.conn ≡ Some connection → IsRun o (took_bytes r connection bytes)
+  answer_told : (r : Run) (c : ℕ) (bytes : List ℕ) → IsRun o r → IsRun o (told r c bytes)
+  call_asked : (skips : List CallId) (r : Run) (member : ℕ) (request : Request) → IsRun o r → IsNext r request → IsRun o (asked o skips r (arrival_at r member request))
 
 -- the names of the calls among items
 abbrev pub call_in : Item → Option CallId
@@ -51,8 +61,8 @@ abbrev pub calls_in : List Item → List CallId
 calls_in items = filter_map call_in items
 
 -- In the midst of a line of bytes: these of its items were handled, in order, and these of their calls found no memory.
-pub record IsMidway (r : Run) (connection : Connection) (bytes : List ℕ) (done : List Item) (skips : List CallId) (now : Run) : Type 0 where
-  pub run : IsRun now
-  pub is : now ≡ handled_all partition_object skips (took_bytes r connection bytes) connection done
+pub record IsMidway (o : Object Request Partition) (r : Run) (connection : Connection) (bytes : List ℕ) (done : List Item) (skips : List CallId) (now : Run) : Type 0 where
+  pub run : IsRun o now
+  pub is : now ≡ handled_all o skips (took_bytes r connection bytes) connection done
   pub own : (id : CallId) → Contains skips id → Contains (calls_in done) id
   pub may : MayAsk now (with_bytes connection bytes) (length (messages_on connection) + length done)

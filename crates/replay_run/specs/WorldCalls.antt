@@ -1,34 +1,32 @@
 -- What a call does to its partition's world, and the messages that it makes.
 use Rattle.std.specs.Prelude.{◌≡◌, ◌≢◌, ℕ, ◌+◌, ◌-◌, ◌<◌, ◌^◌, if◌then◌else◌, is_some, option_and_then, pos, List, length, [], ◌∷◌, ◌++◌, Option, Some, None, Contains}
 use Rattle.std.specs.List.{flat_map}
+use Rattle.grid_base.specs.Objects.{Object}
 use Rattle.grid_base.specs.declared.names.CallId.{CallId}
-use Rattle.grid_base.specs.declared.calls.Change.{Change}
 use Rattle.grid_base.specs.declared.calls.Request.{Request}
 use Rattle.partition_protocol.specs.Events.{Event, happens}
 use Rattle.partition_world.specs.declared.node.Released.{Released}
+use Rattle.partition_world.specs.declared.world.World.{World}
 use Rattle.partition_world.specs.Answers.{released_at}
 use Rattle.partition_world.specs.Worlds.{StandsFor, run_of, setup_of, waiting}
 use Rattle.replay_run.specs.declared.grid.Refusal.{Refusal}
 use Rattle.replay_run.specs.declared.grid.Grid.{Grid}
-use Rattle.replay_run.specs.MapLists.{partition_of}
-use Rattle.replay_run.specs.PartitionObjects.{Partition, partition_object}
+use Rattle.call_engine.specs.Calls.{Settings}
+use Rattle.call_engine.specs.Changes.{change_of}
+use Rattle.call_engine.specs.Objects.{partition_object}
 use Rattle.grid_base.specs.Errors.{want_of_memory}
-use Rattle.session_core.specs.Sessions.{CallFits}
+use Rattle.grid_base.specs.Limits.{CallFits}
 use Rattle.session_core.specs.declared.item.Item.{Item}
 use Rattle.session_core.specs.declared.item.Item.TheVariants.{Call as Asks}
 use Rattle.replay_run.specs.Runs.{Run, Connection, Arrival, Appended, connection_of, messages_on, fault_on, told, refusal, refused_by, call_of, arrival_at, items_by, asked}
 use Rattle.replay_run.specs.Printing.{appended_text, new_messages}
 use Rattle.replay_run.specs.ScriptRuns.{IsRun, IsMidway}
 use Rattle.replay_run.specs.Tables.{Table, with_answer}
-use Rattle.replay_run.specs.Grids.{MapWorld, IsCounting, Holds}
+use Rattle.replay_run.specs.Grids.{FormOf, GridWorld, StandsForEvents, IsCounting, Holds}
 
--- A shelf of map entries tells of no changes at this stage.
-abbrev pub no_change : Partition → Request → ℕ → Option Change
-no_change s call now = None
-
--- the call of a request that reaches a member at a line, at the member's moment 0
-abbrev pub arrival_to : ℕ → ℕ → Request → Arrival
-arrival_to line member request = record { id = request.id; line = line; member = member; now = 0; request = request }
+-- the call of a request that reaches a member at a line, at the member's moment
+abbrev pub arrival_to : ℕ → ℕ → ℕ → Request → Arrival
+arrival_to line member now request = record { id = request.id; line = line; member = member; now = now; request = request }
 
 -- the message that refuses a call, if it is refused
 abbrev pub refusals : ℕ → Request → Option Refusal → List Appended
@@ -39,15 +37,15 @@ abbrev pub texts_of : List Appended → List ℕ
 texts_of messages = flat_map appended_text messages
 
 -- The call is one event more, with the answers that it released and the refusal that was written.
-pub record IsCalled (old new : MapWorld) (events : List (Event Request)) (a : Arrival) (added : List ℕ) : Type 0 where
-  pub stands : StandsFor partition_object partition_of new (events ++ call_of a ∷ [])
+pub record IsCalled {V : Type 0} {T : V → Type 0} (settings : Settings) (old new : GridWorld V T) (events : List (Event Request)) (a : Arrival) (added : List ℕ) : Type 0 where
+  pub stands : StandsForEvents settings new (events ++ call_of a ∷ [])
   pub setup : setup_of new ≡ setup_of old
-  pub waiting : (member : ℕ) → waiting new member ≡ waiting old member ++ released_at partition_object no_change (run_of partition_object old events) (call_of a) member
-  pub text : added ≡ texts_of (refused_by a.line a.request (happens partition_object (run_of partition_object old events) (call_of a)).outcome)
+  pub waiting : (member : ℕ) → waiting new member ≡ waiting old member ++ released_at (partition_object settings) (change_of settings) (run_of (partition_object settings) old events) (call_of a) member
+  pub text : added ≡ texts_of (refused_by a.line a.request (happens (partition_object settings) (run_of (partition_object settings) old events) (call_of a)).outcome)
 
 -- The call found no memory, is no event and was answered so.
-pub record IsSkipped (old new : MapWorld) (events : List (Event Request)) (a : Arrival) (added : List ℕ) : Type 0 where
-  pub stands : StandsFor partition_object partition_of new events
+pub record IsSkipped {V : Type 0} {T : V → Type 0} (settings : Settings) (old new : GridWorld V T) (events : List (Event Request)) (a : Arrival) (added : List ℕ) : Type 0 where
+  pub stands : StandsForEvents settings new events
   pub setup : setup_of new ≡ setup_of old
   pub waiting : (member : ℕ) → waiting new member ≡ waiting old member
   pub text : added ≡ texts_of (refusal a.line a.request (pos want_of_memory) 0 ∷ [])
@@ -60,24 +58,24 @@ abbrev pub with_answers : Table → ℕ → List Released → Table
 with_answers table line [] = table
 with_answers table line (answer ∷ answers) = with_answers (with_answer table answer.id line) line answers
 
--- All answers that waited at a member were given out, which is no event.
-pub record GivesOut (old new : MapWorld) (member : ℕ) : Type 0 where
-  pub stands : (events : List (Event Request)) → StandsFor partition_object partition_of old events → StandsFor partition_object partition_of new events
+-- All answers that waited at a member were given out, which is no event in any environment.
+pub record GivesOut {S Env C State : Type 0} (object : Env → Object C State) (limits : C → Type 0) (state : S → State) (old new : World S Env C) (member : ℕ) : Type 0 where
+  pub stands : (env : Env) (events : List (Event C)) → StandsFor (object env) limits state old events → StandsFor (object env) limits state new events
   pub setup : setup_of new ≡ setup_of old
   pub given : waiting new member ≡ []
   pub others : (other : ℕ) → other ≢ member → waiting new other ≡ waiting old other
 
 -- The call of a request was run, or skipped for want of memory, and the messages that it appended were printed.
-pub record HasAsked (new : Grid) (r : Run) (member : ℕ) (request : Request) (written text : List ℕ) : Type 0 where
+pub record HasAsked {V : Type 0} {T : V → Type 0} (form : FormOf V T) (settings : Settings) (new : Grid V T) (r : Run) (member : ℕ) (request : Request) (written text : List ℕ) : Type 0 where
   pub skips : List CallId
   pub its_own : (id : CallId) → Contains skips id → request.id ≡ id
-  pub holds : Holds new (asked partition_object skips r (arrival_at r member request))
-  pub counting : IsCounting new.connections (asked partition_object skips r (arrival_at r member request)) request.id.conn (request.id.number + 1)
-  pub added : text ≡ written ++ texts_of (new_messages r (asked partition_object skips r (arrival_at r member request)))
+  pub holds : Holds form settings new (asked (partition_object settings) skips r (arrival_at r member request))
+  pub counting : IsCounting new.connections (asked (partition_object settings) skips r (arrival_at r member request)) request.id.conn (request.id.number + 1)
+  pub added : text ≡ written ++ texts_of (new_messages r (asked (partition_object settings) skips r (arrival_at r member request)))
 
 -- A session's own answer was appended to its connection and printed.
-pub record HasTold (new : Grid) (r : Run) (conn number : ℕ) (answer written text : List ℕ) : Type 0 where
-  pub holds : Holds new (told r conn answer)
+pub record HasTold {V : Type 0} {T : V → Type 0} (form : FormOf V T) (settings : Settings) (new : Grid V T) (r : Run) (conn number : ℕ) (answer written text : List ℕ) : Type 0 where
+  pub holds : Holds form settings new (told r conn answer)
   pub counting : IsCounting new.connections (told r conn answer) conn (number + 1)
   pub added : text ≡ written ++ texts_of (new_messages r (told r conn answer))
 
@@ -92,18 +90,19 @@ member_if_open k = if is_some (fault_on k) then None else Some k.member
 abbrev pub open_member_in : Run → ℕ → Option ℕ
 open_member_in r c = option_and_then member_if_open (connection_of r c)
 
--- Bytes bring these items on a connection of a run, and each call among them can be answered.
-pub record Brings (r : Run) (k : Connection) (bytes : List ℕ) (items : List Item) : Type 0 where
-  pub run : IsRun r
+-- Bytes bring these items on a connection of a run to a member of the grid, and each call among them can be answered.
+pub record Brings (settings : Settings) (r : Run) (k : Connection) (bytes : List ℕ) (items : List Item) : Type 0 where
+  pub run : IsRun (partition_object settings) r
   pub there : connection_of r k.conn ≡ Some k
+  pub reached : k.member < r.members
   pub come : items_by k bytes ≡ items
   pub fit : (q : Request) → Contains items (Asks q) → CallFits q.call
 
 -- In the midst of a line of bytes: these of its items were handled, and the messages that they appended were printed.
-pub record HasHandledSome (grid : Grid) (r : Run) (k : Connection) (bytes : List ℕ) (done : List Item) (written text : List ℕ) : Type 0 where
+pub record HasHandledSome {V : Type 0} {T : V → Type 0} (form : FormOf V T) (settings : Settings) (grid : Grid V T) (r : Run) (k : Connection) (bytes : List ℕ) (done : List Item) (written text : List ℕ) : Type 0 where
   pub skips : List CallId
   pub now : Run
-  pub midway : IsMidway r k bytes done skips now
-  pub holds : Holds grid now
+  pub midway : IsMidway (partition_object settings) r k bytes done skips now
+  pub holds : Holds form settings grid now
   pub counting : IsCounting grid.connections now k.conn (length (messages_on k) + length done)
   pub added : text ≡ written ++ texts_of (new_messages r now)

@@ -3,27 +3,29 @@ ghost use Rattle.std.specs.List.{flat_map};
 ghost use Rattle.grid_base.specs.declared.calls.Request.{Request as Call};
 ghost use Rattle.partition_protocol.specs.Events.{Event as ProtocolEvent};
 ghost use Rattle.partition_protocol.specs.World.{trail};
-ghost use Rattle.session_core.specs.Sessions.{CallFits};
+ghost use Rattle.grid_base.specs.Limits.{CallFits};
+ghost use Rattle.call_engine.specs.Calls.{Settings};
+ghost use Rattle.call_engine.specs.Env.{settings_of};
+ghost use Rattle.call_engine.specs.Objects.{partition_object};
 ghost use Rattle.partition_world.specs.Events.{happened_of};
-ghost use Rattle.partition_world.specs.Worlds.{StandsFor, steps_of, waiting};
-ghost use Rattle.replay_run.specs.MapLists.{partition_of};
-ghost use Rattle.replay_run.specs.PartitionObjects.{partition_object};
+ghost use Rattle.partition_world.specs.Worlds.{steps_of, waiting};
 ghost use Rattle.replay_run.specs.Runs.{Run, Connection as RunConnection, begun, refused_by};
 ghost use Rattle.replay_run.specs.Printing.{partitions, appended_text, entry_text, entries_of, all_entries, ok_text, nothing_text};
 ghost use Rattle.replay_run.specs.Tables.{with_answer};
 ghost use Rattle.replay_run.specs.ScriptRuns.{IsRun, IsNext};
-ghost use Rattle.replay_run.specs.Grids.{Stands, Holds, IsCounting, MayRun, HasRun};
+ghost use Rattle.replay_run.specs.Grids.{boxed, Stands, StandsForEvents, Holds, IsCounting, MayRun, HasRun};
 ghost use Rattle.replay_run.specs.WorldCalls.{arrival_to, refusals, texts_of, message_of, with_answers, IsCalled, IsSkipped, GivesOut, HasAsked, HasTold, HasRoom, open_member_in, Brings, HasHandledSome};
 
 use crate::connections::Connections;
-use crate::print::{
-    EntryPlace, push_appended, push_close, push_entry, push_nothing, push_ok, push_trail,
-};
-use crate::shelf::MapList;
+use crate::dumps::{push_dump, push_dumped};
+use crate::entries::{EntryPlace, push_entry};
+use crate::print::{push_appended, push_close, push_nothing, push_ok, push_trail};
+use call_engine::{GridEnv, GridShelf};
 use client_codecs::write_error;
+use entry_processors::{Processor, Registry};
 use grid_base::errors::{MIGRATING, PARTITION_LOST, WANT_OF_MEMORY, WRONG_TARGET};
-use grid_base::{Bytes, MemberId, Memory, PARTITIONS, PartitionId, Request};
-use partition_world::{CallOutcome, Event, Happened, Released, World};
+use grid_base::{Bytes, MemberId, Memory, Moment, PARTITIONS, PartitionId, Request, Shelf};
+use partition_world::{CallOutcome, Contents, Event, Happened, Released, World};
 use script_lang::Line;
 use session_core::Item;
 use std::alloc::Global;
@@ -89,35 +91,44 @@ fn push_refusal(
     push_appended(alloc, out, to.line, to.conn, error.as_slice())
 }
 
+/// What a call of a request meets at a member: its moment there, and the line at which it arrives.
+#[derive(Clone, Copy)]
+struct Arriving {
+    line: u32,
+    member: MemberId,
+    now: Moment,
+}
+
 /// A call reaches a member at a line. It is answered at once where it is refused or finds no memory.
 fn call(
     alloc: Global,
-    world: &mut World<MapList>,
-    member: MemberId,
+    world: &mut World<GridShelf>,
+    env: &GridEnv,
+    at: Arriving,
     request: Request,
-    line: u32,
     out: &mut Vec<u8>,
 ) -> Result<(), Memory>
     requires limits { CallFits request.call }
     requires room { steps_of world.old + 1 < 2 ^ 32 - 1 }
-    requires stands { (events : List (ProtocolEvent Call)) × StandsFor partition_object partition_of world.old events }
-    ensures { (events : List (ProtocolEvent Call)) → StandsFor partition_object partition_of world.old events
+    requires stands { (events : List (ProtocolEvent Call)) × StandsForEvents (settings_of (boxed form) env.now) world.old events }
+    ensures { (events : List (ProtocolEvent Call)) → StandsForEvents (settings_of (boxed form) env.now) world.old events
         → OnOk result ((text : List ℕ) × (out.new.items ≡ out.old.items ++ text)
-        × (IsCalled world.old world.new events (arrival_to line member request) text ⊎ IsSkipped world.old world.new events (arrival_to line member request) text)) }
+        × (IsCalled (settings_of (boxed form) env.now) world.old world.new events (arrival_to at.line at.member at.now request) text ⊎ IsSkipped (settings_of (boxed form) env.now) world.old world.new events (arrival_to at.line at.member at.now request) text)) }
 {
+    request.call.numbers_fit();
     let id = request.id;
     let to = Caller {
-        line,
+        line: at.line,
         conn: id.conn,
         correlation: request.correlation,
     };
     let event = Event::Call {
-        member,
+        member: at.member,
         id,
         call: request,
-        now: 0,
+        now: at.now,
     };
-    match world.step(alloc, &(), event) {
+    match world.step(alloc, env, event) {
         Ok(happened) => push_refusal(alloc, out, to, refusal_of(happened)),
         Err(_) => push_refusal(alloc, out, to, Some(NO_MEMORY)),
     }
@@ -139,9 +150,9 @@ fn give(
 }
 
 /// Gives out the answers that wait at a member, the oldest first.
-fn give_out(
+fn give_out<S: Shelf>(
     alloc: Global,
-    world: &mut World<MapList>,
+    world: &mut World<S>,
     member: MemberId,
     connections: &mut Connections,
     line: u32,
@@ -149,7 +160,7 @@ fn give_out(
 ) -> Result<(), Memory>
     ensures text { OnOk result (out.new.items ≡ out.old.items ++ texts_of (map (message_of line) (waiting world.old member))) }
     ensures table { OnOk result (connections.new ≡ with_answers connections.old line (waiting world.old member)) }
-    ensures world { OnOk result (GivesOut world.old world.new member) }
+    ensures world { OnOk result (GivesOut S.object S.within_limits S.state world.old world.new member) }
 {
     while let Some(answer) = world.pop_released(member) {
         give(alloc, connections, line, answer, out)?;
@@ -157,29 +168,43 @@ fn give_out(
     Ok(())
 }
 
-/// The worlds of all partitions, the connections to their members, and how many lines were run.
+/// The worlds of all partitions, the connections to their members, each member's clock, and how many lines were run.
 #[derive(Drop)]
 pub struct Grid {
+    env: GridEnv,
     members: u8,
     lines: u32,
+    moments: Vec<Moment>,
     connections: Connections,
-    worlds: Vec<World<MapList>>,
+    worlds: Vec<World<GridShelf>>,
 }
 
 impl Grid {
-    /// The grid after a script's first line. At this stage it has one member. Costs its partitions.
-    pub fn new(alloc: Global, members: u8, backups: u8) -> Result<Grid, Memory>
+    /// The grid after a script's first line, whose entries are processed by these processors, and whose queues have
+    /// this capacity. At this stage it has one member. Costs its partitions.
+    pub fn new(
+        alloc: Global,
+        members: u8,
+        backups: u8,
+        capacity: u32,
+        processors: Vec<Box<dyn Processor>>,
+    ) -> Result<Grid, Memory>
         requires members { members ≡ 1 }
         requires backups { backups ≤ 6 }
-        ensures { IfOk result (λ grid. Stands grid (begun members backups)) }
+        ensures { IfOk result (λ grid. Stands form (record { forms = map form processors.items; capacity = capacity }) grid (begun members backups)) }
     {
         let mut worlds = Vec::with_capacity(alloc, usize::from(PARTITIONS))?;
         for partition in 0..PARTITIONS {
             worlds.push(World::new(alloc, partition, members, backups)?)?;
         }
         Ok(Grid {
+            env: GridEnv {
+                registry: Registry::new(processors),
+                capacity,
+            },
             members,
             lines: 1,
+            moments: vec![in alloc; 0; usize::from(members)]?,
             connections: Connections::new(alloc)?,
             worlds,
         })
@@ -187,14 +212,14 @@ impl Grid {
 
     /// How many members the grid has.
     pub fn members(&self) -> u8
-        ensures { (r : Run) → Stands self.now r → result ≡ r.members }
+        ensures { (settings : Settings) (r : Run) → Stands (boxed form) settings self.now r → result ≡ r.members }
     {
         self.members
     }
 
     /// How many lines were run, the first among them.
     pub fn lines(&self) -> u32
-        ensures { (r : Run) → Stands self.now r → result ≡ r.lines }
+        ensures { (settings : Settings) (r : Run) → Stands (boxed form) settings self.now r → result ≡ r.lines }
     {
         self.lines
     }
@@ -202,8 +227,9 @@ impl Grid {
     /// Runs the line of that number, which is the next one, and appends its text. After want of memory the grid and
     /// the text are given up.
     ///
-    /// A line costs its own work: it looks up its connection and its partition by their numbers. The line `trail`
-    /// costs the entries of its partition's history, and the line `end` those of all.
+    /// A line costs its own work: it looks up its connection and its partition by their numbers. The line `dump`
+    /// costs sorting and printing what its member keeps of the partition. The line `trail` costs the entries of its
+    /// partition's history, and the line `end` those of all.
     pub fn run_line(
         &mut self,
         alloc: Global,
@@ -211,8 +237,8 @@ impl Grid {
         line: &Line,
         out: &mut Vec<u8>,
     ) -> Result<(), Memory>
-        requires { MayRun self.old number line.now }
-        ensures { (r : Run) → Stands self.old r → OnOk result (HasRun self.new r line.now out.old.items out.new.items) }
+        requires { MayRun (boxed form) self.old number line.now }
+        ensures { (settings : Settings) (r : Run) → Stands (boxed form) settings self.old r → OnOk result (HasRun (boxed form) settings self.new r line.now out.old.items out.new.items) }
     {
         match line {
             Line::Grid { .. } => self.pass(number, out),
@@ -224,6 +250,10 @@ impl Grid {
                 bytes.as_slice(),
                 out,
             ),
+            Line::Clock { member, moment } => self.set_clock(number, *member, *moment, out),
+            Line::Dump { partition, member } => {
+                self.dump(alloc, number, *partition, *member, out)
+            }
             Line::Trail { partition } => self.trail(alloc, number, *partition, out),
             Line::Comment => self.count(number, out),
             Line::End => self.end(alloc, number, out),
@@ -257,8 +287,8 @@ impl Grid {
         member: MemberId,
         out: &mut Vec<u8>,
     ) -> Result<(), Memory>
-        requires { MayRun self.old number (Line.OpenConn conn member) }
-        ensures { (r : Run) → Stands self.old r → OnOk result (HasRun self.new r (Line.OpenConn conn member) out.old.items out.new.items) }
+        requires { MayRun (boxed form) self.old number (Line.OpenConn conn member) }
+        ensures { (settings : Settings) (r : Run) → Stands (boxed form) settings self.old r → OnOk result (HasRun (boxed form) settings self.new r (Line.OpenConn conn member) out.old.items out.new.items) }
     {
         if self.connections.get(conn).is_some() {
             return self.pass(number, out);
@@ -277,8 +307,8 @@ impl Grid {
         bytes: &[u8],
         out: &mut Vec<u8>,
     ) -> Result<(), Memory>
-        requires { MayRun self.old number (Line.Arrive conn bytes.now) }
-        ensures { (r : Run) → Stands self.old r → OnOk result (HasRun self.new r (Line.Arrive conn bytes.now) out.old.items out.new.items) }
+        requires { MayRun (boxed form) self.old number (Line.Arrive conn bytes.now) }
+        ensures { (settings : Settings) (r : Run) → Stands (boxed form) settings self.old r → OnOk result (HasRun (boxed form) settings self.new r (Line.Arrive conn bytes.now) out.old.items out.new.items) }
     {
         let Some(member) = self.open_member(conn) else {
             return self.pass(number, out);
@@ -293,7 +323,7 @@ impl Grid {
 
     /// The member of a connection, where bytes can arrive on it.
     fn open_member(&self, conn: u32) -> Option<MemberId>
-        ensures { (r : Run) → Stands self.now r → result ≡ open_member_in r conn }
+        ensures { (settings : Settings) (r : Run) → Stands (boxed form) settings self.now r → result ≡ open_member_in r conn }
     {
         let session = &self.connections.get(conn)?.session;
         match session.closed() {
@@ -311,10 +341,10 @@ impl Grid {
         items: Vec<Item>,
         out: &mut Vec<u8>,
     ) -> Result<(), Memory>
-        requires { (r : Run) × (k : RunConnection) × (bytes : List ℕ) × Brings r k bytes items.items × HasHandledSome self.old r k bytes [] out.old.items out.old.items × (k.conn ≡ conn) × (k.member ≡ member) × HasRoom r k bytes }
-        ensures { (r : Run) (k : RunConnection) (bytes : List ℕ) → Brings r k bytes items.items → k.conn ≡ conn → k.member ≡ member
-            → HasHandledSome self.old r k bytes [] out.old.items out.old.items
-            → OnOk result (HasHandledSome self.new r k bytes items.items out.old.items out.new.items) }
+        requires { (settings : Settings) × (r : Run) × (k : RunConnection) × (bytes : List ℕ) × Brings settings r k bytes items.items × HasHandledSome (boxed form) settings self.old r k bytes [] out.old.items out.old.items × (k.conn ≡ conn) × (k.member ≡ member) × HasRoom r k bytes }
+        ensures { (settings : Settings) (r : Run) (k : RunConnection) (bytes : List ℕ) → Brings settings r k bytes items.items → k.conn ≡ conn → k.member ≡ member
+            → HasHandledSome (boxed form) settings self.old r k bytes [] out.old.items out.old.items
+            → OnOk result (HasHandledSome (boxed form) settings self.new r k bytes items.items out.old.items out.new.items) }
     {
         for item in items {
             match item {
@@ -333,8 +363,8 @@ impl Grid {
         answer: Bytes,
         out: &mut Vec<u8>,
     ) -> Result<(), Memory>
-        ensures { (r : Run) (number : ℕ) → IsRun r → Holds self.old r → IsCounting self.old.connections r conn number
-            → OnOk result (HasTold self.new r conn number answer out.old.items out.new.items) }
+        ensures { (settings : Settings) (r : Run) (number : ℕ) → IsRun (partition_object settings) r → Holds (boxed form) settings self.old r → IsCounting self.old.connections r conn number
+            → OnOk result (HasTold (boxed form) settings self.new r conn number answer out.old.items out.new.items) }
     {
         self.connections.reply(conn)?;
         push_appended(alloc, out, self.lines, conn, answer.as_slice())
@@ -350,14 +380,57 @@ impl Grid {
     ) -> Result<(), Memory>
         requires limits { CallFits request.call }
         requires placed { request.partition < partitions }
-        requires stands { (r : Run) × Holds self.old r × (length r.events + 1 < 2 ^ 32 - 1) }
-        ensures { (r : Run) → IsRun r → Holds self.old r → IsNext r request → IsCounting self.old.connections r request.id.conn request.id.number
-            → OnOk result (HasAsked self.new r member request out.old.items out.new.items) }
+        requires member { member < self.old.members }
+        requires stands { (settings : Settings) × (r : Run) × Holds (boxed form) settings self.old r × (length r.events + 1 < 2 ^ 32 - 1) }
+        ensures { (settings : Settings) (r : Run) → IsRun (partition_object settings) r → Holds (boxed form) settings self.old r → IsNext r request → IsCounting self.old.connections r request.id.conn request.id.number
+            → OnOk result (HasAsked (boxed form) settings self.new r member request out.old.items out.new.items) }
     {
         self.connections.arrive(request.id.conn, self.lines)?;
         let world = &mut self.worlds[usize::from(request.partition)];
-        call(alloc, world, member, request, self.lines, out)?;
+        let at = Arriving {
+            line: self.lines,
+            member,
+            now: self.moments[usize::from(member)],
+        };
+        call(alloc, world, &self.env, at, request, out)?;
         give_out(alloc, world, member, &mut self.connections, self.lines, out)
+    }
+
+    /// `clock M T`: sets a member's clock.
+    fn set_clock(
+        &mut self,
+        number: u32,
+        member: MemberId,
+        moment: Moment,
+        out: &mut Vec<u8>,
+    ) -> Result<(), Memory>
+        requires { MayRun (boxed form) self.old number (Line.Clock member moment) }
+        ensures { (settings : Settings) (r : Run) → Stands (boxed form) settings self.old r → OnOk result (HasRun (boxed form) settings self.new r (Line.Clock member moment) out.old.items out.new.items) }
+    {
+        self.moments[usize::from(member)] = moment;
+        self.count(number, out)
+    }
+
+    /// `dump P M`: prints what a member has of a partition.
+    fn dump(
+        &mut self,
+        alloc: Global,
+        number: u32,
+        partition: PartitionId,
+        member: MemberId,
+        out: &mut Vec<u8>,
+    ) -> Result<(), Memory>
+        requires { MayRun (boxed form) self.old number (Line.Dump partition member) }
+        ensures { (settings : Settings) (r : Run) → Stands (boxed form) settings self.old r → OnOk result (HasRun (boxed form) settings self.new r (Line.Dump partition member) out.old.items out.new.items) }
+    {
+        self.lines = number;
+        let Contents {
+            version,
+            count,
+            shelf,
+        } = self.worlds[usize::from(partition)].contents(member);
+        push_dump(out, number, version, count)?;
+        push_dumped(alloc, out, number, shelf)
     }
 
     /// `trail P`: prints a partition's recorded history.
@@ -368,8 +441,8 @@ impl Grid {
         partition: PartitionId,
         out: &mut Vec<u8>,
     ) -> Result<(), Memory>
-        requires { MayRun self.old number (Line.Trail partition) }
-        ensures { (r : Run) → Stands self.old r → OnOk result (HasRun self.new r (Line.Trail partition) out.old.items out.new.items) }
+        requires { MayRun (boxed form) self.old number (Line.Trail partition) }
+        ensures { (settings : Settings) (r : Run) → Stands (boxed form) settings self.old r → OnOk result (HasRun (boxed form) settings self.new r (Line.Trail partition) out.old.items out.new.items) }
     {
         self.lines = number;
         push_trail(out, number, self.worlds[usize::from(partition)].trail_len())?;
@@ -378,8 +451,8 @@ impl Grid {
 
     /// `end`: prints all recorded histories.
     fn end(&mut self, alloc: Global, number: u32, out: &mut Vec<u8>) -> Result<(), Memory>
-        requires { MayRun self.old number Line.End }
-        ensures { (r : Run) → Stands self.old r → OnOk result (HasRun self.new r Line.End out.old.items out.new.items) }
+        requires { MayRun (boxed form) self.old number Line.End }
+        ensures { (settings : Settings) (r : Run) → Stands (boxed form) settings self.old r → OnOk result (HasRun (boxed form) settings self.new r Line.End out.old.items out.new.items) }
     {
         self.count(number, out)?;
         self.push_histories(alloc, out)
@@ -387,8 +460,8 @@ impl Grid {
 
     /// Appends the recorded histories of all partitions.
     fn push_histories(&self, alloc: Global, out: &mut Vec<u8>) -> Result<(), Memory>
-        requires { (r : Run) × Stands self.now r }
-        ensures { (r : Run) → Stands self.now r → OnOk result (out.new.items ≡ out.old.items ++ flat_map (entry_text r.lines) (all_entries partition_object r)) }
+        requires { (settings : Settings) × (r : Run) × Stands (boxed form) settings self.now r }
+        ensures { (settings : Settings) (r : Run) → Stands (boxed form) settings self.now r → OnOk result (out.new.items ≡ out.old.items ++ flat_map (entry_text r.lines) (all_entries (partition_object settings) r)) }
     {
         for partition in 0..PARTITIONS {
             self.push_history(alloc, partition, out)?;
@@ -404,8 +477,8 @@ impl Grid {
         out: &mut Vec<u8>,
     ) -> Result<(), Memory>
         requires placed { partition < PARTITIONS }
-        requires stands { (r : Run) × Stands self.now r }
-        ensures { (r : Run) → Stands self.now r → OnOk result (out.new.items ≡ out.old.items ++ flat_map (entry_text r.lines) (entries_of partition_object r partition)) }
+        requires stands { (settings : Settings) × (r : Run) × Stands (boxed form) settings self.now r }
+        ensures { (settings : Settings) (r : Run) → Stands (boxed form) settings self.now r → OnOk result (out.new.items ≡ out.old.items ++ flat_map (entry_text r.lines) (entries_of (partition_object settings) r partition)) }
     {
         let world = &self.worlds[usize::from(partition)];
         for place in 0..world.trail_len() {

@@ -2,8 +2,8 @@
 
 ghost use Rattle.replay_run.specs.Linearizability.{EveryRunIsLinearizable};
 
-/// For every list of lines, whichever calls find no memory: what the run prints for each map entry is the history of one
-/// entry used by one thread.
+/// For every list of lines, whichever calls find no memory: what the run prints for each object is the history of one
+/// object used by one thread.
 pub fn every_run_is_linearizable()
     ensures { EveryRunIsLinearizable }
 {}

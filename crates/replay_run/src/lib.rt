@@ -2,10 +2,11 @@
 #![tactic(auto)]
 
 mod connections;
+mod dumps;
+mod entries;
 mod grid;
 mod laws;
 mod print;
-mod shelf;
 
 pub use grid::Grid;
 pub use laws::every_run_is_linearizable;

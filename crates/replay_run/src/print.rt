@@ -1,15 +1,12 @@
 ghost use Rattle.std.specs.Prelude.{◌≡◌, ◌++◌, OnOk, Option};
 ghost use Rattle.hex.specs.Hex.{encode_lower};
 ghost use Rattle.grid_base.specs.declared.names.CallId.{CallId};
-ghost use Rattle.replay_run.specs.PartitionObjects.{map_call_of, target_of};
-ghost use Rattle.replay_run.specs.Printing.{number, number_or_dash, hex_word, word, ok_text, nothing_text, trail_text, fault_word, close_text, appended_text, call_name, entry_text};
-ghost use Rattle.replay_run.specs.PrintedEntries.{arrived_in, answered_in, printed_as};
+ghost use Rattle.replay_run.specs.Dumps.{number, number_or_dash, hex_word, word};
+ghost use Rattle.replay_run.specs.Printing.{ok_text, nothing_text, trail_text, fault_word, close_text, appended_text};
 
-use crate::connections::CallLines;
 use frame_codec::{Malformed, Why};
-use grid_base::{GridCall, MapCall, Memory, PartitionId, Request};
+use grid_base::Memory;
 use itoa::Buffer;
-use partition_world::Entry;
 use std::alloc::Global;
 
 /// Appends text.
@@ -35,12 +32,12 @@ pub(crate) fn push_number(out: &mut Vec<u8>, n: u64) -> Result<(), Memory>
 }
 
 /// Appends a number or `-`, and the space after it.
-pub(crate) fn push_optional(out: &mut Vec<u8>, n: Option<u32>) -> Result<(), Memory>
+pub(crate) fn push_optional(out: &mut Vec<u8>, n: Option<u64>) -> Result<(), Memory>
     ensures { OnOk result (out.new.items ≡ out.old.items ++ number_or_dash n) }
 {
     match n {
         None => push_text(out, b"- "),
-        Some(n) => push_number(out, u64::from(n)),
+        Some(n) => push_number(out, n),
     }
 }
 
@@ -139,69 +136,5 @@ pub(crate) fn push_appended(
     push_text(out, b"to ")?;
     push_number(out, u64::from(conn))?;
     push_hex(alloc, out, bytes)?;
-    push_text(out, b"\n")
-}
-
-/// Appends the lines at which a call arrived and was answered.
-fn push_lines(out: &mut Vec<u8>, lines: Option<CallLines>) -> Result<(), Memory>
-    ensures { OnOk result (out.new.items ≡ out.old.items ++ number (arrived_in lines) ++ number_or_dash (answered_in lines)) }
-{
-    match lines {
-        Some(lines) => {
-            push_number(out, u64::from(lines.arrived))?;
-            push_optional(out, lines.answered)
-        }
-        None => {
-            push_number(out, 0)?;
-            push_optional(out, None)
-        }
-    }
-}
-
-/// Appends which call a request is, and the entry that it is on.
-fn push_call(alloc: Global, out: &mut Vec<u8>, request: &Request) -> Result<(), Memory>
-    ensures { OnOk result (out.new.items ≡ out.old.items ++ word (call_name (map_call_of request.now.call))
-        ++ word (hex_word (target_of request.now).map) ++ word (hex_word (target_of request.now).key)) }
-{
-    let GridCall::Map(call) = &request.call;
-    let (name, map, key) = match call {
-        MapCall::Put { name, key, .. } => (b"put".as_slice(), name, key),
-        MapCall::Get { name, key, .. } => (b"get".as_slice(), name, key),
-    };
-    push_word(out, name)?;
-    push_hex_word(alloc, out, map.as_slice())?;
-    push_text(out, b" ")?;
-    push_hex_word(alloc, out, key.as_slice())?;
-    push_text(out, b" ")
-}
-
-/// Where an entry stands, as a line prints it: the partition and the place in its history, from 0.
-#[derive(Clone, Copy)]
-pub(crate) struct EntryPlace {
-    pub(crate) line: u32,
-    pub(crate) partition: PartitionId,
-    pub(crate) place: usize,
-}
-
-/// Appends an entry of a recorded history, with the lines at which its call arrived and was answered.
-pub(crate) fn push_entry(
-    alloc: Global,
-    out: &mut Vec<u8>,
-    at: EntryPlace,
-    executed: &Entry<Request>,
-    lines: Option<CallLines>,
-) -> Result<(), Memory>
-    ensures { OnOk result (out.new.items ≡ out.old.items ++ entry_text at.line (printed_as at.partition at.place executed.entry.now lines)) }
-{
-    push_number(out, u64::from(at.line))?;
-    push_text(out, b"entry ")?;
-    push_number(out, u64::from(at.partition))?;
-    push_number(out, at.place as u64)?;
-    push_number(out, u64::from(executed.id.conn))?;
-    push_number(out, u64::from(executed.id.number))?;
-    push_lines(out, lines)?;
-    push_number(out, executed.now)?;
-    push_call(alloc, out, &executed.call)?;
-    push_hex_word(alloc, out, executed.reply.as_slice())?;
     push_text(out, b"\n")
 }

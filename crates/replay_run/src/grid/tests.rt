@@ -1,10 +1,12 @@
 ghost use Rattle.std.specs.Prelude.{◌<◌, IfOk, OnOk};
 ghost use Rattle.script_lang.specs.Limits.{most_line_bytes};
 ghost use Rattle.script_lang.specs.Lines.{IsWithin};
+ghost use Rattle.call_engine.specs.Calls.{Settings};
 ghost use Rattle.replay_run.specs.Runs.{Run};
-ghost use Rattle.replay_run.specs.Grids.{Stands};
+ghost use Rattle.replay_run.specs.Grids.{boxed, Stands};
 
 use super::*;
+use entry_processors::Add;
 use std::test::Fail;
 
 // How many bytes a line of these tests brings at most, and how many lines a test runs at most.
@@ -31,6 +33,13 @@ const PING_AND_GET_BEGUN: &str = "1600000000e0000b00000100000000000000ffffffff1e
 
 const GET_ENDED: &str =
     "02000000000000000500000001000000000000000700000000006d0f000000002000000005fffffff56b";
+
+// Adds 5 to the number of that key by the processor of number 1.
+const ADD: &str =
+    "1e00000000c0002e010001000000000000000500000001000000000000000700000000006d1200000000000100000005000000000000000f000000002000000005fffffff56b";
+
+// An offer of the value 61 to the queue "q" of partition 100.
+const OFFER: &str = "1600000000c0000103000300000000000000640000000700000000007107000000002061";
 
 // An authenticated client puts a value where there was none, and gets it.
 const PUT_AND_GET: &str = "\
@@ -71,6 +80,26 @@ const MANY_LINES: &str = "\
 14 entry 5 0 0 3 9 9 0 get x6d x00000005fffffff56b x1300000000c001020100020000000000000000060000000024
 ";
 
+// A member's clock is set, a processor makes a number of no value, and a queue gets a value. Both are dumped.
+const OBJECTS: &str = "\
+2 ok
+3 ok
+4 ok
+4 to 0 2900000000e0010100000000000000000000000000000000000000000001000000000000000f010000
+5 ok
+5 to 0 1300000000c0012e010001000000000000000016000000002000000000fffffff80000000000000005
+6 ok
+6 to 0 1400000000e00101030003000000000000000001
+7 dump 1 1
+7 map x6d x00000005fffffff56b x00000000fffffff80000000000000005 - - -
+8 dump 1 1
+8 queue x71 x61
+9 dump 1 0
+10 ok
+10 entry 5 0 0 1 5 5 70 executeOnKey x6d x00000005fffffff56b x1300000000c0012e010001000000000000000016000000002000000000fffffff80000000000000005
+10 entry 100 0 0 2 6 6 70 offer x71 - x1400000000e00101030003000000000000000001
+";
+
 // A line that brings bytes on a connection.
 fn bytes_line(alloc: Global, conn: u32, hex: &str) -> Result<Line, Fail>
     requires { conn < 64 }
@@ -87,8 +116,8 @@ fn bytes_line(alloc: Global, conn: u32, hex: &str) -> Result<Line, Fail>
 // Runs the next line of a grid of one member.
 fn run(alloc: Global, grid: &mut Grid, line: &Line, out: &mut Vec<u8>) -> Result<(), Fail>
     requires read { IsWithin 1 most_line_bytes line.now }
-    requires stands { (r : Run) × Stands grid.old r }
-    ensures { OnOk result ((r : Run) × Stands grid.new r) }
+    requires stands { (settings : Settings) × (r : Run) × Stands (boxed form) settings grid.old r }
+    ensures { OnOk result ((settings : Settings) × (r : Run) × Stands (boxed form) settings grid.new r) }
 {
     if grid.members() != 1 || grid.lines() >= MOST_LINES {
         return Err(Fail::from("another grid, or too many lines"));
@@ -106,17 +135,35 @@ fn arrive(
     out: &mut Vec<u8>,
 ) -> Result<(), Fail>
     requires open { conn < 64 }
-    requires stands { (r : Run) × Stands grid.old r }
-    ensures { OnOk result ((r : Run) × Stands grid.new r) }
+    requires stands { (settings : Settings) × (r : Run) × Stands (boxed form) settings grid.old r }
+    ensures { OnOk result ((settings : Settings) × (r : Run) × Stands (boxed form) settings grid.new r) }
 {
     let line = bytes_line(alloc, conn, hex)?;
+    run(alloc, grid, &line, out)
+}
+
+// What a member has of a partition is printed.
+fn dump(
+    alloc: Global,
+    grid: &mut Grid,
+    partition: PartitionId,
+    out: &mut Vec<u8>,
+) -> Result<(), Fail>
+    requires there { partition < 271 }
+    requires stands { (settings : Settings) × (r : Run) × Stands (boxed form) settings grid.old r }
+    ensures { OnOk result ((settings : Settings) × (r : Run) × Stands (boxed form) settings grid.new r) }
+{
+    let line = Line::Dump {
+        partition,
+        member: 0,
+    };
     run(alloc, grid, &line, out)
 }
 
 #[test]
 fn answers_a_put_and_a_get(rt: HostRuntime) -> Result<(), Fail> {
     let alloc = rt.alloc();
-    let mut grid = Grid::new(alloc, 1, 0)?;
+    let mut grid = Grid::new(alloc, 1, 0, 10, Vec::new(alloc))?;
     let mut out = Vec::new(alloc);
     let open = Line::OpenConn { conn: 0, member: 0 };
     run(alloc, &mut grid, &open, &mut out)?;
@@ -132,7 +179,7 @@ fn answers_a_put_and_a_get(rt: HostRuntime) -> Result<(), Fail> {
 #[test]
 fn runs_each_kind_of_line(rt: HostRuntime) -> Result<(), Fail> {
     let alloc = rt.alloc();
-    let mut grid = Grid::new(alloc, 1, 0)?;
+    let mut grid = Grid::new(alloc, 1, 0, 10, Vec::new(alloc))?;
     let mut out = Vec::new(alloc);
     let open = Line::OpenConn { conn: 0, member: 0 };
     run(alloc, &mut grid, &open, &mut out)?;
@@ -152,5 +199,31 @@ fn runs_each_kind_of_line(rt: HostRuntime) -> Result<(), Fail> {
     arrive(alloc, &mut grid, 0, "00", &mut out)?;
     run(alloc, &mut grid, &Line::End, &mut out)?;
     assert_eq!(rt; out.as_slice(), MANY_LINES.as_bytes());
+    Ok(())
+}
+
+#[test]
+fn dumps_an_entry_and_a_queue(rt: HostRuntime) -> Result<(), Fail> {
+    let alloc = rt.alloc();
+    let mut processors: Vec<Box<dyn Processor>> = Vec::with_capacity(alloc, 1)?;
+    processors.push(Box::new(alloc, Add)?)?;
+    let mut grid = Grid::new(alloc, 1, 0, 10, processors)?;
+    let mut out = Vec::new(alloc);
+    let open = Line::OpenConn { conn: 0, member: 0 };
+    run(alloc, &mut grid, &open, &mut out)?;
+    let clock = Line::Clock {
+        member: 0,
+        moment: 70,
+    };
+    run(alloc, &mut grid, &clock, &mut out)?;
+    let begun = format!(in alloc; "{PREFIX}{AUTH}")?;
+    arrive(alloc, &mut grid, 0, begun.as_str(), &mut out)?;
+    arrive(alloc, &mut grid, 0, ADD, &mut out)?;
+    arrive(alloc, &mut grid, 0, OFFER, &mut out)?;
+    dump(alloc, &mut grid, 5, &mut out)?;
+    dump(alloc, &mut grid, 100, &mut out)?;
+    dump(alloc, &mut grid, 6, &mut out)?;
+    run(alloc, &mut grid, &Line::End, &mut out)?;
+    assert_eq!(rt; out.as_slice(), OBJECTS.as_bytes());
     Ok(())
 }

@@ -6,7 +6,7 @@ use Rattle.replay_run.proofs.GivingOut.{gave_more, gives_out, popped, more_text,
 use Rattle.replay_run.proofs.grid.give_out.Goals as goal
 
 pub loop-answer-preserved : goal.loop-answer-preserved
-loop-answer-preserved c = record {
+loop-answer-preserved g c = record {
   text = ap (λ (out : List ℕ). out ++ texts_of (map (message_of c.args.line) (waiting c.pop_released.new.self c.args.member))) c.in_ok-give.ensures.text
       ∙ more_text c.args.line c.loop-answer.out.items c.in-Some.answer (waiting c.loop-answer.world c.args.member) (waiting c.pop_released.new.self c.args.member) c.in-Some.ensures.given ∙ c.loop-answer.invariant.text;
   table = ap (λ (t : Table). with_answers t c.args.line (waiting c.pop_released.new.self c.args.member)) c.in_ok-give.ensures.table
@@ -16,7 +16,7 @@ loop-answer-preserved c = record {
 }
 
 pub returns-clause-world : goal.returns-clause-world
-returns-clause-world c =
+returns-clause-world g c =
     gives_out _ c.pop_released.new.self c.args.member
     (gave_more _ c.loop-answer.world c.pop_released.new.self c.args.member c.loop-answer.invariant.world
     (popped c.loop-answer.world c.pop_released.new.self c.args.member c.in_default.ensures.stands c.in_default.ensures.setup c.in_default.ensures.others))

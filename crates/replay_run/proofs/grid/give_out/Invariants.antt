@@ -6,11 +6,11 @@ use Rattle.replay_run.proofs.grid.give_out.Given as goal
 
 -- what waits still is what the text and the table still lack
 abbrev pub invariant-loop-answer : goal.invariant-loop-answer
-invariant-loop-answer l = record {
+invariant-loop-answer g l = record {
   text : l.out.items ++ texts_of (map (message_of l.line) (waiting l.world l.member)) ≡ l.initial.out.items ++ texts_of (map (message_of l.line) (waiting l.initial.world l.member));
   table : with_answers l.connections l.line (waiting l.world l.member) ≡ with_answers l.initial.connections l.line (waiting l.initial.world l.member);
-  world : GaveOut l.initial.world l.world l.member;
+  world : GaveOut g.S.Shelf.object g.S.Shelf.within_limits g.S.Shelf.state l.initial.world l.world l.member;
 }
 
 abbrev pub decreases-loop-answer : goal.decreases-loop-answer
-decreases-loop-answer l = length (waiting l.world l.member)
+decreases-loop-answer g l = length (waiting l.world l.member)

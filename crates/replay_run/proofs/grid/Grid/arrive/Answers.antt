@@ -8,26 +8,27 @@ use Rattle.replay_run.proofs.grid.Grid.arrive.Goals as goal
 
 -- Bytes can't arrive on the connection.
 pub returns-in_default : goal.returns-in_default
-returns-in_default c = λ r s.
+returns-in_default g c = λ settings r s.
     let at_line = next_number c.args.self.now c.args.number (Arrive c.args.conn c.args.bytes.now) c.requires r s in
     on_ok_weaker c.pass.result
-    (λ e. idle_line c.args.self.now c.pass.new.self r c.args.number c.args.conn c.args.bytes.now c.args.out.now.items c.pass.new.out.items s at_line (sym (c.open_member.ensures r s) ∙ c.in_default.is) c.pass.ensures.grid e)
+    (λ e. idle_line c.args.self.now c.pass.new.self r c.args.number c.args.conn c.args.bytes.now c.args.out.now.items c.pass.new.out.items s at_line (sym (c.open_member.ensures _ r s) ∙ c.in_default.is) c.pass.ensures.grid e)
     c.pass.ensures.text
 
 -- A connection that is open takes its bytes.
 pub returns-in_default-2 : goal.returns-in_default-2
-returns-in_default-2 c = λ r s.
-    absurd (not_refused c.args.self.now r s c.args.conn c.in-Some.member (sym (c.open_member.ensures r s) ∙ c.in-Some.is) c.args.bytes.now c.in_ok-fed.field-0 c.in_ok-fed.ensures.gives c.in_default-2.is)
+returns-in_default-2 g c = λ settings r s.
+    absurd (not_refused c.args.self.now r s c.args.conn c.in-Some.member (sym (c.open_member.ensures _ r s) ∙ c.in-Some.is) c.args.bytes.now c.in_ok-fed.field-0 c.in_ok-fed.ensures.gives c.in_default-2.is)
 
 pub handle_all-requires : goal.handle_all-requires
-handle_all-requires c =
+handle_all-requires g c =
     let r = c.requires.run in
     let s = c.requires.stands in
     let line = Arrive c.args.conn c.args.bytes.now in
     let at_line = next_number c.args.self.now c.args.number line c.requires r s in
-    let begun = has_begun c.args.self.now r s c.args.conn c.in-Some.member (sym (c.open_member.ensures r s) ∙ c.in-Some.is) c.args.bytes.now c.in_ok-fed.field-0 c.in_ok-fed.ensures.gives
+    let begun = has_begun c.args.self.now r s c.args.conn c.in-Some.member (sym (c.open_member.ensures _ r s) ∙ c.in-Some.is) c.args.bytes.now c.in_ok-fed.field-0 c.in_ok-fed.ensures.gives
     c.count.new.self c.args.number c.count.new.out.items c.in-Some-2.fed c.feed.new.self at_line c.in-Some-2.is c.in_ok-fed.ensures.stands c.count.ensures.grid in
     let its = begun.open_there in (
+      c.requires.settings,
       r,
       its.connection,
       c.args.bytes.now,
@@ -39,14 +40,14 @@ handle_all-requires c =
     )
 
 pub returns : goal.returns
-returns c = λ r s.
+returns g c = λ settings r s.
     let line = Arrive c.args.conn c.args.bytes.now in
     let at_line = next_number c.args.self.now c.args.number line c.requires r s in
-    let begun = has_begun c.args.self.now r s c.args.conn c.in-Some.member (sym (c.open_member.ensures r s) ∙ c.in-Some.is) c.args.bytes.now c.in_ok-fed.field-0 c.in_ok-fed.ensures.gives
+    let begun = has_begun c.args.self.now r s c.args.conn c.in-Some.member (sym (c.open_member.ensures _ r s) ∙ c.in-Some.is) c.args.bytes.now c.in_ok-fed.field-0 c.in_ok-fed.ensures.gives
     c.count.new.self c.args.number c.count.new.out.items c.in-Some-2.fed c.feed.new.self at_line c.in-Some-2.is c.in_ok-fed.ensures.stands c.count.ensures.grid in
     let its = begun.open_there in
-    let did = c.in_ok-handle_all.ensures r its.connection c.args.bytes.now begun.brings its.numbered its.to begun.none_handled in
+    let did = c.in_ok-handle_all.ensures settings r its.connection c.args.bytes.now begun.brings its.numbered its.to begun.none_handled in
     on_ok_weaker c.push_close.result
     (λ e. bytes_line r c.args.conn its.connection its.there c.args.bytes.now c.in-Some-2.fed.items.items begun.brings c.handle_all.new.self c.count.new.out.items c.handle_all.new.out.items did its.sound
-    c.in-Some-2.fed.closed c.args.number c.args.out.now.items c.push_close.new.out.items s.small c.requires.read.2 c.in_ok-count.ensures.text at_line begun.closed e)
+    c.in-Some-2.fed.closed c.args.number c.args.out.now.items c.push_close.new.out.items s.small s.reached c.requires.read.2 c.in_ok-count.ensures.text at_line begun.closed e)
     c.push_close.ensures

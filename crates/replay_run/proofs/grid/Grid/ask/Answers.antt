@@ -2,45 +2,58 @@ use Rattle.std.proofs.Common.{◌∙◌, ◌++◌, List, ℕ, map, set, refl, ap
 use Rattle.partition_world.specs.Worlds.{waiting}
 use Rattle.replay_run.specs.Runs.{events_at}
 use Rattle.replay_run.specs.Tables.{Table}
-use Rattle.replay_run.specs.WorldCalls.{texts_of, message_of, with_answers}
-use Rattle.replay_run.proofs.Asking.{on_ok_all, world_within, world_there, world_is, world_room}
+use Rattle.replay_run.specs.WorldCalls.{arrival_to, texts_of, message_of, with_answers}
+use Rattle.replay_run.proofs.Asking.{on_ok_all, world_within, world_there, world_is, world_room, did_by, stands_by, moment_within, moment_there}
+use Rattle.replay_run.proofs.GivingOut.{has_given_out}
 use Rattle.replay_run.proofs.GridCalls.{asked_grid}
 use Rattle.replay_run.proofs.grid.Grid.ask.Goals as goal
 
 pub index_mut-world-requires : goal.index_mut-world-requires
-index_mut-world-requires c =
-    let within = world_within c.args.self.now c.requires.stands.0 c.requires.stands.1 c.args.request.partition c.from.result c.requires.placed c.from.ensures in
+index_mut-world-requires g c =
+    let within = world_within c.args.self.now c.requires.stands.1 c.requires.stands.2 c.args.request.partition c.from.result c.requires.placed c.from.ensures in
     omega (arith, within, c.args.self.now.worlds.ok.0)
 
 pub call-requires-clause-room : goal.call-requires-clause-room
-call-requires-clause-room c =
-    world_room c.args.self.now c.requires.stands.0 c.requires.stands.1 c.args.request.partition c.from.result c.requires.placed c.from.ensures c.index_mut-world.result.now c.index_mut-world.ensures.value c.requires.stands.2
+call-requires-clause-room g c =
+    world_room c.args.self.now c.requires.stands.1 c.requires.stands.2 c.args.request.partition c.from.result c.requires.placed c.from.ensures c.index_mut-world.result.now c.index_mut-world.ensures.value c.requires.stands.3
 
 pub call-requires-clause-stands : goal.call-requires-clause-stands
-call-requires-clause-stands c = (
-  events_at c.args.request.partition c.requires.stands.0.events,
-  (world_is c.args.self.now c.requires.stands.0 c.requires.stands.1 c.args.request.partition c.from.result c.requires.placed c.from.ensures c.index_mut-world.result.now c.index_mut-world.ensures.value).stands,
+call-requires-clause-stands g c = (
+  events_at c.args.request.partition c.requires.stands.1.events,
+  stands_by _ c.args.self.now.env c.requires.stands.0 c.requires.stands.2.goes_by c.index_mut-world.result.now (events_at c.args.request.partition c.requires.stands.1.events)
+      (world_is c.args.self.now c.requires.stands.1 c.requires.stands.2 c.args.request.partition c.from.result c.requires.placed c.from.ensures c.index_mut-world.result.now c.index_mut-world.ensures.value).stands,
 )
 
+pub index-requires : goal.index-requires
+index-requires g c =
+    let within = moment_within c.args.self.now c.requires.stands.1 c.requires.stands.2 c.args.member c.from-2.result c.requires.member c.from-2.ensures in
+    omega (arith, within, c.args.self.now.moments.ok.0)
+
 pub returns : goal.returns
-returns c = λ r run h next count.
+returns g c = λ settings r run h next count.
     let grid = c.args.self.now in
     let line = c.args.self.now.lines in
     let partition = c.args.request.partition in
     let old = c.index_mut-world.result.now in
     let read = c.index_mut-world.ensures.value in
     let answers = waiting c.call.new.world c.args.member in
-    let did = c.in_ok-call.ensures (events_at partition r.events) (world_is grid r h partition c.from.result c.requires.placed c.from.ensures old read).stands in
+    let now = c.index.result.now in
+    let events = events_at partition r.events in
+    let did = did_by _ grid.env settings h.goes_by old c.call.new.world events (arrival_to line c.args.member now c.args.request) c.args.out.now.items c.call.new.out.items (c.in_ok-call.ensures events)
+    (world_is grid r h partition c.from.result c.requires.placed c.from.ensures old read).stands in
     on_ok_all c.give_out.result c.give_out.ensures.text c.give_out.ensures.table c.give_out.ensures.world
-    (λ text table out. asked_grid grid r run h c.args.member c.args.request next count c.requires.placed _ old c.call.new.world c.give_out.new.world line did.0 c.args.out.now.items c.give_out.new.out.items
+    (λ text table out. asked_grid grid r run h c.args.member c.args.request next count c.requires.placed _ old c.call.new.world c.give_out.new.world line now did.0 c.args.out.now.items c.give_out.new.out.items
     (world_there grid r h partition c.from.result c.requires.placed c.from.ensures old read)
     h.lines
+    (moment_there grid r h c.args.member c.from-2.result c.requires.member c.from-2.ensures now c.index.ensures)
     (record {
+      env = refl;
       lines = refl;
       members = refl;
+      moments = refl;
       table = table ∙ ap (λ (t : Table). with_answers t line answers) c.in_ok-arrive.ensures.ok;
       worlds = λ i. set grid.worlds.items (c.from.ensures i) c.give_out.new.world;
     })
-    out
+    (has_given_out _ settings grid.env c.call.new.world c.give_out.new.world c.args.member h.goes_by out)
     did.2
     (text ∙ ap (λ (xs : List ℕ). xs ++ texts_of (map (message_of line) answers)) did.1))

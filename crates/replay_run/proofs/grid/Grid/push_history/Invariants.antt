@@ -1,11 +1,12 @@
 use Rattle.std.proofs.Common.{◌≡◌, ◌++◌}
 use Rattle.partition_protocol.specs.World.{trail}
-use Rattle.replay_run.specs.PartitionObjects.{partition_object}
+use Rattle.call_engine.specs.Calls.{Settings}
+use Rattle.call_engine.specs.Objects.{partition_object}
 use Rattle.replay_run.specs.Runs.{Run, world_at}
-use Rattle.replay_run.specs.Grids.{Stands}
+use Rattle.replay_run.specs.Grids.{boxed, Stands}
 use Rattle.replay_run.proofs.HistoryTexts.{text_below}
 use Rattle.replay_run.proofs.grid.Grid.push_history.Given as goal
 
 -- the entries so far were printed
 abbrev pub invariant-loop-place : goal.invariant-loop-place
-invariant-loop-place l = (r : Run) → Stands l.self r → l.out.items ≡ l.initial.out.items ++ text_below r l.partition (trail (world_at partition_object r l.partition)) l.place
+invariant-loop-place g l = (settings : Settings) (r : Run) → Stands (boxed (λ z. (goal.Processor-dyn g z).form z.1)) settings l.self r → l.out.items ≡ l.initial.out.items ++ text_below r l.partition (trail (world_at (partition_object settings) r l.partition)) l.place

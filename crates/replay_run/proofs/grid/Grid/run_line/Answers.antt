@@ -1,26 +1,58 @@
-use Rattle.std.proofs.Common.{◌+◌, ◌∙◌, ◌++◌, append-nil, ap, sym, subst, refl}
+use Rattle.std.proofs.Common.{[], ◌+◌, ◌∙◌, ◌++◌, append-nil, ap, sym, refl}
 use Rattle.std.proofs.lemmas.Result.{on_ok_weaker}
-use Rattle.script_lang.specs.declared.line.Line.TheVariants.{Grid, Comment}
+use Rattle.script_lang.specs.declared.line.Line.TheVariants.{Grid, Arrive, Comment}
 use Rattle.replay_run.specs.Printing.{ok_text}
-use Rattle.replay_run.specs.Grids.{HasRun}
-use Rattle.replay_run.proofs.GridLines.{next_number, passed_line, counted_line}
+use Rattle.replay_run.proofs.GridLines.{may_run_as, has_run_as, next_number, passed_line, counted_line}
 use Rattle.replay_run.proofs.grid.Grid.run_line.Goals as goal
 
 -- The grid is made once.
 pub returns-in-Grid : goal.returns-in-Grid
-returns-in-Grid c = λ r s.
+returns-in-Grid g c = λ settings r s.
     let line = Grid c.in-Grid.members c.in-Grid.backups c.in-Grid.capacity in
     let at_line = next_number c.args.self.now c.args.number c.args.line.now c.requires r s in
     on_ok_weaker c.pass.result
-    (λ e. subst (λ l. HasRun c.pass.new.self r l c.args.out.now.items c.pass.new.out.items) (sym c.in-Grid.is)
+    (λ e. has_run_as c.in-Grid.is
     (passed_line c.args.self.now c.pass.new.self r c.args.number line s at_line refl c.pass.ensures.grid c.args.out.now.items c.pass.new.out.items refl e))
     c.pass.ensures.text
 
 pub returns-in-Comment : goal.returns-in-Comment
-returns-in-Comment c = λ r s.
+returns-in-Comment g c = λ settings r s.
     let at_line = next_number c.args.self.now c.args.number c.args.line.now c.requires r s in
     on_ok_weaker c.count.result
-    (λ e. subst (λ l. HasRun c.count.new.self r l c.args.out.now.items c.count.new.out.items) (sym c.in-Comment.is)
+    (λ e. has_run_as c.in-Comment.is
     (counted_line c.args.self.now c.count.new.self r c.args.number Comment s at_line refl c.count.ensures.grid c.args.out.now.items c.count.new.out.items refl refl
-    (e ∙ ap (λ n. c.args.out.now.items ++ ok_text n) at_line ∙ ap (λ xs. c.args.out.now.items ++ xs) (sym (append-nil (ok_text (r.lines + 1)))))))
+    (e ∙ ap (λ n. c.args.out.now.items ++ ok_text n) at_line ∙ ap (λ xs. c.args.out.now.items ++ xs) (sym (append-nil (ok_text (r.lines + 1) ++ []) ∙ append-nil (ok_text (r.lines + 1)))))))
     c.count.ensures.text
+
+pub open-requires : goal.open-requires
+open-requires g c = may_run_as c.in-OpenConn.is c.requires
+
+pub returns-in-OpenConn : goal.returns-in-OpenConn
+returns-in-OpenConn g c = λ settings r s. on_ok_weaker c.open.result (has_run_as c.in-OpenConn.is) (c.open.ensures settings r s)
+
+pub arrive-requires : goal.arrive-requires
+arrive-requires g c = may_run_as (c.in-Arrive.is ∙ ap (Arrive c.in-Arrive.conn) (sym c.as_slice.ensures)) c.requires
+
+pub returns-in-Arrive : goal.returns-in-Arrive
+returns-in-Arrive g c = λ settings r s. on_ok_weaker c.arrive.result (has_run_as (c.in-Arrive.is ∙ ap (Arrive c.in-Arrive.conn) (sym c.as_slice.ensures))) (c.arrive.ensures settings r s)
+
+pub set_clock-requires : goal.set_clock-requires
+set_clock-requires g c = may_run_as c.in-Clock.is c.requires
+
+pub returns-in-Clock : goal.returns-in-Clock
+returns-in-Clock g c = λ settings r s. on_ok_weaker c.set_clock.result (has_run_as c.in-Clock.is) (c.set_clock.ensures settings r s)
+
+pub dump-requires : goal.dump-requires
+dump-requires g c = may_run_as c.in-Dump.is c.requires
+
+pub returns-in-Dump : goal.returns-in-Dump
+returns-in-Dump g c = λ settings r s. on_ok_weaker c.dump.result (has_run_as c.in-Dump.is) (c.dump.ensures settings r s)
+
+pub trail-requires : goal.trail-requires
+trail-requires g c = may_run_as c.in-Trail.is c.requires
+
+pub returns-in-Trail : goal.returns-in-Trail
+returns-in-Trail g c = λ settings r s. on_ok_weaker c.trail.result (has_run_as c.in-Trail.is) (c.trail.ensures settings r s)
+
+pub returns-in-End : goal.returns-in-End
+returns-in-End g c = λ settings r s. on_ok_weaker c.end.result (has_run_as c.in-End.is) (c.end.ensures settings r s)

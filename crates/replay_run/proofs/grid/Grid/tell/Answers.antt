@@ -7,7 +7,7 @@ use Rattle.replay_run.proofs.Telling.{has_told}
 use Rattle.replay_run.proofs.grid.Grid.tell.Goals as goal
 
 pub returns : goal.returns
-returns c = λ r number run h count.
+returns g c = λ settings r number run h count.
     on_ok_weaker c.push_appended.result
     (λ e. has_told c.args.self.now r c.args.conn number c.args.answer h count _ c.args.out.now.items c.push_appended.new.out.items
     (ap (λ (t : Table). record c.args.self.now { connections = t }) c.in_ok-reply.ensures.ok)

@@ -1,8 +1,8 @@
-use Rattle.std.proofs.Common.{◌≡◌, ◌<◌, ◌+◌, ◌∙◌, ◌++◌, length, refl, arith}
+use Rattle.std.proofs.Common.{◌≡◌, ◌<◌, ◌+◌, ◌∙◌, [], ◌++◌, append-nil, ap, sym, length, refl, arith}
 use Rattle.std.specs.List.{flat_map}
 use Rattle.std.proofs.lemmas.Result.{on_ok_weaker}
 use Rattle.script_lang.specs.declared.line.Line.TheVariants.{Trail}
-use Rattle.replay_run.specs.PartitionObjects.{partition_object}
+use Rattle.call_engine.specs.Objects.{partition_object}
 use Rattle.replay_run.specs.Runs.{next_line}
 use Rattle.replay_run.specs.Printing.{partitions, trail_text, entry_text, entries_of}
 use Rattle.replay_run.proofs.Asking.{world_within, world_is}
@@ -11,18 +11,18 @@ use Rattle.replay_run.proofs.GridLines.{counted, counted_stands, counted_line, n
 use Rattle.replay_run.proofs.grid.Grid.trail.Goals as goal
 
 pub index-requires : goal.index-requires
-index-requires c =
+index-requires g c =
     let low : c.args.partition < partitions = omega (arith, c.requires.read) in
     let within = world_within c.args.self.now c.requires.run c.requires.stands.holds c.args.partition c.from.result low c.from.ensures in
     omega (arith, within, c.args.self.now.worlds.ok.0)
 
 pub push_history-requires-clause-stands : goal.push_history-requires-clause-stands
-push_history-requires-clause-stands c =
+push_history-requires-clause-stands g c =
     let r = c.requires.run in
-    (next_line r, counted_stands c.args.self.now r c.args.number c.requires.stands (next_number c.args.self.now c.args.number (Trail c.args.partition) c.requires r c.requires.stands))
+    (c.requires.settings, next_line r, counted_stands c.args.self.now r c.args.number c.requires.stands (next_number c.args.self.now c.args.number (Trail c.args.partition) c.requires r c.requires.stands))
 
 pub returns : goal.returns
-returns c = λ r s.
+returns g c = λ settings r s.
     let p = c.args.partition in
     let number = c.args.number in
     let low : p < partitions = omega (arith, c.requires.read) in
@@ -30,9 +30,9 @@ returns c = λ r s.
     let stands = counted_stands c.args.self.now r number s at_line in
     let world = c.index.result.now in
     let is = world_is (counted c.args.self.now number) (next_line r) stands.holds p c.from.result low c.from.ensures world c.index.ensures in
-    let count : c.trail_len.result ≡ length (entries_of partition_object (next_line r) p) = c.trail_len.ensures.length ∙ entries_counted world (next_line r) p is in
+    let count : c.trail_len.result ≡ length (entries_of (partition_object settings) (next_line r) p) = c.trail_len.ensures.length ∙ entries_counted world (next_line r) p is in
     on_ok_weaker c.push_history.result
     (λ e. counted_line c.args.self.now (counted c.args.self.now number) r number (Trail p) s at_line refl refl c.args.out.now.items c.push_history.new.out.items refl refl
-    (both_texts c.args.out.now.items (trail_text (r.lines + 1) (length (entries_of partition_object (next_line r) p))) (flat_map (entry_text (next_line r).lines) (entries_of partition_object (next_line r) p)) c.push_trail.new.out.items c.push_history.new.out.items
-    (c.in_ok-push_trail.ensures ∙ (λ i. c.args.out.now.items ++ trail_text (at_line i) (count i))) e))
-    (c.push_history.ensures (next_line r) stands)
+    (both_texts c.args.out.now.items (trail_text (r.lines + 1) (length (entries_of (partition_object settings) (next_line r) p)) ++ []) (flat_map (entry_text (next_line r).lines) (entries_of (partition_object settings) (next_line r) p)) c.push_trail.new.out.items c.push_history.new.out.items
+    (c.in_ok-push_trail.ensures ∙ (λ i. c.args.out.now.items ++ trail_text (at_line i) (count i)) ∙ ap (λ xs. c.args.out.now.items ++ xs) (sym (append-nil (trail_text (r.lines + 1) (length (entries_of (partition_object settings) (next_line r) p)))))) e))
+    (c.push_history.ensures settings (next_line r) stands)

@@ -1,0 +1,57 @@
+use Rattle.std.proofs.Common.{◌≡◌, ◌<◌, ◌+◌, ◌∙◌, ◌++◌, append-nil, ap, sym, subst, refl, arith}
+use Rattle.std.proofs.lemmas.Result.{on_ok_weaker}
+use Rattle.script_lang.specs.declared.line.Line.TheVariants.{Dump}
+use Rattle.partition_world.specs.ContentsOf.{pair_at, contents_at, pair_of}
+use Rattle.partition_world.specs.Worlds.{Setup, run_of}
+use Rattle.call_engine.specs.Calls.{Settings}
+use Rattle.call_engine.specs.Objects.{partition_object}
+use Rattle.replay_run.specs.Dumps.{dumped_text}
+use Rattle.replay_run.specs.Runs.{next_line, events_at, world_at}
+use Rattle.replay_run.specs.Printing.{partitions, dump_text}
+use Rattle.replay_run.specs.Grids.{StandsForEvents}
+use Rattle.replay_run.proofs.Asking.{world_within, world_is}
+use Rattle.replay_run.proofs.WorldRuns.{run_is}
+use Rattle.replay_run.proofs.GridLines.{counted, counted_stands, counted_line, next_number, both_texts}
+use Rattle.replay_run.proofs.grid.Grid.dump.Goals as goal
+
+pub index-requires : goal.index-requires
+index-requires g c =
+    let low : c.args.partition < partitions = omega (arith, c.requires.read.0) in
+    let within = world_within c.args.self.now c.requires.run c.requires.stands.holds c.args.partition c.from.result low c.from.ensures in
+    omega (arith, within, c.args.self.now.worlds.ok.0)
+
+pub contents-version-requires : goal.contents-version-requires
+contents-version-requires g c =
+    let low : c.args.partition < partitions = omega (arith, c.requires.read.0) in
+    let is = world_is c.args.self.now c.requires.run c.requires.stands.holds c.args.partition c.from.result low c.from.ensures c.index.result.now c.index.ensures in
+    let members = ap (λ (x : Setup). x.members) is.setup in
+    omega (arith, c.requires.read.1, members)
+
+pub returns : goal.returns
+returns g c = λ settings r s.
+    let p = c.args.partition in
+    let number = c.args.number in
+    let member = c.args.member in
+    let grid = c.args.self.now in
+    let low : p < partitions = omega (arith, c.requires.read.0) in
+    let at_line = next_number grid number (Dump p member) c.requires r s in
+    let stands = counted_stands grid r number s at_line in
+    let world = c.index.result.now in
+    let is = world_is (counted grid number) (next_line r) stands.holds p c.from.result low c.from.ensures world c.index.ensures in
+    let events = events_at p r.events in
+    let o = partition_object settings in
+    let pair : pair_of c.contents-version.result ≡ pair_at (world_at o (next_line r) p) member =
+    subst (λ (x : Settings). StandsForEvents x world events → pair_of c.contents-version.result ≡ pair_at (run_of (partition_object x) world events) member) s.holds.goes_by (c.contents-version.ensures.pair grid.env events) is.stands
+    ∙ ap (λ w. pair_at w member) (run_is world (next_line r) p is) in
+    let shown : c.contents-version.result.shelf.now ≡ contents_at o (world_at o (next_line r) p) member =
+    subst (λ (x : Settings). StandsForEvents x world events → c.contents-version.result.shelf.now ≡ contents_at (partition_object x) (run_of (partition_object x) world events) member) s.holds.goes_by (c.contents-version.ensures.state grid.env events) is.stands
+    ∙ ap (λ w. contents_at o w member) (run_is world (next_line r) p is) in
+    let outcome = dump_text (r.lines + 1) (pair_at (world_at o (next_line r) p) member) in
+    let dumped = dumped_text (r.lines + 1) (contents_at o (world_at o (next_line r) p) member) in
+    on_ok_weaker c.push_dumped.result
+    (λ e. counted_line grid (counted grid number) r number (Dump p member) s at_line refl refl c.args.out.now.items c.push_dumped.new.out.items refl refl
+    (both_texts c.args.out.now.items outcome dumped c.push_dump.new.out.items c.push_dumped.new.out.items
+    (c.in_ok-push_dump.ensures ∙ (λ i. c.args.out.now.items ++ dump_text (at_line i) (pair i)))
+    (e ∙ (λ i. c.push_dump.new.out.items ++ dumped_text (at_line i) (shown i)))
+    ∙ ap (λ xs. c.args.out.now.items ++ xs) (sym (append-nil (outcome ++ dumped)))))
+    c.push_dumped.ensures
