@@ -1,3 +1,4 @@
+pub mod LineLimits
 pub mod Members
 pub mod Progress
 pub mod TranscriberLaws

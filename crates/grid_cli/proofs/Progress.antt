@@ -4,13 +4,17 @@ use Rattle.std.specs.Prelude.{Contains}
 use Rattle.grid_base.specs.declared.names.CallId.{CallId}
 use Rattle.partition_protocol.proofs.Lists.{In, in_contains, contains_in, in_cases, in_left, in_right}
 use Rattle.script_lang.specs.Lines.{line_of, is_end}
-use Rattle.replay_run.specs.PartitionObjects.{partition_object}
+use Rattle.grid_base.specs.Objects.{Object}
+use Rattle.grid_base.specs.declared.calls.Request.{Request}
+use Rattle.entry_processors.specs.Processors.{ProcessorForm}
+use Rattle.object_store.specs.Partitions.{Partition}
+use Rattle.call_engine.specs.Objects.{partition_object}
 use Rattle.replay_run.specs.Runs.{Run, Arrival, begun, after_line, is_skipped}
 use Rattle.replay_run.specs.Printing.{ok_text, line_text}
 use Rattle.replay_run.specs.Skips.{AgreeOn, AreOfLine, calls_at}
-use Rattle.grid_cli.specs.Transcripts.{Transcript, Ended, first_line, later_lines, after_first, following, stopped, refused}
+use Rattle.grid_cli.specs.Transcripts.{Transcript, settings, Ended, first_line, later_lines, after_first, following, stopped, refused}
 use Rattle.grid_cli.specs.Statuses.{whole}
-use Rattle.grid_cli.specs.Progress.{IsAt, run_after, run_of, begun_by}
+use Rattle.grid_cli.specs.Progress.{IsAt, run_after, run_of, begun_by, capacity_by, capacity_of}
 use Rattle.script_lang.specs.declared.line.Line.{Line}
 use Rattle.script_lang.specs.declared.line.Line.TheVariants.{Grid}
 use Rattle.script_lang.specs.declared.refusal.LineWhy.{LineWhy}
@@ -29,39 +33,44 @@ or_false true = refl
 or_false false = refl
 
 -- the first line makes the grid
-pub at_first : (text : List ℕ) (members backups capacity : ℕ) → line_of true 0 text ≡ Ok (Grid members backups capacity) → IsAt (begun members backups) [] (text ∷ []) (ok_text 1)
-at_first text members backups capacity e = record {
-  goes_on = λ s agree limit texts. ap (λ (x : Result Line LineWhy). elim x [ Err why ↦ refused 1 why | Ok line ↦ after_first partition_object s limit texts line ]) e;
-  runs = λ s agree texts. ap (λ line. run_after partition_object s (begun_by line) texts) e;
+pub at_first : (forms : List ProcessorForm) (text : List ℕ) (members backups capacity : ℕ) → line_of true 0 text ≡ Ok (Grid members backups capacity)
+    → IsAt forms capacity (begun members backups) [] (text ∷ []) (ok_text 1)
+at_first forms text members backups capacity e = record {
+  goes_on = λ s agree limit texts. ap (λ (x : Result Line LineWhy). elim x [ Err why ↦ refused 1 why | Ok line ↦ after_first forms s limit texts line ]) e;
+  runs = λ s agree texts. ap (λ line. run_after (partition_object (settings forms (capacity_by line))) s (begun_by line) texts) e;
+  keeps = λ texts. ap capacity_by e;
   skipped = λ id c. absurd (nothing_in id c);
   count = refl;
 }
 
 -- a first line that isn't read, or makes no grid, is refused
-pub refused_first : (text : List ℕ) (why : LineWhy) → line_of true 0 text ≡ Err why → (s : List CallId) (limit : Option LimitWhat) (texts : List (List ℕ))
-    → first_line partition_object s limit (text ∷ texts) ≡ refused 1 why
-refused_first text why e s limit texts = ap (λ (x : Result Line LineWhy). elim x [ Err why ↦ refused 1 why | Ok line ↦ after_first partition_object s limit texts line ]) e
+pub refused_first : (forms : List ProcessorForm) (text : List ℕ) (why : LineWhy) → line_of true 0 text ≡ Err why → (s : List CallId) (limit : Option LimitWhat) (texts : List (List ℕ))
+    → first_line forms s limit (text ∷ texts) ≡ refused 1 why
+refused_first forms text why e s limit texts = ap (λ (x : Result Line LineWhy). elim x [ Err why ↦ refused 1 why | Ok line ↦ after_first forms s limit texts line ]) e
 
 -- what a line that was read gives, and the lines behind it
-abbrev pub continued : List CallId → Option LimitWhat → List (List ℕ) → Run → Line → Run → Transcript
-continued s limit texts r line next =
-    if is_end line then (record { text = line_text partition_object r line next; ending = Ended }) else following (line_text partition_object r line next) (later_lines partition_object s limit next texts)
+abbrev pub continued : Object Request Partition → List CallId → Option LimitWhat → List (List ℕ) → Run → Line → Run → Transcript
+continued o s limit texts r line next =
+    if is_end line then (record { text = line_text o r line next; ending = Ended }) else following (line_text o r line next) (later_lines o s limit next texts)
 
-pub later_line : (s : List CallId) (limit : Option LimitWhat) (r : Run) (text : List ℕ) (texts : List (List ℕ)) (line : Line) → line_of false r.members text ≡ Ok line
-    → later_lines partition_object s limit r (text ∷ texts) ≡ continued s limit texts r line (after_line partition_object s r line)
-later_line s limit r text texts line read =
-    ap (λ (x : Result Line LineWhy). elim x [ Err why ↦ refused (r.lines + 1) why | Ok l ↦ continued s limit texts r l (after_line partition_object s r l) ]) read
+pub later_line : (o : Object Request Partition) (s : List CallId) (limit : Option LimitWhat) (r : Run) (text : List ℕ) (texts : List (List ℕ)) (line : Line) → line_of false r.members text ≡ Ok line
+    → later_lines o s limit r (text ∷ texts) ≡ continued o s limit texts r line (after_line o s r line)
+later_line o s limit r text texts line read =
+    ap (λ (x : Result Line LineWhy). elim x [ Err why ↦ refused (r.lines + 1) why | Ok l ↦ continued o s limit texts r l (after_line o s r l) ]) read
 
-pub run_line : (s : List CallId) (r : Run) (text : List ℕ) (texts : List (List ℕ)) (line : Line) → line_of false r.members text ≡ Ok line
-    → run_after partition_object s r (text ∷ texts) ≡ run_after partition_object s (after_line partition_object s r line) texts
-run_line s r text texts line read = ap (λ (x : Result Line LineWhy). elim x [ Err why ↦ r | Ok l ↦ run_after partition_object s (after_line partition_object s r l) texts ]) read
+pub run_line : (o : Object Request Partition) (s : List CallId) (r : Run) (text : List ℕ) (texts : List (List ℕ)) (line : Line) → line_of false r.members text ≡ Ok line
+    → run_after o s r (text ∷ texts) ≡ run_after o s (after_line o s r line) texts
+run_line o s r text texts line read = ap (λ (x : Result Line LineWhy). elim x [ Err why ↦ r | Ok l ↦ run_after o s (after_line o s r l) texts ]) read
 
-module _ (r : Run) (skips : List CallId) (done : List (List ℕ)) (written text : List ℕ) (at : IsAt r skips done written)
+module _ (forms : List ProcessorForm) (capacity : ℕ) (r : Run) (skips : List CallId) (done : List (List ℕ)) (written text : List ℕ) (at : IsAt forms capacity r skips done written)
     (line : Line) (read : line_of false r.members text ≡ Ok line)
-    (k : List CallId) (of_line : AreOfLine r line k) (next : Run) (after : after_line partition_object k r line ≡ next)
+    (k : List CallId) (of_line : AreOfLine r line k) (next : Run) (after : after_line (partition_object (settings forms capacity)) k r line ≡ next)
     (new : (b : Arrival) (id : CallId) → In b r.arrivals → In id (calls_at r line) → b.id ≢ id) where
+  abbrev o : Object Request Partition
+  o = partition_object (settings forms capacity)
+
   counts : Counts r next (calls_at r line)
-  counts = subst (λ (x : Run). Counts r x (calls_at r line)) after (line_counts k r line)
+  counts = subst (λ (x : Run). Counts r x (calls_at r line)) after (line_counts o k r line)
 
   -- those that had arrived are skipped or not as before
   before_line : (a : Arrival) → In a r.arrivals → is_skipped (k ++ skips) a.id ≡ is_skipped skips a.id
@@ -87,65 +96,66 @@ module _ (r : Run) (skips : List CallId) (done : List (List ℕ)) (written text 
       let a = in_mapped (λ (a : Arrival). a.id) counts.come id (subst (λ ids. In id ids) (sym counts.names) i) in
       (a.0, contains_in a.0 next.arrivals (subst (In a.0) (sym counts.arrivals) (in_right a.0 r.arrivals counts.come a.1)), a.2)
 
-  runs_alike : (s : List CallId) → AgreeOn next.arrivals s (k ++ skips) → after_line partition_object s r line ≡ next
+  runs_alike : (s : List CallId) → AgreeOn next.arrivals s (k ++ skips) → after_line o s r line ≡ next
   runs_alike s agree =
-      skips_alike s k r line (λ id is. let a = call_arrived id is in
+      skips_alike o s k r line (λ id is. let a = call_arrived id is in
       subst (λ x. is_skipped s x ≡ is_skipped (k ++ skips) x) a.2 (agree a.0 a.1) ∙ its_calls id is)
       ∙ after
 
   line_ran : (s : List CallId) → AgreeOn next.arrivals s (k ++ skips) → (limit : Option LimitWhat) (texts : List (List ℕ))
-      → later_lines partition_object s limit r (text ∷ texts) ≡ continued s limit texts r line next
-  line_ran s agree limit texts = later_line s limit r text texts line read ∙ ap (continued s limit texts r line) (runs_alike s agree)
+      → later_lines o s limit r (text ∷ texts) ≡ continued o s limit texts r line next
+  line_ran s agree limit texts = later_line o s limit r text texts line read ∙ ap (continued o s limit texts r line) (runs_alike s agree)
 
   -- a line that isn't the last leads on
-  pub at_next : is_end line ≡ false → IsAt next (k ++ skips) (done ++ text ∷ []) (written ++ line_text partition_object r line next)
+  pub at_next : is_end line ≡ false → IsAt forms capacity next (k ++ skips) (done ++ text ∷ []) (written ++ line_text o r line next)
   at_next going = record {
     goes_on = λ s agree limit texts.
-        ap (first_line partition_object s limit) (append_assoc done (text ∷ []) texts)
+        ap (first_line forms s limit) (append_assoc done (text ∷ []) texts)
         ∙ at.goes_on s (agree_before s agree) limit (text ∷ texts)
         ∙ ap (following written) (line_ran s agree limit texts ∙ on_going s limit texts)
-        ∙ following-following written (line_text partition_object r line next) (later_lines partition_object s limit next texts);
+        ∙ following-following written (line_text o r line next) (later_lines o s limit next texts);
     runs = λ s agree texts.
-        ap (run_of s) (append_assoc done (text ∷ []) texts)
+        ap (run_of forms s) (append_assoc done (text ∷ []) texts)
         ∙ at.runs s (agree_before s agree) (text ∷ texts)
-        ∙ run_line s r text texts line read
-        ∙ ap (λ x. run_after partition_object s x texts) (runs_alike s agree);
+        ∙ run_line o s r text texts line read
+        ∙ ap (λ x. run_after o s x texts) (runs_alike s agree);
+    keeps = λ texts. ap capacity_of (append_assoc done (text ∷ []) texts) ∙ at.keeps (text ∷ texts);
     skipped = λ id c. ⊎_elim (λ i. call_arrived id (in_contains id (calls_at r line) (of_line id (contains_in id k i)))) (λ i. let a = at.skipped id (contains_in id skips i) in (a.0, arrived_stays a.0 a.1, a.2)) (in_cases id k skips (in_contains id (k ++ skips) c));
     count = counts.lines ∙ ap (λ n. n + 1) at.count ∙ sym (length-append done (text ∷ []));
   }
     where
-      on_going : (s : List CallId) (limit : Option LimitWhat) (texts : List (List ℕ)) → continued s limit texts r line next ≡ following (line_text partition_object r line next) (later_lines partition_object s limit next texts)
+      on_going : (s : List CallId) (limit : Option LimitWhat) (texts : List (List ℕ)) → continued o s limit texts r line next ≡ following (line_text o r line next) (later_lines o s limit next texts)
       on_going s limit texts =
-          ap (λ b. if b then (record { text = line_text partition_object r line next; ending = Ended }) else following (line_text partition_object r line next) (later_lines partition_object s limit next texts)) going
+          ap (λ b. if b then (record { text = line_text o r line next; ending = Ended }) else following (line_text o r line next) (later_lines o s limit next texts)) going
 
   agree_itself : AgreeOn next.arrivals (k ++ skips) (k ++ skips)
   agree_itself a c = refl
 
   -- the line `end` ends the run
   pub at_end : is_end line ≡ true → (limit : Option LimitWhat) (texts : List (List ℕ))
-      → first_line partition_object (k ++ skips) limit (done ++ text ∷ texts) ≡ whole (written ++ line_text partition_object r line next) Ended
+      → first_line forms (k ++ skips) limit (done ++ text ∷ texts) ≡ whole (written ++ line_text o r line next) Ended
   at_end ending limit texts =
       at.goes_on (k ++ skips) (agree_before (k ++ skips) agree_itself) limit (text ∷ texts)
       ∙ ap (following written) (line_ran (k ++ skips) agree_itself limit texts ∙ on_end)
     where
-      on_end : continued (k ++ skips) limit texts r line next ≡ (record { text = line_text partition_object r line next; ending = Ended })
+      on_end : continued o (k ++ skips) limit texts r line next ≡ (record { text = line_text o r line next; ending = Ended })
       on_end =
-          ap (λ b. if b then (record { text = line_text partition_object r line next; ending = Ended }) else following (line_text partition_object r line next) (later_lines partition_object (k ++ skips) limit next texts)) ending
+          ap (λ b. if b then (record { text = line_text o r line next; ending = Ended }) else following (line_text o r line next) (later_lines o (k ++ skips) limit next texts)) ending
 
 agree_with_itself : (come : List Arrival) (skips : List CallId) → AgreeOn come skips skips
 agree_with_itself come skips a c = refl
 
 -- a line that isn't read is refused
-pub at_refused : (r : Run) (skips : List CallId) (done : List (List ℕ)) (written text : List ℕ) → IsAt r skips done written → (why : LineWhy) → line_of false r.members text ≡ Err why
-    → (limit : Option LimitWhat) (texts : List (List ℕ)) → first_line partition_object skips limit (done ++ text ∷ texts) ≡ following written (refused (r.lines + 1) why)
-at_refused r skips done written text at why read limit texts =
+pub at_refused : (forms : List ProcessorForm) (capacity : ℕ) (r : Run) (skips : List CallId) (done : List (List ℕ)) (written text : List ℕ) → IsAt forms capacity r skips done written → (why : LineWhy) → line_of false r.members text ≡ Err why
+    → (limit : Option LimitWhat) (texts : List (List ℕ)) → first_line forms skips limit (done ++ text ∷ texts) ≡ following written (refused (r.lines + 1) why)
+at_refused forms capacity r skips done written text at why read limit texts =
     at.goes_on skips (agree_with_itself r.arrivals skips) limit (text ∷ texts)
-    ∙ ap (following written) (ap (λ (x : Result Line LineWhy). elim x [ Err why ↦ refused (r.lines + 1) why | Ok l ↦ continued skips limit texts r l (after_line partition_object skips r l) ]) read)
+    ∙ ap (following written) (ap (λ (x : Result Line LineWhy). elim x [ Err why ↦ refused (r.lines + 1) why | Ok l ↦ continued (partition_object (settings forms capacity)) skips limit texts r l (after_line (partition_object (settings forms capacity)) skips r l) ]) read)
 
 -- where the lines stop
-pub at_stop : (r : Run) (skips : List CallId) (done : List (List ℕ)) (written : List ℕ) → IsAt r skips done written → (limit : Option LimitWhat)
-    → first_line partition_object skips limit done ≡ following written (stopped limit (length done))
-at_stop r skips done written at limit =
-    ap (first_line partition_object skips limit) (sym (append-nil done))
+pub at_stop : (forms : List ProcessorForm) (capacity : ℕ) (r : Run) (skips : List CallId) (done : List (List ℕ)) (written : List ℕ) → IsAt forms capacity r skips done written → (limit : Option LimitWhat)
+    → first_line forms skips limit done ≡ following written (stopped limit (length done))
+at_stop forms capacity r skips done written at limit =
+    ap (first_line forms skips limit) (sym (append-nil done))
     ∙ at.goes_on skips (agree_with_itself r.arrivals skips) limit []
     ∙ ap (λ n. following written (stopped limit n)) at.count

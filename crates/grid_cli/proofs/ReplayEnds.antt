@@ -2,6 +2,7 @@
 use Rattle.std.proofs.Common.{◌≡◌, ℕ, ◌==◌, true, false, ◌⊎◌, inl, inr, List, [], ◌∷◌, ◌++◌, length, None, refl, ap, sym, ◌∙◌, arith, append-nil}
 use Rattle.std.proofs.lemmas.Bool.Decides.{nat_tests}
 use Rattle.grid_base.specs.declared.names.CallId.{CallId}
+use Rattle.entry_processors.specs.Processors.{ProcessorForm}
 use Rattle.grid_cli.specs.Transcribing.{Concludes, StopsAs, HasRoomFor}
 use Rattle.grid_cli.specs.Replays.{last_line}
 use Rattle.grid_cli.specs.declared.status.Status.{Status}
@@ -26,11 +27,11 @@ room_for_last lines (x ∷ xs) (inl none) e = absurd (cc none)
 room_for_last lines (x ∷ xs) (inr room) e = room
 
 -- a run that stopped at the last line
-pub stopped_at_last : (status : Status) (skips : List CallId) (done : List (List ℕ)) (text written : List ℕ) → StopsAs status skips done text written → Concludes None status skips (done ++ text ∷ []) written
-stopped_at_last Done skips done text written h = h None []
-stopped_at_last Usage skips done text written h = absurd h
-stopped_at_last (ScriptRefused line why) skips done text written h = h None []
-stopped_at_last ReadFault skips done text written h = absurd h
-stopped_at_last WriteFault skips done text written h = h None []
-stopped_at_last (Limit what) skips done text written h = absurd h
-stopped_at_last Memory skips done text written h = h None []
+pub stopped_at_last : (forms : List ProcessorForm) (status : Status) (skips : List CallId) (done : List (List ℕ)) (text written : List ℕ) → StopsAs forms status skips done text written → Concludes forms None status skips (done ++ text ∷ []) written
+stopped_at_last forms Done skips done text written h = h None []
+stopped_at_last forms Usage skips done text written h = absurd h
+stopped_at_last forms (ScriptRefused line why) skips done text written h = h None []
+stopped_at_last forms ReadFault skips done text written h = absurd h
+stopped_at_last forms WriteFault skips done text written h = h None []
+stopped_at_last forms (Limit what) skips done text written h = absurd h
+stopped_at_last forms Memory skips done text written h = h None []

@@ -4,6 +4,8 @@ use Rattle.std.proofs.lemmas.Bool.Decides.{nat_tests}
 use Rattle.memchr.specs.Find.{Nowhere, NoneBefore, Passes, is_byte}
 use Rattle.grid_base.specs.declared.names.CallId.{CallId}
 use Rattle.grid_edge.proofs.Told.{more_taken}
+use Rattle.entry_processors.specs.Processors.{ProcessorForm}
+use Rattle.replay_run.specs.Grids.{FormOf}
 use Rattle.script_lang.specs.Words.{newline, pieces_at, onto_first}
 use Rattle.script_lang.specs.Pieces.{IsOnePiece}
 use Rattle.script_lang.proofs.Pieces.{uncut}
@@ -47,73 +49,73 @@ split_at_line xs k within here = append_assoc (take k xs) (newline ∷ []) (drop
 
 -- bytes taken one after the other
 
-leads_both : (There : List CallId → List ℕ → List ℕ → Type 0) (start now : Replay) (first then : List ℕ) (before after last : Option (List ℕ))
-    → Takes start now first before after → LeadsTo There now then after last → LeadsTo There start (first ++ then) before last
-leads_both There start now first then before after last one two skips read written has =
-    let a = one skips read written has in
-    let b = two (a.0 ++ skips) (read ++ first) (written ++ a.1) a.2 in (
+leads_both : {V : Type 0} {T : V → Type 0} {form : FormOf V T} (There : List ProcessorForm → List CallId → List ℕ → List ℕ → Type 0) (start now : Replay V T) (first then : List ℕ) (before after last : Option (List ℕ))
+    → Takes form start now first before after → LeadsTo form There now then after last → LeadsTo form There start (first ++ then) before last
+leads_both There start now first then before after last one two forms skips read written has =
+    let a = one forms skips read written has in
+    let b = two forms (a.0 ++ skips) (read ++ first) (written ++ a.1) a.2 in (
       b.0 ++ a.0,
       a.1 ++ b.1,
-      subst (λ s. There s (read ++ (first ++ then)) (written ++ (a.1 ++ b.1))) (sym (append_assoc b.0 a.0 skips))
-          (subst (λ bytes. There (b.0 ++ (a.0 ++ skips)) bytes (written ++ (a.1 ++ b.1))) (append_assoc read first then)
-          (subst (λ text. There (b.0 ++ (a.0 ++ skips)) ((read ++ first) ++ then) text) (append_assoc written a.1 b.1) b.2)),
+      subst (λ s. There forms s (read ++ (first ++ then)) (written ++ (a.1 ++ b.1))) (sym (append_assoc b.0 a.0 skips))
+          (subst (λ bytes. There forms (b.0 ++ (a.0 ++ skips)) bytes (written ++ (a.1 ++ b.1))) (append_assoc read first then)
+          (subst (λ text. There forms (b.0 ++ (a.0 ++ skips)) ((read ++ first) ++ then) text) (append_assoc written a.1 b.1) b.2)),
       more_taken before after last a.1 b.1 a.3 b.3,
     )
 
-stops_sooner : (start : Replay) (status : Status) (first then : List ℕ) (before last : Option (List ℕ)) → StopsIn start status first before last → StopsIn start status (first ++ then) before last
-stops_sooner start status first then before last one skips read written has =
-    let a = one skips read written has in (
+stops_sooner : {V : Type 0} {T : V → Type 0} {form : FormOf V T} (start : Replay V T) (status : Status) (first then : List ℕ) (before last : Option (List ℕ)) → StopsIn form start status first before last → StopsIn form start status (first ++ then) before last
+stops_sooner start status first then before last one forms skips read written has =
+    let a = one forms skips read written has in (
       a.0,
       a.1,
-      subst (λ bytes. StopsWithin status (a.0 ++ skips) bytes (written ++ a.1)) (append_assoc read first then) (stops_before status (a.0 ++ skips) (read ++ first) then (written ++ a.1) a.2),
+      subst (λ bytes. StopsWithin forms status (a.0 ++ skips) bytes (written ++ a.1)) (append_assoc read first then) (stops_before status (a.0 ++ skips) (read ++ first) then (written ++ a.1) a.2),
       a.3,
     )
 
 -- What was taken of a piece: its front, of which the rest is left.
-pub record HasTaken (start now : Replay) (before after : Option (List ℕ)) (piece rest : List ℕ) : Type 0 where
+pub record HasTaken {V : Type 0} {T : V → Type 0} (form : FormOf V T) (start now : Replay V T) (before after : Option (List ℕ)) (piece rest : List ℕ) : Type 0 where
   pub front : List ℕ
   pub is_front : front ++ rest ≡ piece
-  pub takes : Takes start now front before after
+  pub takes : Takes form start now front before after
 
-pub taken_none : (replay : Replay) (before : Option (List ℕ)) (piece : List ℕ) → HasTaken replay replay before before piece piece
+pub taken_none : {V : Type 0} {T : V → Type 0} {form : FormOf V T} (replay : Replay V T) (before : Option (List ℕ)) (piece : List ℕ) → HasTaken form replay replay before before piece piece
 taken_none replay before piece = record {
   front = [];
   is_front = refl;
   takes = nothing_taken replay before;
 }
 
-pub taken_more : (start now next : Replay) (before after last : Option (List ℕ)) (piece rest left : List ℕ) (k : ℕ) → HasTaken start now before after piece rest
-    → k < length rest → Passes (is_byte newline) rest k → left ≡ drop (k + 1) rest → Takes now next (ended_line (take k rest)) after last → HasTaken start next before last piece left
-taken_more start now next before after last piece rest left k has within here left_is takes = record {
+pub taken_more : {V : Type 0} {T : V → Type 0} {form : FormOf V T} (start now next : Replay V T) (before after last : Option (List ℕ)) (piece rest left : List ℕ) (k : ℕ) → HasTaken form start now before after piece rest
+    → k < length rest → Passes (is_byte newline) rest k → left ≡ drop (k + 1) rest → Takes form now next (ended_line (take k rest)) after last → HasTaken form start next before last piece left
+taken_more {form = form} start now next before after last piece rest left k has within here left_is takes = record {
   front = has.front ++ ended_line (take k rest);
   is_front =
       append_assoc has.front (ended_line (take k rest)) left
       ∙ ap (λ bytes. has.front ++ bytes) (ap (λ l. ended_line (take k rest) ++ l) left_is ∙ split_at_line rest k within here)
       ∙ has.is_front;
-  takes = leads_both (HasRead next) start now has.front (ended_line (take k rest)) before after last has.takes takes;
+  takes = leads_both (λ forms. HasRead form forms next) start now has.front (ended_line (take k rest)) before after last has.takes takes;
 }
 
 -- the last bytes of the piece end no line
-pub taken_end : (start now next : Replay) (before after last : Option (List ℕ)) (piece rest : List ℕ) → HasTaken start now before after piece rest → Takes now next rest after last → Takes start next piece before last
-taken_end start now next before after last piece rest has takes =
-    subst (λ bytes. Takes start next bytes before last) has.is_front (leads_both (HasRead next) start now has.front rest before after last has.takes takes)
+pub taken_end : {V : Type 0} {T : V → Type 0} {form : FormOf V T} (start now next : Replay V T) (before after last : Option (List ℕ)) (piece rest : List ℕ) → HasTaken form start now before after piece rest → Takes form now next rest after last → Takes form start next piece before last
+taken_end {form = form} start now next before after last piece rest has takes =
+    subst (λ bytes. Takes form start next bytes before last) has.is_front (leads_both (λ forms. HasRead form forms next) start now has.front rest before after last has.takes takes)
 
 -- the run stopped within the piece
-pub stopped_at_line : (start now : Replay) (before after last : Option (List ℕ)) (piece rest : List ℕ) (k : ℕ) (status : Status) → HasTaken start now before after piece rest
-    → k < length rest → Passes (is_byte newline) rest k → StopsIn now status (ended_line (take k rest)) after last → StopsIn start status piece before last
-stopped_at_line start now before after last piece rest k status has within here stops =
+pub stopped_at_line : {V : Type 0} {T : V → Type 0} {form : FormOf V T} (start now : Replay V T) (before after last : Option (List ℕ)) (piece rest : List ℕ) (k : ℕ) (status : Status) → HasTaken form start now before after piece rest
+    → k < length rest → Passes (is_byte newline) rest k → StopsIn form now status (ended_line (take k rest)) after last → StopsIn form start status piece before last
+stopped_at_line {form = form} start now before after last piece rest k status has within here stops =
     let all = ap (λ bytes. has.front ++ bytes) (split_at_line rest k within here) ∙ has.is_front in
-    subst (λ bytes. StopsIn start status bytes before last) all
-    (leads_both (StopsWithin status) start now has.front (ended_line (take k rest) ++ drop (k + 1) rest) before after last has.takes
+    subst (λ bytes. StopsIn form start status bytes before last) all
+    (leads_both (λ forms. StopsWithin forms status) start now has.front (ended_line (take k rest) ++ drop (k + 1) rest) before after last has.takes
     (stops_sooner now status (ended_line (take k rest)) (drop (k + 1) rest) after last stops))
 
-pub stopped_at_end : (start now : Replay) (before after last : Option (List ℕ)) (piece rest : List ℕ) (status : Status) → HasTaken start now before after piece rest
-    → StopsIn now status rest after last → StopsIn start status piece before last
-stopped_at_end start now before after last piece rest status has stops =
-    subst (λ bytes. StopsIn start status bytes before last) has.is_front (leads_both (StopsWithin status) start now has.front rest before after last has.takes stops)
+pub stopped_at_end : {V : Type 0} {T : V → Type 0} {form : FormOf V T} (start now : Replay V T) (before after last : Option (List ℕ)) (piece rest : List ℕ) (status : Status) → HasTaken form start now before after piece rest
+    → StopsIn form now status rest after last → StopsIn form start status piece before last
+stopped_at_end {form = form} start now before after last piece rest status has stops =
+    subst (λ bytes. StopsIn form start status bytes before last) has.is_front (leads_both (λ forms. StopsWithin forms status) start now has.front rest before after last has.takes stops)
 
 -- what was read goes on
-pub read_on : (start now : Replay) (before after : Option (List ℕ)) (piece rest : List ℕ) → HasTaken start now before after piece rest
-    → (skips : List CallId) × (read written : List ℕ) × HasRead start skips read written → (skips : List CallId) × (read written : List ℕ) × HasRead now skips read written
+pub read_on : {V : Type 0} {T : V → Type 0} {form : FormOf V T} (start now : Replay V T) (before after : Option (List ℕ)) (piece rest : List ℕ) → HasTaken form start now before after piece rest
+    → (forms : List ProcessorForm) × (skips : List CallId) × (read written : List ℕ) × HasRead form forms start skips read written → (forms : List ProcessorForm) × (skips : List CallId) × (read written : List ℕ) × HasRead form forms now skips read written
 read_on start now before after piece rest has given =
-    let a = has.takes given.0 given.1 given.2 given.3 in (a.0 ++ given.0, given.1 ++ has.front, given.2 ++ a.1, a.2)
+    let a = has.takes given.0 given.1 given.2 given.3 given.4 in (given.0, a.0 ++ given.1, given.2 ++ has.front, given.3 ++ a.1, a.2)

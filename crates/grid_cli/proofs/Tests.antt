@@ -1,5 +1,5 @@
 -- What the tests of a script's limits say.
-use Rattle.std.proofs.Common.{◌≡◌, ◌≢◌, ℕ, ◌-◌, ◌≤◌, ◌<◌, ◌==◌, ◌⊎◌, inl, inr, Bool, true, false, cond, List, [], ◌∷◌, length, Some, None, nat_lt, refl, ap, ◌∙◌, arith}
+use Rattle.std.proofs.Common.{◌≡◌, ◌≢◌, ℕ, ◌-◌, ◌≤◌, ◌<◌, ◌==◌, ◌⊎◌, inl, inr, Bool, true, false, cond, List, [], ◌∷◌, length, Some, None, nat_lt, refl, ap, sym, ◌∙◌, arith}
 use Rattle.std.proofs.lemmas.Bool.Decides.{nat_tests}
 use Rattle.script_lang.specs.Limits.{most_lines, most_line_bytes}
 use Rattle.grid_cli.specs.Scripts.{Cut, stops, within, last_cut, limit_in}
@@ -25,6 +25,12 @@ same n m h = grind (arith, nat_tests)
 different : (n m : ℕ) → (n == m) ≡ false → n ≢ m
 different n m h e = grind (arith, nat_tests)
 
+is_same : (n m : ℕ) → n ≡ m → (n == m) ≡ true
+is_same n m h = grind (arith, nat_tests)
+
+is_other : (n m : ℕ) → n ≢ m → (n == m) ≡ false
+is_other n m h = grind (arith, nat_tests)
+
 is_zero : (n : ℕ) → n ≡ 0 → (n == 0) ≡ true
 is_zero n h = grind (arith, nat_tests)
 
@@ -44,6 +50,20 @@ too_long : (left : ℕ) (line : List ℕ) (c : Cut) → 0 < left → most_line_b
 too_long left line c some many =
     ap (λ b. cond b (stops Lines) (cond (nat_lt most_line_bytes (length line)) (stops Line) c)) (not_zero left some)
     ∙ ap (λ b. cond b (stops Line) c) (past_limit (length line) most_line_bytes many)
+
+-- which limit is in a line
+pub all_lines : (lines : ℕ) (line : List ℕ) → lines ≡ most_lines → Some Lines ≡ limit_in lines line
+all_lines lines line all = sym (ap (λ b. cond b (Some Lines) (cond (nat_lt most_line_bytes (length line)) (Some Line) None)) (is_same lines most_lines all))
+
+pub long_line : (lines : ℕ) (line : List ℕ) → lines ≢ most_lines → most_line_bytes < length line → Some Line ≡ limit_in lines line
+long_line lines line other many =
+    sym (ap (λ b. cond b (Some Lines) (cond (nat_lt most_line_bytes (length line)) (Some Line) None)) (is_other lines most_lines other)
+    ∙ ap (λ b. cond b (Some Line) None) (past_limit (length line) most_line_bytes many))
+
+pub no_limit : (lines : ℕ) (line : List ℕ) → lines ≢ most_lines → length line ≤ most_line_bytes → None ≡ limit_in lines line
+no_limit lines line other few =
+    sym (ap (λ b. cond b (Some Lines) (cond (nat_lt most_line_bytes (length line)) (Some Line) None)) (is_other lines most_lines other)
+    ∙ ap (λ b. cond b (Some Line) None) (within_limit (length line) most_line_bytes few))
 
 -- No limit is in a line that is within them.
 pub limit_in_none : (lines : ℕ) (line : List ℕ) → limit_in lines line ≡ None → lines ≤ most_lines → (lines < most_lines) × (length line ≤ most_line_bytes)

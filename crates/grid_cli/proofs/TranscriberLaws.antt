@@ -1,23 +1,32 @@
 -- What the code that runs lines has done, line by line.
-use Rattle.std.proofs.Common.{◌≡◌, ℕ, ◌+◌, ◌≤◌, true, false, List, [], ◌∷◌, ◌++◌, length, Option, Some, None, Ok, Err, refl, ap, sym, ◌∙◌, subst, append-nil, append_assoc, take, drop}
+use Rattle.std.proofs.Common.{◌≡◌, ℕ, ◌+◌, ◌≤◌, true, false, List, [], ◌∷◌, ◌++◌, length, map, Option, Some, None, Ok, Err, refl, ap, sym, ◌∙◌, subst, append-nil, append_assoc, take, drop}
 use Rattle.std.proofs.lemmas.List.{take-append-drop}
+use Rattle.std.specs.declared.alloc.Global.{Global}
+use Rattle.std.specs.declared.dyn_box.DynBox.{DynBox}
 use Rattle.partition_protocol.specs.Sequences.{IsFrontOf}
+use Rattle.grid_base.specs.Objects.{Object}
+use Rattle.grid_base.specs.declared.calls.Request.{Request}
 use Rattle.grid_base.specs.declared.names.CallId.{CallId}
 use Rattle.script_lang.specs.Lines.{line_of, is_end}
 use Rattle.script_lang.specs.declared.line.Line.{Line}
 use Rattle.script_lang.specs.declared.line.Line.TheVariants.{Grid as GridLine}
 use Rattle.script_lang.specs.declared.refusal.LineWhy.{LineWhy}
 use Rattle.script_lang.specs.declared.refusal.LineWhy.TheVariants.{NoEnd}
-use Rattle.replay_run.specs.PartitionObjects.{partition_object}
+use Rattle.entry_processors.specs.Processors.{ProcessorForm}
+use Rattle.object_store.specs.Partitions.{Partition}
+use Rattle.call_engine.specs.Calls.{Settings}
+use Rattle.call_engine.specs.Objects.{partition_object}
 use Rattle.replay_run.specs.Runs.{Run, begun, after_line}
 use Rattle.replay_run.specs.Printing.{ok_text}
-use Rattle.replay_run.specs.Grids.{Stands, HasRun as RanLine}
+use Rattle.replay_run.specs.Grids.{FormOf, Stands, HasRun as RanLine}
 use Rattle.replay_run.specs.declared.grid.Grid.{Grid}
-use Rattle.grid_cli.specs.Transcripts.{Transcript, Ending, Ended, Refused, TooLong, first_line, later_lines, following, stopped, refused, refused_text, limit_text}
+use Rattle.grid_cli.specs.Transcripts.{Transcript, settings, Ending, Ended, Refused, TooLong, first_line, later_lines, following, stopped, refused, refused_text, limit_text}
 use Rattle.grid_cli.specs.Statuses.{whole}
 use Rattle.grid_cli.specs.Progress.{IsAt}
 use Rattle.grid_cli.specs.Transcribing.{HasRun, HasRunNone, Follows, RanAs, Continues}
 use Rattle.grid_cli.specs.declared.status.LimitWhat.{LimitWhat}
+use Rattle.grid_cli.specs.declared.transcriber.Stage.{Stage}
+use Rattle.grid_cli.specs.declared.transcriber.Stage.TheVariants.{Waiting, Running}
 use Rattle.grid_cli.specs.declared.transcriber.Ran.{Ran}
 use Rattle.grid_cli.specs.declared.transcriber.Ran.TheVariants.{Goes, Ended as IsEnded, Refused as IsRefused}
 use Rattle.replay_run.proofs.Fresh.{calls_are_new}
@@ -25,64 +34,75 @@ use Rattle.grid_cli.proofs.Members.{members_stay}
 use Rattle.grid_cli.proofs.Progress.{at_first, at_next, at_end, at_refused, at_stop}
 
 -- a line that was read, and then ran
-module _ (old new : Grid) (skips : List CallId) (done : List (List ℕ)) (written text added : List ℕ) (follows : HasRun old skips done written)
-    (line : Line) (read : line_of false follows.run.members text ≡ Ok line) (ran : RanLine new follows.run line [] added) where
-  pub line_goes : is_end line ≡ false → RanAs Goes (Some new) skips done text written added
+module _ {V : Type 0} {T : V → Type 0} {form : FormOf V T} {forms : List ProcessorForm} (old new : Grid V T) (skips : List CallId) (done : List (List ℕ)) (written text added : List ℕ) (follows : HasRun form forms old skips done written)
+    (line : Line) (read : line_of false follows.run.members text ≡ Ok line) (ran : RanLine form (settings forms follows.capacity) new follows.run line [] added) where
+  abbrev o : Object Request Partition
+  o = partition_object (settings forms follows.capacity)
+
+  pub line_goes : is_end line ≡ false → RanAs form forms Goes (Running new) skips done text written added
   line_goes going =
       let r : Run = follows.run in
-      let next : Run = after_line partition_object ran.skips r line in (
+      let next : Run = after_line o ran.skips r line in (
         ran.skips,
         record {
+          capacity = follows.capacity;
           run = next;
           stands = ran.stands;
-          few = subst (λ n. n ≤ 8) (sym (members_stay ran.skips r line)) follows.few;
-          at = subst (λ t. IsAt next (ran.skips ++ skips) (done ++ text ∷ []) (written ++ t)) (sym ran.added)
-              (at_next r skips done written text follows.at line read ran.skips ran.of_line next refl (λ b id i j. calls_are_new r follows.stands.run b i id line j) going);
+          few = subst (λ n. n ≤ 8) (sym (members_stay o ran.skips r line)) follows.few;
+          at = subst (λ t. IsAt forms follows.capacity next (ran.skips ++ skips) (done ++ text ∷ []) (written ++ t)) (sym ran.added)
+              (at_next forms follows.capacity r skips done written text follows.at line read ran.skips ran.of_line next refl (λ b id i j. calls_are_new r follows.stands.run b i id line j) going);
         },
       )
 
-  pub line_ends : is_end line ≡ true → RanAs IsEnded (Some new) skips done text written added
+  pub line_ends : is_end line ≡ true → RanAs form forms IsEnded (Running new) skips done text written added
   line_ends ending =
       let r : Run = follows.run in
-      let next : Run = after_line partition_object ran.skips r line in (
+      let next : Run = after_line o ran.skips r line in (
         ran.skips,
         λ limit texts.
-            at_end r skips done written text follows.at line read ran.skips ran.of_line next refl (λ b id i j. calls_are_new r follows.stands.run b i id line j) ending limit texts
+            at_end forms follows.capacity r skips done written text follows.at line read ran.skips ran.of_line next refl (λ b id i j. calls_are_new r follows.stands.run b i id line j) ending limit texts
             ∙ ap (λ t. whole (written ++ t) Ended) (sym ran.added),
       )
 
+-- a line that ran where no text was left before
+pub from_nothing : {V : Type 0} {T : V → Type 0} {form : FormOf V T} {s : Settings} {new : Grid V T} {r : Run} {line : Line} {had added : List ℕ} → had ≡ [] → RanLine form s new r line had added → RanLine form s new r line [] added
+from_nothing {form = form} {s = s} {new = new} {r = r} {line = line} {added = added} none ran = subst (λ t. RanLine form s new r line t added) none ran
+
 -- a line that isn't read
-pub line_refused : (old : Grid) (new : Option Grid) (skips : List CallId) (done : List (List ℕ)) (written text added : List ℕ) (number : ℕ) (why : LineWhy) (follows : HasRun old skips done written)
-    → line_of false follows.run.members text ≡ Err why → number ≡ follows.run.lines + 1 → added ≡ refused_text number why
-    → RanAs (IsRefused number why) new skips done text written added
-line_refused old new skips done written text added number why follows read counted shown limit texts =
-    at_refused follows.run skips done written text follows.at why read limit texts
+pub line_refused : {V : Type 0} {T : V → Type 0} {form : FormOf V T} {forms : List ProcessorForm} (old : Grid V T) (new : Stage V T) (skips : List CallId) (done : List (List ℕ)) (written text added : List ℕ) (number : ℕ) (why : LineWhy)
+    (follows : HasRun form forms old skips done written) → line_of false follows.run.members text ≡ Err why → number ≡ follows.run.lines + 1 → added ≡ refused_text number why
+    → RanAs form forms (IsRefused number why) new skips done text written added
+line_refused {forms = forms} old new skips done written text added number why follows read counted shown limit texts =
+    at_refused forms follows.capacity follows.run skips done written text follows.at why read limit texts
     ∙ ap (λ n. following written (refused n why)) (sym counted)
     ∙ ap (λ t. whole (written ++ t) (Refused number why)) (sym shown)
 
 -- the first line
-pub first_goes : (grid : Grid) (skips : List CallId) (done : List (List ℕ)) (written text added : List ℕ) (members backups capacity : ℕ) → HasRunNone skips done written
-    → line_of true 0 text ≡ Ok (GridLine members backups capacity) → members ≤ 8 → Stands grid (begun members backups) → added ≡ ok_text 1 → RanAs Goes (Some grid) skips done text written added
-first_goes grid skips done written text added members backups capacity follows read few stands shown = (
+pub first_goes : {V : Type 0} {T : V → Type 0} {form : FormOf V T} {forms : List ProcessorForm} (grid : Grid V T) (processors : List (DynBox V Global T)) (skips : List CallId) (done : List (List ℕ)) (written text added : List ℕ) (members backups capacity : ℕ)
+    → HasRunNone form forms processors skips done written → line_of true 0 text ≡ Ok (GridLine members backups capacity) → members ≤ 8
+    → Stands form (settings (map form processors) capacity) grid (begun members backups) → added ≡ ok_text 1 → RanAs form forms Goes (Running grid) skips done text written added
+first_goes {form = form} {forms = forms} grid processors skips done written text added members backups capacity follows read few stands shown = (
   [],
   record {
+    capacity = capacity;
     run = begun members backups;
-    stands = stands;
+    stands = subst (λ fs. Stands form (settings fs capacity) grid (begun members backups)) follows.waits stands;
     few = few;
     at =
-        let P : List CallId → List (List ℕ) → List ℕ → Type 0 = λ s d t. IsAt (begun members backups) s (d ++ text ∷ []) t in
+        let P : List CallId → List (List ℕ) → List ℕ → Type 0 = λ s d t. IsAt forms capacity (begun members backups) s (d ++ text ∷ []) t in
         subst (λ s. P s done (written ++ added)) (sym follows.no_skips)
         (subst (λ d. P [] d (written ++ added)) (sym follows.no_lines)
-        (subst (λ t. P [] [] t) (sym (ap (λ t. t ++ added) follows.no_text ∙ shown)) (at_first text members backups capacity read)));
+        (subst (λ t. P [] [] t) (sym (ap (λ t. t ++ added) follows.no_text ∙ shown)) (at_first forms text members backups capacity read)));
   },
 )
 
-pub first_refused : (new : Option Grid) (skips : List CallId) (done : List (List ℕ)) (written text added : List ℕ) (why : LineWhy) → HasRunNone skips done written
-    → ((s : List CallId) (limit : Option LimitWhat) (texts : List (List ℕ)) → first_line partition_object s limit (text ∷ texts) ≡ refused 1 why)
-    → added ≡ refused_text 1 why → RanAs (IsRefused 1 why) new skips done text written added
-first_refused new skips done written text added why follows refuses shown limit texts =
-    ap (λ d. first_line partition_object skips limit (d ++ text ∷ texts)) follows.no_lines
-    ∙ refuses skips limit texts
+pub first_refused : {V : Type 0} {T : V → Type 0} {form : FormOf V T} {forms : List ProcessorForm} (new : Stage V T) (processors : List (DynBox V Global T)) (skips : List CallId) (done : List (List ℕ)) (written text added : List ℕ) (why : LineWhy)
+    → HasRunNone form forms processors skips done written
+    → ((s : List CallId) (limit : Option LimitWhat) (texts : List (List ℕ)) → first_line (map form processors) s limit (text ∷ texts) ≡ refused 1 why)
+    → added ≡ refused_text 1 why → RanAs form forms (IsRefused 1 why) new skips done text written added
+first_refused {forms = forms} new processors skips done written text added why follows refuses shown limit texts =
+    ap (λ d. first_line forms skips limit (d ++ text ∷ texts)) follows.no_lines
+    ∙ subst (λ fs. first_line fs skips limit (text ∷ texts) ≡ refused 1 why) follows.waits (refuses skips limit texts)
     ∙ sym (ap (λ t. whole t (Refused 1 why)) (ap (λ w. w ++ added) follows.no_text ∙ shown))
 
 -- where no text of a line is written
@@ -102,64 +122,73 @@ front_taken written added text n front = (
       ∙ sym (append_assoc written added front.0) ∙ front.1,
 )
 
+-- the stage that the code took out
+pub took_out : {V : Type 0} {T : V → Type 0} (form : FormOf V T) (forms : List ProcessorForm) (stage taken : Stage V T) (skips : List CallId) (done : List (List ℕ)) (written : List ℕ) → stage ≡ taken
+    → Follows form forms stage skips done written → Follows form forms taken skips done written
+took_out form forms stage taken skips done written is follows = subst (λ s. Follows form forms s skips done written) is follows
+
+pub ran_so : {V : Type 0} {T : V → Type 0} (form : FormOf V T) (forms : List ProcessorForm) (ran other : Ran) (stage : Stage V T) (skips : List CallId) (done : List (List ℕ)) (written text added : List ℕ) → ran ≡ other
+    → RanAs form forms other stage skips done text written added → RanAs form forms ran stage skips done text written added
+ran_so form forms ran other stage skips done written text added is h = subst (λ r. RanAs form forms r stage skips done text written added) (sym is) h
+
 -- What was written begins the transcript, whatever lines follow.
-pub begins_transcript : (grid : Option Grid) (skips : List CallId) (done : List (List ℕ)) (written : List ℕ) → Follows grid skips done written → (limit : Option LimitWhat) (texts : List (List ℕ))
-    → IsFrontOf written (first_line partition_object skips limit (done ++ texts)).text
-begins_transcript None skips done written follows limit texts =
+pub begins_transcript : {V : Type 0} {T : V → Type 0} (form : FormOf V T) (forms : List ProcessorForm) (stage : Stage V T) (skips : List CallId) (done : List (List ℕ)) (written : List ℕ) → Follows form forms stage skips done written → (limit : Option LimitWhat) (texts : List (List ℕ))
+    → IsFrontOf written (first_line forms skips limit (done ++ texts)).text
+begins_transcript form forms (Waiting processors) skips done written follows limit texts =
     (t.text, ap (λ w. w ++ t.text) follows.no_text)
   where
     t : Transcript
-    t = first_line partition_object skips limit (done ++ texts)
-begins_transcript (Some grid) skips done written follows limit texts =
-    front_of_following written (later_lines partition_object skips limit follows.run texts) _ (follows.at.goes_on skips (λ a c. refl) limit texts)
+    t = first_line forms skips limit (done ++ texts)
+begins_transcript form forms (Running grid) skips done written follows limit texts =
+    front_of_following written (later_lines (partition_object (settings forms follows.capacity)) skips limit follows.run texts) _ (follows.at.goes_on skips (λ a c. refl) limit texts)
 
-pub stops_at_once : (grid : Option Grid) (skips : List CallId) (done : List (List ℕ)) (written text : List ℕ) → Follows grid skips done written
-    → Continues skips done text (λ t. IsFrontOf (written ++ []) t.text)
-stops_at_once grid skips done written text follows =
-    subst (λ w. Continues skips done text (λ t. IsFrontOf w t.text)) (sym (append-nil written)) (λ limit texts. begins_transcript grid skips done written follows limit (text ∷ texts))
+pub stops_at_once : {V : Type 0} {T : V → Type 0} (form : FormOf V T) (forms : List ProcessorForm) (stage : Stage V T) (skips : List CallId) (done : List (List ℕ)) (written text : List ℕ) → Follows form forms stage skips done written
+    → Continues forms skips done text (λ t. IsFrontOf (written ++ []) t.text)
+stops_at_once form forms stage skips done written text follows =
+    subst (λ w. Continues forms skips done text (λ t. IsFrontOf w t.text)) (sym (append-nil written)) (λ limit texts. begins_transcript form forms stage skips done written follows limit (text ∷ texts))
 
 -- where a front of it is written
-pub stops_in_text : (ran : Ran) (grid : Option Grid) (skips : List CallId) (done : List (List ℕ)) (written text added : List ℕ) (n : ℕ) → RanAs ran grid skips done text written added
-    → (more : List CallId) × Continues (more ++ skips) done text (λ t. IsFrontOf (written ++ take n added) t.text)
-stops_in_text Goes grid skips done written text added n h = (
+pub stops_in_text : {V : Type 0} {T : V → Type 0} (form : FormOf V T) (forms : List ProcessorForm) (ran : Ran) (stage : Stage V T) (skips : List CallId) (done : List (List ℕ)) (written text added : List ℕ) (n : ℕ) → RanAs form forms ran stage skips done text written added
+    → (more : List CallId) × Continues forms (more ++ skips) done text (λ t. IsFrontOf (written ++ take n added) t.text)
+stops_in_text form forms Goes stage skips done written text added n h = (
   h.0,
   λ limit texts.
       front_taken written added _ n
-      (subst (λ lines. IsFrontOf (written ++ added) (first_line partition_object (h.0 ++ skips) limit lines).text) (append_assoc done (text ∷ []) texts)
-      (begins_transcript grid (h.0 ++ skips) (done ++ text ∷ []) (written ++ added) h.1 limit texts)),
+      (subst (λ lines. IsFrontOf (written ++ added) (first_line forms (h.0 ++ skips) limit lines).text) (append_assoc done (text ∷ []) texts)
+      (begins_transcript form forms stage (h.0 ++ skips) (done ++ text ∷ []) (written ++ added) h.1 limit texts)),
 )
-stops_in_text IsEnded grid skips done written text added n h = (h.0, λ limit texts. front_taken written added _ n (front_of_whole (written ++ added) Ended _ (h.1 limit texts)))
-stops_in_text (IsRefused line why) grid skips done written text added n h = ([], λ limit texts. front_taken written added _ n (front_of_whole (written ++ added) (Refused line why) _ (h limit texts)))
+stops_in_text form forms IsEnded stage skips done written text added n h = (h.0, λ limit texts. front_taken written added _ n (front_of_whole (written ++ added) Ended _ (h.1 limit texts)))
+stops_in_text form forms (IsRefused line why) stage skips done written text added n h = ([], λ limit texts. front_taken written added _ n (front_of_whole (written ++ added) (Refused line why) _ (h limit texts)))
 
 -- where the lines stop
 
-pub stop_of_lines : (grid : Option Grid) (skips : List CallId) (done : List (List ℕ)) (written : List ℕ) → Follows grid skips done written → (limit : Option LimitWhat)
-    → first_line partition_object skips limit done ≡ following written (stopped limit (length done))
-stop_of_lines None skips done written follows limit =
-    ap (first_line partition_object skips limit) follows.no_lines
+pub stop_of_lines : {V : Type 0} {T : V → Type 0} (form : FormOf V T) (forms : List ProcessorForm) (stage : Stage V T) (skips : List CallId) (done : List (List ℕ)) (written : List ℕ) → Follows form forms stage skips done written → (limit : Option LimitWhat)
+    → first_line forms skips limit done ≡ following written (stopped limit (length done))
+stop_of_lines form forms (Waiting processors) skips done written follows limit =
+    ap (first_line forms skips limit) follows.no_lines
     ∙ ap (λ w. following w (stopped limit 0)) (sym follows.no_text)
     ∙ ap (λ n. following written (stopped limit n)) (sym (ap length follows.no_lines))
-stop_of_lines (Some grid) skips done written follows limit = at_stop follows.run skips done written follows.at limit
+stop_of_lines form forms (Running grid) skips done written follows limit = at_stop forms follows.capacity follows.run skips done written follows.at limit
 
-pub end_refused : (grid : Option Grid) (skips : List CallId) (done : List (List ℕ)) (written text : List ℕ) (line : ℕ) → Follows grid skips done written → line ≡ length done
-    → text ≡ refused_text line NoEnd → first_line partition_object skips None done ≡ whole (written ++ text) (Refused line NoEnd)
-end_refused grid skips done written text line follows counted shown =
-    stop_of_lines grid skips done written follows None
+pub end_refused : {V : Type 0} {T : V → Type 0} (form : FormOf V T) (forms : List ProcessorForm) (stage : Stage V T) (skips : List CallId) (done : List (List ℕ)) (written text : List ℕ) (line : ℕ) → Follows form forms stage skips done written → line ≡ length done
+    → text ≡ refused_text line NoEnd → first_line forms skips None done ≡ whole (written ++ text) (Refused line NoEnd)
+end_refused form forms stage skips done written text line follows counted shown =
+    stop_of_lines form forms stage skips done written follows None
     ∙ ap (λ n. following written (stopped None n)) (sym counted)
     ∙ ap (λ t. whole (written ++ t) (Refused line NoEnd)) (sym shown)
 
-pub limit_passed : (what : LimitWhat) (grid : Option Grid) (skips : List CallId) (done : List (List ℕ)) (written text : List ℕ) (line : ℕ) → Follows grid skips done written → line ≡ length done + 1
-    → text ≡ limit_text line what → first_line partition_object skips (Some what) done ≡ whole (written ++ text) (TooLong line what)
-limit_passed what grid skips done written text line follows counted shown =
-    stop_of_lines grid skips done written follows (Some what)
+pub limit_passed : {V : Type 0} {T : V → Type 0} (form : FormOf V T) (forms : List ProcessorForm) (what : LimitWhat) (stage : Stage V T) (skips : List CallId) (done : List (List ℕ)) (written text : List ℕ) (line : ℕ) → Follows form forms stage skips done written → line ≡ length done + 1
+    → text ≡ limit_text line what → first_line forms skips (Some what) done ≡ whole (written ++ text) (TooLong line what)
+limit_passed form forms what stage skips done written text line follows counted shown =
+    stop_of_lines form forms stage skips done written follows (Some what)
     ∙ ap (λ n. following written (record { text = limit_text n what; ending = TooLong n what })) (sym counted)
     ∙ ap (λ t. whole (written ++ t) (TooLong line what)) (sym shown)
 
 pub front_written : (written text : List ℕ) (e : Ending) (t : Transcript) (n : ℕ) → t ≡ whole (written ++ text) e → IsFrontOf (written ++ take n text) t.text
 front_written written text e t n is = front_taken written text t.text n (front_of_whole (written ++ text) e t is)
 
-pub nothing_written : (grid : Option Grid) (skips : List CallId) (done : List (List ℕ)) (written : List ℕ) → Follows grid skips done written → (limit : Option LimitWhat)
-    → IsFrontOf (written ++ []) (first_line partition_object skips limit done).text
-nothing_written grid skips done written follows limit =
-    subst (λ w. IsFrontOf w (first_line partition_object skips limit done).text) (sym (append-nil written))
-    (front_of_following written (stopped limit (length done)) _ (stop_of_lines grid skips done written follows limit))
+pub nothing_written : {V : Type 0} {T : V → Type 0} (form : FormOf V T) (forms : List ProcessorForm) (stage : Stage V T) (skips : List CallId) (done : List (List ℕ)) (written : List ℕ) → Follows form forms stage skips done written → (limit : Option LimitWhat)
+    → IsFrontOf (written ++ []) (first_line forms skips limit done).text
+nothing_written form forms stage skips done written follows limit =
+    subst (λ w. IsFrontOf w (first_line forms skips limit done).text) (sym (append-nil written))
+    (front_of_following written (stopped limit (length done)) _ (stop_of_lines form forms stage skips done written follows limit))

@@ -5,12 +5,15 @@ use Rattle.std.specs.Io.KnownBytes.{append_known}
 use Rattle.std.specs.declared.alloc.Global.{Global}
 use Rattle.grid_base.specs.declared.names.CallId.{CallId}
 use Rattle.script_lang.specs.Words.{are_same}
-use Rattle.replay_run.specs.PartitionObjects.{partition_object}
+use Rattle.entry_processors.specs.Processors.{ProcessorForm}
+use Rattle.call_engine.specs.Calls.{Settings}
+use Rattle.call_engine.specs.Objects.{partition_object}
 use Rattle.replay_run.specs.Runs.{Run}
 use Rattle.replay_run.specs.Printing.{ok_text, entry_text, all_entries}
 use Rattle.replay_run.specs.Linearizability.{IsLinearizable}
 use Rattle.grid_cli.specs.Scripts.{lines_of}
-use Rattle.grid_cli.specs.Progress.{run_of}
+use Rattle.grid_cli.specs.Progress.{run_of, capacity_of}
+use Rattle.grid_cli.specs.Transcripts.{settings}
 use Rattle.grid_cli.specs.Statuses.{Writes}
 use Rattle.grid_cli.specs.declared.status.Status.{Status}
 use Rattle.grid_cli.specs.declared.status.Status.TheVariants.{Done}
@@ -22,21 +25,25 @@ is_replay (word ∷ []) = are_same (string_bytes word) (codes "replay")
 is_replay (word ∷ other ∷ words) = false
 
 -- the run after the first lines of a script, that many or as many as run
-abbrev pub run_of_script : List CallId → List ℕ → ℕ → Run
-run_of_script skips script lines = run_of skips (take lines (lines_of script))
+abbrev pub run_of_script : List ProcessorForm → List CallId → List ℕ → ℕ → Run
+run_of_script forms skips script lines = run_of forms skips (take lines (lines_of script))
+
+-- what objects go by in a script's grid, whose entries are processed by these forms
+abbrev pub settings_in : List ProcessorForm → List ℕ → Settings
+settings_in forms script = settings forms (capacity_of (lines_of script))
 
 -- the text closes with the histories of a run
-abbrev pub ClosesWith : Run → List ℕ → Type 0
-ClosesWith r text = (front : List ℕ) × (text ≡ front ++ ok_text r.lines ++ flat_map (entry_text r.lines) (all_entries partition_object r))
+abbrev pub ClosesWith : Settings → Run → List ℕ → Type 0
+ClosesWith s r text = (front : List ℕ) × (text ≡ front ++ ok_text r.lines ++ flat_map (entry_text r.lines) (all_entries (partition_object s) r))
 
 -- With this status the text was written of the script's transcript, where these calls found no memory.
-pub record TellsHistories (status : Status) (skips : List CallId) (script text : List ℕ) : Type 0 where
-  pub writes : Writes status skips script text
+pub record TellsHistories (forms : List ProcessorForm) (status : Status) (skips : List CallId) (script text : List ℕ) : Type 0 where
+  pub writes : Writes forms status skips script text
   -- Whichever line it is that prints histories, each is one that a single thread could have seen.
-  pub linearizable : (lines : ℕ) → IsLinearizable (run_of_script skips script lines)
+  pub linearizable : (lines : ℕ) → IsLinearizable (settings_in forms script) (run_of_script forms skips script lines)
   -- and with the line `end` the text closes with all of them
-  pub closes : status ≡ Done → (lines : ℕ) × ClosesWith (run_of_script skips script lines) text
+  pub closes : status ≡ Done → (lines : ℕ) × ClosesWith (settings_in forms script) (run_of_script forms skips script lines) text
 
 -- What was written tells histories of the script, for some calls that found no memory.
-abbrev pub PrintsHistories : Status → List ℕ → Option (List ℕ) → Option (List ℕ) → Type 0
-PrintsHistories status script before after = (skips : List CallId) × (text : List ℕ) × (after ≡ append_known before text) × TellsHistories status skips script text
+abbrev pub PrintsHistories : List ProcessorForm → Status → List ℕ → Option (List ℕ) → Option (List ℕ) → Type 0
+PrintsHistories forms status script before after = (skips : List CallId) × (text : List ℕ) × (after ≡ append_known before text) × TellsHistories forms status skips script text

@@ -7,10 +7,11 @@ use Rattle.script_lang.specs.Lines.{line_of}
 use Rattle.script_lang.specs.declared.line.Line.{Line}
 use Rattle.script_lang.specs.declared.line.Line.TheVariants.{Grid}
 use Rattle.script_lang.specs.declared.refusal.LineWhy.{LineWhy}
-use Rattle.replay_run.specs.PartitionObjects.{partition_object}
+use Rattle.entry_processors.specs.Processors.{ProcessorForm}
+use Rattle.call_engine.specs.Objects.{partition_object}
 use Rattle.replay_run.specs.Runs.{Run, Arrival, begun, after_line}
 use Rattle.replay_run.specs.Skips.{AgreeOn}
-use Rattle.grid_cli.specs.Transcripts.{first_line, later_lines, following}
+use Rattle.grid_cli.specs.Transcripts.{settings, first_line, later_lines, following}
 use Rattle.grid_cli.specs.declared.status.LimitWhat.{LimitWhat}
 
 -- the run after these lines, up to the first that isn't in the grammar
@@ -23,16 +24,26 @@ abbrev pub begun_by : Result Line LineWhy → Run
 begun_by (Ok (Grid members backups capacity)) = begun members backups
 begun_by line = begun 1 0
 
+-- the capacity that the first line of a script gives its queues
+abbrev pub capacity_by : Result Line LineWhy → ℕ
+capacity_by (Ok (Grid members backups capacity)) = capacity
+capacity_by line = 0
+
+abbrev pub capacity_of : List (List ℕ) → ℕ
+capacity_of [] = 0
+capacity_of (first ∷ texts) = capacity_by (line_of true 0 first)
+
 -- the run after the lines of a script
-abbrev pub run_of : List CallId → List (List ℕ) → Run
-run_of skips [] = begun 1 0
-run_of skips (first ∷ texts) = run_after partition_object skips (begun_by (line_of true 0 first)) texts
+abbrev pub run_of : List ProcessorForm → List CallId → List (List ℕ) → Run
+run_of forms skips [] = begun 1 0
+run_of forms skips (first ∷ texts) = let line = line_of true 0 first in run_after (partition_object (settings forms (capacity_by line))) skips (begun_by line) texts
 
 -- After these lines the run is this and this was written, whatever lines follow, and whichever of their calls find no memory.
-pub record IsAt (r : Run) (skips : List CallId) (done : List (List ℕ)) (written : List ℕ) : Type 0 where
+pub record IsAt (forms : List ProcessorForm) (capacity : ℕ) (r : Run) (skips : List CallId) (done : List (List ℕ)) (written : List ℕ) : Type 0 where
   pub goes_on : (s : List CallId) → AgreeOn r.arrivals s skips → (limit : Option LimitWhat) (texts : List (List ℕ))
-      → first_line partition_object s limit (done ++ texts) ≡ following written (later_lines partition_object s limit r texts)
-  pub runs : (s : List CallId) → AgreeOn r.arrivals s skips → (texts : List (List ℕ)) → run_of s (done ++ texts) ≡ run_after partition_object s r texts
+      → first_line forms s limit (done ++ texts) ≡ following written (later_lines (partition_object (settings forms capacity)) s limit r texts)
+  pub runs : (s : List CallId) → AgreeOn r.arrivals s skips → (texts : List (List ℕ)) → run_of forms s (done ++ texts) ≡ run_after (partition_object (settings forms capacity)) s r texts
+  pub keeps : (texts : List (List ℕ)) → capacity_of (done ++ texts) ≡ capacity
   -- the skips are calls that arrived
   pub skipped : (id : CallId) → Contains skips id → (a : Arrival) × Contains r.arrivals a × (a.id ≡ id)
   pub count : r.lines ≡ length done

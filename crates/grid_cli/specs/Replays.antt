@@ -3,6 +3,8 @@ use Rattle.std.specs.Prelude.{◌≡◌, ◌≢◌, ℕ, ◌-◌, ◌≤◌, ◌
 use Rattle.std.specs.Io.KnownBytes.{append_known}
 use Rattle.grid_base.specs.declared.names.CallId.{CallId}
 use Rattle.partition_protocol.specs.Sequences.{IsFrontOf}
+use Rattle.entry_processors.specs.Processors.{ProcessorForm}
+use Rattle.replay_run.specs.Grids.{FormOf}
 use Rattle.script_lang.specs.Limits.{most_bytes, most_lines}
 use Rattle.script_lang.specs.Words.{whole_lines, unfinished, newline, pieces_at}
 use Rattle.grid_cli.specs.Scripts.{cut_pieces, behind}
@@ -20,29 +22,29 @@ pub record IsWithin (read : List ℕ) : Type 0 where
   pub room : (unfinished read ≡ []) ⊎ HasRoomFor (whole_lines read) (unfinished read)
 
 -- These bytes were read and this was written: the text of the lines that are whole in them.
-pub record HasRead (replay : Replay) (skips : List CallId) (read : List ℕ) (written : List ℕ) : Type 0 where
-  pub follows : Follows replay.transcriber.grid skips (whole_lines read) written
+pub record HasRead {V : Type 0} {T : V → Type 0} (form : FormOf V T) (forms : List ProcessorForm) (replay : Replay V T) (skips : List CallId) (read : List ℕ) (written : List ℕ) : Type 0 where
+  pub follows : Follows form forms replay.transcriber.stage skips (whole_lines read) written
   pub rest : replay.unfinished.items ≡ unfinished read
   pub within : IsWithin read
 
 -- The run stopped with this status within these bytes, whatever the script has behind them.
-pub record StopsWithin (status : Status) (skips : List CallId) (read written : List ℕ) : Type 0 where
-  pub writes : (script : List ℕ) → IsFrontOf read (take most_bytes script) → Writes status skips script written
+pub record StopsWithin (forms : List ProcessorForm) (status : Status) (skips : List CallId) (read written : List ℕ) : Type 0 where
+  pub writes : (script : List ℕ) → IsFrontOf read (take most_bytes script) → Writes forms status skips script written
   pub runs : status ≢ Usage
   pub reads : status ≢ ReadFault
 
 -- From what was read and written these bytes lead there, whatever it was: some calls more may have found no memory, and the sink took what was added to the text.
-abbrev pub LeadsTo : (List CallId → List ℕ → List ℕ → Type 0) → Replay → List ℕ → Option (List ℕ) → Option (List ℕ) → Type 0
-LeadsTo There before bytes had has = (skips : List CallId) (read written : List ℕ) → HasRead before skips read written
-    → (more : List CallId) × (added : List ℕ) × There (more ++ skips) (read ++ bytes) (written ++ added) × (has ≡ append_known had added)
+abbrev pub LeadsTo : {V : Type 0} {T : V → Type 0} → FormOf V T → (List ProcessorForm → List CallId → List ℕ → List ℕ → Type 0) → Replay V T → List ℕ → Option (List ℕ) → Option (List ℕ) → Type 0
+LeadsTo form There before bytes had has = (forms : List ProcessorForm) (skips : List CallId) (read written : List ℕ) → HasRead form forms before skips read written
+    → (more : List CallId) × (added : List ℕ) × There forms (more ++ skips) (read ++ bytes) (written ++ added) × (has ≡ append_known had added)
 
 -- The bytes were taken,
-abbrev pub Takes : Replay → Replay → List ℕ → Option (List ℕ) → Option (List ℕ) → Type 0
-Takes before after bytes had has = LeadsTo (HasRead after) before bytes had has
+abbrev pub Takes : {V : Type 0} {T : V → Type 0} → FormOf V T → Replay V T → Replay V T → List ℕ → Option (List ℕ) → Option (List ℕ) → Type 0
+Takes form before after bytes had has = LeadsTo form (λ forms. HasRead form forms after) before bytes had has
 
 -- or the run stopped within them.
-abbrev pub StopsIn : Replay → Status → List ℕ → Option (List ℕ) → Option (List ℕ) → Type 0
-StopsIn before status bytes had has = LeadsTo (StopsWithin status) before bytes had has
+abbrev pub StopsIn : {V : Type 0} {T : V → Type 0} → FormOf V T → Replay V T → Status → List ℕ → Option (List ℕ) → Option (List ℕ) → Type 0
+StopsIn form before status bytes had has = LeadsTo form (λ forms. StopsWithin forms status) before bytes had has
 
 -- what stands after the last newline is a line if it has a byte
 abbrev pub last_line : List ℕ → List (List ℕ)

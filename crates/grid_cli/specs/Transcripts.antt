@@ -3,13 +3,18 @@ use Rattle.std.specs.Prelude.{ℕ, ◌+◌, true, false, if◌then◌else◌, Li
 use Rattle.grid_base.specs.Objects.{Object}
 use Rattle.grid_base.specs.declared.names.CallId.{CallId}
 use Rattle.grid_base.specs.declared.calls.Request.{Request}
+use Rattle.entry_processors.specs.Processors.{ProcessorForm}
+use Rattle.object_store.specs.Partitions.{Partition}
+use Rattle.call_engine.specs.Calls.{Settings}
+use Rattle.call_engine.specs.Objects.{partition_object}
 use Rattle.script_lang.specs.Lines.{line_of, is_end, why_text}
 use Rattle.script_lang.specs.declared.line.Line.{Line}
 use Rattle.script_lang.specs.declared.line.Line.TheVariants.{Grid}
 use Rattle.script_lang.specs.declared.refusal.LineWhy.{LineWhy}
 use Rattle.script_lang.specs.declared.refusal.LineWhy.TheVariants.{NoGrid, NoEnd}
 use Rattle.replay_run.specs.Runs.{Run, begun, after_line}
-use Rattle.replay_run.specs.Printing.{number, line_end, ok_text, line_text}
+use Rattle.replay_run.specs.Dumps.{number, line_end}
+use Rattle.replay_run.specs.Printing.{ok_text, line_text}
 use Rattle.grid_cli.specs.Scripts.{lines_of, limit_of}
 use Rattle.grid_cli.specs.declared.status.LimitWhat.{LimitWhat}
 use Rattle.grid_cli.specs.declared.status.LimitWhat.TheVariants.{Bytes, Lines, Line as OneLine}
@@ -49,7 +54,7 @@ abbrev pub following : List ℕ → Transcript → Transcript
 following text rest = record { text = text ++ rest.text; ending = rest.ending }
 
 -- The lines after the first. One that isn't in the grammar runs in no part. Nothing after `end` is looked at.
-abbrev pub later_lines : {State : Type 0} → Object Request State → List CallId → Option LimitWhat → Run → List (List ℕ) → Transcript
+abbrev pub later_lines : Object Request Partition → List CallId → Option LimitWhat → Run → List (List ℕ) → Transcript
 later_lines o skips limit r [] = stopped limit r.lines
 later_lines o skips limit r (text ∷ texts) =
     elim (line_of false r.members text) [
@@ -60,15 +65,20 @@ later_lines o skips limit r (text ∷ texts) =
           else following (line_text o r line next) (later_lines o skips limit next texts)
     ]
 
+-- what objects go by in a grid of these processors, whose first line gave its queues this capacity
+abbrev pub settings : List ProcessorForm → ℕ → Settings
+settings forms capacity = record { forms = forms; capacity = capacity }
+
 -- The first line makes the grid.
-abbrev pub after_first : {State : Type 0} → Object Request State → List CallId → Option LimitWhat → List (List ℕ) → Line → Transcript
-after_first o skips limit texts (Grid members backups capacity) = following (ok_text 1) (later_lines o skips limit (begun members backups) texts)
-after_first o skips limit texts line = refused 1 NoGrid
+abbrev pub after_first : List ProcessorForm → List CallId → Option LimitWhat → List (List ℕ) → Line → Transcript
+after_first forms skips limit texts (Grid members backups capacity) =
+    following (ok_text 1) (later_lines (partition_object (settings forms capacity)) skips limit (begun members backups) texts)
+after_first forms skips limit texts line = refused 1 NoGrid
 
-abbrev pub first_line : {State : Type 0} → Object Request State → List CallId → Option LimitWhat → List (List ℕ) → Transcript
-first_line o skips limit [] = stopped limit 0
-first_line o skips limit (text ∷ texts) = elim (line_of true 0 text) [ Err why ↦ refused 1 why | Ok line ↦ after_first o skips limit texts line ]
+abbrev pub first_line : List ProcessorForm → List CallId → Option LimitWhat → List (List ℕ) → Transcript
+first_line forms skips limit [] = stopped limit 0
+first_line forms skips limit (text ∷ texts) = elim (line_of true 0 text) [ Err why ↦ refused 1 why | Ok line ↦ after_first forms skips limit texts line ]
 
--- the transcript of a script, where the calls of skips found no memory
-abbrev pub transcript : {State : Type 0} → Object Request State → List CallId → List ℕ → Transcript
-transcript o skips script = first_line o skips (limit_of script) (lines_of script)
+-- the transcript of a script, where entries are processed by these forms and the calls of skips found no memory
+abbrev pub transcript : List ProcessorForm → List CallId → List ℕ → Transcript
+transcript forms skips script = first_line forms skips (limit_of script) (lines_of script)

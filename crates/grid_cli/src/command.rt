@@ -1,10 +1,11 @@
-ghost use Rattle.std.specs.Prelude.{◌≡◌, ◌↔◌, ℕ, List, Some, false, true};
+ghost use Rattle.std.specs.Prelude.{◌≡◌, ◌↔◌, ℕ, List, map, Some, false, true};
 ghost use Rattle.grid_edge.specs.Faults.{Rose};
 ghost use Rattle.grid_cli.specs.Statuses.{WritesText};
 ghost use Rattle.grid_cli.specs.Commands.{is_replay, PrintsHistories};
 
 use crate::replay::run_script;
 use crate::status::Status;
+use entry_processors::Processor;
 use grid_edge::{Sink, Source};
 use std::alloc::Global;
 
@@ -18,11 +19,12 @@ fn is_replay_command(words: &[String]) -> bool
 }
 
 /// Carries out the command that the words after the program's name give: `replay` reads a script from `script` and
-/// writes its transcript to `out`, as `docs/SCRIPTS.md` has them. Costs the script's length, and for each line
-/// what its call and its printed entries cost.
+/// writes its transcript to `out`, as `docs/SCRIPTS.md` has them. Calls on maps may name the processors by their
+/// numbers, which go from 1. Costs the script's length, and for each line what its call and its printed entries cost.
 pub fn replay_command<S: Source, K: Sink>(
     alloc: Global,
     words: &[String],
+    processors: Vec<Box<dyn Processor>>,
     script: &mut S,
     out: &mut K,
 ) -> Status
@@ -34,13 +36,14 @@ pub fn replay_command<S: Source, K: Sink>(
     ensures read_fault { result ≡ Status.ReadFault → Rose (S.faults script.old) (S.faults script.new) }
     ensures write_fault { result ≡ Status.WriteFault → Rose (K.faults out.old) (K.faults out.new) }
     // What was written is the script's transcript, or as much of it as the status says.
-    ensures text { WritesText result (S.left script.old) (K.taken out.old) (K.taken out.new) }
-    // What is printed for each key is the history of one entry used by one thread, with every answered call in it once.
+    ensures text { WritesText (map form processors.items) result (S.left script.old) (K.taken out.old) (K.taken out.new) }
+    // What is printed for each entry of a map and each queue is the history of one that one thread used, with every answered
+    // call in it once.
     // Whatever the status, and whichever line prints it.
-    ensures headline { (bytes : List ℕ) → S.left script.old ≡ Some bytes → PrintsHistories result bytes (K.taken out.old) (K.taken out.new) }
+    ensures headline { (bytes : List ℕ) → S.left script.old ≡ Some bytes → PrintsHistories (map form processors.items) result bytes (K.taken out.old) (K.taken out.new) }
 {
     if !is_replay_command(words) {
         return Status::Usage;
     }
-    run_script(alloc, script, out)
+    run_script(alloc, processors, script, out)
 }

@@ -1,5 +1,5 @@
 ghost use Rattle.std.specs.Prelude.{◌≡◌, ◌++◌, OnOk};
-ghost use Rattle.replay_run.specs.Printing.{number};
+ghost use Rattle.replay_run.specs.Dumps.{number};
 ghost use Rattle.grid_cli.specs.Transcripts.{refused_text, limit_text, limit_word};
 
 use crate::status::LimitWhat;

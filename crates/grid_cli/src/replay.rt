@@ -1,7 +1,8 @@
-ghost use Rattle.std.specs.Prelude.{◌≡◌, ◌≤◌, ◌<◌, [], List, ℕ, ◌++◌, Some, length, None, OnOk, IfErr, IsErrOf, ◌≢◌};
+ghost use Rattle.std.specs.Prelude.{◌≡◌, ◌≤◌, ◌<◌, [], List, ℕ, ◌++◌, Some, length, map, None, OnOk, IfErr, IsErrOf, ◌≢◌};
 ghost use Rattle.std.specs.Io.KnownBytes.{append_known};
 ghost use Rattle.grid_base.specs.declared.names.CallId.{CallId};
 ghost use Rattle.grid_edge.specs.Faults.{Rose};
+ghost use Rattle.entry_processors.specs.Processors.{ProcessorForm};
 ghost use Rattle.script_lang.specs.Words.{whole_lines, unfinished};
 ghost use Rattle.script_lang.specs.Pieces.{IsOnePiece};
 ghost use Rattle.grid_cli.specs.Scripts.{limit_in};
@@ -12,6 +13,7 @@ ghost use Rattle.grid_cli.specs.Commands.{PrintsHistories};
 
 use crate::status::{LimitWhat, Status};
 use crate::transcriber::Transcriber;
+use entry_processors::Processor;
 use grid_edge::{Sink, Source};
 use memchr::memchr;
 use script_lang::{MOST_BYTES, MOST_LINE_BYTES, MOST_LINES};
@@ -29,18 +31,18 @@ pub(crate) struct Replay {
 }
 
 impl Replay {
-    pub(crate) fn new(alloc: Global) -> Self
-        ensures { HasRead result [] [] [] }
+    pub(crate) fn new(alloc: Global, processors: Vec<Box<dyn Processor>>) -> Self
+        ensures { HasRead form (map form processors.items) result [] [] [] }
     {
         Replay {
-            transcriber: Transcriber::new(alloc),
+            transcriber: Transcriber::new(alloc, processors),
             unfinished: Vec::new(alloc),
         }
     }
 
     /// The limit that the next line goes past with these bytes of it, behind which its newline may come.
     fn limit_in(&self, more: &[u8]) -> Option<LimitWhat>
-        ensures { (skips : List CallId) (read written : List ℕ) → HasRead self.now skips read written
+        ensures { (forms : List ProcessorForm) (skips : List CallId) (read written : List ℕ) → HasRead form forms self.now skips read written
             → result ≡ limit_in (length (whole_lines read)) (unfinished read ++ more.now) }
     {
         if self.transcriber.lines() == MOST_LINES {
@@ -54,10 +56,10 @@ impl Replay {
 
     /// Runs the line that ends with these bytes and a newline.
     fn complete<K: Sink>(&mut self, alloc: Global, end: &[u8], out: &mut K) -> Result<(), Status>
-        requires read { (skips : List CallId) × (read written : List ℕ) × HasRead self.old skips read written }
+        requires read { (forms : List ProcessorForm) × (skips : List CallId) × (read written : List ℕ) × HasRead form forms self.old skips read written }
         requires one { IsOnePiece end.now }
-        ensures goes { OnOk result (Takes self.old self.new (ended_line end.now) (K.taken out.old) (K.taken out.new)) }
-        ensures stops { IfErr result (λ status. StopsIn self.old status (ended_line end.now) (K.taken out.old) (K.taken out.new)) }
+        ensures goes { OnOk result (Takes form self.old self.new (ended_line end.now) (K.taken out.old) (K.taken out.new)) }
+        ensures stops { IfErr result (λ status. StopsIn form self.old status (ended_line end.now) (K.taken out.old) (K.taken out.new)) }
         ensures never_falls { K.faults out.old ≤ K.faults out.new }
         ensures cause { IsErrOf result Status.WriteFault → Rose (K.faults out.old) (K.faults out.new) }
     {
@@ -81,10 +83,10 @@ impl Replay {
 
     /// Keeps bytes of a line whose newline hasn't come.
     fn keep<K: Sink>(&mut self, more: &[u8], out: &mut K) -> Result<(), Status>
-        requires read { (skips : List CallId) × (read written : List ℕ) × HasRead self.old skips read written }
+        requires read { (forms : List ProcessorForm) × (skips : List CallId) × (read written : List ℕ) × HasRead form forms self.old skips read written }
         requires one { IsOnePiece more.now }
-        ensures goes { OnOk result (Takes self.old self.new more.now (K.taken out.old) (K.taken out.new)) }
-        ensures stops { IfErr result (λ status. StopsIn self.old status more.now (K.taken out.old) (K.taken out.new)) }
+        ensures goes { OnOk result (Takes form self.old self.new more.now (K.taken out.old) (K.taken out.new)) }
+        ensures stops { IfErr result (λ status. StopsIn form self.old status more.now (K.taken out.old) (K.taken out.new)) }
         ensures never_falls { K.faults out.old ≤ K.faults out.new }
         ensures cause { IsErrOf result Status.WriteFault → Rose (K.faults out.old) (K.faults out.new) }
     {
@@ -102,9 +104,9 @@ impl Replay {
 
     /// Takes the next bytes of the script, and copies each once.
     fn take<K: Sink>(&mut self, alloc: Global, piece: &[u8], out: &mut K) -> Result<(), Status>
-        requires { (skips : List CallId) × (read written : List ℕ) × HasRead self.old skips read written }
-        ensures goes { OnOk result (Takes self.old self.new piece.now (K.taken out.old) (K.taken out.new)) }
-        ensures stops { IfErr result (λ status. StopsIn self.old status piece.now (K.taken out.old) (K.taken out.new)) }
+        requires { (forms : List ProcessorForm) × (skips : List CallId) × (read written : List ℕ) × HasRead form forms self.old skips read written }
+        ensures goes { OnOk result (Takes form self.old self.new piece.now (K.taken out.old) (K.taken out.new)) }
+        ensures stops { IfErr result (λ status. StopsIn form self.old status piece.now (K.taken out.old) (K.taken out.new)) }
         ensures never_falls { K.faults out.old ≤ K.faults out.new }
         ensures cause { IsErrOf result Status.WriteFault → Rose (K.faults out.old) (K.faults out.new) }
     {
@@ -121,9 +123,9 @@ impl Replay {
 
     /// The script has ended: what no newline ended is its last line.
     fn finish<K: Sink>(&mut self, alloc: Global, out: &mut K) -> Status
-        requires { (skips : List CallId) × (read written : List ℕ) × HasRead self.old skips read written }
-        ensures concludes { (skips : List CallId) (read written : List ℕ) → HasRead self.old skips read written
-            → (more : List CallId) × (added : List ℕ) × Concludes None result (more ++ skips) (whole_lines read ++ last_line (unfinished read)) (written ++ added)
+        requires { (forms : List ProcessorForm) × (skips : List CallId) × (read written : List ℕ) × HasRead form forms self.old skips read written }
+        ensures concludes { (forms : List ProcessorForm) (skips : List CallId) (read written : List ℕ) → HasRead form forms self.old skips read written
+            → (more : List CallId) × (added : List ℕ) × Concludes forms None result (more ++ skips) (whole_lines read ++ last_line (unfinished read)) (written ++ added)
             × (K.taken out.new ≡ append_known (K.taken out.old) added) }
         ensures never_falls { K.faults out.old ≤ K.faults out.new }
         ensures cause { result ≡ Status.WriteFault → Rose (K.faults out.old) (K.faults out.new) }
@@ -139,20 +141,21 @@ impl Replay {
     }
 }
 
-/// Reads a script through a buffer and writes its transcript.
+/// Reads a script through a buffer and writes its transcript, whose entries these processors process.
 fn run_pieces<S: Source, K: Sink>(
     alloc: Global,
+    processors: Vec<Box<dyn Processor>>,
     buffer: &mut [u8],
     script: &mut S,
     out: &mut K,
 ) -> Status
     requires { 0 < length buffer.old }
-    ensures text { WritesText result (S.left script.old) (K.taken out.old) (K.taken out.new) }
+    ensures text { WritesText (map form processors.items) result (S.left script.old) (K.taken out.old) (K.taken out.new) }
     ensures runs { result ≢ Status.Usage }
     ensures read_fault { result ≡ Status.ReadFault → Rose (S.faults script.old) (S.faults script.new) }
     ensures write_fault { result ≡ Status.WriteFault → Rose (K.faults out.old) (K.faults out.new) }
 {
-    let mut replay = Replay::new(alloc);
+    let mut replay = Replay::new(alloc, processors);
     let mut read = 0;
     'pieces: loop {
         let Ok(count) = script.read(buffer) else {
@@ -173,10 +176,15 @@ fn run_pieces<S: Source, K: Sink>(
     }
 }
 
-/// Reads a script from its source and writes its transcript.
-pub(crate) fn run_script<S: Source, K: Sink>(alloc: Global, script: &mut S, out: &mut K) -> Status
-    ensures text { WritesText result (S.left script.old) (K.taken out.old) (K.taken out.new) }
-    ensures headline { (bytes : List ℕ) → S.left script.old ≡ Some bytes → PrintsHistories result bytes (K.taken out.old) (K.taken out.new) }
+/// Reads a script from its source and writes its transcript, whose entries these processors process.
+pub(crate) fn run_script<S: Source, K: Sink>(
+    alloc: Global,
+    processors: Vec<Box<dyn Processor>>,
+    script: &mut S,
+    out: &mut K,
+) -> Status
+    ensures text { WritesText (map form processors.items) result (S.left script.old) (K.taken out.old) (K.taken out.new) }
+    ensures headline { (bytes : List ℕ) → S.left script.old ≡ Some bytes → PrintsHistories (map form processors.items) result bytes (K.taken out.old) (K.taken out.new) }
     ensures runs { result ≢ Status.Usage }
     ensures read_fault { result ≡ Status.ReadFault → Rose (S.faults script.old) (S.faults script.new) }
     ensures write_fault { result ≡ Status.WriteFault → Rose (K.faults out.old) (K.faults out.new) }
@@ -184,5 +192,5 @@ pub(crate) fn run_script<S: Source, K: Sink>(alloc: Global, script: &mut S, out:
     let Ok(mut buffer) = vec![in alloc; 0u8; PIECE] else {
         return Status::Memory;
     };
-    run_pieces(alloc, buffer.as_mut_slice(), script, out)
+    run_pieces(alloc, processors, buffer.as_mut_slice(), script, out)
 }

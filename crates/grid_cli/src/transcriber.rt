@@ -1,19 +1,23 @@
-ghost use Rattle.std.specs.Prelude.{◌≡◌, ◌<◌, ◌≤◌, ◌++◌, ◌∷◌, [], List, ℕ, length, OnOk, IfOk, IfErr, IsErrOf, Option, Some, None};
+ghost use Rattle.std.specs.Prelude.{◌≡◌, ◌<◌, ◌≤◌, ◌++◌, ◌∷◌, [], List, ℕ, length, map, OnOk, IfOk, IfErr, IsErrOf, Option, Some, None};
 ghost use Rattle.std.specs.Io.KnownBytes.{append_known};
 ghost use Rattle.grid_base.specs.declared.names.CallId.{CallId};
 ghost use Rattle.grid_edge.specs.Faults.{Rose};
+ghost use Rattle.entry_processors.specs.Processors.{ProcessorForm};
 ghost use Rattle.script_lang.specs.Limits.{most_lines, most_line_bytes};
 ghost use Rattle.replay_run.specs.Runs.{Run};
 ghost use Rattle.replay_run.specs.Grids.{Stands};
+ghost use Rattle.grid_cli.specs.Transcripts.{settings};
 ghost use Rattle.grid_cli.specs.Transcribing.{Follows, HasRoomFor, IsBegunBy, RanAs, StopsAs, Concludes};
 
 use crate::print::{push_limit, push_refused};
 use crate::status::{LimitWhat, Status};
+use entry_processors::Processor;
 use grid_base::Memory;
 use grid_edge::{Sink, write_all};
 use replay_run::Grid;
 use script_lang::{Line, LineRefused, LineWhy, read_line};
 use std::alloc::{AllocError, Global};
+use std::mem;
 
 /// The outcome of the first line.
 const FIRST_OK: &[u8] = b"1 ok\n";
@@ -29,25 +33,38 @@ pub(crate) enum Ran {
     Refused(u32, LineWhy),
 }
 
+/// Whether a script has a grid yet.
+#[derive(Drop)]
+enum Stage {
+    /// Before the first line: the processors that the grid will have.
+    Waiting(Vec<Box<dyn Processor>>),
+    Running(Grid),
+}
+
 /// What the first line of a script made.
 enum Begun {
     Made(Grid),
     Refused(LineWhy),
 }
 
-/// The grid that a script's first line makes.
-fn begin(alloc: Global, text: &[u8], out: &mut Vec<u8>) -> Result<Begun, Memory>
-    ensures { IfOk result (λ begun. IsBegunBy begun text.now out.old.items out.new.items) }
+/// The grid that a script's first line makes, with these processors.
+fn grid_of(
+    alloc: Global,
+    processors: Vec<Box<dyn Processor>>,
+    text: &[u8],
+    out: &mut Vec<u8>,
+) -> Result<Begun, Memory>
+    ensures { IfOk result (λ begun. IsBegunBy form (map form processors.items) begun text.now out.old.items out.new.items) }
 {
     match read_line(alloc, text, true, 0) {
         Ok(
             Line::Grid {
                 members,
                 backups,
-                ..
+                capacity,
             },
         ) => {
-            let grid = Grid::new(alloc, members, backups)?;
+            let grid = Grid::new(alloc, members, backups, capacity, processors)?;
             out.extend_from_slice(FIRST_OK)?;
             Ok(Begun::Made(grid))
         }
@@ -57,66 +74,81 @@ fn begin(alloc: Global, text: &[u8], out: &mut Vec<u8>) -> Result<Begun, Memory>
     }
 }
 
-/// Runs a line after the first.
-fn go_on(alloc: Global, grid: &mut Grid, text: &[u8], out: &mut Vec<u8>) -> Result<Ran, Memory>
-    requires empty { out.old.items ≡ [] }
-    requires room { length text.now ≤ most_line_bytes }
-    requires stands { (r : Run) × Stands grid.old r × (r.lines < most_lines) × (r.members ≤ 8) }
-    ensures { (skips : List CallId) (done : List (List ℕ)) (written : List ℕ) → Follows (Some grid.old) skips done written
-        → IfOk result (λ ran. RanAs ran (Some grid.new) skips done text.now written out.new.items) }
-{
-    let number = grid.lines() + 1;
-    match read_line(alloc, text, false, grid.members()) {
-        Ok(line) => {
-            grid.run_line(alloc, number, &line, out)?;
-            Ok(if line.is_end() { Ran::Ended } else { Ran::Goes })
-        }
-        Err(LineRefused::Why(why)) => {
-            push_refused(out, number, why)?;
-            Ok(Ran::Refused(number, why))
-        }
-        Err(LineRefused::Memory) => Err(AllocError),
-    }
-}
-
 /// Runs the lines of a script, and writes the text of each before the next one runs.
 #[derive(Drop)]
 pub(crate) struct Transcriber {
-    /// None before the first line.
-    grid: Option<Grid>,
+    stage: Stage,
     /// The text of a line.
     text: Vec<u8>,
 }
 
 impl Transcriber {
-    pub(crate) fn new(alloc: Global) -> Self
-        ensures { Follows result.grid [] [] [] }
+    /// Before the first line of a script whose grid has these processors.
+    pub(crate) fn new(alloc: Global, processors: Vec<Box<dyn Processor>>) -> Self
+        ensures { Follows form (map form processors.items) result.stage [] [] [] }
     {
         Transcriber {
-            grid: None,
+            stage: Stage::Waiting(processors),
             text: Vec::new(alloc),
         }
     }
 
     /// Runs a line and leaves its text.
     fn run(&mut self, alloc: Global, text: &[u8]) -> Result<Ran, Memory>
-        requires follows { (skips : List CallId) × (done : List (List ℕ)) × (written : List ℕ) × Follows self.old.grid skips done written × HasRoomFor done text.now }
-        ensures { (skips : List CallId) (done : List (List ℕ)) (written : List ℕ) → Follows self.old.grid skips done written
-            → IfOk result (λ ran. RanAs ran self.new.grid skips done text.now written self.new.text.items) }
+        requires follows { (forms : List ProcessorForm) × (skips : List CallId) × (done : List (List ℕ)) × (written : List ℕ) × Follows form forms self.old.stage skips done written × HasRoomFor done text.now }
+        ensures { (forms : List ProcessorForm) (skips : List CallId) (done : List (List ℕ)) (written : List ℕ) → Follows form forms self.old.stage skips done written
+            → IfOk result (λ ran. RanAs form forms ran self.new.stage skips done text.now written self.new.text.items) }
     {
         self.text.clear();
-        if let Some(grid) = &mut self.grid {
-            return go_on(alloc, grid, text, &mut self.text);
+        match mem::replace(&mut self.stage, Stage::Waiting(Vec::new(alloc))) {
+            Stage::Waiting(processors) => self.begin(alloc, processors, text),
+            Stage::Running(grid) => self.go_on(alloc, grid, text),
         }
-        match begin(alloc, text, &mut self.text)? {
+    }
+
+    /// Runs the first line, with whose grid the run goes on.
+    fn begin(
+        &mut self,
+        alloc: Global,
+        processors: Vec<Box<dyn Processor>>,
+        text: &[u8],
+    ) -> Result<Ran, Memory>
+        requires empty { self.old.text.items ≡ [] }
+        ensures { (forms : List ProcessorForm) (skips : List CallId) (done : List (List ℕ)) (written : List ℕ) → Follows form forms (Stage.Waiting processors) skips done written
+            → IfOk result (λ ran. RanAs form forms ran self.new.stage skips done text.now written self.new.text.items) }
+    {
+        match grid_of(alloc, processors, text, &mut self.text)? {
             Begun::Made(grid) => {
-                self.grid = Some(grid);
+                self.stage = Stage::Running(grid);
                 Ok(Ran::Goes)
             }
             Begun::Refused(why) => {
                 push_refused(&mut self.text, 1, why)?;
                 Ok(Ran::Refused(1, why))
             }
+        }
+    }
+
+    /// Runs a line after the first, and goes on with its grid.
+    fn go_on(&mut self, alloc: Global, mut grid: Grid, text: &[u8]) -> Result<Ran, Memory>
+        requires empty { self.old.text.items ≡ [] }
+        requires room { length text.now ≤ most_line_bytes }
+        requires stands { (forms : List ProcessorForm) × (capacity : ℕ) × (r : Run) × Stands form (settings forms capacity) grid r × (r.lines < most_lines) × (r.members ≤ 8) }
+        ensures { (forms : List ProcessorForm) (skips : List CallId) (done : List (List ℕ)) (written : List ℕ) → Follows form forms (Stage.Running grid) skips done written
+            → IfOk result (λ ran. RanAs form forms ran self.new.stage skips done text.now written self.new.text.items) }
+    {
+        let number = grid.lines() + 1;
+        match read_line(alloc, text, false, grid.members()) {
+            Ok(line) => {
+                grid.run_line(alloc, number, &line, &mut self.text)?;
+                self.stage = Stage::Running(grid);
+                Ok(if line.is_end() { Ran::Ended } else { Ran::Goes })
+            }
+            Err(LineRefused::Why(why)) => {
+                push_refused(&mut self.text, number, why)?;
+                Ok(Ran::Refused(number, why))
+            }
+            Err(LineRefused::Memory) => Err(AllocError),
         }
     }
 
@@ -128,12 +160,12 @@ impl Transcriber {
         text: &[u8],
         out: &mut K,
     ) -> Result<(), Status>
-        requires follows { (skips : List CallId) × (done : List (List ℕ)) × (written : List ℕ) × Follows self.old.grid skips done written × HasRoomFor done text.now }
-        ensures goes { (skips : List CallId) (done : List (List ℕ)) (written : List ℕ) → Follows self.old.grid skips done written
-            → OnOk result ((more : List CallId) × (added : List ℕ) × Follows self.new.grid (more ++ skips) (done ++ text.now ∷ []) (written ++ added)
+        requires follows { (forms : List ProcessorForm) × (skips : List CallId) × (done : List (List ℕ)) × (written : List ℕ) × Follows form forms self.old.stage skips done written × HasRoomFor done text.now }
+        ensures goes { (forms : List ProcessorForm) (skips : List CallId) (done : List (List ℕ)) (written : List ℕ) → Follows form forms self.old.stage skips done written
+            → OnOk result ((more : List CallId) × (added : List ℕ) × Follows form forms self.new.stage (more ++ skips) (done ++ text.now ∷ []) (written ++ added)
             × (K.taken out.new ≡ append_known (K.taken out.old) added)) }
-        ensures stops { (skips : List CallId) (done : List (List ℕ)) (written : List ℕ) → Follows self.old.grid skips done written
-            → IfErr result (λ status. (more : List CallId) × (added : List ℕ) × StopsAs status (more ++ skips) done text.now (written ++ added)
+        ensures stops { (forms : List ProcessorForm) (skips : List CallId) (done : List (List ℕ)) (written : List ℕ) → Follows form forms self.old.stage skips done written
+            → IfErr result (λ status. (more : List CallId) × (added : List ℕ) × StopsAs forms status (more ++ skips) done text.now (written ++ added)
             × (K.taken out.new ≡ append_known (K.taken out.old) added)) }
         ensures never_falls { K.faults out.old ≤ K.faults out.new }
         ensures cause { IsErrOf result Status.WriteFault → Rose (K.faults out.old) (K.faults out.new) }
@@ -153,18 +185,18 @@ impl Transcriber {
 
     /// How many lines were run.
     pub(crate) fn lines(&self) -> u32
-        ensures { (skips : List CallId) (done : List (List ℕ)) (written : List ℕ) → Follows self.now.grid skips done written → result ≡ length done }
+        ensures { (forms : List ProcessorForm) (skips : List CallId) (done : List (List ℕ)) (written : List ℕ) → Follows form forms self.now.stage skips done written → result ≡ length done }
     {
-        match &self.grid {
-            None => 0,
-            Some(grid) => grid.lines(),
+        match &self.stage {
+            Stage::Waiting(_) => 0,
+            Stage::Running(grid) => grid.lines(),
         }
     }
 
     /// Ends a script that stopped without a line `end`.
     pub(crate) fn refuse_end<K: Sink>(&mut self, out: &mut K) -> Status
-        ensures concludes { (skips : List CallId) (done : List (List ℕ)) (written : List ℕ) → Follows self.old.grid skips done written
-            → (added : List ℕ) × Concludes None result skips done (written ++ added) × (K.taken out.new ≡ append_known (K.taken out.old) added) }
+        ensures concludes { (forms : List ProcessorForm) (skips : List CallId) (done : List (List ℕ)) (written : List ℕ) → Follows form forms self.old.stage skips done written
+            → (added : List ℕ) × Concludes forms None result skips done (written ++ added) × (K.taken out.new ≡ append_known (K.taken out.old) added) }
         ensures never_falls { K.faults out.old ≤ K.faults out.new }
         ensures cause { result ≡ Status.WriteFault → Rose (K.faults out.old) (K.faults out.new) }
     {
@@ -184,9 +216,9 @@ impl Transcriber {
 
     /// Ends a script that goes past a limit in the line after those that were run.
     pub(crate) fn stop_at_limit<K: Sink>(&mut self, what: LimitWhat, out: &mut K) -> Status
-        requires { (skips : List CallId) × (done : List (List ℕ)) × (written : List ℕ) × Follows self.old.grid skips done written × (length done ≤ most_lines) }
-        ensures concludes { (skips : List CallId) (done : List (List ℕ)) (written : List ℕ) → Follows self.old.grid skips done written
-            → (added : List ℕ) × Concludes (Some what) result skips done (written ++ added) × (K.taken out.new ≡ append_known (K.taken out.old) added) }
+        requires { (forms : List ProcessorForm) × (skips : List CallId) × (done : List (List ℕ)) × (written : List ℕ) × Follows form forms self.old.stage skips done written × (length done ≤ most_lines) }
+        ensures concludes { (forms : List ProcessorForm) (skips : List CallId) (done : List (List ℕ)) (written : List ℕ) → Follows form forms self.old.stage skips done written
+            → (added : List ℕ) × Concludes forms (Some what) result skips done (written ++ added) × (K.taken out.new ≡ append_known (K.taken out.old) added) }
         ensures never_falls { K.faults out.old ≤ K.faults out.new }
         ensures cause { result ≡ Status.WriteFault → Rose (K.faults out.old) (K.faults out.new) }
     {

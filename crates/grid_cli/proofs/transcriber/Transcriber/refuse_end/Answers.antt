@@ -7,25 +7,25 @@ use Rattle.grid_cli.proofs.TranscriberLaws.{end_refused, front_written, nothing_
 use Rattle.grid_cli.proofs.transcriber.Transcriber.refuse_end.Goals as goal
 
 pub returns-in_default-clause-concludes : goal.returns-in_default-clause-concludes
-returns-in_default-clause-concludes g c = λ skips done written follows.
-    ([], nothing_written c.args.self.now.grid skips done written follows None, sym (append_known-nil (g.K.Sink.taken c.args.out.now)))
+returns-in_default-clause-concludes g c = λ forms skips done written follows.
+    ([], nothing_written _ forms c.args.self.now.stage skips done written follows None, sym (append_known-nil (g.K.Sink.taken c.args.out.now)))
 
 pub returns-in_default-write_all-clause-concludes : goal.returns-in_default-write_all-clause-concludes
-returns-in_default-write_all-clause-concludes g c = λ skips done written follows.
+returns-in_default-write_all-clause-concludes g c = λ forms skips done written follows.
     let text : List ℕ = c.push_refused.new.out.items in
     let n = c.in_default-write_all.ensures.err in (
       take n.0 text,
       front_written written text (Refused c.lines-line.result NoEnd) _ n.0
-          (end_refused c.args.self.now.grid skips done written text c.lines-line.result follows (c.lines-line.ensures skips done written follows)
+          (end_refused _ forms c.args.self.now.stage skips done written text c.lines-line.result follows (c.lines-line.ensures forms skips done written follows)
           (c.in-Ok.ensures ∙ ap (λ xs. xs ++ refused_text c.lines-line.result NoEnd) c.clear.ensures.items)),
       n.2 ∙ ap (λ t. append_known (g.K.Sink.taken c.args.out.now) (take n.0 t)) c.as_slice.ensures.value,
     )
 
 pub returns-clause-concludes : goal.returns-clause-concludes
-returns-clause-concludes g c = λ skips done written follows.
+returns-clause-concludes g c = λ forms skips done written follows.
     let text : List ℕ = c.push_refused.new.out.items in (
       text,
-      end_refused c.args.self.now.grid skips done written text c.lines-line.result follows (c.lines-line.ensures skips done written follows)
+      end_refused _ forms c.args.self.now.stage skips done written text c.lines-line.result follows (c.lines-line.ensures forms skips done written follows)
           (c.in-Ok.ensures ∙ ap (λ xs. xs ++ refused_text c.lines-line.result NoEnd) c.clear.ensures.items),
       c.in-Ok-write_all.ensures.ok ∙ ap (append_known (g.K.Sink.taken c.args.out.now)) c.as_slice.ensures.value,
     )
