@@ -3,11 +3,19 @@ use Rattle.std.specs.Prelude.{◌↔◌, IsNone}
 use Rattle.std.specs.Option.{option_map}
 use Rattle.std.proofs.Common.{◌≡◌, ℕ, ◌+◌, ◌==◌, Bool, true, false, cond, List, [], ◌∷◌, ◌++◌, Option, Some, None, refl, ap, sym, ◌∙◌, arith}
 use Rattle.std.proofs.lemmas.Bool.Decides.{nat_tests}
+use Rattle.std.proofs.lemmas.Slice.Eq.{bytes_eq-Decides}
 use Rattle.script_lang.specs.Words.{newline, pieces_at, onto_first, are_same}
-use Rattle.replay_run.specs.SameNames.{same_text, are_same_self}
 use Rattle.script_lang.proofs.Pieces.{first_piece}
 use Rattle.grid_scenarios.specs.declared.difference.Difference.{Difference}
 use Rattle.grid_scenarios.specs.Differences.{difference_from, first_difference, differs_as}
+
+-- Texts that compare as the same are the same.
+
+same_text : (xs ys : List ℕ) → are_same xs ys ≡ true → xs ≡ ys
+same_text xs ys h = (bytes_eq-Decides xs ys).0 h
+
+are_same_self : (xs : List ℕ) → are_same xs xs ≡ true
+are_same_self xs = (bytes_eq-Decides xs xs).1 refl
 
 -- lines, with a newline between two of them
 abbrev joined : List (List ℕ) → List ℕ

@@ -11,10 +11,14 @@ mod tables;
 
 use codec::count_messages;
 use difference::{first_difference, verdict};
+use entry_processors::{Add, AddUpTo, Append, Clear, Processor, SetIfGreater};
 use grid_cli::{Status, replay_command};
 use grid_edge::{MemorySink, MemorySource};
 use long_scripts::{LONG_SCRIPTS, LongScript};
-use scenarios::{OUTSIDE, RANDOM, SCRIPTS, SESSIONS, STREAMS};
+use scenarios::{
+    DUMPS, EXPIRY, LOCKS, MAX_IDLE, OBJECT_CALLS, OUTSIDE, PROCESSORS, QUEUES, RANDOM, SCRIPTS,
+    SESSIONS, STREAMS,
+};
 use std::alloc::Global;
 use std::process::ExitCode;
 use std::{env, fs, io};
@@ -35,6 +39,9 @@ const REFUSED: u8 = 2;
 
 /// The numbers of the calls that are made to fail lie below this; the last is past the last call.
 const CALLS: u64 = 64;
+
+/// The limit of the processor that adds up to a limit.
+const MOST_COUNTED: i64 = 1000;
 
 /// How a script is given, and its transcript taken.
 #[derive(Clone, Copy, Debug, PartialEq, Eq)]
@@ -92,7 +99,8 @@ fn owned(alloc: Global, words: &[&str]) -> io::Result<Vec<String>> {
     Ok(all)
 }
 
-/// Carries out a command with these words on a script in memory, where these calls fail.
+/// Carries out a command with these words on a script in memory, where these calls fail. The grid has the processors of
+/// the program `grid`, by the same numbers.
 fn carried_out(
     alloc: Global,
     words: &[&str],
@@ -101,9 +109,15 @@ fn carried_out(
     pieces: Pieces,
 ) -> io::Result<(Status, Vec<u8>)> {
     let words = owned(alloc, words)?;
+    let mut processors: Vec<Box<dyn Processor>> = Vec::with_capacity(alloc, 5)?;
+    processors.push(Box::new(alloc, Add)?)?;
+    processors.push(Box::new(alloc, AddUpTo(MOST_COUNTED))?)?;
+    processors.push(Box::new(alloc, Append)?)?;
+    processors.push(Box::new(alloc, SetIfGreater)?)?;
+    processors.push(Box::new(alloc, Clear)?)?;
     let mut script = MemorySource::in_pieces(script, fails.reads, pieces.most_read());
     let mut out = MemorySink::in_pieces(fails.writes, pieces.most_written());
-    let status = replay_command(alloc, words.as_slice(), &mut script, &mut out);
+    let status = replay_command(alloc, words.as_slice(), processors, &mut script, &mut out);
     Ok((status, out.into_bytes()))
 }
 
@@ -259,6 +273,13 @@ fn run_scenarios(rt: &HostRuntime) -> io::Result<ExitCode> {
         &SESSIONS[..],
         &STREAMS[..],
         &SCRIPTS[..],
+        &EXPIRY[..],
+        &LOCKS[..],
+        &MAX_IDLE[..],
+        &QUEUES[..],
+        &PROCESSORS[..],
+        &DUMPS[..],
+        &OBJECT_CALLS[..],
         &OUTSIDE[..],
         &RANDOM[..],
     ] {

@@ -1,7 +1,7 @@
 //! The scenarios of `data/`: the name of each, and the exit status of its script.
 
 /// Sessions: authentication, ping, refusals, and what is served.
-pub(crate) const SESSIONS: [(&str, u8); 23] = [
+pub(crate) const SESSIONS: [(&str, u8); 22] = [
     // An authentication, a put and a get, and the history at the end.
     ("put_then_get", 0),
     // The same bytes, one a line: each reply on the line of its message's last byte.
@@ -36,10 +36,8 @@ pub(crate) const SESSIONS: [(&str, u8); 23] = [
     ("refusals_in_their_order", 0),
     // Types that name no request are refused with 3: responses, events, other services, negative ones.
     ("types_of_no_request", 0),
-    // Requests that aren't served yet are refused with 3.
-    ("types_of_later_parts", 0),
-    // Puts and gets that lack a field or a frame, with a null, a structure, a short key, a name that isn't UTF-8, or a
-    // time to live: refused with 4.
+    // Puts and gets that lack a field or a frame, with a null, a structure, a short key, or a name that isn't UTF-8:
+    // refused with 4.
     ("calls_that_cannot_be_read", 0),
     // A partition that isn't the key's is refused with 5, with the stated one and the key's.
     ("stated_partitions_are_compared", 0),
@@ -155,33 +153,190 @@ pub(crate) const SCRIPTS: [(&str, u8); 15] = [
     ("limit_line_of_the_first_line", 5),
 ];
 
+/// Entries of maps: values, expiry, and what replaces a value.
+pub(crate) const EXPIRY: [(&str, u8); 11] = [
+    // A put with a time to live at its last moment, at its end, and with a clock that goes back behind it.
+    ("a_put_expires_at_its_moment", 0),
+    // An expired value stands in dumps until a call meets it; where the clock goes back before that, it is read.
+    ("an_expired_value_stands_until_a_call_meets_it", 0),
+    // Each call that meets an expired value takes it away, also those of locks; it has one effect.
+    ("each_call_takes_an_expired_value_away", 0),
+    // A write over an expired value finds none: what it writes has its own expiry, and there is one effect.
+    ("a_write_over_an_expired_value", 0),
+    // A time to live of 0 or less never ends, and one whose end passes the greatest moment.
+    ("times_to_live_at_their_ends", 0),
+    // A put of the value that is there is a change where its expiry or its span is another.
+    ("a_put_of_an_equal_value", 0),
+    // What replaces a value keeps its expiry; what puts one sets it anew.
+    ("replacing_keeps_the_expiry", 0),
+    // Values are the same where all their bytes are; where there is no value, no test is met.
+    ("values_are_compared_whole", 0),
+    // A value of no bytes is a value, in an answer, a dump and a queue.
+    ("an_empty_value_is_a_value", 0),
+    // Maps of other names are apart where their keys are the same, and keys of one map where any byte of theirs
+    // differs.
+    ("two_maps_with_one_key", 0),
+    // A queue named as a map, in one partition with it: they are apart.
+    ("a_queue_named_as_a_map", 0),
+];
+
+/// Locks of keys: owners, counts and leases.
+pub(crate) const LOCKS: [(&str, u8); 14] = [
+    // A key is locked without a value, and a dump shows it.
+    ("a_lock_without_a_value", 0),
+    // Another owner neither writes nor unlocks; a key is free after as many unlocks as locks.
+    ("another_owners_unlock_is_refused", 0),
+    // A lease ends at its moment: before, another client's put is refused, and then answered.
+    ("a_lease_ends", 0),
+    // After its lease ended a lock has no owner: its unlock is refused, and another one takes it.
+    ("an_ended_lease_has_no_owner", 0),
+    // A lease of 0 or less never ends, and one whose end passes the greatest moment.
+    ("leases_at_their_ends", 0),
+    // Each lock of its owner is counted and sets the lease anew, also to an earlier end or to none.
+    ("a_lock_is_taken_again", 0),
+    // An owner is a client and its thread: clients by number, also on two connections, and by connection.
+    ("an_owner_is_a_client_and_a_thread", 0),
+    // A client whose number is a connection's is another owner than that connection.
+    ("a_client_numbered_as_a_connection", 0),
+    // A lock stays when its connection closes; its client unlocks it from another one, and a connection's own is freed
+    // by force.
+    ("a_lock_outlives_its_connection", 0),
+    // forceUnlock frees a key of any owner and count, and changes nothing where none is locked.
+    ("forced_unlocks_need_no_owner", 0),
+    // A value goes, by each call that takes one away, and its lock stays.
+    ("removing_keeps_the_lock", 0),
+    // Each write is refused to another owner with 11 and answered to the lock's own; reads pass.
+    ("each_write_needs_the_lock", 0),
+    // A value and its lock that have both ended go in one call, which has one effect.
+    ("a_value_and_its_lock_end_in_one_call", 0),
+    // A write that is refused with 11 or 13 takes away an expired value that it meets.
+    ("a_refused_write_takes_an_expired_value_away", 0),
+];
+
+/// Values with a max idle: which calls move its end.
+pub(crate) const MAX_IDLE: [(&str, u8); 6] = [
+    // A value's idle end is moved by reads, and at its end the value is gone.
+    ("reads_move_the_idle_end", 0),
+    // Each call that finds a value moves its idle end, but not those of locks, nor one that is refused with 11 or 13.
+    ("which_calls_move_the_idle_end", 0),
+    // A max idle of 0 or less is none; an idle end stops at the greatest moment, where the next call meets it.
+    ("idle_ends_at_their_ends", 0),
+    // Of a time to live and a max idle the first that ends takes the value away.
+    ("a_time_to_live_and_a_max_idle", 0),
+    // What replaces a value keeps its span; what puts one sets it anew, and a value that goes takes it along.
+    ("replacing_keeps_the_max_idle", 0),
+    // A read at the moment of the last use changes nothing; with an earlier clock the idle end moves back.
+    ("a_clock_that_goes_back_moves_the_idle_end", 0),
+];
+
+/// Queues: order, capacity and partition.
+pub(crate) const QUEUES: [(&str, u8); 6] = [
+    // A queue of one place: an offer past it is false, and a poll gives the item back.
+    ("an_offer_past_the_capacity", 0),
+    // A queue without a place takes nothing.
+    ("a_queue_without_a_place", 0),
+    // The greatest capacity; it is each queue's own.
+    ("the_greatest_capacity", 0),
+    // Items come out in the order in which they went in, also equal ones.
+    ("items_come_out_in_their_order", 0),
+    // What leaves a queue as it is isn't counted: refused offers, looks, and a poll or clear of an empty one.
+    ("what_leaves_a_queue_is_not_counted", 0),
+    // A queue is of its partition: one name in several is several queues.
+    ("one_queue_name_in_three_partitions", 0),
+];
+
+/// Entry processors: each form, and its edges.
+pub(crate) const PROCESSORS: [(&str, u8); 8] = [
+    // Adding: none is 0, and what isn't a number, has no argument of eight bytes or leaves 64 bits changes nothing.
+    ("adding_to_a_value", 0),
+    // Adding up to 1,000: a sum past that changes nothing, also one that is less than the value was.
+    ("adding_up_to_a_limit", 0),
+    // Appending: none is empty, an argument may be, and the answer is the whole value.
+    ("appending_to_a_value", 0),
+    // A value of 1,000,000 bytes is the longest that appending makes.
+    ("appending_up_to_a_million_bytes", 0),
+    // Setting where greater: the value is the greater of both, and what isn't a number changes nothing.
+    ("setting_what_is_greater", 0),
+    // The fifth processor takes a value away and answers it; where there is none it changes nothing.
+    ("a_processor_takes_a_value_away", 0),
+    // Processors are numbered from 1 to 5. A number without one is refused with 13, before the lock is looked at.
+    ("numbers_without_a_processor", 0),
+    // A processor keeps a value's expiry and span, and finds none where they have ended.
+    ("processors_and_expiry", 0),
+];
+
+/// Dumps of partitions, and clocks.
+pub(crate) const DUMPS: [(&str, u8); 4] = [
+    // Maps come before queues, and each in the order of their names' bytes and then of their keys'.
+    ("dumps_are_in_order", 0),
+    // A dump of a partition without objects, before any call, after calls that left none, and of the last partition.
+    ("dumps_without_objects", 0),
+    // A dump's count is that of the changes: reads, refusals and calls that change nothing aren't counted.
+    ("a_dump_counts_changes", 0),
+    // A clock goes to any moment, also to an earlier one or the same, and has no part in what doesn't end.
+    ("clocks_at_their_ends", 0),
+];
+
+/// How each call on an object is read, refused and named.
+pub(crate) const OBJECT_CALLS: [(&str, u8); 9] = [
+    // Each call on a map that lacks a byte of a field or a frame, with a null, a structure, a short key or a name that
+    // isn't UTF-8, is refused with 4.
+    ("map_calls_that_cannot_be_read", 0),
+    // Each call on a queue that lacks a frame, or has a null, a structure, a name that isn't UTF-8 or a partition that
+    // isn't there, is refused with 4.
+    ("queue_calls_that_cannot_be_read", 0),
+    // Each call on a map that states another partition than its key's is refused with 5, and makes no change.
+    ("each_map_call_states_its_partition", 0),
+    // Bytes behind the last field and frames behind the last frame of each call are ignored.
+    ("further_parts_of_each_call", 0),
+    // Registrations aren't served at this stage: refused with 3, also where they can't be read.
+    ("registrations_are_not_served", 0),
+    // Refusals and answers of one session that has a queue of one place.
+    ("refusals_and_answers_of_one_session", 0),
+    // A message is answered in its place, whatever its kind: answers of a line are in the order of its messages.
+    ("calls_of_one_line", 0),
+    // Each call has its name in a history, a queue's has no key there, and the clock stands beside it.
+    ("a_history_names_each_call", 0),
+    // Two clients share a cart with a time to live, a stock that is counted, and a queue of orders.
+    ("a_cart_a_stock_and_orders", 0),
+];
+
 /// Scripts and transcripts of an outside program.
-pub(crate) const OUTSIDE: [(&str, u8); 21] = [
+pub(crate) const OUTSIDE: [(&str, u8); 30] = [
     ("first_path_04", 0),
     ("byte_layer_06", 0),
     ("byte_layer_12", 0),
     ("byte_layer_13", 0),
     ("byte_layer_15", 0),
-    ("sessions_01", 0),
-    ("sessions_02", 0),
-    ("sessions_03", 0),
-    ("sessions_04", 0),
-    ("sessions_05", 0),
     ("sessions_06", 0),
-    ("sessions_07", 0),
-    ("sessions_08", 0),
-    ("sessions_09", 0),
-    ("sessions_10", 0),
-    ("sessions_11", 0),
-    ("sessions_12", 0),
-    ("sessions_13", 0),
-    ("sessions_14", 0),
-    ("sessions_15", 0),
-    ("sessions_16", 0),
+    ("objects_01", 0),
+    ("objects_02", 0),
+    ("objects_03", 0),
+    ("objects_04", 0),
+    ("objects_05", 0),
+    ("objects_06", 0),
+    ("objects_07", 0),
+    ("objects_08", 0),
+    ("objects_09", 0),
+    ("objects_10", 0),
+    ("objects_11", 0),
+    ("objects_12", 0),
+    ("objects_13", 0),
+    ("objects_14", 0),
+    ("objects_15", 0),
+    ("objects_16", 0),
+    ("objects_17", 0),
+    ("objects_18", 0),
+    ("objects_19", 0),
+    ("objects_20", 0),
+    ("objects_21", 0),
+    ("objects_22", 0),
+    ("objects_23", 0),
+    ("objects_24", 0),
 ];
 
-/// Random scripts with sessions, cut anywhere.
-pub(crate) const RANDOM: [(&str, u8); 8] = [
+/// Random scripts, cut anywhere: of sessions, and from the ninth on of maps, locks, queues and processors.
+pub(crate) const RANDOM: [(&str, u8); 14] = [
     ("random_01", 0),
     ("random_02", 0),
     ("random_03", 0),
@@ -190,4 +345,10 @@ pub(crate) const RANDOM: [(&str, u8); 8] = [
     ("random_06", 0),
     ("random_07", 0),
     ("random_08", 0),
+    ("random_09", 0),
+    ("random_10", 0),
+    ("random_11", 0),
+    ("random_12", 0),
+    ("random_13", 0),
+    ("random_14", 0),
 ];
