@@ -27,6 +27,7 @@ use Rattle.partition_protocol.proofs.Deliver.{packets_append}
 use Rattle.partition_protocol.proofs.Events.{Good, taken_every, happens_good}
 use Rattle.partition_protocol.proofs.Extends.{extends}
 use Rattle.partition_protocol.proofs.States.{Grows, grown, state_executed}
+use Rattle.partition_protocol.proofs.EffectCalls.{first_longer, first_called}
 use Rattle.partition_protocol.proofs.NamedStates.{IsKnown, flies, node_known, base_known, sync_known, state_after_event, bases_more}
 use Rattle.partition_protocol.proofs.Takings.{brought, every_taking, taking_known}
 use Rattle.partition_protocol.proofs.Says.{IsLater, IsAnswered, Says, SaysSent, taking_says, again_says}
@@ -126,6 +127,7 @@ kept_after {C} o law w made inv e = record {
           logged = contains_in (Called x) u.recorded.log (subst (In (Called x)) (extends o w e).0.1 (in_left (Called x) w.recorded.log (extends o w e).0.0 (in_contains (Called x) w.recorded.log h.logged)));
           version = h.version;
           seen = h.seen;
+          first = first_longer o w e v i x h.first;
           changes = ap (λ s. o.changes s x.call x.now) before ∙ h.changes;
           state = after ∙ h.state ∙ ap (λ s. o.after s x.call x.now) (sym before);
         }
@@ -483,6 +485,7 @@ module _ {C State : Type 0} (o : Object C State) (law : IsLawful o) (w : World C
           logged = contains_in (Called x) (w.recorded.log ++ Called x ∷ []) (in_right (Called x) w.recorded.log (Called x ∷ []) (inl refl));
           version = refl;
           seen = refl;
+          first = first_called o w made inv m n at lives leads thawed x (n.pair.count + 1) (n.recent + 1) (record { conn = conn; number = number; seen = n.pair.count + 1 }) (omega arith) refl refl refl refl refl refl (omega arith);
           changes = ap (λ s. o.changes s call now) before ∙ e;
           state = state_executed o w made inv m n at lives leads thawed x (n.pair.count + 1) (n.recent + 1) (record { conn = conn; number = number; seen = n.pair.count + 1 }) (omega arith) refl refl refl refl refl refl
               ∙ ap (λ s. o.after s call now) (sym before);

@@ -27,9 +27,9 @@ pub fn every_run_is_well_formed<C, S>()
 {}
 
 /// For an object whose calls without an effect leave the state, what a message in flight says of contents stays so until
-/// it comes, whatever happens meanwhile. Each Effect is that of one executed call. The states that a Sync, an Effect or a
-/// Bridge names keep what they are, and so do those of a member's own pair and of the pairs with which versions began. A
-/// Bridge names one state by two pairs.
+/// it comes, whatever happens meanwhile. Each Effect is that of one executed call, the first of its version that saw that
+/// count. The states that a Sync, an Effect or a Bridge names keep what they are, and so do those of a member's own pair
+/// and of the pairs with which versions began. A Bridge names one state by two pairs.
 pub fn every_message_stays_right<C, S>()
     ensures effects { (o : Object C S) → EveryEffectLeads o }
     ensures states { (o : Object C S) → EveryNamedStateStays o }
