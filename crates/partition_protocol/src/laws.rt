@@ -5,6 +5,7 @@ ghost use Rattle.partition_protocol.specs.Answers.{EveryAnswerIsSingle};
 ghost use Rattle.partition_protocol.specs.Bounds.{EveryRunIsWithin};
 ghost use Rattle.partition_protocol.specs.WellFormed.{EveryRunIsWellFormed};
 ghost use Rattle.partition_protocol.specs.NamedStates.{EveryEffectLeads, EveryNamedStateStays, EveryBridgeJoins};
+ghost use Rattle.partition_protocol.specs.Beginnings.{EveryCountIsAnEffect, EveryPrimaryKnowsItsBeginning, EveryCatchUpIsRecent};
 ghost use Rattle.partition_protocol.specs.RowRules.{EveryKnownRowGoesOn, EveryLossIsTold, EveryRowIsLostByRule};
 ghost use Rattle.partition_protocol.specs.ReadOff.{EveryFactIsReadOff};
 
@@ -51,4 +52,22 @@ pub fn every_row_goes_by_rule<C, S>()
 /// that version came to it as its primary.
 pub fn every_fact_is_read_off<C, S>()
     ensures { (o : Object C S) → EveryFactIsReadOff o }
+{}
+
+/// For an object whose calls without an effect leave the state, whatever is counted in a version past the count with which
+/// it began is an effect of a call in that version: up to the count of each member that has its contents, and up to that
+/// with which another version began from it.
+pub fn every_count_is_an_effect<C, S>()
+    ensures { (o : Object C S) → EveryCountIsAnEffect o }
+{}
+
+/// A member that knows itself primary, by the newest row or an old one, has the contents of that row's version and knows
+/// the count with which the version began. What it keeps as acknowledged in the version is no less than that, and no more
+/// than it has. Where it was primary of the version before, its own began from that one, and what was acknowledged there is
+/// between the counts with which the two began. It has executed no more effects since it last became primary than it counts.
+/// For an object whose calls without an effect leave the state, each effect by which it has a backup catch up is one that
+/// it counts, and one of the newest that it keeps.
+pub fn every_primary_knows_its_beginning<C, S>()
+    ensures beginnings { (o : Object C S) → EveryPrimaryKnowsItsBeginning o }
+    ensures catch_up { (o : Object C S) → EveryCatchUpIsRecent o }
 {}
