@@ -6,6 +6,7 @@ ghost use Rattle.partition_protocol.specs.Bounds.{EveryRunIsWithin};
 ghost use Rattle.partition_protocol.specs.WellFormed.{EveryRunIsWellFormed};
 ghost use Rattle.partition_protocol.specs.NamedStates.{EveryEffectLeads, EveryNamedStateStays, EveryBridgeJoins};
 ghost use Rattle.partition_protocol.specs.Beginnings.{EveryCountIsAnEffect, EveryPrimaryKnowsItsBeginning, EveryCatchUpIsRecent};
+ghost use Rattle.partition_protocol.specs.HistorySizes.{EveryHistoryIsOfTheLog, EveryLoggedCallArrived};
 ghost use Rattle.partition_protocol.specs.RowRules.{EveryKnownRowGoesOn, EveryLossIsTold, EveryRowIsLostByRule};
 ghost use Rattle.partition_protocol.specs.ReadOff.{EveryFactIsReadOff};
 
@@ -70,4 +71,12 @@ pub fn every_count_is_an_effect<C, S>()
 pub fn every_primary_knows_its_beginning<C, S>()
     ensures beginnings { (o : Object C S) → EveryPrimaryKnowsItsBeginning o }
     ensures catch_up { (o : Object C S) → EveryCatchUpIsRecent o }
+{}
+
+/// Whatever pair is asked for, its history is of entries of the log, in their order: so it has no entry and no call that the
+/// log doesn't have, and is no longer. The log's calls are calls that arrived, in order of arrival, even where calls share a
+/// name.
+pub fn every_history_is_of_the_log<C, S>()
+    ensures histories { (o : Object C S) → EveryHistoryIsOfTheLog o }
+    ensures arrivals { (o : Object C S) → EveryLoggedCallArrived o }
 {}
