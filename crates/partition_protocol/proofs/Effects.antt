@@ -1,4 +1,5 @@
 -- Each effect in flight is that of one executed call: of every version, the effects past the count with which it began are those of calls.
+-- And what a primary keeps of counts is between that with which its version began and its own.
 use Rattle.std.proofs.Common.{◌≡◌, ◌≢◌, ℕ, zero, suc, ◌+◌, ◌-◌, ◌<◌, ◌≤◌, max, Bool, true, false, cond, not, ◌&&◌, ◌==◌, List, [], ◌∷◌, ◌++◌, map, Option, Some, None, nat_lt, slice_set, refl, ap, sym, ◌∙◌, subst, ◌⊎◌, ⊎_elim, inl, inr, arith, le_trans, true≢false}
 use Rattle.grid_base.specs.Objects.{Object}
 use Rattle.partition_table.specs.declared.Row.{Row}
@@ -27,8 +28,9 @@ use Rattle.partition_protocol.proofs.Deliver.{packets_append}
 use Rattle.partition_protocol.proofs.Events.{Good, taken_every, happens_good}
 use Rattle.partition_protocol.proofs.Extends.{extends}
 use Rattle.partition_protocol.proofs.States.{Grows, grown, state_executed}
-use Rattle.partition_protocol.proofs.NamedStates.{IsKnown, flies, node_known, base_known, sync_known, state_after_event, bases_more}
-use Rattle.partition_protocol.proofs.Takings.{brought, every_taking, taking_known}
+use Rattle.partition_protocol.proofs.EffectCalls.{first_longer, first_called}
+use Rattle.partition_protocol.proofs.NamedStates.{IsKnown, flies, node_known, base_known, sync_known, state_after_event, bases_more, upto_after}
+use Rattle.partition_protocol.proofs.Takings.{brought, every_taking, taking_known, backup_not_primary}
 use Rattle.partition_protocol.proofs.Says.{IsLater, IsAnswered, Says, SaysSent, taking_says, again_says}
 use Rattle.partition_protocol.proofs.EventCases.{EventCases, every_event, place_in}
 use Rattle.partition_protocol.proofs.Theorem.{start_good, opened_node}
@@ -38,26 +40,36 @@ use Rattle.partition_protocol.proofs.Safe
 abbrev pub IsFloor : List Base → ℕ → ℕ → Type 0
 IsFloor bs v c = (b : Base) → In b bs → b.version ≡ v → b.pair.count ≤ c
 
+-- it began with exactly c
+abbrev pub IsStart : List Base → ℕ → ℕ → Type 0
+IsStart bs v c = (b : Base) → In b bs → b.version ≡ v → b.pair.count ≡ c
+
+-- a call's effect, where the object is lawful
+abbrev pub IsCalls : {C State : Type 0} → Object C State → World C → ℕ → ℕ → Type 0
+IsCalls o w v i = IsLawful o → IsEffect o w v i
+
 -- each effect of the version past those, up to c, is a call's
 abbrev pub AreEffects : {C State : Type 0} → Object C State → World C → ℕ → ℕ → Type 0
-AreEffects o w v c = (i : ℕ) (b : Base) → In b w.recorded.bases → b.version ≡ v → b.pair.count < i → i ≤ c → IsEffect o w v i
+AreEffects o w v c = (i : ℕ) (b : Base) → In b w.recorded.bases → b.version ≡ v → b.pair.count < i → i ≤ c → IsCalls o w v i
 
 -- calls lead to the pair, from the count with which its version began
 abbrev pub PairLed : {C State : Type 0} → Object C State → World C → ℕ → ℕ → Type 0
 PairLed o w v c = IsFloor w.recorded.bases v c × AreEffects o w v c
 
--- they lead to a node's pair, and all that it was acknowledged is past what the version began with
+-- they lead to a node's pair, and all that it was acknowledged is past what the version began with, and no more than was counted
 pub record NodeLed {C State : Type 0} (o : Object C State) (w : World C) (m : ℕ) (n : Node) : Type 0 where
   pub pair : PairLed o w n.pair.version n.pair.count
-  pub acks : is_primary n.known m ≡ true → (a : Acknowledged) → In a n.acks → IsFloor w.recorded.bases n.known.version a.count
+  pub acks : is_primary n.known m ≡ true → (a : Acknowledged) → In a n.acks → IsFloor w.recorded.bases n.known.version a.count × (a.count ≤ n.pair.count)
   pub opening : n.opening ≡ true → IsBase w.recorded.bases n.known.version × IsFloor w.recorded.bases n.known.version 0
-  pub earlier : (e : Earlier) → is_primary n.known m ≡ true → n.earlier ≡ Some e → (a : Acknowledged) → In a e.acks → IsFloor w.recorded.bases e.version a.count
+  pub earlier : (e : Earlier) → is_primary n.known m ≡ true → n.earlier ≡ Some e → (a : Acknowledged) → In a e.acks → IsFloor w.recorded.bases e.version a.count × (a.count ≤ n.adopted)
+  pub adopted : is_primary n.known m ≡ true → IsStart w.recorded.bases n.known.version n.adopted
+  pub recent : is_primary n.known m ≡ true → n.recent ≤ n.pair.count
 
 -- and to what a message says
 abbrev pub MessageLed : {C State : Type 0} → Object C State → World C → Message → Type 0
 MessageLed o w (Sync row c) = PairLed o w row.version c
-MessageLed o w (Effect v i) = (1 ≤ i) × IsEffect o w v i
-MessageLed o w (Ack v c) = IsFloor w.recorded.bases v c
+MessageLed o w (Effect v i) = (1 ≤ i) × IsCalls o w v i
+MessageLed o w (Ack v c) = IsFloor w.recorded.bases v c × IsUpTo w.nodes v c
 MessageLed o w (NewRow row) = Unit {0}
 MessageLed o w (Bridge row e k) = Unit {0}
 MessageLed o w (JoinedMessage v b) = Unit {0}
@@ -78,15 +90,19 @@ pub record Kept {C State : Type 0} (o : Object C State) (w u : World C) : Type 0
   pub good : Good o u
   pub base : (v : ℕ) → IsBase w.recorded.bases v → IsBase u.recorded.bases v
   pub floor : (v c : ℕ) → IsBase w.recorded.bases v → IsFloor w.recorded.bases v c → IsFloor u.recorded.bases v c
-  pub effect : (v i : ℕ) → IsBase w.recorded.bases v → IsUpTo w.nodes v i → IsEffect o w v i → IsEffect o u v i
+  pub start : (v c : ℕ) → IsBase w.recorded.bases v → IsStart w.recorded.bases v c → IsStart u.recorded.bases v c
+  pub upto : (v c : ℕ) → IsBase w.recorded.bases v → IsUpTo w.nodes v c → IsUpTo u.nodes v c
+  pub effect : (v i : ℕ) → IsBase w.recorded.bases v → IsUpTo w.nodes v i → IsCalls o w v i → IsCalls o u v i
   pub effects : (v c : ℕ) → IsBase w.recorded.bases v → IsUpTo w.nodes v c → AreEffects o w v c → AreEffects o u v c
-  pub states : (p : Pair) → IsKnown w p → pair_state o u p ≡ pair_state o w p
+  pub states : IsLawful o → (p : Pair) → IsKnown w p → pair_state o u p ≡ pair_state o w p
 
-pub kept_after : {C State : Type 0} (o : Object C State) (law : IsLawful o) (w : World C) (made : List Shape) (inv : Invariant o w made) (e : Event C) → Kept o w (happens o w e).world
-kept_after {C} o law w made inv e = record {
+pub kept_after : {C State : Type 0} (o : Object C State) (w : World C) (made : List Shape) (inv : Invariant o w made) (e : Event C) → Kept o w (happens o w e).world
+kept_after {C} o w made inv e = record {
   good = good;
   base = bases_more o w made inv e;
   floor = λ v c i f b j s. f b (old_base v i b j s) s;
+  start = λ v c i f b j s. f b (old_base v i b j s) s;
+  upto = λ v c i up. upto_after o w made inv v c i up e;
   effect = effect;
   effects = λ v c i up f k b j s l r. effect v k i (λ m n at p z. le_trans r (up m n at p z)) (f k b (old_base v i b j s) s l r);
   states = states;
@@ -98,8 +114,8 @@ kept_after {C} o law w made inv e = record {
     good : Good o (happens o w e).world
     good = happens_good o w made inv e
 
-    states : (p : Pair) → IsKnown w p → pair_state o (happens o w e).world p ≡ pair_state o w p
-    states p k = state_after_event o w made inv law p k e
+    states : IsLawful o → (p : Pair) → IsKnown w p → pair_state o (happens o w e).world p ≡ pair_state o w p
+    states law p k = state_after_event o w made inv law p k e
 
     -- a base of an old version is an old one
     old_base : (v : ℕ) → IsBase w.recorded.bases v → (b : Base) → In b u.recorded.bases → b.version ≡ v → In b w.recorded.bases
@@ -116,16 +132,18 @@ kept_after {C} o law w made inv e = record {
         go (inl z) = subst (In b) z j
         go (inr k) = by_base k.0 (newer k.0 k.1) (subst (In b) k.1 j)
 
-    effect : (v i : ℕ) → IsBase w.recorded.bases v → IsUpTo w.nodes v i → IsEffect o w v i → IsEffect o (happens o w e).world v i
-    effect v i b up h =
-        let before = states (record { version = v; count = i - 1 }) (inr b, λ m n at p z. (let l = up m n at p z in omega (arith, l))) in
-        let after = states (record { version = v; count = i }) (inr b, up) in
+    effect : (v i : ℕ) → IsBase w.recorded.bases v → IsUpTo w.nodes v i → IsCalls o w v i → IsCalls o (happens o w e).world v i
+    effect v i b up calls law =
+        let h = calls law in
+        let before = states law (record { version = v; count = i - 1 }) (inr b, λ m n at p z. (let l = up m n at p z in omega (arith, l))) in
+        let after = states law (record { version = v; count = i }) (inr b, up) in
         let x = h.executed in
         record {
           executed = x;
           logged = contains_in (Called x) u.recorded.log (subst (In (Called x)) (extends o w e).0.1 (in_left (Called x) w.recorded.log (extends o w e).0.0 (in_contains (Called x) w.recorded.log h.logged)));
           version = h.version;
           seen = h.seen;
+          first = first_longer o w e v i x h.first;
           changes = ap (λ s. o.changes s x.call x.now) before ∙ h.changes;
           state = after ∙ h.state ∙ ap (λ s. o.after s x.call x.now) (sym before);
         }
@@ -168,16 +186,16 @@ module _ {C State : Type 0} (o : Object C State) (u : World C) (good : Good o u)
   heard_floor b p leads h = go (heard_from a b p h)
     where
       known : ((acked_by b a.acks ≡ Some p.count) ⊎ ((a.opening ≡ true) × (0 ≡ p.count))) → IsFloor u.recorded.bases a.known.version p.count
-      known (inl e) = acked_by_in (λ c k. IsFloor u.recorded.bases a.known.version c) b p.count a.acks (every_from_in (λ (x : Acknowledged). IsFloor u.recorded.bases a.known.version x.count) a.acks (λ x i. led.acks leads x i)) e
+      known (inl e) = acked_by_in (λ c k. IsFloor u.recorded.bases a.known.version c) b p.count a.acks (every_from_in (λ (x : Acknowledged). IsFloor u.recorded.bases a.known.version x.count) a.acks (λ x i. (led.acks leads x i).0)) e
       known (inr e) = λ k i s. (let l = (led.opening e.0).1 k i s in omega (arith, l))
 
       go : ((acked a b ≡ Some p.count) × (p.version ≡ a.known.version)) ⊎ ((e : Earlier) × (a.earlier ≡ Some e) × (acked_by b e.acks ≡ Some p.count) × (p.version ≡ e.version)) → IsFloor u.recorded.bases p.version p.count
       go (inl h) = subst (λ v. IsFloor u.recorded.bases v p.count) (sym h.1) (known (or_opening_cases a.opening (acked_by b a.acks) p.count h.0))
       go (inr h) = subst (λ v. IsFloor u.recorded.bases v p.count) (sym h.3)
-          (acked_by_in (λ c k. IsFloor u.recorded.bases h.0.version c) b p.count h.0.acks (every_from_in (λ (x : Acknowledged). IsFloor u.recorded.bases h.0.version x.count) h.0.acks (λ x i. led.earlier h.0 leads h.1 x i)) h.2)
+          (acked_by_in (λ c k. IsFloor u.recorded.bases h.0.version c) b p.count h.0.acks (every_from_in (λ (x : Acknowledged). IsFloor u.recorded.bases h.0.version x.count) h.0.acks (λ x i. (led.earlier h.0 leads h.1 x i).0)) h.2)
 
   -- what the node sends, once it stands in the world
-  module _ (node : NodeOk u.recorded.bases good.0 m (settled a)) (bases : (b : Base) → In b u.recorded.bases → AreEffects o u b.pair.version b.pair.count) where
+  module _ (node : NodeOk u.recorded.bases good.0 m (settled a)) (bases : (b : Base) → In b u.recorded.bases → AreEffects o u b.pair.version b.pair.count) (top : IsUpTo u.nodes a.pair.version a.pair.count) where
     module _ (leads : is_primary a.known m ≡ true) where
       pub began : IsBase u.recorded.bases a.known.version
       began = (node.primary leads).1
@@ -186,8 +204,8 @@ module _ {C State : Type 0} (o : Object C State) (u : World C) (good : Good o u)
       known_led = subst (λ v. PairLed o u v a.pair.count) (node.primary leads).0 led.pair
 
       -- an effect of the known version, past a count that is no less than it began with
-      pub of_known : (v i c : ℕ) → v ≡ a.known.version → IsFloor u.recorded.bases a.known.version c → c < i → i ≤ a.pair.count → (1 ≤ i) × IsEffect o u v i
-      of_known v i c e f l r = (omega (arith, l), subst (λ k. IsEffect o u k i) (sym e) (let k = f began.0 began.1 began.2 in known_led.1 i began.0 began.1 began.2 (omega (arith, k, l)) r))
+      pub of_known : (v i c : ℕ) → v ≡ a.known.version → IsFloor u.recorded.bases a.known.version c → c < i → i ≤ a.pair.count → (1 ≤ i) × IsCalls o u v i
+      of_known v i c e f l r = (omega (arith, l), subst (λ k. IsCalls o u k i) (sym e) (let k = f began.0 began.1 began.2 in known_led.1 i began.0 began.1 began.2 (omega (arith, k, l)) r))
 
       -- the earlier version, where it was heard of, and the count with which the known one began
       pub earlier_version : (to : ℕ) (p : Pair) → heard a to ≡ Some p → p.version ≢ a.known.version → IsBase u.recorded.bases p.version × ((b : Base) × In b u.recorded.bases × (b.version ≡ a.known.version) × (b.pair ≡ record { version = p.version; count = a.adopted }))
@@ -200,13 +218,13 @@ module _ {C State : Type 0} (o : Object C State) (u : World C) (good : Good o u)
               let e = node.earlier k.0 leads k.1 in
               (subst (IsBase u.recorded.bases) (sym k.3) e.2, (e.4.0, e.4.1, e.4.2, subst (λ v. e.4.0.pair ≡ record { version = v; count = a.adopted }) (sym k.3) e.4.3))
 
-      pub later_led : (to v i : ℕ) (p : Pair) → heard a to ≡ Some p → IsLater a p v i → (1 ≤ i) × IsEffect o u v i
+      pub later_led : (to v i : ℕ) (p : Pair) → heard a to ≡ Some p → IsLater a p v i → (1 ≤ i) × IsCalls o u v i
       later_led to v i p h (inl k) = of_known v i p.count k.1 (subst (λ x. IsFloor u.recorded.bases x p.count) k.0 (heard_floor to p leads h)) k.2 k.3
       later_led to v i p h (inr (inl k)) =
           let e = earlier_version to p h k.0 in
           let f = heard_floor to p leads h e.0.0 e.0.1 e.0.2 in
           let all : AreEffects o u p.version a.adopted = subst (λ (q : Pair). AreEffects o u q.version q.count) e.1.3 (bases e.1.0 e.1.1) in
-          (let l = k.2 in omega (arith, l), subst (λ x. IsEffect o u x i) (sym k.1) (let l = k.2 in all i e.0.0 e.0.1 e.0.2 (omega (arith, f, l)) k.3))
+          (let l = k.2 in omega (arith, l), subst (λ x. IsCalls o u x i) (sym k.1) (let l = k.2 in all i e.0.0 e.0.1 e.0.2 (omega (arith, f, l)) k.3))
       later_led to v i p h (inr (inr k)) =
           let b = (earlier_version to p h k.0).1 in
           of_known v i a.adopted k.1 (λ c j s. (let same : c ≡ b.0 = base_same u.recorded.bases (u.service.row.version + 1) c b.0 good.1.frame.falling j b.1 (s ∙ sym b.2) in
@@ -217,7 +235,8 @@ module _ {C State : Type 0} (o : Object C State) (u : World C) (good : Good o u)
     says_led service from answered to (Sync row c) s = subst (λ (r : Row). PairLed o u r.version c) (sym s.2) (subst (PairLed o u a.known.version) (sym s.3) (known_led s.0))
     says_led service from answered to (Effect v i) s = later_led s.0 to v i s.2.0 s.2.1 s.2.2
     says_led service from answered to (Bridge row e k) s = tt
-    says_led service from answered to (Ack v c) s = subst (λ x. IsFloor u.recorded.bases x c) (sym s.2) (subst (IsFloor u.recorded.bases a.pair.version) (sym s.3) led.pair.0)
+    says_led service from answered to (Ack v c) s =
+        subst (λ x. IsFloor u.recorded.bases x c × IsUpTo u.nodes x c) (sym s.2) (subst (λ d. IsFloor u.recorded.bases a.pair.version d × IsUpTo u.nodes a.pair.version d) (sym s.3) (led.pair.0, top))
     says_led service from answered to (JoinedMessage v b) s = tt
     says_led service from answered to (Freeze v) s = absurd s
     says_led service from answered to (FrozenMessage v) s = tt
@@ -239,9 +258,11 @@ module _ {C State : Type 0} (o : Object C State) (w : World C) (made : List Shap
       let ok : NodeOk w.recorded.bases made m n = inv.frame.nodes m n at in
       record {
         pair = pair_led n.pair (node_known o w made inv m n at) h.pair;
-        acks = λ p a i. k.floor n.known.version a.count (ok.primary p).1 (h.acks p a i);
+        acks = λ p a i. (let f = h.acks p a i in (k.floor n.known.version a.count (ok.primary p).1 f.0, f.1));
         opening = λ e. (let f = h.opening e in (k.base n.known.version f.0, k.floor n.known.version 0 f.0 f.1));
-        earlier = λ e p s a i. k.floor e.version a.count (ok.earlier e p s).2 (h.earlier e p s a i);
+        earlier = λ e p s a i. (let f = h.earlier e p s a i in (k.floor e.version a.count (ok.earlier e p s).2 f.0, f.1));
+        adopted = λ p. k.start n.known.version n.adopted (ok.primary p).1 (h.adopted p);
+        recent = h.recent;
       }
 
   pub old_effects : (b : Base) → In b w.recorded.bases → AreEffects o u b.pair.version b.pair.count
@@ -254,7 +275,7 @@ module _ {C State : Type 0} (o : Object C State) (w : World C) (made : List Shap
   pub old_message : (from : ℕ) (msg : Message) → PacketOk w.nodes w.recorded.bases made w.crashed from msg → MessageLed o w msg → MessageLed o u msg
   old_message from (Sync row c) g h = pair_led (record { version = row.version; count = c }) (sync_known o w made inv from row c g) h
   old_message from (Effect v i) g h = (h.0, k.effect v i g.0 g.1 h.1)
-  old_message from (Ack v c) g h = k.floor v c g.0 h
+  old_message from (Ack v c) g h = (k.floor v c g.0 h.0, k.upto v c g.0 h.1)
   old_message from (NewRow row) g h = tt
   old_message from (Bridge row e c) g h = tt
   old_message from (JoinedMessage v b) g h = tt
@@ -321,6 +342,12 @@ module _ {C State : Type 0} (o : Object C State) (w : World C) (made : List Shap
     pub begun_acks : (row : Row) (x : Acknowledged) → In x (begun row n).acks → In x n.acks
     begun_acks row x i = on_if (λ (y : Node). In x y.acks → In x n.acks) (is_before_reset row n) (emptied n) n (λ j. absurd j) (λ j. j) i
 
+    pub begun_below : (row : Row) → is_primary n.known m ≡ true → (x : Acknowledged) → In x (begun row n).acks → x.count ≤ (begun row n).pair.count
+    begun_below row p x = on_if (λ (y : Node). In x y.acks → x.count ≤ y.pair.count) (is_before_reset row n) (emptied n) n (λ j. absurd j) (λ j. (here.acks p x j).1)
+
+    pub begun_recent : (row : Row) → is_primary n.known m ≡ true → (begun row n).recent ≤ (begun row n).pair.count
+    begun_recent row p = on_if (λ (y : Node). y.recent ≤ y.pair.count) (is_before_reset row n) (emptied n) n (omega arith) (here.recent p)
+
     pub begun_known : (row : Row) → (begun row n).known ≡ n.known
     begun_known row = on_if (λ (y : Node). y.known ≡ n.known) (is_before_reset row n) (emptied n) n refl refl
 
@@ -330,6 +357,8 @@ module _ {C State : Type 0} (o : Object C State) (w : World C) (made : List Shap
       acks = λ p a i. absurd i;
       opening = λ z. absurd (true≢false (sym z));
       earlier = λ x p s a i. earlier x (stays_primary row n m) refl s a i;
+      adopted = λ p. count;
+      recent = λ p. on_cond (λ r. r ≤ (begun row n).pair.count) (stays_primary row n m) (begun row n).recent 0 (λ z. begun_recent row (led_before z)) (λ z. omega arith);
     }
       where
         base : Base
@@ -343,13 +372,16 @@ module _ {C State : Type 0} (o : Object C State) (w : World C) (made : List Shap
         floor : IsFloor u.recorded.bases row.version (begun row n).pair.count
         floor b i s = let f = count b i s in omega (arith, f)
 
-        earlier : (x : Earlier) (t : Bool) → stays_primary row n m ≡ t → cond t (Some (record { version = (begun row n).known.version; acks = (begun row n).acks })) None ≡ Some x → (a : Acknowledged) → In a x.acks → IsFloor u.recorded.bases x.version a.count
+        led_before : stays_primary row n m ≡ true → is_primary n.known m ≡ true
+        led_before z = both_left (is_primary n.known m) (not (is_before_reset row n)) z
+
+        earlier : (x : Earlier) (t : Bool) → stays_primary row n m ≡ t → cond t (Some (record { version = (begun row n).known.version; acks = (begun row n).acks })) None ≡ Some x
+            → (a : Acknowledged) → In a x.acks → IsFloor u.recorded.bases x.version a.count × (a.count ≤ (begun row n).pair.count)
         earlier x false z s = absurd cc
         earlier x true z s =
-            let led_before : is_primary n.known m ≡ true = both_left (is_primary n.known m) (not (is_before_reset row n)) z in
             let same : record { version = (begun row n).known.version; acks = (begun row n).acks } ≡ x = cc in
-            subst (λ (y : Earlier). (a : Acknowledged) → In a y.acks → IsFloor u.recorded.bases y.version a.count) same
-            (λ a i. subst (λ (r : Row). IsFloor u.recorded.bases r.version a.count) (sym (begun_known row)) (here.acks led_before a (begun_acks row a i)))
+            subst (λ (y : Earlier). (a : Acknowledged) → In a y.acks → IsFloor u.recorded.bases y.version a.count × (a.count ≤ (begun row n).pair.count)) same
+            (λ a i. (subst (λ (r : Row). IsFloor u.recorded.bases r.version a.count) (sym (begun_known row)) (here.acks (led_before z) a (begun_acks row a i)).0, begun_below row (led_before z) a i))
 
     pub led_other : (row : Row) (p : Pair) → is_primary row m ≡ false → PairLed o u p.version p.count → NodeLed o u m (adopt_as_other row p)
     led_other row p other h = record {
@@ -357,6 +389,8 @@ module _ {C State : Type 0} (o : Object C State) (w : World C) (made : List Shap
       acks = λ z a i. absurd i;
       opening = λ z. absurd (true≢false (sym z));
       earlier = λ x z s. absurd cc;
+      adopted = λ z. absurd (not_both (is_primary row m) z other);
+      recent = λ z. omega arith;
     }
 
     pub led_adopted : (row : Row) → brought msg ≡ Some row → is_newer row n ≡ true → NodeLed o u m (adopted_row m row n)
@@ -365,9 +399,16 @@ module _ {C State : Type 0} (o : Object C State) (w : World C) (made : List Shap
         (λ p. led_primary row e newer p)
         (λ p. on_if (NodeLed o u m) (is_backup row m) (adopt_as_other row (begun row n).pair) (adopt_as_other row no_pair) (led_other row (begun row n).pair p (begun_pair row)) (led_other row no_pair p (zero_led o u 0 0 k.good refl)))
 
-    -- another pair
-    pub led_paired : (a : Node) (v c : ℕ) → NodeLed o u m a → PairLed o u v c → NodeLed o u m (with_pair a v c)
-    led_paired a v c h p = record { pair = p; acks = h.acks; opening = h.opening; earlier = h.earlier }
+    -- another pair of a backup
+    pub led_paired : (a : Node) (v c : ℕ) → is_backup a.known m ≡ true → NodeLed o u m a → PairLed o u v c → NodeLed o u m (with_pair a v c)
+    led_paired a v c b h p = record {
+      pair = p;
+      acks = λ z. absurd (backup_not_primary a.known m b z);
+      opening = h.opening;
+      earlier = h.earlier;
+      adopted = h.adopted;
+      recent = λ z. absurd (backup_not_primary a.known m b z);
+    }
 
     -- the pair at the end of a bridge: the version began with it
     pub bridged_pair : (row : Row) (e c : ℕ) → PacketOk w.nodes w.recorded.bases made w.crashed from (Bridge row e c) → PairLed o u row.version c
@@ -386,43 +427,62 @@ module _ {C State : Type 0} (o : Object C State) (w : World C) (made : List Shap
     pub applied_pair : (v i : ℕ) → n.pair.version ≡ v → i ≡ n.pair.count + 1 → PacketOk w.nodes w.recorded.bases made w.crashed from (Effect v i) → MessageLed o w (Effect v i) → PairLed o u v i
     applied_pair v i version next h s = (
       (λ b j e. (let f = before.0 b j e in omega (arith, f, next))),
-      (λ c b j e l r. ⊎_elim (λ z. subst (IsEffect o u v) (sym z) (k.effect v i h.0 h.1 s.1)) (λ z. before.1 c b j e l (omega (arith, z, next))) (le_cases c i r)),
+      (λ c b j e l r. ⊎_elim (λ z. subst (IsCalls o u v) (sym z) (k.effect v i h.0 h.1 s.1)) (λ z. before.1 c b j e l (omega (arith, z, next))) (le_cases c i r)),
     )
       where
         before : PairLed o u v n.pair.count
         before = subst (λ x. PairLed o u x n.pair.count) version here.pair
 
-    pub ack_floor : (v : ℕ) (b c : ℕ) (acks : List Acknowledged) → IsFloor u.recorded.bases v c → ((a : Acknowledged) → In a acks → IsFloor u.recorded.bases v a.count) → (a : Acknowledged) → In a (with_ack b c acks) → IsFloor u.recorded.bases v a.count
-    ack_floor v b c [] f h a (inl e) = subst (λ (x : Acknowledged). IsFloor u.recorded.bases v x.count) e f
-    ack_floor v b c [] f h a (inr i) = absurd i
-    ack_floor v b c (x ∷ acks) f h a i =
-        on_cond (λ xs. In a xs → IsFloor u.recorded.bases v a.count) (x.member == b) (record { member = b; count = max c x.count } ∷ acks) (x ∷ with_ack b c acks) (λ e. first) (λ e. later (ack_floor v b c acks f (λ y j. h y (inr j)) a)) i
+    -- of each count that the node then has, if it was so of the old ones and the new one
+    pub ack_kept : (P : ℕ → Type 0) → ((c d : ℕ) → P c → P d → P (max c d)) → (b c : ℕ) (acks : List Acknowledged) → P c → ((a : Acknowledged) → In a acks → P a.count) → (a : Acknowledged) → In a (with_ack b c acks) → P a.count
+    ack_kept P both b c [] f h a (inl e) = subst (λ (x : Acknowledged). P x.count) e f
+    ack_kept P both b c [] f h a (inr i) = absurd i
+    ack_kept P both b c (x ∷ acks) f h a i =
+        on_cond (λ xs. In a xs → P a.count) (x.member == b) (record { member = b; count = max c x.count } ∷ acks) (x ∷ with_ack b c acks) (λ e. first) (λ e. later (ack_kept P both b c acks f (λ y j. h y (inr j)) a)) i
       where
-        first : In a (record { member = b; count = max c x.count } ∷ acks) → IsFloor u.recorded.bases v a.count
-        first (inl e) = subst (λ (y : Acknowledged). IsFloor u.recorded.bases v y.count) e (floor_more v c (max c x.count) (omega arith) f)
+        first : In a (record { member = b; count = max c x.count } ∷ acks) → P a.count
+        first (inl e) = subst (λ (y : Acknowledged). P y.count) e (both c x.count f (h x (inl refl)))
         first (inr j) = h a (inr j)
 
-        later : (In a (with_ack b c acks) → IsFloor u.recorded.bases v a.count) → In a (x ∷ with_ack b c acks) → IsFloor u.recorded.bases v a.count
+        later : (In a (with_ack b c acks) → P a.count) → In a (x ∷ with_ack b c acks) → P a.count
         later t (inl e) = h a (inl e)
         later t (inr j) = t j
+
+    -- it counts the acknowledgement
+    pub led_acked : (v c : ℕ) → is_primary n.known m ≡ true → n.known.version ≡ v → PacketOk w.nodes w.recorded.bases made w.crashed from (Ack v c) → MessageLed o w (Ack v c) → NodeLed o u m (record n { acks = with_ack from c n.acks })
+    led_acked v c p z q s = record {
+      pair = here.pair;
+      acks = λ y. ack_kept InPlace larger from c n.acks came (here.acks y);
+      opening = here.opening;
+      earlier = here.earlier;
+      adopted = here.adopted;
+      recent = here.recent;
+    }
+      where
+        InPlace : ℕ → Type 0
+        InPlace d = IsFloor u.recorded.bases n.known.version d × (d ≤ n.pair.count)
+
+        larger : (d e : ℕ) → InPlace d → InPlace e → InPlace (max d e)
+        larger d e f g = (floor_more n.known.version d (max d e) (omega arith) f.0, (let l = f.1 in let r = g.1 in omega (arith, l, r)))
+
+        came : InPlace c
+        came = (subst (λ x. IsFloor u.recorded.bases x c) (sym z) (k.floor v c q.0 s.0), s.1 m n at p z)
 
     pub led_taking : NodeLed o u m (taking service m from msg n).node
     led_taking = every_taking m from msg n (NodeLed o u m) (record {
       stays = λ z. here;
       adopts = led_adopted;
       syncs = λ row c a e h v b l. (let q : PacketOk w.nodes w.recorded.bases made w.crashed from (Sync row c) = subst (PacketOk w.nodes w.recorded.bases made w.crashed from) e g in
-          led_paired a row.version c h (pair_led (record { version = row.version; count = c }) (sync_known o w made inv from row c q) (subst (MessageLed o w) e said)));
-      bridges = λ row v c a e h z b s t. led_paired a row.version c h (bridged_pair row v c (subst (PacketOk w.nodes w.recorded.bases made w.crashed from) e g));
-      applies = λ v i e b s t. led_paired n v i here (applied_pair v i s t (subst (PacketOk w.nodes w.recorded.bases made w.crashed from) e g) (subst (MessageLed o w) e said));
-      acks = λ v c e p z b. (let q : PacketOk w.nodes w.recorded.bases made w.crashed from (Ack v c) = subst (PacketOk w.nodes w.recorded.bases made w.crashed from) e g in
-          let f : IsFloor u.recorded.bases n.known.version c = subst (λ x. IsFloor u.recorded.bases x c) (sym z) (k.floor v c q.0 (subst (MessageLed o w) e said)) in
-          record { pair = here.pair; acks = λ y a i. ack_floor n.known.version from c n.acks f (λ x j. here.acks y x j) a i; opening = here.opening; earlier = here.earlier });
-      freezes = λ v e p z. record { pair = here.pair; acks = here.acks; opening = here.opening; earlier = here.earlier };
+          led_paired a row.version c b h (pair_led (record { version = row.version; count = c }) (sync_known o w made inv from row c q) (subst (MessageLed o w) e said)));
+      bridges = λ row v c a e h z b s t. led_paired a row.version c b h (bridged_pair row v c (subst (PacketOk w.nodes w.recorded.bases made w.crashed from) e g));
+      applies = λ v i e b s t. led_paired n v i b here (applied_pair v i s t (subst (PacketOk w.nodes w.recorded.bases made w.crashed from) e g) (subst (MessageLed o w) e said));
+      acks = λ v c e p z b. led_acked v c p z (subst (PacketOk w.nodes w.recorded.bases made w.crashed from) e g) (subst (MessageLed o w) e said);
+      freezes = λ v e p z. record { pair = here.pair; acks = here.acks; opening = here.opening; earlier = here.earlier; adopted = here.adopted; recent = here.recent };
     }) service
 
 -- an event
 
-module _ {C State : Type 0} (o : Object C State) (law : IsLawful o) (w : World C) (made : List Shape) (inv : Invariant o w made) (led : Led o w) where
+module _ {C State : Type 0} (o : Object C State) (w : World C) (made : List Shape) (inv : Invariant o w made) (led : Led o w) where
   abbrev pub LedAfter : Event C → World C → Type 0
   LedAfter e u = Kept o w u → Led o u
 
@@ -431,7 +491,7 @@ module _ {C State : Type 0} (o : Object C State) (law : IsLawful o) (w : World C
   step_nodes u k m a e h j x at = go (get_set w.nodes m j (settled a) x (subst (λ ns. NodeAt ns j x) e at))
     where
       go : ((j ≡ m) × (settled a ≡ x)) ⊎ ((j ≢ m) × NodeAt w.nodes j x) → NodeLed o u j x
-      go (inl z) = subst (λ i. NodeLed o u i x) (sym z.0) (subst (NodeLed o u m) z.1 (record { pair = h.pair; acks = h.acks; opening = h.opening; earlier = h.earlier }))
+      go (inl z) = subst (λ i. NodeLed o u i x) (sym z.0) (subst (NodeLed o u m) z.1 (record { pair = h.pair; acks = h.acks; opening = h.opening; earlier = h.earlier; adopted = h.adopted; recent = h.recent }))
       go (inr z) = old_node o w made inv led u k j x z.1
 
   pub delivered_led : (f t i : ℕ) (q : Packet) (n : Node) → In q w.packets → NodeAt w.nodes q.to n → (k : Kept o w (delivered (with_packets w (taken_out f t i w.packets)) q n).world) → Led o (delivered (with_packets w (taken_out f t i w.packets)) q n).world
@@ -439,7 +499,7 @@ module _ {C State : Type 0} (o : Object C State) (law : IsLawful o) (w : World C
     nodes = step_nodes u k q.to a refl mine;
     bases = bases;
     packets = every_append (PacketLed o u) (taken_out f t i w.packets) (packets_from q.to s.sent) (fewer_led o w made inv led u k f t i)
-        (sent_led o u k.good q.to a mine (k.good.1.frame.nodes q.to (settled a) (set_get_same w.nodes q.to (settled a) n at)) bases w.members q.from (IsAnswered q.message) s.sent (taking_says w.members q.to q.from n q.message));
+        (sent_led o u k.good q.to a mine (k.good.1.frame.nodes q.to (settled a) there) bases (k.good.1.frame.tops q.to (settled a) there) w.members q.from (IsAnswered q.message) s.sent (taking_says w.members q.to q.from n q.message));
   }
     where
       s : Step
@@ -450,6 +510,9 @@ module _ {C State : Type 0} (o : Object C State) (law : IsLawful o) (w : World C
 
       u : World C
       u = (delivered (with_packets w (taken_out f t i w.packets)) q n).world
+
+      there : NodeAt u.nodes q.to (settled a)
+      there = set_get_same w.nodes q.to (settled a) n at
 
       mine : NodeLed o u q.to a
       mine = led_taking o w made inv led u k w.members q.to q.from q.message n at (flies o w made inv q j) (every_in (PacketLed o w) w.packets q led.packets j) refl
@@ -472,17 +535,18 @@ module _ {C State : Type 0} (o : Object C State) (law : IsLawful o) (w : World C
     called changes = (executed_with o w m conn number call now (pair_state o w n.pair) changes (executing changes conn number n)).world
 
     -- the effect of the call
-    pub effect_made : (k : Kept o w (called true)) → o.changes (pair_state o w n.pair) call now ≡ true → IsEffect o (called true) n.pair.version (n.pair.count + 1)
-    effect_made k e =
+    pub effect_made : (k : Kept o w (called true)) → o.changes (pair_state o w n.pair) call now ≡ true → IsCalls o (called true) n.pair.version (n.pair.count + 1)
+    effect_made k e law =
         let x : Executed C = entry_of o (pair_state o w n.pair) conn number call now (executing true conn number n).pair in
         let back : n.pair.count + 1 - 1 ≡ n.pair.count = omega arith in
         let before : pair_state o (called true) (record { version = n.pair.version; count = n.pair.count + 1 - 1 }) ≡ pair_state o w n.pair =
-        ap (λ c. pair_state o (called true) (record { version = n.pair.version; count = c })) back ∙ k.states n.pair (node_known o w made inv m n at) in
+        ap (λ c. pair_state o (called true) (record { version = n.pair.version; count = c })) back ∙ k.states law n.pair (node_known o w made inv m n at) in
         record {
           executed = x;
           logged = contains_in (Called x) (w.recorded.log ++ Called x ∷ []) (in_right (Called x) w.recorded.log (Called x ∷ []) (inl refl));
           version = refl;
           seen = refl;
+          first = first_called o w made inv m n at lives leads thawed x (n.pair.count + 1) (n.recent + 1) (record { conn = conn; number = number; seen = n.pair.count + 1 }) (omega arith) refl refl refl refl refl refl (omega arith);
           changes = ap (λ s. o.changes s call now) before ∙ e;
           state = state_executed o w made inv m n at lives leads thawed x (n.pair.count + 1) (n.recent + 1) (record { conn = conn; number = number; seen = n.pair.count + 1 }) (omega arith) refl refl refl refl refl refl
               ∙ ap (λ s. o.after s call now) (sym before);
@@ -496,17 +560,34 @@ module _ {C State : Type 0} (o : Object C State) (law : IsLawful o) (w : World C
         before = (old_node o w made inv led (called true) k m n at).pair
 
         effects : AreEffects o (called true) n.pair.version (n.pair.count + 1)
-        effects i b j s l r = ⊎_elim (λ z. subst (IsEffect o (called true) n.pair.version) (sym z) (effect_made k e)) (λ z. before.1 i b j s l (omega (arith, z))) (le_cases i (n.pair.count + 1) r)
+        effects i b j s l r = ⊎_elim (λ z. subst (IsCalls o (called true) n.pair.version) (sym z) (effect_made k e)) (λ z. before.1 i b j s l (omega (arith, z))) (le_cases i (n.pair.count + 1) r)
 
     pub called_led : (changes : Bool) → o.changes (pair_state o w n.pair) call now ≡ changes → Kept o w (called changes) → Led o (called changes)
     called_led changes e k = record {
-      nodes = step_nodes (called changes) k m (executing changes conn number n) refl (record { pair = called_pair changes e k; acks = old.acks; opening = old.opening; earlier = old.earlier });
+      nodes = step_nodes (called changes) k m (executing changes conn number n) refl mine;
       bases = old_effects o w made inv led (called changes) k;
       packets = more_led o w made inv led (called changes) k (packets_from m (sent_on_executing changes (executing changes conn number n))) (sent changes e k);
     }
       where
         old : NodeLed o (called changes) m n
         old = old_node o w made inv led (called changes) k m n at
+
+        more : n.pair.count ≤ (executing changes conn number n).pair.count
+        more = on_if (λ c. n.pair.count ≤ c) changes (n.pair.count + 1) n.pair.count (omega arith) (omega arith)
+
+        recent : (t : Bool) → n.recent ≤ n.pair.count → (executing t conn number n).recent ≤ (executing t conn number n).pair.count
+        recent true l = omega (arith, l)
+        recent false l = l
+
+        mine : NodeLed o (called changes) m (executing changes conn number n)
+        mine = record {
+          pair = called_pair changes e k;
+          acks = λ p a i. (let f = old.acks p a i in (f.0, le_trans f.1 more));
+          opening = old.opening;
+          earlier = old.earlier;
+          adopted = old.adopted;
+          recent = λ p. recent changes (old.recent p);
+        }
 
         effects : (k : Kept o w (called true)) → o.changes (pair_state o w n.pair) call now ≡ true → (ps : List RowMember)
             → Every (PacketLed o (called true)) (packets_from m (map (λ (p : RowMember). record { to = p.member; message = Effect n.pair.version (n.pair.count + 1) }) ps))
@@ -563,7 +644,7 @@ module _ {C State : Type 0} (o : Object C State) (law : IsLawful o) (w : World C
           let ok = k.good.1.frame.nodes m n at in
           still_led o w made inv led u k refl refl (more_led o w made inv led u k (packets_from m (sent_again w.members n))
           (sent_led o u k.good m n (old_node o w made inv led u k m n at) (record { known = ok.known; pair = ok.pair; primary = ok.primary; held = λ z. absurd (not_both (is_primary n.known m) p z); earlier = ok.earlier; adopted = ok.adopted })
-          (old_effects o w made inv led u k) w.members m ⊥ (sent_again w.members n) (again_says w.members m m ⊥ n p)))
+          (old_effects o w made inv led u k) (k.good.1.frame.tops m n at) w.members m ⊥ (sent_again w.members n) (again_says w.members m m ⊥ n p)))
 
       -- the service makes a row
       tells : (s : Service) (v : World C) (k : Kept o w (told_all v s)) → v.nodes ≡ w.nodes → v.recorded.bases ≡ w.recorded.bases → v.packets ≡ w.packets → Led o (told_all v s)
@@ -572,11 +653,11 @@ module _ {C State : Type 0} (o : Object C State) (law : IsLawful o) (w : World C
           (more_led o w made inv led (told_all v s) k (packets_from v.members (telling v.members s)) (told_led o w made inv led (told_all v s) k s.row v.members (undetected v.members s.detected))))
 
   pub led_step : (e : Event C) → Led o (happens o w e).world
-  led_step e = every_event o w LedAfter led_after e (kept_after o law w made inv e)
+  led_step e = every_event o w LedAfter led_after e (kept_after o w made inv e)
 
-pub run_led : {C State : Type 0} (o : Object C State) (law : IsLawful o) (w : World C) (es : List (Event C)) → Good o w → Led o w → Led o (run o w es)
-run_led o law w [] g h = h
-run_led o law w (e ∷ es) g h = run_led o law (happens o w e).world es (happens_good o w g.0 g.1 e) (led_step o law w g.0 g.1 h e)
+pub run_led : {C State : Type 0} (o : Object C State) (w : World C) (es : List (Event C)) → Good o w → Led o w → Led o (run o w es)
+run_led o w [] g h = h
+run_led o w (e ∷ es) g h = run_led o (happens o w e).world es (happens_good o w g.0 g.1 e) (led_step o w g.0 g.1 h e)
 
 pub start_led : {C State : Type 0} (o : Object C State) (partition members backups : ℕ) → Led o (start partition members backups)
 start_led {C} o partition members backups = record {
@@ -598,6 +679,10 @@ start_led {C} o partition members backups = record {
     floor v c b (inl e) s = let z : 0 ≡ b.pair.count = ap (λ (x : Base). x.pair.count) e in omega (arith, z)
     floor v c b (inr i) s = absurd i
 
+    begins : (v : ℕ) → IsStart w.recorded.bases v 0
+    begins v b (inl e) s = ap (λ (x : Base). x.pair.count) (sym e)
+    begins v b (inr i) s = absurd i
+
     none : (v : ℕ) → AreEffects o w v 0
     none v i b j s l r = absurd (omega (arith, l, r))
 
@@ -610,17 +695,20 @@ start_led {C} o partition members backups = record {
       acks = λ p a i. absurd i;
       opening = λ e. ((base, inl refl, refl), floor 1 0);
       earlier = λ e p s. absurd cc;
+      adopted = λ p. begins 1;
+      recent = λ p. omega arith;
     }
 
     bases : (b : Base) → In b w.recorded.bases → AreEffects o w b.pair.version b.pair.count
     bases b (inl e) = subst (λ (x : Base). AreEffects o w x.pair.version x.pair.count) e (none 0)
     bases b (inr i) = absurd i
 
-pub grid_led : {C State : Type 0} (o : Object C State) (law : IsLawful o) (partition members backups : ℕ) (events : List (Event C)) → 1 ≤ members → Led o (run o (start partition members backups) events)
-grid_led o law partition zero backups events one = absurd (omega (arith, one))
-grid_led o law partition (suc k) backups events one = run_led o law (start partition (suc k) backups) events (start_good o partition k backups) (start_led o partition (suc k) backups)
+pub grid_led : {C State : Type 0} (o : Object C State) (partition members backups : ℕ) (events : List (Event C)) → 1 ≤ members → Led o (run o (start partition members backups) events)
+grid_led o partition zero backups events one = absurd (omega (arith, one))
+grid_led o partition (suc k) backups events one = run_led o (start partition (suc k) backups) events (start_good o partition k backups) (start_led o partition (suc k) backups)
 
 pub every_effect_leads : {C State : Type 0} (o : Object C State) → EveryEffectLeads o
 every_effect_leads o partition members backups events p v i one law c said =
     let w = run o (start partition members backups) events in
-    subst (MessageLed o w) said (every_in (PacketLed o w) w.packets p (grid_led o law partition members backups events one).packets (in_contains p w.packets c))
+    let led : (1 ≤ i) × IsCalls o w v i = subst (MessageLed o w) said (every_in (PacketLed o w) w.packets p (grid_led o partition members backups events one).packets (in_contains p w.packets c)) in
+    (led.0, led.1 law)

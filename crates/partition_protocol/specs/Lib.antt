@@ -20,6 +20,8 @@ pub mod Bounds
 pub mod Answers
 pub mod WellFormed
 pub mod NamedStates
+pub mod Beginnings
+pub mod HistorySizes
 pub mod CrashTraces
 pub mod RowRules
 pub mod ReadOff

@@ -1,22 +1,38 @@
 -- What messages in flight say of contents: the states that they name stay, and an effect leads from one to the next.
-use Rattle.std.specs.Prelude.{◌≡◌, ℕ, ◌-◌, ◌≤◌, ◌⊎◌, true, List, [], ◌∷◌, ◌++◌, Some, slice_get, Contains}
+use Rattle.std.specs.Prelude.{◌≡◌, ℕ, ◌-◌, ◌≤◌, ◌⊎◌, Bool, true, false, ◌&&◌, ◌==◌, if◌then◌else◌, List, [], ◌∷◌, ◌++◌, Option, Some, None, slice_get, Contains}
 use Rattle.grid_base.specs.Objects.{Object}
 use Rattle.partition_table.specs.declared.Row.{Row}
 use Rattle.partition_protocol.specs.Messages.{Message, NewRow, Sync, Effect, Bridge, Ack, Joined, Freeze, Frozen, Packet}
 use Rattle.partition_protocol.specs.Node.{Pair, Node}
-use Rattle.partition_protocol.specs.History.{Executed, Called, Base}
+use Rattle.partition_protocol.specs.History.{Executed, Entry, Called, Reset, Base}
 use Rattle.partition_protocol.specs.World.{World, start, pair_state}
 use Rattle.partition_protocol.specs.Events.{Event, run}
 use Rattle.partition_protocol.specs.Claims.{IsLawful}
 
 -- effects
 
--- the i-th effect of version v is that of an executed call, which leads from what the version has after i - 1 effects to what it has after i
+-- a call that was executed in that version and saw that count
+abbrev pub is_numbered : {C : Type 0} → ℕ → ℕ → Entry C → Bool
+is_numbered v i (Called x) = (x.version == v) && (x.seen == i)
+is_numbered v i (Reset r) = false
+
+-- the first such call among the entries
+abbrev pub first_numbered : {C : Type 0} → ℕ → ℕ → List (Entry C) → Option (Executed C)
+first_numbered v i [] = None
+first_numbered v i (Called x ∷ es) = if is_numbered v i (Called x) then Some x else first_numbered v i es
+first_numbered v i (Reset r ∷ es) = first_numbered v i es
+
+-- the first such call that was executed. Calls after it that changed nothing saw the same count
+abbrev pub effect_call : {C : Type 0} → World C → ℕ → ℕ → Option (Executed C)
+effect_call w v i = first_numbered v i w.recorded.log
+
+-- the i-th effect of version v is that of an executed call, the first of its number, which leads from what the version has after i - 1 effects to what it has after i
 pub record IsEffect {C State : Type 0} (o : Object C State) (w : World C) (v i : ℕ) : Type 0 where
   pub executed : Executed C
   pub logged : Contains w.recorded.log (Called executed)
   pub version : executed.version ≡ v
   pub seen : executed.seen ≡ i
+  pub first : effect_call w v i ≡ Some executed
   pub changes : o.changes (pair_state o w (record { version = v; count = i - 1 })) executed.call executed.now ≡ true
   pub state : pair_state o w (record { version = v; count = i }) ≡ o.after (pair_state o w (record { version = v; count = i - 1 })) executed.call executed.now
 

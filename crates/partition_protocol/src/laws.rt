@@ -5,6 +5,8 @@ ghost use Rattle.partition_protocol.specs.Answers.{EveryAnswerIsSingle};
 ghost use Rattle.partition_protocol.specs.Bounds.{EveryRunIsWithin};
 ghost use Rattle.partition_protocol.specs.WellFormed.{EveryRunIsWellFormed};
 ghost use Rattle.partition_protocol.specs.NamedStates.{EveryEffectLeads, EveryNamedStateStays, EveryBridgeJoins};
+ghost use Rattle.partition_protocol.specs.Beginnings.{EveryCountIsAnEffect, EveryPrimaryKnowsItsBeginning, EveryCatchUpIsRecent};
+ghost use Rattle.partition_protocol.specs.HistorySizes.{EveryHistoryIsOfTheLog, EveryLoggedCallArrived};
 ghost use Rattle.partition_protocol.specs.RowRules.{EveryKnownRowGoesOn, EveryLossIsTold, EveryRowIsLostByRule};
 ghost use Rattle.partition_protocol.specs.ReadOff.{EveryFactIsReadOff};
 
@@ -27,9 +29,9 @@ pub fn every_run_is_well_formed<C, S>()
 {}
 
 /// For an object whose calls without an effect leave the state, what a message in flight says of contents stays so until
-/// it comes, whatever happens meanwhile. Each Effect is that of one executed call. The states that a Sync, an Effect or a
-/// Bridge names keep what they are, and so do those of a member's own pair and of the pairs with which versions began. A
-/// Bridge names one state by two pairs.
+/// it comes, whatever happens meanwhile. Each Effect is that of one executed call, the first of its version that saw that
+/// count. The states that a Sync, an Effect or a Bridge names keep what they are, and so do those of a member's own pair
+/// and of the pairs with which versions began. A Bridge names one state by two pairs.
 pub fn every_message_stays_right<C, S>()
     ensures effects { (o : Object C S) → EveryEffectLeads o }
     ensures states { (o : Object C S) → EveryNamedStateStays o }
@@ -51,4 +53,30 @@ pub fn every_row_goes_by_rule<C, S>()
 /// that version came to it as its primary.
 pub fn every_fact_is_read_off<C, S>()
     ensures { (o : Object C S) → EveryFactIsReadOff o }
+{}
+
+/// For an object whose calls without an effect leave the state, whatever is counted in a version past the count with which
+/// it began is an effect of a call in that version: up to the count of each member that has its contents, and up to that
+/// with which another version began from it.
+pub fn every_count_is_an_effect<C, S>()
+    ensures { (o : Object C S) → EveryCountIsAnEffect o }
+{}
+
+/// A member that knows itself primary, by the newest row or an old one, has the contents of that row's version and knows
+/// the count with which the version began. What it keeps as acknowledged in the version is no less than that, and no more
+/// than it has. Where it was primary of the version before, its own began from that one, and what was acknowledged there is
+/// between the counts with which the two began. It has executed no more effects since it last became primary than it counts.
+/// For an object whose calls without an effect leave the state, each effect by which it has a backup catch up is one that
+/// it counts, and one of the newest that it keeps.
+pub fn every_primary_knows_its_beginning<C, S>()
+    ensures beginnings { (o : Object C S) → EveryPrimaryKnowsItsBeginning o }
+    ensures catch_up { (o : Object C S) → EveryCatchUpIsRecent o }
+{}
+
+/// Whatever pair is asked for, its history is of entries of the log, in their order: so it has no entry and no call that the
+/// log doesn't have, and is no longer. The log's calls are calls that arrived, in order of arrival, even where calls share a
+/// name.
+pub fn every_history_is_of_the_log<C, S>()
+    ensures histories { (o : Object C S) → EveryHistoryIsOfTheLog o }
+    ensures arrivals { (o : Object C S) → EveryLoggedCallArrived o }
 {}
