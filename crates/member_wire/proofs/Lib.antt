@@ -5,5 +5,7 @@ pub mod Members
 pub mod MembersFormat
 pub mod MessageFormat
 pub mod NewNumbers
+pub mod Putting
 pub mod RowFormat
+pub mod SaidAgain
 pub mod WireLaws

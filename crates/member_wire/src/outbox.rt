@@ -2,8 +2,9 @@ ghost use Rattle.std.specs.Prelude.{◌≡◌, ◌↔◌, ◌++◌, ◌∷◌, [
 ghost use Rattle.member_wire.specs.Spelling.{spelling, LengthsFit};
 
 use crate::message::MemberMessage;
-use crate::writing::write_member;
+use crate::writing::{bridge_message, effect_message, row_message, sync_message, write_member};
 use grid_base::{Bytes, MemberId, Memory};
+use partition_table::Row;
 use std::alloc::Global;
 use std::marker::Model;
 
@@ -77,18 +78,84 @@ impl Outbox {
         Ok(())
     }
 
-    /// Writes a message and puts it last, at the cost of its bytes. Want of memory leaves all as it was.
+    /// Writes a message and puts it last, at the cost of its bytes. A message that no bytes can carry, for contents of
+    /// more than 4,294,967,295 bytes or a row of more than 255 members, is answered as want of memory, which leaves
+    /// all as it was.
     pub fn write(
         &mut self,
         alloc: Global,
         to: MemberId,
         message: &MemberMessage,
     ) -> Result<(), Memory>
-        requires { LengthsFit message.now }
         ensures ok { OnOk result (self.new ≡ self.old ++ (to, spelling message.now) ∷ []) }
+        ensures fits { OnOk result (LengthsFit message.now) }
         ensures err { OnErr result (self.new ≡ self.old) }
     {
         let bytes = write_member(alloc, message)?;
+        self.push(to, bytes)
+    }
+
+    /// Writes a row's message and puts it last, as `write` does, with no copy of the row.
+    pub fn write_row(&mut self, alloc: Global, to: MemberId, row: &Row) -> Result<(), Memory>
+        ensures ok { OnOk result (self.new ≡ self.old ++ (to, spelling (MemberMessage.Row row.now)) ∷ []) }
+        ensures fits { OnOk result (LengthsFit (MemberMessage.Row row.now)) }
+        ensures err { OnErr result (self.new ≡ self.old) }
+    {
+        let bytes = row_message(alloc, row)?;
+        self.push(to, bytes)
+    }
+
+    /// Writes a message of whole contents and puts it last, as `write` does, with no copy of the row or the contents.
+    pub fn write_sync(
+        &mut self,
+        alloc: Global,
+        to: MemberId,
+        row: &Row,
+        count: u32,
+        snapshot: &Bytes,
+    ) -> Result<(), Memory>
+        ensures ok { let bytes = spelling (MemberMessage.Sync row.now count snapshot.now) in
+            OnOk result (self.new ≡ self.old ++ (to, bytes) ∷ []) }
+        ensures fits { OnOk result (LengthsFit (MemberMessage.Sync row.now count snapshot.now)) }
+        ensures err { OnErr result (self.new ≡ self.old) }
+    {
+        let bytes = sync_message(alloc, row, count, snapshot)?;
+        self.push(to, bytes)
+    }
+
+    /// Writes an effect's message and puts it last, as `write` does, with no copy of the effect.
+    pub fn write_effect(
+        &mut self,
+        alloc: Global,
+        to: MemberId,
+        version: u32,
+        number: u32,
+        effect: &Bytes,
+    ) -> Result<(), Memory>
+        ensures ok { let bytes = spelling (MemberMessage.Effect version number effect.now) in
+            OnOk result (self.new ≡ self.old ++ (to, bytes) ∷ []) }
+        ensures fits { OnOk result (LengthsFit (MemberMessage.Effect version number effect.now)) }
+        ensures err { OnErr result (self.new ≡ self.old) }
+    {
+        let bytes = effect_message(alloc, version, number, effect)?;
+        self.push(to, bytes)
+    }
+
+    /// Writes a bridge's message and puts it last, as `write` does, with no copy of the row.
+    pub fn write_bridge(
+        &mut self,
+        alloc: Global,
+        to: MemberId,
+        row: &Row,
+        base: u32,
+        count: u32,
+    ) -> Result<(), Memory>
+        ensures ok { let bytes = spelling (MemberMessage.Bridge row.now base count) in
+            OnOk result (self.new ≡ self.old ++ (to, bytes) ∷ []) }
+        ensures fits { OnOk result (LengthsFit (MemberMessage.Bridge row.now base count)) }
+        ensures err { OnErr result (self.new ≡ self.old) }
+    {
+        let bytes = bridge_message(alloc, row, base, count)?;
         self.push(to, bytes)
     }
 }

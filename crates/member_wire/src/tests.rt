@@ -1,4 +1,6 @@
 use super::*;
+use grid_base::Bytes;
+use partition_table::{Row, RowMember, RowMembers};
 use std::alloc::Global;
 use std::process::Abort;
 use std::test::Fail;
@@ -30,6 +32,81 @@ fn messages_are_read_and_written(rt: HostRuntime) -> Result<(), Fail> {
         assert_eq!(rt; *to, 3);
         assert_eq!(rt; bytes.as_slice(), read);
     }
+    Ok(())
+}
+
+/// The same message as `message`, written from its parts where the outbox takes them.
+fn write_parts(
+    outbox: &mut Outbox,
+    alloc: Global,
+    to: u8,
+    message: &MemberMessage,
+) -> Result<(), Fail> {
+    match message {
+        MemberMessage::Row { row } => outbox.write_row(alloc, to, row)?,
+        MemberMessage::Sync {
+            row,
+            count,
+            snapshot,
+        } => outbox.write_sync(alloc, to, row, *count, snapshot)?,
+        MemberMessage::Effect {
+            version,
+            number,
+            effect,
+        } => outbox.write_effect(alloc, to, *version, *number, effect)?,
+        MemberMessage::Bridge { row, base, count } => {
+            outbox.write_bridge(alloc, to, row, *base, *count)?
+        }
+        other => outbox.write(alloc, to, other)?,
+    }
+    Ok(())
+}
+
+#[test]
+fn messages_are_written_from_what_they_are_made_of(rt: HostRuntime) -> Result<(), Fail> {
+    let alloc = rt.alloc();
+    let mut outbox = Outbox::new(alloc);
+    for bytes in MESSAGES {
+        let message = read_member(alloc, bytes)?;
+        write_parts(&mut outbox, alloc, 2, &message)?;
+    }
+    assert_eq!(rt; outbox.len(), 8);
+    for ((to, bytes), read) in outbox.as_slice().iter().zip(MESSAGES) {
+        assert_eq!(rt; *to, 2);
+        assert_eq!(rt; bytes.as_slice(), read);
+    }
+    Ok(())
+}
+
+/// A row of so many members.
+fn row_of(alloc: Global, members: u16) -> Result<Row, Fail> {
+    let mut listed = Vec::new(alloc);
+    for member in 0..members {
+        listed.push(RowMember {
+            member: member as u8,
+            eligible: false,
+        })?;
+    }
+    Ok(Row {
+        version: 1,
+        reset: 0,
+        lost: false,
+        members: RowMembers::from_vec(listed),
+    })
+}
+
+#[test]
+fn a_row_of_too_many_members_is_refused(rt: HostRuntime) -> Result<(), Fail> {
+    let alloc = rt.alloc();
+    let mut outbox = Outbox::new(alloc);
+    outbox.write_row(alloc, 0, &row_of(alloc, 255)?)?;
+    let row = row_of(alloc, 256)?;
+    assert!(rt; outbox.write_row(alloc, 0, &row).is_err());
+    assert!(rt; outbox.write_bridge(alloc, 0, &row, 1, 1).is_err());
+    let none = Bytes::new(alloc);
+    assert!(rt; outbox.write_sync(alloc, 0, &row, 1, &none).is_err());
+    assert!(rt; outbox.write(alloc, 0, &MemberMessage::Row { row }).is_err());
+    assert_eq!(rt; outbox.len(), 1);
     Ok(())
 }
 

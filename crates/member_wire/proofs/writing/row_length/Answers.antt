@@ -3,4 +3,4 @@ use Rattle.member_wire.proofs.Lengths.{length-row_bytes}
 use Rattle.member_wire.proofs.writing.row_length.Goals as goal
 
 pub returns-clause-bytes : goal.returns-clause-bytes
-returns-clause-bytes c = omega (arith, length-row_bytes c.args.row.now, c.len.ensures)
+returns-clause-bytes c = omega (arith, length-row_bytes c.args.row.now, c.len-count.ensures)
