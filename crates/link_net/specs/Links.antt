@@ -1,5 +1,5 @@
 -- The messages in flight. Each ordered pair of ends has a link, and a message on it is named by its place, from 0.
-use Rattle.std.specs.Prelude.{◌≡◌, ℕ, ◌+◌, ◌*◌, ◌≤◌, ◌<◌, ◌&&◌, ◌==◌, nat_lt, if◌then◌else◌, List, [], Option, Some, None, option_and_then, slice_get}
+use Rattle.std.specs.Prelude.{◌≡◌, ℕ, ◌+◌, ◌*◌, ◌≤◌, ◌<◌, ◌&&◌, ◌==◌, nat_lt, if◌then◌else◌, List, [], ◌∷◌, ◌++◌, Option, Some, None, option_and_then, slice_get}
 
 -- the messages on a link in the order in which they were sent, and how many more can be sent without memory
 pub record Link : Type 0 where
@@ -49,6 +49,15 @@ LowersNoSpare old new = (from to : ℕ) → spare_of old from to ≤ spare_of ne
 
 abbrev pub LowersByOneAtMost : Net → Net → Type 0
 LowersByOneAtMost old new = (from to : ℕ) → spare_of old from to ≤ spare_of new from to + 1
+
+-- what of these messages goes to that end, in order
+abbrev pub sent_to : ℕ → List (ℕ × List ℕ) → List (List ℕ)
+sent_to to [] = []
+sent_to to (m ∷ ms) = if m.0 == to then m.1 ∷ sent_to to ms else sent_to to ms
+
+-- the messages come last on the links from one end, each on the link to whom it is for
+abbrev pub with_sent : ℕ → List (ℕ × List ℕ) → (ℕ → ℕ → List (List ℕ)) → ℕ → ℕ → List (List ℕ)
+with_sent from sent lists f t = lists f t ++ (if f == from then sent_to t sent else [])
 
 -- each link from that end has room for so many messages more
 abbrev pub HasRoom : Net → ℕ → ℕ → Type 0

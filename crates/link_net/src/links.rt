@@ -1,6 +1,6 @@
-ghost use Rattle.std.specs.Prelude.{◌≡◌, ◌↔◌, ◌+◌, ◌-◌, ◌*◌, ◌≤◌, ◌<◌, ◌++◌, ◌∷◌, [], length, remove, slice_get, IsTrue, IfOk, IfSome, OnOk, OnErr};
+ghost use Rattle.std.specs.Prelude.{◌≡◌, ℕ, ◌↔◌, ◌+◌, ◌-◌, ◌*◌, ◌≤◌, ◌<◌, ◌++◌, ◌∷◌, [], length, remove, slice_get, IsTrue, IfOk, IfSome, OnOk, OnErr};
 ghost use Rattle.std.specs.Option.{option_to_list};
-ghost use Rattle.link_net.specs.Links.{place_of, list_of, spare_of, except, HasLists, HasSpares, LowersNoSpare, LowersByOneAtMost, HasRoom};
+ghost use Rattle.link_net.specs.Links.{place_of, list_of, spare_of, except, sent_to, with_sent, HasLists, HasSpares, LowersNoSpare, LowersByOneAtMost, HasRoom};
 
 use crate::lane::Lane;
 use grid_base::{Bytes, Memory};
@@ -147,5 +147,16 @@ impl Links {
     {
         let at = from as usize * self.ends as usize + to as usize;
         self.lanes[at].send(bytes);
+    }
+
+    /// Puts each message last on its link from that end, in order, each as `send` does.
+    pub fn send_all(&mut self, from: u8, messages: Vec<(u8, Bytes)>)
+        requires { (to : ℕ) → length (sent_to to messages.items) ≤ spare_of self.old from to }
+        ensures lists { HasLists self.new (with_sent from messages.items (list_of self.old)) }
+        ensures ends { self.new.ends ≡ self.old.ends }
+    {
+        for (to, bytes) in messages {
+            self.send(from, to, bytes);
+        }
     }
 }
