@@ -1,0 +1,5 @@
+pub mod Standings
+pub mod Services
+pub mod Refusals
+pub mod Sending
+pub mod Steps

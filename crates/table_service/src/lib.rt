@@ -1,0 +1,21 @@
+//! The table service's part of a partition: its newest row, the move under way in it, and the members that the service
+//! was told had crashed.
+//!
+//! Each call takes all its memory and writes all its messages before anything changes.
+#![tactic(auto)]
+
+mod losses;
+mod moves;
+mod refusals;
+mod reopening;
+mod service;
+mod standing;
+mod taking;
+mod telling;
+
+pub use moves::Advanced;
+pub use refusals::{MoveRefused, ReopenRefused};
+pub use service::Service;
+
+#[cfg(test)]
+mod tests;
