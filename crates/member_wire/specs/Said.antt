@@ -1,6 +1,6 @@
 -- What is written for each message of the protocol, and what a written message says in the protocol's words.
 -- The protocol's messages carry no contents: they name them by a version and a number, and with both the bytes are known.
-use Rattle.std.specs.Prelude.{ℕ, List, ◌×◌}
+use Rattle.std.specs.Prelude.{ℕ, List}
 use Rattle.partition_protocol.specs.Messages.{Message, NewRow, Sync as SyncMessage, Effect as EffectMessage, Bridge as BridgeMessage, Ack as AckMessage, Joined as JoinedMessage, Freeze as FreezeMessage, Frozen as FrozenMessage, Sent}
 use Rattle.partition_protocol.specs.Took.{Took as ProtocolTook, Adopted as WasAdopted, Synced as WasSynced, Applied as WasApplied, Bridged as WasBridged, Acked as WasAcked, Frozen as WasFrozen, Joined as WasJoined, Drained as WasDrained, Already as WasAlready, Gap as WasGap, Other as WasOther, Stale as WasStale, Dropped as WasDropped}
 use Rattle.member_wire.specs.declared.message.MemberMessage.{MemberMessage}
