@@ -1,5 +1,5 @@
 -- What a primary knows and keeps beside its contents, in the protocol's words.
-use Rattle.std.specs.Prelude.{ℕ, List, map}
+use Rattle.std.specs.Prelude.{ℕ, ◌+◌, List, map}
 use Rattle.partition_protocol.specs.Node.{Node}
 use Rattle.primary_hold.specs.declared.hold.Hold.{Hold}
 use Rattle.primary_hold.specs.Answering.{Answering, answering_of, held_of}
@@ -22,3 +22,7 @@ hold_answers hold = answering_of hold.answers
 
 abbrev pub hold_ring : Hold → List (List ℕ)
 hold_ring hold = hold.effects.items
+
+-- the node has one effect more
+abbrev pub with_effect : Node → Node
+with_effect node = record node { pair = record { version = node.pair.version; count = node.pair.count + 1 }; recent = node.recent + 1 }

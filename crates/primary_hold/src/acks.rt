@@ -1,4 +1,4 @@
-ghost use Rattle.std.specs.Prelude.{◌≡◌, ◌≤◌, ◌+◌, [], length, Option, None, IfOk};
+ghost use Rattle.std.specs.Prelude.{◌≡◌, ◌≤◌, ◌+◌, ◌<◌, [], length, vec_len, vec_capacity, None, IfOk};
 ghost use Rattle.partition_table.specs.Rows.{backups_of};
 ghost use Rattle.partition_protocol.specs.Node.{acked_by, with_ack};
 
@@ -65,7 +65,43 @@ impl Acks {
         ensures list { self.new.list ≡ with_ack member count self.old.list }
         ensures room { length self.new.list + self.new.spare ≡ length self.old.list + self.old.spare }
     {
-        unreachable!()
+        keep_in(&mut self.list, member, count);
+    }
+}
+
+/// Keeps the greater count of a member, or its first one, in the room that there is.
+fn keep_in(acks: &mut Vec<Acknowledged>, member: MemberId, count: u32)
+    requires { acked_by member acks.old.items ≡ None → vec_len acks.old < vec_capacity acks.old }
+    ensures list { acks.new.items ≡ with_ack member count acks.old.items }
+    ensures capacity { vec_capacity acks.new ≡ vec_capacity acks.old }
+{
+    for place in 0..acks.len() {
+        let had = acks[place];
+        if had.member == member {
+            let greatest = count.max(had.count);
+            acks[place] = Acknowledged {
+                member,
+                count: greatest,
+            };
+            return;
+        }
+    }
+    acks.push_reserved(Acknowledged { member, count });
+}
+
+/// What a member acknowledged, by the list.
+pub(crate) fn acked_by(acks: &[Acknowledged], member: MemberId) -> Option<u32>
+    ensures { result ≡ acked_by member acks.now }
+{
+    match acks {
+        [] => None,
+        [first, rest @ ..] => {
+            if first.member == member {
+                Some(first.count)
+            } else {
+                acked_by(rest, member)
+            }
+        }
     }
 }
 

@@ -70,7 +70,7 @@ impl Answers {
     pub fn holds(&self, id: CallId) -> bool
         ensures { result ≡ holds_call id (map held_of self.now.held) }
     {
-        unreachable!()
+        self.list.iter().skip(self.ready).any(|answer| answer.id == id)
     }
 
     /// Whether an answer is held. Takes no memory.

@@ -12,7 +12,7 @@ ghost use Rattle.primary_hold.specs.Rings.{kept, ring_after};
 ghost use Rattle.primary_hold.specs.Started.{started, bare};
 ghost use Rattle.primary_hold.specs.Views.{viewed, numbers_of_pair};
 
-use crate::acks::Acks;
+use crate::acks::{Acks, acked_by};
 use crate::answers::Answers;
 use crate::calls::{AckTaken, Called, Prepared, PrimaryRefused};
 use crate::hold::Hold;
@@ -75,7 +75,8 @@ impl<S: Shelf> Primary<S> {
         ensures count { result.1 ≡ (node_of self).pair.count }
         ensures answers { answering_of result.2 ≡ answers_of self }
     {
-        (self.shelf, self.hold.count, self.hold.answers)
+        let Primary { hold, shelf } = self;
+        (shelf, hold.count, hold.answers)
     }
 
     /// Executes a call, unless the primary is frozen, and changes nothing.
@@ -97,7 +98,36 @@ impl<S: Shelf> Primary<S> {
         ensures change { let state = S.state (contents_of self.now) in
             IfOk result (λ prepared. prepared.change ≡ S.change_of env.now state call.now now) }
     {
-        unreachable!()
+        if self.hold.frozen {
+            return Err(PrimaryRefused::Migrating {
+                version: self.hold.known.version,
+            });
+        }
+        match self.executed(alloc, env, call, now) {
+            Ok(prepared) => Ok(prepared),
+            Err(_) => Err(PrimaryRefused::Memory),
+        }
+    }
+
+    fn executed(
+        &self,
+        alloc: Global,
+        env: &S::Env,
+        call: &S::Call,
+        now: Moment,
+    ) -> Result<Prepared, Memory>
+        requires limits { S.within_limits call.now }
+        requires small { IsSmall S.within (S.state self.now.shelf) }
+        ensures reply { let state = S.state self.now.shelf in
+            IfOk result (λ prepared. prepared.reply ≡ (S.object env.now).reply state call.now now) }
+        ensures effect { let state = S.state self.now.shelf in
+            IfOk result (λ prepared. prepared.effect ≡ S.effect_of env.now state call.now now) }
+        ensures change { let state = S.state self.now.shelf in
+            IfOk result (λ prepared. prepared.change ≡ S.change_of env.now state call.now now) }
+    {
+        let executed = self.shelf.execute(alloc, env, call, now)?;
+        let copy = executed.reply.copied(alloc)?;
+        Ok(Prepared { executed, copy })
     }
 
     /// Makes the change of a call that was executed just before, and holds its answer until each backup has what the
@@ -125,7 +155,22 @@ impl<S: Shelf> Primary<S> {
         ensures err_answers { OnErr result (answers_of self.new ≡ answers_of self.old) }
         ensures err_ring { OnErr result (ring_of self.new ≡ ring_of self.old) }
     {
-        unreachable!()
+        self.hold.reserve()?;
+        self.apply(alloc, &prepared)?;
+        Ok(self.hold.commit(id, prepared))
+    }
+
+    /// Applies the effect of a call, if it has one.
+    fn apply(&mut self, alloc: Global, prepared: &Prepared) -> Result<(), Memory>
+        requires { (bytes : List ℕ) → prepared.now.effect ≡ Some bytes → is_some (S.applied bytes (S.state self.old.shelf)) ≡ true }
+        ensures hold { self.new.hold ≡ self.old.hold }
+        ensures ok { OnOk result (EffectLeaves S.applied prepared.now.effect (S.state self.old.shelf) (S.state self.new.shelf)) }
+        ensures err { OnErr result (S.state self.new.shelf ≡ S.state self.old.shelf) }
+    {
+        match prepared.effect() {
+            None => Ok(()),
+            Some(bytes) => self.shelf.apply(alloc, bytes),
+        }
     }
 
     /// Executes a call, makes its change, and holds its answer until each backup has what the call saw. A refusal
@@ -162,7 +207,11 @@ impl<S: Shelf> Primary<S> {
         ensures err_answers { OnErr result (answers_of self.new ≡ answers_of self.old) }
         ensures err_ring { OnErr result (ring_of self.new ≡ ring_of self.old) }
     {
-        unreachable!()
+        let prepared = self.prepare(alloc, env, call, now)?;
+        match self.commit(alloc, id, prepared) {
+            Ok(called) => Ok(called),
+            Err(_) => Err(PrimaryRefused::Memory),
+        }
     }
 
     /// Keeps what a backup of the known version acknowledged, and releases the answers that now may go. Goes over the
@@ -247,7 +296,7 @@ impl<S: Shelf> Primary<S> {
     pub fn holds_any(&self) -> bool
         ensures { result ≡ not (is_empty (node_of self.now).held) }
     {
-        unreachable!()
+        self.hold.answers.holds_any()
     }
 
     /// Whether it executes no more and holds no answer.
@@ -270,14 +319,18 @@ impl<S: Shelf> Primary<S> {
         ensures { let node = node_of self.now in
             result ≡ (if is_backup node.known member then acked node member else None) }
     {
-        unreachable!()
+        if self.hold.known.is_backup(member) {
+            self.view().acked(member)
+        } else {
+            None
+        }
     }
 
     /// Whether a member has acknowledged less than all.
     pub fn lags(&self, member: MemberId) -> bool
         ensures { result ≡ lags (node_of self.now) member }
     {
-        unreachable!()
+        self.view().lags(member)
     }
 
     /// The newest version and count that a member is known to have: acknowledged in the known version, else in the
@@ -285,14 +338,14 @@ impl<S: Shelf> Primary<S> {
     pub fn heard(&self, member: MemberId) -> Option<(u32, u32)>
         ensures { result ≡ numbers_of_pair (heard (node_of self.now) member) }
     {
-        unreachable!()
+        self.view().heard(member)
     }
 
     /// The greatest count that was taken from a member in the known version.
     pub fn took(&self, member: MemberId) -> Option<u32>
         ensures { result ≡ acked_by member (node_of self.now).acks }
     {
-        unreachable!()
+        acked_by(self.hold.acks.as_slice(), member)
     }
 
     /// The effect of that number, if it is among the newest ones, in constant time.

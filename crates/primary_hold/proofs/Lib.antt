@@ -1,0 +1,2 @@
+pub mod AckLists
+pub mod AnswerLists
