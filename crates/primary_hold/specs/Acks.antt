@@ -1,5 +1,5 @@
 -- What the backups of a row acknowledged, in a list that has room for each of them.
-use Rattle.std.specs.Prelude.{ℕ, ◌+◌, ◌≤◌, ◌≡◌, true, List, [], map, length, All, IsTrue}
+use Rattle.std.specs.Prelude.{ℕ, ◌+◌, ◌≤◌, List, map, length, IsTrue}
 use Rattle.partition_table.specs.declared.Row.{Row}
 use Rattle.partition_table.specs.Rows.{number_of, backups_of, is_among}
 use Rattle.partition_table.specs.RowFacts.{are_distinct}
@@ -24,5 +24,5 @@ backup_numbers row = map number_of (backups_of row)
 -- Backups of the row acknowledged, each in one place, and there is a place for each of them
 pub record HasPlaces (row : Row) (acks : AckList) : Type 0 where
   pub once : IsTrue (are_distinct (ackers_of acks.list))
-  pub backups : All (λ m. IsTrue (is_among (backup_numbers row) m)) (ackers_of acks.list)
+  pub backups : (m : ℕ) → IsTrue (is_among (ackers_of acks.list) m) → IsTrue (is_among (backup_numbers row) m)
   pub places : length (backups_of row) ≤ length acks.list + acks.spare

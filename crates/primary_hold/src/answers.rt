@@ -1,5 +1,7 @@
-ghost use Rattle.std.specs.Prelude.{◌≡◌, ◌↔◌, ◌≤◌, ◌<◌, [], ◌∷◌, ◌++◌, length, map, not, take, drop, slice_get, option_copied, option_to_list, IsNone, OnOk};
+ghost use Rattle.std.specs.Prelude.{◌≡◌, ◌↔◌, ◌≤◌, ◌<◌, ◌==◌, ◌&&◌, [], ◌∷◌, ◌++◌, length, map, not, take, drop, slice_get, option_copied, option_to_list, IsNone, OnOk};
+ghost use Rattle.std.specs.List.{list_any};
 ghost use Rattle.partition_table.specs.Rows.{is_empty};
+ghost use Rattle.primary_hold.specs.declared.released.Released.{Released as Answer};
 ghost use Rattle.primary_hold.specs.Answering.{answering_of, held_of, holds_call};
 
 use crate::released::Released;
@@ -31,6 +33,17 @@ impl Model for Answers {
     } };
 
     ghost invariant = { λ a. a.ready ≤ length a.list.items };
+}
+
+/// Whether the answer of that call is behind the first ones.
+fn has_call(answers: &VecDeque<Released>, first: usize, id: CallId) -> bool
+    ensures { let behind = drop first answers.now.items in
+        result ≡ list_any (λ (a : Answer). (a.id.conn == id.conn) && (a.id.number == id.number)) behind }
+{
+    answers
+        .iter()
+        .skip(first)
+        .any(|answer| answer.id.conn == id.conn && answer.id.number == id.number)
 }
 
 impl Answers {
@@ -70,7 +83,7 @@ impl Answers {
     pub fn holds(&self, id: CallId) -> bool
         ensures { result ≡ holds_call id (map held_of self.now.held) }
     {
-        self.list.iter().skip(self.ready).any(|answer| answer.id == id)
+        has_call(&self.list, self.ready, id)
     }
 
     /// Whether an answer is held. Takes no memory.
