@@ -12,6 +12,9 @@ with_ack_same m c a xs e = rw (with_ack, e) refl
 pub with_ack_other : (m c : ℕ) (a : Acknowledged) (xs : List Acknowledged) → (a.member == m) ≡ false → with_ack m c (a ∷ xs) ≡ a ∷ with_ack m c xs
 with_ack_other m c a xs e = rw (with_ack, e) refl
 
+pub acked_by_same : (m : ℕ) (a : Acknowledged) (xs : List Acknowledged) → (a.member == m) ≡ true → acked_by m (a ∷ xs) ≡ Some a.count
+acked_by_same m a xs e = rw (acked_by, e) refl
+
 pub acked_by_other : (m : ℕ) (a : Acknowledged) (xs : List Acknowledged) → (a.member == m) ≡ false → acked_by m (a ∷ xs) ≡ acked_by m xs
 acked_by_other m a xs e = rw (acked_by, e) refl
 
