@@ -1,0 +1,4 @@
+pub mod AckLists
+pub mod AckPlaces
+pub mod AnswerLists
+pub mod Settles

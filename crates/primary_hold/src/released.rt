@@ -1,0 +1,14 @@
+use grid_base::{Bytes, CallId, Change};
+
+/// The answer of a call, once each backup has what the call saw.
+#[derive(Debug, Drop)]
+pub struct Released {
+    pub id: CallId,
+    /// The version in which the call was executed.
+    pub version: u32,
+    /// The count of effects that it saw, its own included.
+    pub seen: u32,
+    pub reply: Bytes,
+    /// How it changed a value, if it did.
+    pub change: Option<Change>,
+}
