@@ -1,0 +1,24 @@
+-- What goes with the messages that a member sends: its contents as they are then, and the newest effects that it keeps.
+use Rattle.std.specs.Prelude.{◌≡◌, ℕ, ◌+◌, min, ◌<◌, ◌≤◌, List, [], Option, Some, unwrap_or}
+use Rattle.partition_protocol.specs.Messages.{Sent}
+use Rattle.partition_protocol.specs.Node.{Node}
+use Rattle.partition_protocol.specs.CatchUp.{recent_limit}
+use Rattle.partition_protocol.specs.World.{World as Machine}
+use Rattle.member_wire.specs.Said.{Contents, said_with}
+use Rattle.replicated_world.specs.Meanings.{Meaning}
+use Rattle.replicated_world.specs.InFlight.{contents_in}
+
+-- a snapshot is of the state at hand, whatever names it, and an effect is one of those that are kept
+abbrev pub carried_of : {State : Type 0} → (State → List ℕ) → State → (ℕ → Option (List ℕ)) → Contents
+carried_of snapshot_of state kept = record {
+  snapshot = λ version count. snapshot_of state;
+  effect = λ version number. unwrap_or (kept number) [];
+}
+
+-- each of its newest effects is kept
+abbrev pub HasNewest : Node → (ℕ → Option (List ℕ)) → Type 0
+HasNewest node kept = (i : ℕ) → node.pair.count < i + min recent_limit node.recent → i ≤ node.pair.count → (bytes : List ℕ) × (kept i ≡ Some bytes)
+
+-- what is written with these contents is what the world names
+abbrev pub IsNamed : {S C State : Type 0} → Meaning S C State → Machine C → Contents → Sent → Type 0
+IsNamed k w contents sent = said_with contents sent.message ≡ said_with (contents_in k w) sent.message
