@@ -1,8 +1,9 @@
 -- What is first asked of rows: that a member never goes back to an earlier one, when a row is lost, and who says so.
-use Rattle.std.specs.Prelude.{◌≡◌, ◌≢◌, ℕ, ◌≤◌, ◌<◌, ◌⊎◌, ◌↔◌, true, false, List, Some, slice_get}
+use Rattle.std.specs.Prelude.{◌≡◌, ◌≢◌, ℕ, ◌≤◌, ◌<◌, ◌⊎◌, ◌↔◌, true, false, List, Some, slice_get, Contains}
 use Rattle.grid_base.specs.Objects.{Object}
 use Rattle.partition_table.specs.declared.Row.{Row}
-use Rattle.partition_table.specs.Rows.{is_among, is_in, is_eligible}
+use Rattle.partition_table.specs.Rows.{is_among, is_in, is_eligible, is_empty}
+use Rattle.partition_protocol.specs.Messages.{Message, NewRow, Sync, Effect, Bridge, Ack, Joined, Freeze, Frozen, Packet}
 use Rattle.partition_protocol.specs.Node.{Node}
 use Rattle.partition_protocol.specs.Execution.{PartitionLost}
 use Rattle.partition_protocol.specs.World.{World, start, is_live}
@@ -49,3 +50,28 @@ pub record LosesByRule {C State : Type 0} (o : Object C State) (w : World C) : T
 
 abbrev pub EveryRowIsLostByRule : {C State : Type 0} → Object C State → Type 0
 EveryRowIsLostByRule {C} o = (partition members backups : ℕ) (events : List (Event C)) → 1 ≤ members → LosesByRule o (run o (start partition members backups) events)
+
+-- empty rows
+
+-- it is lost exactly where it has no members
+abbrev pub IsLostIfEmpty : Row → Type 0
+IsLostIfEmpty row = row.lost ≡ is_empty row.members
+
+-- so is the row that a message carries
+abbrev pub IsRowLostIfEmpty : Message → Type 0
+IsRowLostIfEmpty (NewRow row) = IsLostIfEmpty row
+IsRowLostIfEmpty (Sync row c) = IsLostIfEmpty row
+IsRowLostIfEmpty (Bridge row e k) = IsLostIfEmpty row
+IsRowLostIfEmpty (Effect v i) = Unit {0}
+IsRowLostIfEmpty (Ack v c) = Unit {0}
+IsRowLostIfEmpty (Joined v b) = Unit {0}
+IsRowLostIfEmpty (Freeze v) = Unit {0}
+IsRowLostIfEmpty (Frozen v) = Unit {0}
+
+pub record AreRowsLostIfEmpty {C : Type 0} (w : World C) : Type 0 where
+  pub newest : IsLostIfEmpty w.service.row
+  pub known : (m : ℕ) (node : Node) → slice_get w.nodes m ≡ Some node → IsLostIfEmpty node.known
+  pub packets : (p : Packet) → Contains w.packets p → IsRowLostIfEmpty p.message
+
+abbrev pub EveryRowIsLostIfEmpty : {C State : Type 0} → Object C State → Type 0
+EveryRowIsLostIfEmpty {C} o = (partition members backups : ℕ) (events : List (Event C)) → 1 ≤ members → AreRowsLostIfEmpty (run o (start partition members backups) events)

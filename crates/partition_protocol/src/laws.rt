@@ -7,7 +7,7 @@ ghost use Rattle.partition_protocol.specs.WellFormed.{EveryRunIsWellFormed};
 ghost use Rattle.partition_protocol.specs.NamedStates.{EveryEffectLeads, EveryNamedStateStays, EveryBridgeJoins};
 ghost use Rattle.partition_protocol.specs.Beginnings.{EveryCountIsAnEffect, EveryPrimaryKnowsItsBeginning, EveryCatchUpIsRecent};
 ghost use Rattle.partition_protocol.specs.HistorySizes.{EveryHistoryIsOfTheLog, EveryLoggedCallArrived};
-ghost use Rattle.partition_protocol.specs.RowRules.{EveryKnownRowGoesOn, EveryLossIsTold, EveryRowIsLostByRule};
+ghost use Rattle.partition_protocol.specs.RowRules.{EveryKnownRowGoesOn, EveryLossIsTold, EveryRowIsLostByRule, EveryRowIsLostIfEmpty};
 ghost use Rattle.partition_protocol.specs.ReadOff.{EveryFactIsReadOff};
 
 /// After `n` events every version and every reset is at most `n + 1`, and every count at most `n`: of rows, of pairs,
@@ -40,11 +40,13 @@ pub fn every_message_stays_right<C, S>()
 
 /// A member never goes back to an earlier row. If it lives, it answers a call that the partition is lost exactly where the
 /// row that it knows is lost. A row is lost exactly as the service is told of the crash of its last member that may lead,
-/// and a lost row stays the newest until it is reopened.
+/// and a lost row stays the newest until it is reopened. Each row, be it known or in flight, is lost exactly where it has no
+/// members.
 pub fn every_row_goes_by_rule<C, S>()
     ensures known { (o : Object C S) → EveryKnownRowGoesOn o }
     ensures told { (o : Object C S) → EveryLossIsTold o }
     ensures lost { (o : Object C S) → EveryRowIsLostByRule o }
+    ensures empty { (o : Object C S) → EveryRowIsLostIfEmpty o }
 {}
 
 /// What a member knows is what was handed over to it. Its row is the newest of the initial one and those in its messages,

@@ -1,21 +1,21 @@
 -- What is known of the world of a run whose calls keep to the limits of the shelf; and each effect in flight leads from the state before it to the state after it.
-use Rattle.std.proofs.Common.{◌≡◌, ℕ, zero, suc, ◌+◌, ◌-◌, ◌<◌, ◌≤◌, ◌^◌, Bool, true, false, List, [], ◌∷◌, ◌++◌, length, Option, Some, None, is_some, unwrap_or, All, refl, ap, sym, ◌∙◌, subst, arith, length-append}
+use Rattle.std.proofs.Common.{◌≡◌, ℕ, ◌+◌, ◌-◌, ◌<◌, ◌≤◌, ◌^◌, true, false, List, [], ◌∷◌, ◌++◌, length, Option, Some, None, is_some, unwrap_or, All, refl, ap, sym, ◌∙◌, subst, arith, length-append}
 use Rattle.std.proofs.lemmas.List.Elements.{All-append}
 use Rattle.grid_base.specs.Objects.{Object, IsSmall}
-use Rattle.partition_protocol.specs.Messages.{Message, Sync, Effect, Packet}
+use Rattle.partition_protocol.specs.Messages.{Effect, Packet}
 use Rattle.partition_protocol.specs.Node.{Pair, Node}
 use Rattle.partition_protocol.specs.History.{Executed, Called}
 use Rattle.partition_protocol.specs.World.{World as Machine, start, pair_state}
 use Rattle.partition_protocol.specs.Events.{Event, happens, run}
-use Rattle.partition_protocol.specs.Arrivals.{Asked, arrivals, calls_in}
+use Rattle.partition_protocol.specs.Arrivals.{arrivals}
 use Rattle.partition_protocol.specs.Claims.{IsLawful}
 use Rattle.partition_protocol.specs.HistorySizes.{asked_of}
 use Rattle.partition_protocol.specs.WellFormed.{IsRowOf, IsWellFormed}
-use Rattle.partition_protocol.specs.NamedStates.{IsEffect, effect_call}
+use Rattle.partition_protocol.specs.NamedStates.{IsEffect}
 use Rattle.partition_protocol.proofs.Lists.{In, Every, in_contains, contains_in, every_in}
 use Rattle.partition_protocol.proofs.Invariant.{NodeAt}
 use Rattle.partition_protocol.proofs.WellFormed.{every_run_is_well_formed}
-use Rattle.partition_protocol.proofs.Events.{Good, happens_good}
+use Rattle.partition_protocol.proofs.Events.{Good}
 use Rattle.partition_protocol.proofs.EventFacts.{run_next}
 use Rattle.partition_protocol.proofs.States.{Bridged, IsEmptied, emptied_step}
 use Rattle.partition_protocol.proofs.NamedStates.{grid_bridged}

@@ -1,10 +1,9 @@
 -- What an event sends: at most 65 messages of it go from one end to one other; and a primary or the service sends again.
-use Rattle.std.proofs.Common.{◌≡◌, ℕ, suc, ◌+◌, ◌<◌, ◌≤◌, Bool, true, false, ◌==◌, List, [], ◌∷◌, ◌++◌, map, length, Option, Some, slice_get, refl, ap, sym, ◌∙◌, subst, arith, inl, inr}
-use Rattle.partition_table.specs.declared.Row.{Row}
+use Rattle.std.proofs.Common.{◌≡◌, ℕ, ◌<◌, ◌≤◌, Bool, true, List, [], ◌∷◌, ◌++◌, map, length, Option, Some, slice_get, refl, ap, sym, ◌∙◌, arith, inr}
 use Rattle.partition_table.specs.declared.RowMember.{RowMember}
 use Rattle.partition_table.specs.Rows.{is_primary, number_of, rest_of, backups_of}
 use Rattle.grid_base.specs.Objects.{Object}
-use Rattle.partition_protocol.specs.Messages.{Message, Sent}
+use Rattle.partition_protocol.specs.Messages.{Message}
 use Rattle.partition_protocol.specs.Node.{Node, settled}
 use Rattle.partition_protocol.specs.Replica.{taking, sent_again}
 use Rattle.partition_protocol.specs.Execution.{executing, sent_on_executing}
@@ -12,7 +11,7 @@ use Rattle.partition_protocol.specs.Service.{telling, freezing_again}
 use Rattle.partition_protocol.specs.World.{World as Machine, is_live, pair_state}
 use Rattle.partition_protocol.specs.WellFormed.{IsRowOf}
 use Rattle.partition_protocol.specs.Links.{link, sending}
-use Rattle.partition_protocol.specs.Events.{Event, Deliver, Resend, Happened, done, happens}
+use Rattle.partition_protocol.specs.Events.{Deliver, Resend, Happened, done, happens}
 use Rattle.partition_protocol.proofs.Lists.{In, Every, every_in}
 use Rattle.partition_protocol.proofs.Invariant.{NodeAt}
 use Rattle.partition_protocol.proofs.RowFacts.{number_same}

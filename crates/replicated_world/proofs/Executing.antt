@@ -1,29 +1,28 @@
 -- A call that is executed: the state that it leaves, the effect that goes to the backups, and the ring of its primary.
-use Rattle.std.proofs.Common.{◌≡◌, ◌≢◌, ℕ, ◌+◌, ◌-◌, min, ◌<◌, ◌≤◌, le_refl, Bool, true, false, cond, not, ◌&&◌, nat_lt, List, [], ◌∷◌, ◌++◌, map, Option, Some, None, is_some, unwrap_or, slice_get, refl, ap, sym, ◌∙◌, subst, arith, ◌⊎◌, ⊎_elim, inl, inr, Contains}
+use Rattle.std.proofs.Common.{◌≡◌, ℕ, ◌+◌, ◌-◌, ◌<◌, ◌≤◌, le_refl, Bool, true, false, not, nat_lt, List, [], ◌∷◌, map, Option, Some, None, is_some, unwrap_or, slice_get, refl, ap, sym, ◌∙◌, arith, ◌⊎◌, inl, inr}
 use Rattle.partition_table.specs.declared.RowMember.{RowMember}
 use Rattle.partition_table.specs.Rows.{is_primary, is_among, backups_of}
-use Rattle.partition_protocol.specs.Messages.{Effect, Sent}
-use Rattle.partition_protocol.specs.Node.{Pair, Earlier, Held, Node, settled}
+use Rattle.partition_protocol.specs.Messages.{Effect}
+use Rattle.partition_protocol.specs.Node.{Node, settled}
 use Rattle.partition_protocol.specs.CatchUp.{recent_limit}
 use Rattle.partition_protocol.specs.Execution.{reached, Executes, executing, sent_on_executing}
-use Rattle.partition_protocol.specs.History.{Executed, Called, Base}
+use Rattle.partition_protocol.specs.History.{Executed}
 use Rattle.partition_protocol.specs.World.{World as Machine, is_live, pair_state}
 use Rattle.partition_protocol.specs.NamedStates.{effect_call}
 use Rattle.partition_protocol.specs.Events.{Event, Call, Happened, entry_of, executed_with, executes, happens}
 use Rattle.partition_protocol.specs.Claims.{IsLawful}
-use Rattle.partition_protocol.proofs.Lists.{In, Every, every_from_in, on_if, set_get_same}
+use Rattle.partition_protocol.proofs.Lists.{Every, set_get_same}
 use Rattle.partition_protocol.proofs.Invariant.{NodeAt}
 use Rattle.partition_protocol.proofs.RowFacts.{not_true, both_right, less, not_less}
 use Rattle.partition_protocol.proofs.Forward.{le_cases}
-use Rattle.partition_protocol.proofs.Events.{Good}
 use Rattle.partition_protocol.proofs.EventFacts.{call_executed, reached_leads}
 use Rattle.partition_protocol.proofs.EffectCalls.{first_called}
 use Rattle.partition_protocol.proofs.States.{state_executed}
 use Rattle.partition_protocol.proofs.NamedStates.{node_known, state_after_event}
-use Rattle.partition_protocol.proofs.Answers.{map_in}
 use Rattle.member_wire.specs.Said.{said_with}
 use Rattle.replicated_world.specs.Meanings.{Meaning}
-use Rattle.replicated_world.specs.InFlight.{state_at, bytes_by, effect_bytes, contents_in, IsRing}
+use Rattle.replicated_world.specs.InFlight.{state_at, bytes_by, effect_bytes, IsRing}
+use Rattle.replicated_world.proofs.Effects.{state_called}
 use Rattle.replicated_world.specs.Shelves.{IsShelf}
 use Rattle.replicated_world.specs.Sending.{carried_of, HasNewest, IsNamed}
 use Rattle.replicated_world.proofs.EffectsLead.{lawful, Stood}
@@ -85,6 +84,14 @@ module _ {S C State : Type 0} (k : Meaning S C State) (limits : C → Type 0) (w
   -- its pair names then what the call leaves
   pub state_next : pair_state k.object next (settled after).pair ≡ k.object.after before call now
   state_next = ap (λ (u : Machine C). pair_state k.object u after.pair) next_is ∙ state_with changes
+
+  -- So a shelf that has what its effect makes, or is the same where there is none, has what the pair names
+  pub called_named : limits call → (new : State) → ((bytes : List ℕ) → k.effect_of before call now ≡ Some bytes → applied bytes before ≡ Some new) → (k.effect_of before call now ≡ None → new ≡ before)
+      → new ≡ pair_state k.object next (settled after).pair
+  called_named kept new made same =
+      state_called applied (k.effect_of before call now) before new (k.object.after before call now) made same
+      (λ bytes e. shelf.made_by_effect before call now bytes (stood.small n.pair) kept e) (λ e. shelf.same_without_effect before call now e)
+      ∙ sym state_next
 
   -- a call with an effect is the first of its number
   pub first_next : changes ≡ true → effect_call next n.pair.version (n.pair.count + 1) ≡ Some (entry true)

@@ -1,25 +1,24 @@
 -- Of what one event sends from one end at most 65 messages go to one other end: a catch-up of 64 effects and a bridge.
-use Rattle.std.proofs.Common.{◌≡◌, ◌≢◌, ℕ, zero, suc, ◌+◌, ◌-◌, min, ◌<◌, ◌≤◌, Bool, true, false, cond, not, ◌&&◌, ◌||◌, ◌==◌, nat_lt, nat_le, List, [], ◌∷◌, ◌++◌, map, length, filter, Option, Some, None, is_some, flat_map, IsTrue, refl, ap, sym, ◌∙◌, subst, arith, ◌⊎◌, inl, inr, length-append}
+use Rattle.std.proofs.Common.{◌≡◌, ◌≢◌, ℕ, zero, suc, ◌+◌, ◌-◌, min, ◌<◌, ◌≤◌, Bool, true, false, cond, not, ◌&&◌, ◌||◌, ◌==◌, nat_lt, nat_le, List, [], ◌∷◌, ◌++◌, map, length, Option, Some, None, is_some, flat_map, refl, ap, sym, ◌∙◌, subst, arith, ◌⊎◌, inl, inr, length-append}
 use Rattle.std.proofs.lemmas.Bool.Decides.{nat_tests}
 use Rattle.partition_table.specs.declared.Row.{Row}
 use Rattle.partition_table.specs.declared.RowMember.{RowMember}
-use Rattle.partition_table.specs.Rows.{is_primary, is_backup, is_eligible, is_among, number_of, numbers_of, rest_of, backups_of, is_empty}
+use Rattle.partition_table.specs.Rows.{is_primary, is_backup, is_eligible, is_among, number_of, rest_of, backups_of, is_empty}
 use Rattle.partition_table.specs.RowFacts.{are_distinct, HasDistinctMembers}
 use Rattle.partition_protocol.specs.Messages.{Message, NewRow, Sync, Effect, Bridge, Ack, Joined, Freeze, Frozen, Sent}
 use Rattle.partition_protocol.specs.Took.{Synced, Applied, Bridged as TookBridged, Already, Gap, Other, Stale, Adopted, Acked, Frozen as TookFrozen}
 use Rattle.partition_protocol.specs.Node.{Pair, Node, acked, with_ack, settled}
 use Rattle.partition_protocol.specs.CatchUp.{recent_limit, heard, effects, effects_from, recent_effects_to, whole_snapshot, is_covered, catch_up_by, catch_up}
 use Rattle.partition_protocol.specs.Adoption.{adopted_row, sent_on_adopting}
-use Rattle.partition_protocol.specs.Replica.{Step, is_newer, after_row, sent_by_row, with_sent, with_pair, unanswered, acknowledging, to_one, is_ahead, sync_backup, bridge_backup, on_row, on_sync, on_bridge, on_effect, on_ack, on_freeze, joined_note, frozen_note, taking, lags, joined_again, sent_again}
-use Rattle.partition_protocol.specs.Execution.{executing, sent_on_executing}
+use Rattle.partition_protocol.specs.Replica.{Step, is_newer, after_row, sent_by_row, with_sent, with_pair, unanswered, acknowledging, to_one, is_ahead, sync_backup, bridge_backup, on_sync, on_bridge, on_effect, on_ack, on_freeze, joined_note, frozen_note, taking, lags, joined_again, sent_again}
+use Rattle.partition_protocol.specs.Execution.{sent_on_executing}
 use Rattle.partition_protocol.specs.Service.{Service, Move, NoMove, Joining, Joined as JoinedMove, Freezing, Drained, numbers_below, undetected, telling, freeze_of, freezing_again}
 use Rattle.partition_protocol.specs.World.{World as Machine}
 use Rattle.grid_base.specs.Objects.{Object}
 use Rattle.partition_protocol.proofs.Lists.{In, in_cases, every_from_in, on_cond, on_if}
-use Rattle.partition_protocol.proofs.Invariant.{NodeAt, NodeOk}
-use Rattle.partition_protocol.proofs.RowFacts.{number_cases, number_other, same_number, other_number}
+use Rattle.partition_protocol.proofs.Invariant.{NodeAt}
+use Rattle.partition_protocol.proofs.RowFacts.{number_cases, number_other, other_number}
 use Rattle.partition_protocol.proofs.Listings.{first_apart, rest_distinct, distinct_cons, filter_listing}
-use Rattle.partition_protocol.proofs.Answers.{map_in}
 use Rattle.partition_protocol.proofs.Says.{backup_sends_none}
 use Rattle.partition_protocol.proofs.Events.{Good}
 use Rattle.partition_protocol.proofs.Effects.{Led}

@@ -1,6 +1,6 @@
 -- The answer of an executed call stays what it was as the run goes on, where no two calls have one name; and what a step releases.
-use Rattle.std.proofs.Common.{◌≡◌, ◌≢◌, ℕ, suc, ◌+◌, ◌-◌, ◌<◌, ◌≤◌, le_refl, Bool, true, false, cond, not, ◌&&◌, ◌==◌, nat_lt, List, [], ◌∷◌, ◌++◌, map, length, take, drop, reverse, Option, Some, None, option_map, slice_get, Contains, refl, ap, sym, ◌∙◌, subst, arith, ◌⊎◌, ⊎_elim, inl, inr, append_assoc, append-nil, length-append}
-use Rattle.std.specs.List.{find, filter_map, cons_option, before_last, suffix_len, prefix_len}
+use Rattle.std.proofs.Common.{◌≡◌, ◌≢◌, ℕ, ◌+◌, ◌-◌, ◌≤◌, le_refl, Bool, true, false, cond, not, ◌&&◌, ◌==◌, nat_lt, List, [], ◌∷◌, ◌++◌, map, length, take, drop, reverse, Option, Some, None, option_map, slice_get, refl, ap, sym, ◌∙◌, subst, arith, ◌⊎◌, ⊎_elim, inl, inr, append_assoc, append-nil, length-append}
+use Rattle.std.specs.List.{find, filter_map, cons_option, before_last, suffix_len}
 use Rattle.std.specs.Option.{option_and_then}
 use Rattle.std.proofs.lemmas.List.{reverse-append, take-append-le}
 use Rattle.std.proofs.Math.Seq.{drop-append_seam}
@@ -8,25 +8,22 @@ use Rattle.grid_base.specs.Objects.{Object}
 use Rattle.grid_base.specs.Names.{is_same_call}
 use Rattle.grid_base.specs.declared.names.CallId.{CallId}
 use Rattle.grid_base.specs.declared.calls.Change.{Change}
-use Rattle.partition_table.specs.declared.Row.{Row}
 use Rattle.partition_table.specs.Rows.{is_primary, is_among}
 use Rattle.partition_protocol.specs.Messages.{Message, Packet}
-use Rattle.partition_protocol.specs.Node.{Pair, Held, Node, no_pair, now_released, settled}
+use Rattle.partition_protocol.specs.Node.{Pair, Held, Node, no_pair, now_released}
 use Rattle.partition_protocol.specs.Replica.{taking, is_newer}
 use Rattle.partition_protocol.specs.Execution.{reached, Executes, executing}
-use Rattle.partition_protocol.specs.Service.{Service}
-use Rattle.partition_protocol.specs.History.{Executed, Entry, Called, Reset, Base, Opening, is_in_pair, entries_in, history, state_after}
+use Rattle.partition_protocol.specs.History.{Executed, Entry, Called, Reset, Base, is_in_pair, entries_in, history, state_after}
 use Rattle.partition_protocol.specs.World.{World as Machine, start, is_live, bases_after, pair_history, pair_state, trail}
 use Rattle.partition_protocol.specs.Links.{link, taken_out, with_packets}
-use Rattle.partition_protocol.specs.Events.{Event, Call, Deliver, Happened, delivered, with_reset, executed_with, executes, entry_of, happens, run}
+use Rattle.partition_protocol.specs.Events.{Event, Call, Deliver, Happened, delivered, executed_with, executes, entry_of, happens, run}
 use Rattle.partition_protocol.specs.Arrivals.{Asked, CallName, name, asked_by, arrivals, calls_in, NamedOnce}
 use Rattle.partition_protocol.specs.Answers.{answered_call}
 use Rattle.partition_protocol.specs.HistorySizes.{asked_of}
-use Rattle.partition_protocol.proofs.Lists.{In, Every, every_in, every_from_in, in_cases, in_left, in_right, cases}
+use Rattle.partition_protocol.proofs.Lists.{In, Every, every_in, every_from_in, in_cases, cases}
 use Rattle.partition_protocol.proofs.Histories.{IsBase, Falling, start_at, filter_out, filter_keeps, history_base, history_reset, IsOtherReset}
 use Rattle.partition_protocol.proofs.Invariant.{Shape, NodeAt, PacketOk, BaseOk, EntryOk, Invariant}
-use Rattle.partition_protocol.proofs.RowFacts.{in_map, same_number, not_true, both_right}
-use Rattle.partition_protocol.proofs.Contents.{IsPair}
+use Rattle.partition_protocol.proofs.RowFacts.{same_number, not_true, both_right}
 use Rattle.partition_protocol.proofs.Events.{Good, fewer, delivered_good}
 use Rattle.partition_protocol.proofs.EventFacts.{deliver_live, call_executed, reached_leads}
 use Rattle.partition_protocol.proofs.LinkFacts.{packet}

@@ -1,8 +1,6 @@
 -- What messages in flight say of contents stays right, whatever happens: so their bytes stay those of what is named.
-use Rattle.std.proofs.Common.{◌≡◌, ℕ, ◌+◌, ◌-◌, ◌<◌, ◌≤◌, List, [], ◌∷◌, ◌++◌, map, Some, refl, ap, sym, ◌∙◌, subst, arith}
+use Rattle.std.proofs.Common.{◌≡◌, ℕ, ◌-◌, List, [], ◌∷◌, map, refl, ap, sym, ◌∙◌}
 use Rattle.partition_protocol.specs.Messages.{Message, NewRow, Sync, Effect, Bridge, Ack, Joined, Freeze, Frozen, Packet}
-use Rattle.partition_protocol.specs.Node.{Pair}
-use Rattle.partition_protocol.specs.History.{Executed}
 use Rattle.partition_protocol.specs.World.{World as Machine}
 use Rattle.partition_protocol.specs.Links.{link, is_on}
 use Rattle.partition_protocol.specs.Events.{Event, happens}
@@ -16,7 +14,6 @@ use Rattle.partition_protocol.proofs.NamedStates.{IsKnown, flies, sync_known, ef
 use Rattle.partition_protocol.proofs.Effects.{MessageLed, PacketLed, Led}
 use Rattle.partition_protocol.proofs.EffectCalls.{first_longer}
 use Rattle.member_wire.specs.Said.{said_with}
-use Rattle.member_wire.specs.declared.message.MemberMessage.{MemberMessage}
 use Rattle.member_wire.specs.declared.message.MemberMessage.TheVariants as said
 use Rattle.member_wire.specs.Spelling.{spelling}
 use Rattle.replicated_world.specs.Meanings.{Meaning}

@@ -1,12 +1,14 @@
 pub mod AtPlaces
 pub mod Chains
+pub mod Effects
 pub mod EffectsLead
 pub mod EventSends
 pub mod Executing
 pub mod FewOnLinks
 pub mod HeldAnswers
 pub mod InFlight
-pub mod LostRows
+pub mod KeptRings
+pub mod LinkBytes
 pub mod Newest
 pub mod Places
 pub mod RecordedOpenings

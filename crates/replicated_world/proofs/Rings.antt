@@ -1,35 +1,35 @@
 -- The newest effects that a primary keeps stay right: as any event happens, and as it takes a message.
-use Rattle.std.proofs.Common.{◌≡◌, ◌≢◌, ℕ, ◌+◌, ◌-◌, ◌<◌, ◌≤◌, Bool, true, false, cond, not, ◌&&◌, List, [], ◌∷◌, Option, Some, None, slice_get, refl, ap, sym, ◌∙◌, subst, arith, ◌⊎◌, inl, inr, Contains, true≢false}
+use Rattle.std.proofs.Common.{◌≡◌, ℕ, ◌+◌, ◌-◌, ◌<◌, ◌≤◌, Bool, true, false, cond, not, ◌&&◌, List, Option, Some, None, slice_get, refl, ap, sym, ◌∙◌, subst, arith, ◌⊎◌, inl, inr, Contains}
 use Rattle.partition_table.specs.declared.Row.{Row}
 use Rattle.partition_table.specs.Rows.{is_primary, is_backup, is_in}
-use Rattle.partition_protocol.specs.Messages.{Message, Sync, Effect, Bridge, Ack, Freeze, Packet, Sent}
+use Rattle.partition_protocol.specs.Messages.{Message}
 use Rattle.partition_protocol.specs.Node.{Pair, Earlier, Node, no_pair, opening_pair, opening_node, with_ack, settled}
 use Rattle.partition_protocol.specs.Adoption.{adopted_row, is_before_reset, begun, emptied, adopt_as_primary, adopt_as_other, carried_answers, stays_primary}
-use Rattle.partition_protocol.specs.Replica.{Step, is_newer, with_pair, taking}
+use Rattle.partition_protocol.specs.Replica.{Step, taking}
 use Rattle.partition_protocol.specs.History.{Base}
 use Rattle.partition_protocol.specs.World.{World as Machine, is_live, pair_state}
 use Rattle.partition_protocol.specs.Links.{link}
-use Rattle.partition_protocol.specs.Events.{Event, Deliver, delivered, happens}
+use Rattle.partition_protocol.specs.Events.{Event, Deliver, happens}
 use Rattle.partition_protocol.specs.Claims.{IsLawful}
 use Rattle.partition_protocol.specs.NamedStates.{IsEffect}
 use Rattle.partition_protocol.specs.Beginnings.{AreCountsEffects, KnowsBeginning, KnowsEarlier}
-use Rattle.partition_protocol.proofs.Lists.{In, Every, in_contains, contains_in, on_cond, on_if, set_get_same}
-use Rattle.partition_protocol.proofs.Histories.{IsBase, base_same}
-use Rattle.partition_protocol.proofs.Invariant.{Shape, NodeAt}
+use Rattle.partition_protocol.proofs.Lists.{In, Every, in_contains, on_cond, on_if, set_get_same}
+use Rattle.partition_protocol.proofs.Histories.{base_same}
+use Rattle.partition_protocol.proofs.Invariant.{NodeAt}
 use Rattle.partition_protocol.proofs.RowFacts.{both_left, not_both}
 use Rattle.partition_protocol.proofs.Events.{Good, happens_good}
 use Rattle.partition_protocol.proofs.LinkFacts.{packet}
 use Rattle.partition_protocol.proofs.States.{Grows, grown}
-use Rattle.partition_protocol.proofs.NamedStates.{IsKnown, node_known, base_known, part_known}
+use Rattle.partition_protocol.proofs.NamedStates.{node_known, base_known, part_known}
 use Rattle.partition_protocol.proofs.Takings.{backup_not_primary, every_taking}
 use Rattle.partition_protocol.proofs.Beginnings.{counts_are_effects, knows_beginning}
 use Rattle.replicated_world.specs.Meanings.{Meaning}
-use Rattle.replicated_world.specs.InFlight.{state_at, effect_bytes, IsRing}
+use Rattle.replicated_world.specs.InFlight.{effect_bytes, IsRing}
 use Rattle.replicated_world.proofs.InFlight.{effect_bytes_stay}
 use Rattle.replicated_world.specs.Shelves.{IsShelf}
 use Rattle.replicated_world.specs.Sending.{carried_of, HasNewest, IsNamed}
 use Rattle.replicated_world.proofs.EffectsLead.{lawful, Stood}
-use Rattle.replicated_world.proofs.Sending.{IsBareOrCatchUp, taking_sent, sent_named}
+use Rattle.replicated_world.proofs.Sending.{taking_sent, sent_named}
 use Rattle.replicated_world.proofs.Taking as taken
 
 -- a node in which only acknowledgements, answers and a freeze are others keeps the same effects

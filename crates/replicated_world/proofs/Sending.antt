@@ -1,21 +1,18 @@
 -- What goes with each message that is sent is what the world names then.
-use Rattle.std.proofs.Common.{◌≡◌, ◌≢◌, ℕ, ◌+◌, ◌-◌, min, ◌<◌, ◌≤◌, Bool, true, false, cond, not, ◌&&◌, ◌||◌, ◌==◌, nat_lt, nat_le, List, [], ◌∷◌, ◌++◌, map, Option, Some, None, is_some, unwrap_or, slice_get, flat_map, refl, ap, sym, ◌∙◌, subst, arith, ◌⊎◌, inl, inr}
+use Rattle.std.proofs.Common.{◌≡◌, ℕ, ◌+◌, min, ◌<◌, ◌≤◌, Bool, true, false, cond, not, ◌&&◌, ◌||◌, ◌==◌, nat_lt, nat_le, List, [], ◌∷◌, ◌++◌, map, Option, Some, is_some, unwrap_or, flat_map, refl, ap, sym, ◌∙◌, subst, arith, ◌⊎◌, inl, inr}
 use Rattle.partition_table.specs.declared.Row.{Row}
 use Rattle.partition_table.specs.declared.RowMember.{RowMember}
-use Rattle.partition_table.specs.Rows.{is_primary, is_backup, is_eligible, is_in, backups_of, is_empty}
+use Rattle.partition_table.specs.Rows.{is_primary, is_backup, is_eligible, backups_of, is_empty}
 use Rattle.partition_protocol.specs.Messages.{Message, NewRow, Sync, Effect, Bridge, Ack, Joined, Freeze, Frozen, Sent}
 use Rattle.partition_protocol.specs.Took.{Synced, Applied, Bridged as TookBridged, Already, Gap, Other, Stale, Adopted, Acked, Frozen as TookFrozen}
 use Rattle.partition_protocol.specs.Node.{Pair, Acknowledged, Earlier, Node, acked, acked_by, with_ack, settled}
 use Rattle.partition_protocol.specs.CatchUp.{recent_limit, heard, catch_up, catch_up_by}
 use Rattle.partition_protocol.specs.Adoption.{adopted_row, sent_on_adopting}
-use Rattle.partition_protocol.specs.Replica.{Step, is_newer, after_row, sent_by_row, with_sent, with_pair, unanswered, acknowledging, to_one, is_ahead, sync_backup, bridge_backup, on_row, on_sync, on_bridge, on_effect, on_ack, on_freeze, joined_note, frozen_note, taking, lags, joined_again, sent_again}
-use Rattle.partition_protocol.specs.Execution.{executing, sent_on_executing}
+use Rattle.partition_protocol.specs.Replica.{Step, is_newer, after_row, sent_by_row, with_sent, with_pair, unanswered, acknowledging, to_one, is_ahead, sync_backup, bridge_backup, on_sync, on_bridge, on_effect, on_ack, on_freeze, joined_note, frozen_note, taking, lags, joined_again, sent_again}
 use Rattle.partition_protocol.specs.Service.{Service, Move, NoMove, Joining, Joined as JoinedMove, Freezing, Drained, telling, freezing_again, freeze_of, undetected}
-use Rattle.partition_protocol.specs.History.{Base}
 use Rattle.partition_protocol.specs.World.{World as Machine, pair_state}
-use Rattle.partition_protocol.specs.NamedStates.{IsEffect}
 use Rattle.partition_protocol.specs.Beginnings.{KnowsBeginning, KnowsEarlier}
-use Rattle.partition_protocol.proofs.Lists.{In, in_contains, contains_in, Every, every_append, every_in, every_from_in, every_map, every_flat_map, every_if, on_cond, on_if}
+use Rattle.partition_protocol.proofs.Lists.{In, contains_in, Every, every_append, every_in, every_from_in, every_flat_map, every_if, on_cond, on_if}
 use Rattle.partition_protocol.proofs.Invariant.{NodeAt}
 use Rattle.partition_protocol.proofs.Release.{acked_by_in}
 use Rattle.partition_protocol.proofs.Answers.{map_in}
@@ -66,6 +63,11 @@ named_written k w contents (s ∷ ss) h =
 pub bare_named : {S C State : Type 0} (k : Meaning S C State) (w : Machine C) (contents : Contents) (ss : List Sent) → Every (λ (s : Sent). IsBare s.message) ss → Every (IsNamed k w contents) ss
 bare_named k w contents [] h = tt
 bare_named k w contents (s ∷ ss) h = (bare_same contents (contents_in k w) s.message h.0, bare_named k w contents ss h.1)
+
+-- of the world's own contents
+pub named_itself : {S C State : Type 0} (k : Meaning S C State) (w : Machine C) (ss : List Sent) → Every (IsNamed k w (contents_in k w)) ss
+named_itself k w [] = tt
+named_itself k w (s ∷ ss) = (refl, named_itself k w ss)
 
 -- what a member sends
 

@@ -1,32 +1,30 @@
 -- Each message in flight has a spelling, where the bytes that go with it aren't too many: its numbers are in range, and a row lists 1 to 8 members, or is lost and lists none.
-use Rattle.std.proofs.Common.{◌≡◌, ◌≢◌, eqb, ℕ, zero, suc, ◌+◌, ◌<◌, ◌≤◌, ◌^◌, Bool, true, false, cond, not, ◌&&◌, ◌==◌, nat_lt, nat_le, List, [], ◌∷◌, map, length, All, IsTrue, refl, ap, sym, ◌∙◌, subst, arith, ◌⊎◌, inl, inr}
+use Rattle.std.proofs.Common.{◌≡◌, eqb, ℕ, suc, ◌+◌, ◌<◌, ◌≤◌, ◌^◌, Bool, true, false, nat_lt, nat_le, List, [], ◌∷◌, map, length, refl, ap, sym, arith, inl, inr}
 use Rattle.std.specs.List.{AllByRecursion, IsDistinct}
 use Rattle.std.proofs.lemmas.Map.Steps.{length-le_from_distinct_below}
 use Rattle.std.proofs.lemmas.Bool.Decides.{nat_tests}
 use Rattle.partition_table.specs.declared.Row.{Row}
 use Rattle.partition_table.specs.declared.RowMember.{RowMember}
 use Rattle.partition_table.specs.Rows.{is_empty, number_of, numbers_of}
-use Rattle.partition_table.specs.RowFacts.{are_distinct, HasDistinctMembers}
-use Rattle.grid_base.specs.Objects.{Object}
+use Rattle.partition_table.specs.RowFacts.{are_distinct}
 use Rattle.partition_protocol.specs.Messages.{Message, NewRow, Sync, Effect, Bridge, Ack, Joined, Freeze, Frozen, Packet}
-use Rattle.partition_protocol.specs.World.{World as Machine, start}
+use Rattle.partition_protocol.specs.World.{start}
 use Rattle.partition_protocol.specs.Events.{Event, run}
 use Rattle.partition_protocol.specs.Bounds.{IsRowWithin, IsMessageWithin}
 use Rattle.partition_protocol.specs.WellFormed.{IsRowOf, IsMessageOf}
-use Rattle.partition_protocol.proofs.Lists.{In, in_left, in_right, Every, every_in, contains_in}
+use Rattle.partition_protocol.specs.RowRules.{IsLostIfEmpty, IsRowLostIfEmpty}
+use Rattle.partition_protocol.proofs.LostRows.{PacketLost, grid_lost}
+use Rattle.partition_protocol.proofs.Lists.{In, Every, every_in, contains_in}
 use Rattle.partition_protocol.proofs.RowFacts.{same_number, false_or_not, in_among}
 use Rattle.partition_protocol.proofs.Listings.{first_apart, rest_distinct}
 use Rattle.partition_protocol.proofs.Bounds.{every_run_is_within}
 use Rattle.partition_protocol.proofs.WellFormed.{every_run_is_well_formed}
-use Rattle.partition_protocol.proofs.Theorem.{length-numbers_below}
-use Rattle.partition_protocol.specs.Service.{numbers_below}
 use Rattle.member_wire.specs.Said.{Contents, said_with}
 use Rattle.member_wire.specs.Spelling.{is_count, IsSpelledRow, IsSpelled, LengthsFit}
 use Rattle.wire_parts.specs.Parts.{IsByte, IsNumber}
 use Rattle.replicated_world.specs.Meanings.{Meaning}
 use Rattle.replicated_world.specs.InFlight.{contents_in}
 use Rattle.replicated_world.proofs.SmallStates.{every_of_all}
-use Rattle.replicated_world.proofs.LostRows.{IsLostIfEmpty, MessageLost, PacketLost, grid_lost}
 
 -- distinct numbers below n are no more than n
 
@@ -87,7 +85,7 @@ module _ (n members : ℕ) (few : n + 1 < 2 ^ 32) (eight : members ≤ 8) where
       most = let k = below_few members (numbers_of row) of.distinct (numbers_every members row.members below) in omega (arith, k, numbers_length row.members, eight)
 
   -- a message that says all this
-  pub message_spelled : (from to : ℕ) (msg : Message) (contents : Contents) → IsMessageWithin n msg → IsMessageOf members from to msg → MessageLost msg → LengthsFit (said_with contents msg) → IsSpelled (said_with contents msg)
+  pub message_spelled : (from to : ℕ) (msg : Message) (contents : Contents) → IsMessageWithin n msg → IsMessageOf members from to msg → IsRowLostIfEmpty msg → LengthsFit (said_with contents msg) → IsSpelled (said_with contents msg)
   message_spelled from to (NewRow row) k within of lost fit = row_spelled row within of.1 lost
   message_spelled from to (Sync row c) k within of lost fit = (row_spelled row within.0 of.1 lost, is_counted c within.1, fit.1)
   message_spelled from to (Bridge row e c) k within of lost fit = (row_spelled row within.0 of.1 lost, is_number e within.1, is_counted c within.2)

@@ -1,29 +1,29 @@
 -- What a member's taking of a message leaves is what its pair names then.
-use Rattle.std.proofs.Common.{◌≡◌, ◌≢◌, ℕ, zero, suc, ◌+◌, ◌-◌, ◌<◌, ◌≤◌, Bool, true, false, cond, not, ◌&&◌, ◌||◌, ◌==◌, nat_lt, nat_le, List, [], ◌∷◌, ◌++◌, Option, Some, None, is_some, slice_get, refl, ap, sym, ◌∙◌, subst, arith, ◌⊎◌, inl, inr, append-nil}
+use Rattle.std.proofs.Common.{◌≡◌, ℕ, ◌+◌, ◌-◌, Bool, true, false, cond, not, ◌&&◌, ◌||◌, ◌==◌, nat_lt, nat_le, List, ◌∷◌, ◌++◌, Option, Some, is_some, slice_get, refl, ap, sym, ◌∙◌, subst, arith, ◌⊎◌, inl, inr, append-nil}
 use Rattle.grid_base.specs.Objects.{Object, IsSmall}
 use Rattle.partition_table.specs.declared.Row.{Row}
 use Rattle.partition_table.specs.Rows.{is_primary, is_backup, is_in, numbers_of}
-use Rattle.partition_protocol.specs.Messages.{Message, NewRow, Sync, Effect, Bridge, Ack, Joined, Freeze, Frozen, Packet}
-use Rattle.partition_protocol.specs.Took.{Took, Adopted, Synced, Applied, Bridged as TookBridged, Acked, Frozen as TookFrozen, Already, Gap, Other, Stale}
+use Rattle.partition_protocol.specs.Messages.{Message, NewRow, Sync, Effect, Bridge, Ack, Joined, Freeze, Frozen}
+use Rattle.partition_protocol.specs.Took.{Adopted, Synced, Applied, Bridged as TookBridged, Acked, Frozen as TookFrozen, Already, Gap, Other, Stale}
 use Rattle.partition_protocol.specs.Node.{Pair, Node, no_pair, with_ack, settled}
-use Rattle.partition_protocol.specs.Adoption.{adopted_row, is_before_reset, begun, adopt_as_primary, adopt_as_other, carried_answers, stays_primary, sent_on_adopting}
-use Rattle.partition_protocol.specs.Replica.{Step, is_newer, after_row, sent_by_row, with_sent, with_pair, unanswered, acknowledging, is_ahead, sync_backup, bridge_backup, on_row, on_sync, on_bridge, on_effect, on_ack, on_freeze, joined_note, frozen_note, taking}
+use Rattle.partition_protocol.specs.Adoption.{adopted_row, is_before_reset, adopt_as_other, sent_on_adopting}
+use Rattle.partition_protocol.specs.Replica.{Step, is_newer, after_row, sent_by_row, with_sent, with_pair, unanswered, acknowledging, is_ahead, sync_backup, bridge_backup, on_row, on_sync, on_bridge, on_effect, on_ack, on_freeze, taking}
 use Rattle.partition_protocol.specs.History.{Base, begins_anew, history, state_after}
-use Rattle.partition_protocol.specs.World.{World as Machine, is_live, bases_after, pair_state}
+use Rattle.partition_protocol.specs.World.{World as Machine, is_live, pair_state}
 use Rattle.partition_protocol.specs.Links.{link, taken_out, with_packets}
 use Rattle.partition_protocol.specs.Events.{Event, Deliver, Happened, delivered, happens}
 use Rattle.partition_protocol.specs.Claims.{IsLawful}
 use Rattle.partition_protocol.proofs.Lists.{In, on_cond, cases}
 use Rattle.partition_protocol.proofs.Histories.{Falling, start_of, history_at}
 use Rattle.partition_protocol.proofs.Invariant.{NodeAt, PacketOk}
-use Rattle.partition_protocol.proofs.RowFacts.{less, not_less, is_not_less, same_number, other_number, number_other, both_left, both_right, not_true, not_false, not_both, first_among}
+use Rattle.partition_protocol.proofs.RowFacts.{less, not_less, is_not_less, same_number, other_number, number_other, both_left, both_right, not_false, first_among}
 use Rattle.partition_protocol.proofs.Adopt.{adopted_anew, adopted_backup, adopted_emptied, adopted_idle}
 use Rattle.partition_protocol.proofs.Events.{Good, happens_good}
 use Rattle.partition_protocol.proofs.EventCases.{place_in}
 use Rattle.partition_protocol.proofs.EventFacts.{deliver_live}
 use Rattle.partition_protocol.proofs.LinkFacts.{packet}
 use Rattle.partition_protocol.proofs.NamedStates.{IsKnown, flies, node_known, sync_known, effect_known, bridge_known, bridge_joins, state_after_event}
-use Rattle.partition_protocol.proofs.States.{IsEmptied, none_yet, empty_new, pair_same}
+use Rattle.partition_protocol.proofs.States.{none_yet, empty_new, pair_same}
 use Rattle.partition_protocol.proofs.Takings.{brought, taking_known}
 use Rattle.partition_protocol.proofs.Safe.{base_positive, history_none}
 use Rattle.member_wire.specs.Said.{said_with}
@@ -31,7 +31,7 @@ use Rattle.member_wire.specs.declared.message.MemberMessage.{MemberMessage}
 use Rattle.replicated_world.specs.Meanings.{Meaning}
 use Rattle.replicated_world.specs.InFlight.{state_at, effect_bytes, contents_in}
 use Rattle.replicated_world.specs.Shelves.{IsShelf, IsLeading}
-use Rattle.replicated_world.specs.Takings.{drops_contents, state_in, state_after_row, Leaves, IsFit}
+use Rattle.replicated_world.specs.Takings.{state_in, state_after_row, Leaves, IsFit}
 use Rattle.replicated_world.proofs.EffectsLead.{lawful, Stood, flying_leads}
 
 -- a member's number isn't the service's
@@ -306,17 +306,17 @@ module _ {S C State : Type 0} (k : Meaning S C State) (limits : C → Type 0) (w
   pub effect_right : (v j : ℕ) → msg ≡ Effect v j → IsRight (Effect v j) (on_effect m f v j n)
   effect_right v j e =
       on_cond (IsRight (Effect v j)) (not (is_backup n.known m && (n.pair.version == v))) (unanswered n Other) (cond (j == n.pair.count + 1) (acknowledging (with_pair n v j) f Applied) (cond (nat_le j n.pair.count) (acknowledging n f Already) (unanswered n Gap)))
-      (λ z. record { left = unmoved; fit = tt })
+      (λ z. record { left = unmoved; fit = λ t. absurd cc })
       (λ z. on_cond (IsRight (Effect v j)) (j == n.pair.count + 1) (acknowledging (with_pair n v j) f Applied) (cond (nat_le j n.pair.count) (acknowledging n f Already) (unanswered n Gap))
       (λ h. taken (same_number n.pair.version v (both_right (is_backup n.known m) (n.pair.version == v) (not_false (is_backup n.known m && (n.pair.version == v)) z))) (same_number j (n.pair.count + 1) h))
-      (λ h. on_cond (IsRight (Effect v j)) (nat_le j n.pair.count) (acknowledging n f Already) (unanswered n Gap) (λ t. record { left = unmoved; fit = tt }) (λ t. record { left = unmoved; fit = tt })))
+      (λ h. on_cond (IsRight (Effect v j)) (nat_le j n.pair.count) (acknowledging n f Already) (unanswered n Gap) (λ t. record { left = unmoved; fit = λ e. absurd cc }) (λ t. record { left = unmoved; fit = λ e. absurd cc })))
     where
       taken : n.pair.version ≡ v → j ≡ n.pair.count + 1 → IsRight (Effect v j) (acknowledging (with_pair n v j) f Applied)
       taken version count =
           let made : applied (effect_bytes k w v j) old ≡ Some (state_at k next v j) = applied_state v j e version count in
           record {
             left = record { leaves = made; only = λ new h. (let same : Some new ≡ Some (state_at k next v j) = sym h ∙ made in cc) };
-            fit = ap is_some made;
+            fit = λ t. ap is_some made;
           }
 
   pub ack_right : (v c : ℕ) → IsRight (Ack v c) (on_ack w.members m f v c n)

@@ -1,12 +1,14 @@
 -- What goes with the messages that a member sends: its contents as they are then, and the newest effects that it keeps.
-use Rattle.std.specs.Prelude.{◌≡◌, ℕ, ◌+◌, min, ◌<◌, ◌≤◌, List, [], Option, Some, unwrap_or}
-use Rattle.partition_protocol.specs.Messages.{Sent}
+use Rattle.std.specs.Prelude.{◌≡◌, ℕ, ◌+◌, min, ◌<◌, ◌≤◌, List, [], map, Option, Some, unwrap_or, Contains}
+use Rattle.partition_protocol.specs.Messages.{Sent, Packet}
 use Rattle.partition_protocol.specs.Node.{Node}
 use Rattle.partition_protocol.specs.CatchUp.{recent_limit}
 use Rattle.partition_protocol.specs.World.{World as Machine}
+use Rattle.partition_protocol.specs.Links.{link}
 use Rattle.member_wire.specs.Said.{Contents, said_with}
+use Rattle.member_wire.specs.Spelling.{LengthsFit}
 use Rattle.replicated_world.specs.Meanings.{Meaning}
-use Rattle.replicated_world.specs.InFlight.{contents_in}
+use Rattle.replicated_world.specs.InFlight.{contents_in, bytes_of}
 
 -- a snapshot is of the state at hand, whatever names it, and an effect is one of those that are kept
 abbrev pub carried_of : {State : Type 0} → (State → List ℕ) → State → (ℕ → Option (List ℕ)) → Contents
@@ -22,3 +24,11 @@ HasNewest node kept = (i : ℕ) → node.pair.count < i + min recent_limit node.
 -- what is written with these contents is what the world names
 abbrev pub IsNamed : {S C State : Type 0} → Meaning S C State → Machine C → Contents → Sent → Type 0
 IsNamed k w contents sent = said_with contents sent.message ≡ said_with (contents_in k w) sent.message
+
+-- the bytes in flight on a link
+abbrev pub flying : {S C State : Type 0} → Meaning S C State → Machine C → ℕ → ℕ → List (List ℕ)
+flying k w f t = map (bytes_of k w) (link f t w.packets)
+
+-- the lengths of what goes with each message in flight can be written down
+abbrev pub HasFit : {S C State : Type 0} → Meaning S C State → Machine C → Type 0
+HasFit k w = (p : Packet) → Contains w.packets p → LengthsFit (said_with (contents_in k w) p.message)

@@ -1,11 +1,11 @@
 -- What a row and any other message leave of a member's contents, effects and answers, and what they ask of it.
-use Rattle.std.specs.Prelude.{◌≡◌, ℕ, Bool, true, false, not, ◌&&◌, ◌||◌, if◌then◌else◌, List, [], ◌++◌, Option, Some, None, is_some}
+use Rattle.std.specs.Prelude.{◌≡◌, ℕ, Bool, true, not, ◌&&◌, ◌||◌, if◌then◌else◌, List, [], Option, Some, None, is_some}
 use Rattle.grid_base.specs.Objects.{IsSmall}
 use Rattle.partition_table.specs.declared.Row.{Row}
 use Rattle.partition_table.specs.Rows.{is_primary, is_in}
 use Rattle.partition_protocol.specs.Node.{Node, Pair, no_pair}
 use Rattle.partition_protocol.specs.Took.{Took, Synced, Applied}
-use Rattle.partition_protocol.specs.Adoption.{is_before_reset, begun, stays_primary}
+use Rattle.partition_protocol.specs.Adoption.{is_before_reset, stays_primary}
 use Rattle.partition_protocol.specs.Replica.{is_newer}
 use Rattle.member_wire.specs.declared.message.MemberMessage.{MemberMessage}
 use Rattle.member_wire.specs.declared.message.MemberMessage.TheVariants as said
@@ -53,15 +53,19 @@ row_in (said.Joined version member) = None
 row_in (said.Freeze version) = None
 row_in (said.Frozen version) = None
 
+-- an effect that was applied makes the next state
+abbrev pub EffectLeaves : {State : Type 0} → (List ℕ → State → Option State) → List ℕ → Took → State → State → Type 0
+EffectLeaves applied effect Applied old new = applied effect old ≡ Some new
+EffectLeaves applied effect took old new = new ≡ old
+
 -- The state after an effect that was applied, the one whose snapshot was installed, or else what the row leaves
 abbrev pub Leaves : {State : Type 0} → (ℕ → State → Type 0) → State → (List ℕ → State → Option State) → (State → List ℕ) → ℕ → Node → MemberMessage → Took → State → State → Type 0
 Leaves {State} within empty applied snapshot_of m node (said.Sync row count snapshot) Synced old new =
     (x : State) → IsSmall within x → snapshot_of x ≡ snapshot → new ≡ x
-Leaves within empty applied snapshot_of m node (said.Effect version number effect) Applied old new = applied effect old ≡ Some new
+Leaves within empty applied snapshot_of m node (said.Effect version number effect) took old new = EffectLeaves applied effect took old new
 Leaves within empty applied snapshot_of m node (said.Row row) took old new = new ≡ state_after_row empty m row node old
 Leaves within empty applied snapshot_of m node (said.Sync row count snapshot) took old new = new ≡ state_after_row empty m row node old
 Leaves within empty applied snapshot_of m node (said.Bridge row base count) took old new = new ≡ state_after_row empty m row node old
-Leaves within empty applied snapshot_of m node (said.Effect version number effect) took old new = new ≡ old
 Leaves within empty applied snapshot_of m node (said.Ack version count) took old new = new ≡ old
 Leaves within empty applied snapshot_of m node (said.Joined version member) took old new = new ≡ old
 Leaves within empty applied snapshot_of m node (said.Freeze version) took old new = new ≡ old
@@ -73,7 +77,6 @@ ring_after_taking m node (Some row) ring = ring_after_row m row node ring
 
 -- An effect that would be applied fits the state, and whole contents are a small state's
 abbrev pub IsFit : {State : Type 0} → (ℕ → State → Type 0) → (List ℕ → State → Option State) → (State → List ℕ) → MemberMessage → Took → State → Type 0
-IsFit within applied snapshot_of (said.Effect version number effect) Applied state = is_some (applied effect state) ≡ true
+IsFit within applied snapshot_of (said.Effect version number effect) took state = took ≡ Applied → is_some (applied effect state) ≡ true
 IsFit {State} within applied snapshot_of (said.Sync row count snapshot) took state = (x : State) × IsSmall within x × (snapshot_of x ≡ snapshot)
 IsFit within applied snapshot_of message took state = Unit {0}
-

@@ -1,20 +1,20 @@
 -- In every run a row is lost exactly where it has no members: the newest one, each that a member knows, and each that is in flight.
-use Rattle.std.proofs.Common.{◌≡◌, ◌≢◌, ℕ, zero, suc, ◌+◌, ◌<◌, ◌≤◌, Bool, true, false, cond, not, ◌&&◌, ◌||◌, ◌==◌, List, [], ◌∷◌, ◌++◌, map, take, Option, Some, None, slice_set, refl, ap, sym, ◌∙◌, subst, ◌⊎◌, inl, inr, arith}
+use Rattle.std.proofs.Common.{◌≡◌, ◌≢◌, ℕ, zero, suc, ◌+◌, ◌≤◌, Bool, false, cond, not, ◌&&◌, ◌==◌, List, [], ◌∷◌, ◌++◌, map, Some, None, slice_set, refl, sym, ◌∙◌, subst, ◌⊎◌, inl, inr, arith}
 use Rattle.grid_base.specs.Objects.{Object}
 use Rattle.partition_table.specs.declared.Row.{Row}
 use Rattle.partition_table.specs.declared.RowMember.{RowMember}
-use Rattle.partition_table.specs.Rows.{is_primary, is_in, is_eligible, is_empty, initial_row, without, with_joiner, handed, with_eligible, reopened, marked, begun_by, with_backups, eligible_member, members_from, backups_of, is_backup}
+use Rattle.partition_table.specs.Rows.{is_in, is_eligible, is_empty, initial_row, without, handed, with_eligible, marked, begun_by, with_backups, backups_of}
 use Rattle.partition_protocol.specs.Messages.{Message, NewRow, Sync, Effect, Bridge, Ack, Joined as JoinedMessage, Freeze, Frozen as FrozenMessage, Sent, Packet}
-use Rattle.partition_protocol.specs.Node.{Node, with_ack, opening_node, now_released, settled}
-use Rattle.partition_protocol.specs.Adoption.{adopted_row}
-use Rattle.partition_protocol.specs.Replica.{with_pair, taking, sent_again}
+use Rattle.partition_protocol.specs.Node.{Node, now_released, settled}
+use Rattle.partition_protocol.specs.Replica.{taking, sent_again}
 use Rattle.partition_protocol.specs.Execution.{executing, sent_on_executing}
-use Rattle.partition_protocol.specs.Service.{Service, ServiceStep, Move, NoMove, Joining, Joined, Freezing, Drained, numbers_below, undetected, telling, with_row, beginning, handing_over, detecting, freeze_of, freezing_again, reopening, candidates, on_joined, on_frozen, is_freezing, ReopenRefused, reopen_refused}
+use Rattle.partition_protocol.specs.Service.{Service, ServiceStep, Move, NoMove, Joining, Joined, Freezing, Drained, undetected, telling, with_row, beginning, handing_over, detecting, freeze_of, freezing_again, reopening, candidates, on_joined, is_freezing, reopen_refused}
 use Rattle.partition_protocol.specs.History.{Entry, Base, Opening}
 use Rattle.partition_protocol.specs.World.{World, start, bases_after, pair_state}
 use Rattle.partition_protocol.specs.Links.{taken_out, with_packets, packets_from}
 use Rattle.partition_protocol.specs.Events.{Event, delivered, service_takes, told_all, with_reset, happens, run}
-use Rattle.partition_protocol.proofs.Lists.{In, Every, every_append, every_in, on_cond, on_if, get_set}
+use Rattle.partition_protocol.proofs.Lists.{In, in_contains, Every, every_append, every_in, on_if, get_set}
+use Rattle.partition_protocol.specs.RowRules.{IsLostIfEmpty, IsRowLostIfEmpty, EveryRowIsLostIfEmpty}
 use Rattle.partition_protocol.proofs.Invariant.{NodeAt}
 use Rattle.partition_protocol.proofs.Deliver.{packets_append}
 use Rattle.partition_protocol.proofs.Adopt.{adopted_known}
@@ -24,9 +24,6 @@ use Rattle.partition_protocol.proofs.EventCases.{EventCases, every_event, place_
 use Rattle.partition_protocol.proofs.Takings.{brought, every_taking}
 use Rattle.partition_protocol.proofs.Says.{Says, SaysSent, IsAnswered, taking_says, again_says}
 use Rattle.partition_protocol.proofs.Theorem.{opened_node}
-
-abbrev pub IsLostIfEmpty : Row → Type 0
-IsLostIfEmpty row = row.lost ≡ is_empty row.members
 
 -- rows that are made
 
@@ -56,25 +53,15 @@ initial_lost partition (suc n) backups some = refl
 
 -- rows in flight
 
-abbrev pub MessageLost : Message → Type 0
-MessageLost (NewRow row) = IsLostIfEmpty row
-MessageLost (Sync row c) = IsLostIfEmpty row
-MessageLost (Bridge row e k) = IsLostIfEmpty row
-MessageLost (Effect v i) = Unit {0}
-MessageLost (Ack v c) = Unit {0}
-MessageLost (JoinedMessage v b) = Unit {0}
-MessageLost (Freeze v) = Unit {0}
-MessageLost (FrozenMessage v) = Unit {0}
-
 abbrev pub PacketLost : Packet → Type 0
-PacketLost p = MessageLost p.message
+PacketLost p = IsRowLostIfEmpty p.message
 
 pub record RowsLost {C : Type 0} (w : World C) : Type 0 where
   pub row : IsLostIfEmpty w.service.row
   pub known : (m : ℕ) (n : Node) → NodeAt w.nodes m n → IsLostIfEmpty n.known
   pub packets : Every PacketLost w.packets
 
-pub brought_lost : (msg : Message) (row : Row) → brought msg ≡ Some row → MessageLost msg → IsLostIfEmpty row
+pub brought_lost : (msg : Message) (row : Row) → brought msg ≡ Some row → IsRowLostIfEmpty msg → IsLostIfEmpty row
 brought_lost (NewRow r) row e h = let same : r ≡ row = cc in subst IsLostIfEmpty same h
 brought_lost (Sync r c) row e h = let same : r ≡ row = cc in subst IsLostIfEmpty same h
 brought_lost (Bridge r v c) row e h = let same : r ≡ row = cc in subst IsLostIfEmpty same h
@@ -84,7 +71,7 @@ brought_lost (JoinedMessage v b) row e h = absurd cc
 brought_lost (Freeze v) row e h = absurd cc
 brought_lost (FrozenMessage v) row e h = absurd cc
 
-pub taking_lost : (service m from : ℕ) (msg : Message) (n : Node) → MessageLost msg → IsLostIfEmpty n.known → IsLostIfEmpty (taking service m from msg n).node.known
+pub taking_lost : (service m from : ℕ) (msg : Message) (n : Node) → IsRowLostIfEmpty msg → IsLostIfEmpty n.known → IsLostIfEmpty (taking service m from msg n).node.known
 taking_lost service m from msg n said known = every_taking m from msg n (λ a. IsLostIfEmpty a.known) (record {
   stays = λ u. known;
   adopts = λ row e newer. subst IsLostIfEmpty (sym (adopted_known m row n)) (brought_lost msg row e said);
@@ -95,7 +82,7 @@ taking_lost service m from msg n said known = every_taking m from msg n (λ a. I
   freezes = λ v e p k. known;
 }) service
 
-pub says_lost : (service m from : ℕ) (answered : Type 0) (a : Node) (to : ℕ) (msg : Message) → IsLostIfEmpty a.known → Says service m from answered a to msg → MessageLost msg
+pub says_lost : (service m from : ℕ) (answered : Type 0) (a : Node) (to : ℕ) (msg : Message) → IsLostIfEmpty a.known → Says service m from answered a to msg → IsRowLostIfEmpty msg
 says_lost service m from answered a to (NewRow row) h s = absurd s
 says_lost service m from answered a to (Sync row c) h s = subst IsLostIfEmpty (sym s.2) h
 says_lost service m from answered a to (Effect v i) h s = tt
@@ -234,3 +221,13 @@ start_lost partition members backups some =
 -- of every run of any number of members
 pub grid_lost : {C State : Type 0} (o : Object C State) (partition members backups : ℕ) (events : List (Event C)) → 1 ≤ members → RowsLost (run o (start partition members backups) events)
 grid_lost o partition members backups events some = run_lost o (start partition members backups) events (start_lost partition members backups some)
+
+pub every_row_is_lost_if_empty : {C State : Type 0} (o : Object C State) → EveryRowIsLostIfEmpty o
+every_row_is_lost_if_empty o partition members backups events some =
+    let w = run o (start partition members backups) events in
+    let h : RowsLost w = grid_lost o partition members backups events some in
+    record {
+      newest = h.row;
+      known = h.known;
+      packets = λ p c. every_in PacketLost w.packets p h.packets (in_contains p w.packets c);
+    }
