@@ -1,12 +1,12 @@
 -- Who acknowledged is in one place of the list and among the row's backups, so that there is a place for each.
-use Rattle.std.proofs.Common.{◌≡◌, ◌≢◌, ℕ, ◌+◌, suc, ◌<◌, ◌≤◌, Bool, true, false, not, ◌&&◌, ◌||◌, ◌==◌, nat_eq, List, [], ◌∷◌, Option, Some, None, IsTrue, if◌then◌else◌, length, map, refl, ap, sym, ◌∙◌, subst, ◌⊎◌, ⊎_elim, inl, inr, arith, true≢false}
+use Rattle.std.proofs.Common.{◌≡◌, ◌≢◌, ℕ, ◌+◌, ◌≤◌, Bool, true, false, not, ◌&&◌, ◌==◌, nat_eq, List, [], ◌∷◌, Some, None, if◌then◌else◌, length, map, refl, ap, sym, ◌∙◌, subst, ◌⊎◌, ⊎_elim, inl, inr, arith, true≢false}
 use Rattle.std.proofs.Math.ListN.{length-map}
 use Rattle.partition_table.specs.declared.Row.{Row}
 use Rattle.partition_table.specs.declared.RowMember.{RowMember}
 use Rattle.partition_table.specs.Rows.{number_of, is_among, is_first, is_backup, rest_of, backups_of}
 use Rattle.partition_table.specs.RowFacts.{are_distinct}
 use Rattle.partition_protocol.specs.Node.{Acknowledged, acked_by, with_ack}
-use Rattle.partition_protocol.proofs.RowFacts.{both, both_left, both_right, either, either_left, either_right, not_true, not_both, false_or_not, same_number, number_same, number_other, other_number, or_false_right}
+use Rattle.partition_protocol.proofs.RowFacts.{both, both_left, both_right, either, either_left, either_right, not_true, not_both, false_or_not, same_number, number_same, other_number}
 use Rattle.primary_hold.specs.Acks.{AckList, ackers_of, backup_numbers, acker_of, HasPlaces}
 use Rattle.primary_hold.proofs.AckLists.{with_ack_same, with_ack_other, acked_by_same, acked_by_other}
 

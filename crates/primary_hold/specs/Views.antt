@@ -1,5 +1,5 @@
 -- What a primary knows of its backups, and what it sends each of them to catch up.
-use Rattle.std.specs.Prelude.{◌≡◌, ◌≤◌, ℕ, ◌+◌, min, false, List, [], ◌∷◌, ◌++◌, Option, Some, None}
+use Rattle.std.specs.Prelude.{◌≤◌, ℕ, ◌+◌, min, false, List, [], ◌∷◌, ◌++◌, Option, Some, None}
 use Rattle.partition_protocol.specs.Messages.{Message, Bridge}
 use Rattle.partition_protocol.specs.Node.{Pair, Earlier, Node}
 use Rattle.partition_protocol.specs.CatchUp.{effects, whole_snapshot, recent_limit}

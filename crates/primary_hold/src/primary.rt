@@ -258,6 +258,7 @@ impl<S: Shelf> Primary<S> {
         &self.hold.known
     }
 
+    /// The contents.
     pub fn shelf(&self) -> &S
         ensures { result.now ≡ contents_of self.now }
     {

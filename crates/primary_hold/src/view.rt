@@ -57,6 +57,7 @@ impl<'a> View<'a> {
         }
     }
 
+    /// The row that it is of.
     pub fn row(&self) -> &Row
         ensures { result.now ≡ (viewed self.now).known }
     {

@@ -1,7 +1,7 @@
-use Rattle.std.proofs.Common.{sym, ◌∙◌, ap, refl, arith, max, ◌≡◌, ◌≢◌, ◌<◌, ◌≤◌, length}
+use Rattle.std.proofs.Common.{sym, ◌∙◌, ap, arith, max, ◌≡◌, ◌≢◌, ◌<◌, length}
 use Rattle.std.proofs.Math.ListN.{set}
-use Rattle.partition_protocol.specs.Node.{Acknowledged, acked_by, with_ack}
-use Rattle.primary_hold.proofs.AckLists.{found_value, passed_value, passed_other, none_left, none_by}
+use Rattle.partition_protocol.specs.Node.{Acknowledged, with_ack}
+use Rattle.primary_hold.proofs.AckLists.{found_value, passed_value, passed_other}
 use Rattle.primary_hold.proofs.acks.keep_in.Goals as goal
 
 pub returns-then-had-member-clause-list : goal.returns-then-had-member-clause-list

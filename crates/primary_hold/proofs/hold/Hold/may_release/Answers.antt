@@ -1,4 +1,4 @@
-use Rattle.std.proofs.Common.{ap, sym, ◌∙◌}
+use Rattle.std.proofs.Common.{ap, ◌∙◌}
 use Rattle.partition_protocol.specs.Node.{is_released}
 use Rattle.primary_hold.specs.Holds.{hold_node}
 use Rattle.primary_hold.proofs.Settles.{first_is}
