@@ -1,64 +1,16 @@
 ghost use Rattle.std.specs.Prelude.{◌≡◌};
 
+use crate::replacing::Replacing;
 use grid_base::MemberId;
 use partition_table::Row;
 use std::marker::Model;
 
-/// The target took the source's place, and the row is the one that this made.
+/// The step of [`Committed`].
 #[derive(Debug, Drop)]
-pub struct Committed {
-    source: MemberId,
-    target: MemberId,
-    row: Row,
-}
+pub struct CommittedStep;
 
-impl Model for Committed {
-    ghost use Rattle.migration.specs.Steps.{Replacement};
-
-    ghost Value = { Replacement };
-
-    ghost view = { λ s. record { source = s.source; target = s.target; row = s.row } };
-}
-
-impl Committed {
-    pub(crate) fn begun(source: MemberId, target: MemberId, row: Row) -> Committed
-        ensures { result ≡ record { source = source; target = target; row = row } }
-    {
-        Committed {
-            source,
-            target,
-            row,
-        }
-    }
-
-    /// Who left the row.
-    pub fn source(&self) -> MemberId
-        ensures { result ≡ self.now.source }
-    {
-        self.source
-    }
-
-    /// Who took its place.
-    pub fn target(&self) -> MemberId
-        ensures { result ≡ self.now.target }
-    {
-        self.target
-    }
-
-    /// The row that the move ended in.
-    pub fn row(&self) -> &Row
-        ensures { result.now ≡ self.now.row }
-    {
-        &self.row
-    }
-
-    /// Gives the row up, with no memory.
-    pub fn into_row(self) -> Row
-        ensures { result ≡ self.row }
-    {
-        self.row
-    }
-}
+/// The target took the source's place, and the row is the one that this made.
+pub type Committed = Replacing<CommittedStep>;
 
 /// The move was given up, and the row is the one that it stood in.
 #[derive(Debug, Drop)]

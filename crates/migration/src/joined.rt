@@ -1,25 +1,24 @@
-ghost use Rattle.std.specs.Prelude.{◌≡◌, ◌<◌, Some, None, false, IfOk, IfErr, is_ok};
-ghost use Rattle.partition_table.specs.Rows.{is_primary, with_eligible, without};
-ghost use Rattle.partition_protocol.specs.Service.{begun_move, advance_by, Freezes, MakesRow, handover_refused, handing_over, Joined as JoinedMove};
+ghost use Rattle.std.specs.Prelude.{◌≡◌, ◌<◌, None, false, IfOk, IfErr, is_ok};
+ghost use Rattle.partition_table.specs.Rows.{is_primary, without};
+ghost use Rattle.partition_protocol.specs.Service.{advance_by, Freezes, MakesRow, handover_refused, handing_over, Joined as JoinedMove};
 ghost use Rattle.migration.specs.Steps.{dropping, ended_step, joined_step, service_at, step_of};
-ghost use Rattle.migration.specs.Outcomes.{is_primary_refused, joined_back, ongoing_step};
+ghost use Rattle.migration.specs.Outcomes.{is_primary_refused, joined_back};
 
-use crate::ended::{Cancelled, Committed};
+use crate::ended::Committed;
 use crate::freezing::Freezing;
-use crate::joining::begun_with_source;
-use crate::ongoing::Ongoing;
+use crate::replacing::{Replacing, Underway};
 use grid_base::{MemberId, Memory};
 use partition_table::Row;
 use std::alloc::Global;
-use std::marker::Model;
+
+/// The step of [`Joined`].
+#[derive(Debug, Drop)]
+pub struct JoinedStep;
+
+impl Underway for JoinedStep {}
 
 /// The target has the contents, and may lead. The source is to leave.
-#[derive(Debug, Drop)]
-pub struct Joined {
-    source: MemberId,
-    target: MemberId,
-    row: Row,
-}
+pub type Joined = Replacing<JoinedStep>;
 
 /// Why a source wasn't dropped. Each refusal hands the state back.
 #[derive(Debug, Drop)]
@@ -28,14 +27,6 @@ pub enum JoinedRefused {
     IsPrimary(Joined),
     /// There is no memory for the next row.
     Memory(Joined),
-}
-
-impl Model for Joined {
-    ghost use Rattle.migration.specs.Steps.{Replacement};
-
-    ghost Value = { Replacement };
-
-    ghost view = { λ s. record { source = s.source; target = s.target; row = s.row } };
 }
 
 impl Joined {
@@ -48,51 +39,6 @@ impl Joined {
         Joined::begun(from, to, row)
     }
 
-    pub(crate) fn begun(source: MemberId, target: MemberId, row: Row) -> Joined
-        ensures { result ≡ record { source = source; target = target; row = row } }
-    {
-        Joined {
-            source,
-            target,
-            row,
-        }
-    }
-
-    /// Who is to leave the row.
-    pub fn source(&self) -> MemberId
-        ensures { result ≡ self.now.source }
-    {
-        self.source
-    }
-
-    /// Who takes its place.
-    pub fn target(&self) -> MemberId
-        ensures { result ≡ self.now.target }
-    {
-        self.target
-    }
-
-    /// The row of this step.
-    pub fn row(&self) -> &Row
-        ensures { result.now ≡ self.now.row }
-    {
-        &self.row
-    }
-
-    /// Gives the row up, with no memory.
-    pub fn into_row(self) -> Row
-        ensures { result ≡ self.row }
-    {
-        self.row
-    }
-
-    /// Lets a member of the row lead from now on, in the same version. Takes no memory.
-    pub fn mark_eligible(&mut self, member: MemberId)
-        ensures { self.new ≡ record self.old { row = with_eligible self.old.row member } }
-    {
-        self.row.mark_eligible(member);
-    }
-
     /// The source is told to freeze, if it is primary. Any other leaves the row without.
     pub fn freeze(self) -> Result<Freezing, Joined>
         ensures exact { is_ok result ≡ is_primary self.row self.source }
@@ -101,8 +47,8 @@ impl Joined {
             IfOk result (λ freezing. step ≡ Freezes freezing.source freezing.target) }
         ensures err { IfErr result (λ joined. joined ≡ self) }
     {
-        if self.row.is_primary(self.source) {
-            Ok(Freezing::begun(self.source, self.target, self.row))
+        if self.row().is_primary(self.source()) {
+            Ok(self.at_step())
         } else {
             Err(self)
         }
@@ -117,10 +63,10 @@ impl Joined {
         ensures primary { is_primary_refused result ≡ is_primary self.row self.source }
         ensures err { IfErr result (λ refused. joined_back refused ≡ self) }
     {
-        if self.row.is_primary(self.source) {
+        if self.row().is_primary(self.source()) {
             return Err(JoinedRefused::IsPrimary(self));
         }
-        match self.row.without(alloc, self.source) {
+        match self.row().without(alloc, self.source()) {
             Err(_) => Err(JoinedRefused::Memory(self)),
             Ok(row) => Ok(self.dropped(row)),
         }
@@ -132,20 +78,6 @@ impl Joined {
         requires row { row ≡ without self.row self.source }
         ensures { result ≡ dropping self }
     {
-        Committed::begun(self.source, self.target, row)
-    }
-
-    /// Ends the move, and leaves the row as it is.
-    pub fn cancel(self) -> Cancelled
-        ensures { result ≡ record { source = Some self.source; target = self.target; row = self.row } }
-    {
-        Cancelled::begun(Some(self.source), self.target, self.row)
-    }
-
-    /// The move in a new row. It has got as far as its target has in that row. Takes no memory.
-    pub fn on_row(self, row: Row) -> Ongoing
-        ensures { ongoing_step result ≡ record { row = row; move = begun_move row (Some self.source) self.target } }
-    {
-        begun_with_source(self.source, self.target, row)
+        Committed::begun(self.source(), self.target(), row)
     }
 }

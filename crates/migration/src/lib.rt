@@ -10,13 +10,15 @@ mod freezing;
 mod joined;
 mod joining;
 mod ongoing;
+mod replacing;
 
-pub use drained::{Drained, DrainedRefused};
-pub use ended::{Cancelled, Committed};
-pub use freezing::Freezing;
-pub use joined::{Joined, JoinedRefused};
+pub use drained::{Drained, DrainedRefused, DrainedStep};
+pub use ended::{Cancelled, Committed, CommittedStep};
+pub use freezing::{Freezing, FreezingStep};
+pub use joined::{Joined, JoinedRefused, JoinedStep};
 pub use joining::Joining;
 pub use ongoing::{Arrived, Ongoing};
+pub use replacing::{Replacing, Underway};
 
 #[cfg(test)]
 mod tests;
