@@ -1,8 +1,9 @@
 use super::*;
 use grid_base::{Bytes, MemberId};
-use member_wire::{Kind, MemberMessage, Outbox, Took, read_member};
-use partition_table::{Row, RowMember};
+use member_wire::{MemberMessage, Outbox, Took, read_member};
+use partition_table::Row;
 use std::alloc::Global;
+use std::fmt::Write;
 use std::process::Abort;
 use std::test::Fail;
 
@@ -41,17 +42,9 @@ const DRAINED: Outcome = Outcome::Took(Took::Drained);
 
 const STALE: Outcome = Outcome::Took(Took::Stale);
 
-/// A call, what it came to, and what was sent: to whom, and what it is about.
-type Line = (Call, Outcome, &'static [(MemberId, Kind)]);
-
-const NOTHING: &[(MemberId, Kind)] = &[];
-
-const TO_ALL: &[(MemberId, Kind)] = &[
-    (0, Kind::Row),
-    (1, Kind::Row),
-    (2, Kind::Row),
-    (3, Kind::Row),
-];
+/// A call, what it came to, to whom something was sent, and the row then: its version and members, a star for each that
+/// may lead, and whether a move is under way. What is sent is the row, if it isn't said to be a freeze.
+type Line = (Call, Outcome, &'static str, &'static str);
 
 fn made(answer: Result<u32, MoveRefused>) -> Outcome {
     match answer {
@@ -115,34 +108,43 @@ fn run_call(
     })
 }
 
+fn standing_text(alloc: Global, service: &Service) -> Result<String, Fail> {
+    let row = service.row();
+    let mut text = format!(in alloc; "{}:", row.version)?;
+    for listed in row.members.as_slice() {
+        let star = if listed.eligible { "*" } else { "" };
+        write!(text, " {}{star}", listed.member)?;
+    }
+    if service.moving() {
+        text.push_str(" moving")?;
+    }
+    Ok(text)
+}
+
 /// What the service says is of its newest row: the row itself, or a freeze in its version.
-fn assert_newest(rt: &impl Abort, row: &Row, message: &MemberMessage) {
+fn newest_text(rt: &impl Abort, row: &Row, message: &MemberMessage) -> &'static str {
     match message {
         MemberMessage::Row { row: told } => {
             assert_eq!(rt; told.version, row.version);
             assert_eq!(rt; told.members.as_slice(), row.members.as_slice());
+            ""
         }
-        MemberMessage::Freeze { version } => assert_eq!(rt; *version, row.version),
+        MemberMessage::Freeze { version } => {
+            assert_eq!(rt; *version, row.version);
+            " freezes"
+        }
         _ => panic!(rt; "the service says {message:?}"),
     }
 }
 
-/// What was sent is of these kinds, to these members.
-fn assert_sent(
-    rt: &impl Abort,
-    alloc: Global,
-    row: &Row,
-    out: &Outbox,
-    expected: &[(MemberId, Kind)],
-) -> Result<(), Fail> {
-    assert_eq!(rt; out.len(), expected.len());
-    for ((to, bytes), (member, kind)) in out.as_slice().iter().zip(expected) {
-        assert_eq!(rt; *to, *member);
+fn sent_text(rt: &impl Abort, alloc: Global, row: &Row, out: &Outbox) -> Result<String, Fail> {
+    let mut text = String::new(alloc);
+    for (to, bytes) in out.as_slice() {
         let message = read_member(alloc, bytes.as_slice())?;
-        assert_eq!(rt; message.kind(), *kind);
-        assert_newest(rt, row, &message);
+        let gap = if text.is_empty() { "" } else { " " };
+        write!(text, "{gap}{to}{}", newest_text(rt, row, &message))?;
     }
-    Ok(())
+    Ok(text)
 }
 
 fn assert_calls(
@@ -151,35 +153,16 @@ fn assert_calls(
     service: &mut Service,
     lines: &[Line],
 ) -> Result<(), Fail> {
-    for (asked, outcome, sent) in lines {
+    for (call, outcome, sent, standing) in lines {
         let mut out = Outbox::new(alloc);
-        let came_to = run_call(rt, alloc, service, *asked, &mut out)?;
-        assert_eq!(rt; came_to, *outcome, "at {asked:?}");
-        assert_sent(rt, alloc, service.row(), &out, sent)?;
+        let came_to = run_call(rt, alloc, service, *call, &mut out)?;
+        assert_eq!(rt; came_to, *outcome, "at {call:?}");
+        let was_sent = sent_text(rt, alloc, service.row(), &out)?;
+        assert_eq!(rt; was_sent.as_str(), *sent, "at {call:?}");
+        let stands = standing_text(alloc, service)?;
+        assert_eq!(rt; stands.as_str(), *standing, "at {call:?}");
     }
     Ok(())
-}
-
-/// One that may lead.
-const fn may(member: MemberId) -> RowMember {
-    RowMember {
-        member,
-        eligible: true,
-    }
-}
-
-/// One that may not lead yet.
-const fn later(member: MemberId) -> RowMember {
-    RowMember {
-        member,
-        eligible: false,
-    }
-}
-
-fn assert_row(rt: &impl Abort, row: &Row, version: u32, members: &[RowMember]) {
-    assert_eq!(rt; row.version, version);
-    assert_eq!(rt; row.lost, members.is_empty());
-    assert_eq!(rt; row.members.as_slice(), members, "in version {version}");
 }
 
 /// Partition 5 of four members, which member 1 leads, with member 2 as a backup.
@@ -187,122 +170,119 @@ fn service(alloc: Global) -> Result<Service, Fail> {
     Ok(Service::new(alloc, 5, 4, 1)?)
 }
 
+const A_PRIMARY_MOVES: &[Line] = &[
+    (Advance, NothingDue, "", "1: 1* 2*"),
+    (Resend, Done, "0 1 2 3", "1: 1* 2*"),
+    (Move(1, 3), Made(2), "0 1 2 3", "2: 1* 2* 3 moving"),
+    (Advance, NothingDue, "", "2: 1* 2* 3 moving"),
+    (Joined(1, 3), STALE, "", "2: 1* 2* 3 moving"),
+    (Joined(2, 0), STALE, "", "2: 1* 2* 3 moving"),
+    (Joined(2, 1), STALE, "", "2: 1* 2* 3 moving"),
+    (Frozen(2), STALE, "", "2: 1* 2* 3 moving"),
+    (Joined(2, 3), JOINED, "", "2: 1* 2* 3* moving"),
+    (Joined(2, 3), STALE, "", "2: 1* 2* 3* moving"),
+    (Advance, Froze, "1 freezes", "2: 1* 2* 3* moving"),
+    (Advance, NothingDue, "", "2: 1* 2* 3* moving"),
+    (Frozen(1), STALE, "", "2: 1* 2* 3* moving"),
+    (Resend, Done, "0 1 2 3 1 freezes", "2: 1* 2* 3* moving"),
+    (Frozen(2), DRAINED, "", "2: 1* 2* 3* moving"),
+    (Frozen(2), STALE, "", "2: 1* 2* 3* moving"),
+    (Resend, Done, "0 1 2 3", "2: 1* 2* 3* moving"),
+    (Advance, Made(3), "0 1 2 3", "3: 3* 2*"),
+    (Advance, NothingDue, "", "3: 3* 2*"),
+];
+
 #[test]
-fn a_primary_is_moved_step_by_step(rt: HostRuntime) -> Result<(), Fail> {
-    let alloc = rt.alloc();
-    let mut service = service(alloc)?;
-    assert_row(&rt, service.row(), 1, &[may(1), may(2)]);
-    assert!(rt; !service.moving());
-    let comes_in: &[Line] = &[
-        (Advance, NothingDue, NOTHING),
-        (Move(1, 3), Made(2), TO_ALL),
-        (Advance, NothingDue, NOTHING),
-        (Joined(1, 3), STALE, NOTHING),
-        (Joined(2, 0), STALE, NOTHING),
-        (Joined(2, 1), STALE, NOTHING),
-    ];
-    assert_calls(&rt, alloc, &mut service, comes_in)?;
-    assert_row(&rt, service.row(), 2, &[may(1), may(2), later(3)]);
-    assert!(rt; service.moving());
-    let takes_over: &[Line] = &[
-        (Frozen(2), STALE, NOTHING),
-        (Joined(2, 3), JOINED, NOTHING),
-        (Joined(2, 3), STALE, NOTHING),
-        (Advance, Froze, &[(1, Kind::Freeze)]),
-        (Advance, NothingDue, NOTHING),
-        (Frozen(1), STALE, NOTHING),
-        (Frozen(2), DRAINED, NOTHING),
-        (Frozen(2), STALE, NOTHING),
-    ];
-    assert_calls(&rt, alloc, &mut service, takes_over)?;
-    assert_row(&rt, service.row(), 2, &[may(1), may(2), may(3)]);
-    let ends: &[Line] = &[(Advance, Made(3), TO_ALL), (Advance, NothingDue, NOTHING)];
-    assert_calls(&rt, alloc, &mut service, ends)?;
-    assert_row(&rt, service.row(), 3, &[may(3), may(2)]);
-    assert!(rt; !service.moving());
-    Ok(())
+fn a_primary_moves_step_by_step(rt: HostRuntime) -> Result<(), Fail> {
+    let mut service = service(rt.alloc())?;
+    assert_calls(&rt, rt.alloc(), &mut service, A_PRIMARY_MOVES)
 }
+
+const A_BACKUP_MOVES: &[Line] = &[
+    (Move(2, 0), Made(2), "0 1 2 3", "2: 1* 2* 0 moving"),
+    (Joined(2, 0), JOINED, "", "2: 1* 2* 0* moving"),
+    (Advance, Made(3), "0 1 2 3", "3: 1* 0*"),
+];
 
 #[test]
 fn a_backup_leaves_at_once(rt: HostRuntime) -> Result<(), Fail> {
     let mut service = service(rt.alloc())?;
-    let lines: &[Line] = &[
-        (Move(2, 0), Made(2), TO_ALL),
-        (Joined(2, 0), JOINED, NOTHING),
-        (Advance, Made(3), TO_ALL),
-    ];
-    assert_calls(&rt, rt.alloc(), &mut service, lines)?;
-    assert_row(&rt, service.row(), 3, &[may(1), may(0)]);
-    assert!(rt; !service.moving());
-    Ok(())
+    assert_calls(&rt, rt.alloc(), &mut service, A_BACKUP_MOVES)
 }
+
+const A_JOIN: &[Line] = &[
+    (Join(3), Made(2), "0 1 2 3", "2: 1* 2* 3 moving"),
+    (Advance, NothingDue, "", "2: 1* 2* 3 moving"),
+    (Joined(2, 3), JOINED, "", "2: 1* 2* 3*"),
+];
 
 #[test]
 fn a_joiner_takes_nobodys_place(rt: HostRuntime) -> Result<(), Fail> {
     let mut service = service(rt.alloc())?;
-    let lines: &[Line] = &[
-        (Join(3), Made(2), TO_ALL),
-        (Advance, NothingDue, NOTHING),
-        (Joined(2, 3), JOINED, NOTHING),
-    ];
-    assert_calls(&rt, rt.alloc(), &mut service, lines)?;
-    assert_row(&rt, service.row(), 2, &[may(1), may(2), may(3)]);
-    assert!(rt; !service.moving());
-    Ok(())
+    assert_calls(&rt, rt.alloc(), &mut service, A_JOIN)
 }
+
+const A_HANDOVER: &[Line] = &[
+    (Handover(1, 2), Done, "", "1: 1* 2* moving"),
+    (Advance, Froze, "1 freezes", "1: 1* 2* moving"),
+    (Frozen(1), DRAINED, "", "1: 1* 2* moving"),
+    (Advance, Made(2), "0 1 2 3", "2: 2*"),
+];
 
 #[test]
 fn a_handover_makes_no_row_at_first(rt: HostRuntime) -> Result<(), Fail> {
     let mut service = service(rt.alloc())?;
-    let begins: &[Line] = &[(Handover(1, 2), Done, NOTHING)];
-    assert_calls(&rt, rt.alloc(), &mut service, begins)?;
-    assert_row(&rt, service.row(), 1, &[may(1), may(2)]);
-    assert!(rt; service.moving());
-    let ends: &[Line] = &[
-        (Advance, Froze, &[(1, Kind::Freeze)]),
-        (Frozen(1), DRAINED, NOTHING),
-        (Advance, Made(2), TO_ALL),
-    ];
-    assert_calls(&rt, rt.alloc(), &mut service, ends)?;
-    assert_row(&rt, service.row(), 2, &[may(2)]);
-    assert!(rt; !service.moving());
-    Ok(())
+    assert_calls(&rt, rt.alloc(), &mut service, A_HANDOVER)
 }
+
+const LOST: Outcome = Refused(MoveRefused::Lost);
+
+const NOT_IDLE: Outcome = Refused(MoveRefused::NotIdle);
+
+const NOT_THERE: Outcome = Refused(MoveRefused::NotThere);
+
+const ALREADY_THERE: Outcome = Refused(MoveRefused::AlreadyThere);
+
+const NOT_LIVE: Outcome = Refused(MoveRefused::NotLive);
+
+const NOT_ELIGIBLE: Outcome = Refused(MoveRefused::NotEligible);
+
+const NOT_LOST: Outcome = NotReopened(ReopenRefused::NotLost);
+
+const NO_MEMBER: Outcome = NotReopened(ReopenRefused::NoMember);
+
+const REFUSALS: &[Line] = &[
+    // No move is under way: who is there, and who is live.
+    (Move(0, 1), NOT_THERE, "", "1: 1* 2*"),
+    (Move(0, 4), NOT_THERE, "", "1: 1* 2*"),
+    (Move(1, 2), ALREADY_THERE, "", "1: 1* 2*"),
+    (Move(1, 4), NOT_LIVE, "", "1: 1* 2*"),
+    (Join(2), ALREADY_THERE, "", "1: 1* 2*"),
+    (Join(4), NOT_LIVE, "", "1: 1* 2*"),
+    (Handover(2, 1), NOT_THERE, "", "1: 1* 2*"),
+    (Handover(1, 3), NOT_THERE, "", "1: 1* 2*"),
+    // One is under way, whoever is meant.
+    (Move(1, 3), Made(2), "0 1 2 3", "2: 1* 2* 3 moving"),
+    (Move(0, 1), NOT_IDLE, "", "2: 1* 2* 3 moving"),
+    (Join(1), NOT_IDLE, "", "2: 1* 2* 3 moving"),
+    (Handover(2, 1), NOT_IDLE, "", "2: 1* 2* 3 moving"),
+    // Its source is lost, and its target may not lead.
+    (Detect(1), Made(3), "0 2 3", "3: 2* 3"),
+    (Join(1), NOT_LIVE, "", "3: 2* 3"),
+    (Handover(2, 3), NOT_ELIGIBLE, "", "3: 2* 3"),
+    (Handover(3, 2), NOT_THERE, "", "3: 2* 3"),
+    (Reopen, NOT_LOST, "", "3: 2* 3"),
+    // Nobody is left who may lead.
+    (Detect(2), Made(4), "0 3", "4:"),
+    (Move(0, 4), LOST, "", "4:"),
+    (Join(4), LOST, "", "4:"),
+    (Handover(2, 3), LOST, "", "4:"),
+];
 
 #[test]
 fn the_first_reason_is_told(rt: HostRuntime) -> Result<(), Fail> {
     let mut service = service(rt.alloc())?;
-    let to_others: &[(MemberId, Kind)] = &[(0, Kind::Row), (2, Kind::Row), (3, Kind::Row)];
-    let lines: &[Line] = &[
-        // Nothing is under way: who is there, and who is live.
-        (Move(0, 1), Refused(MoveRefused::NotThere), NOTHING),
-        (Move(0, 4), Refused(MoveRefused::NotThere), NOTHING),
-        (Move(1, 2), Refused(MoveRefused::AlreadyThere), NOTHING),
-        (Move(1, 4), Refused(MoveRefused::NotLive), NOTHING),
-        (Join(2), Refused(MoveRefused::AlreadyThere), NOTHING),
-        (Join(4), Refused(MoveRefused::NotLive), NOTHING),
-        (Handover(2, 1), Refused(MoveRefused::NotThere), NOTHING),
-        (Handover(1, 3), Refused(MoveRefused::NotThere), NOTHING),
-        // A move is under way, whoever is meant.
-        (Move(1, 3), Made(2), TO_ALL),
-        (Move(0, 1), Refused(MoveRefused::NotIdle), NOTHING),
-        (Join(1), Refused(MoveRefused::NotIdle), NOTHING),
-        (Handover(2, 1), Refused(MoveRefused::NotIdle), NOTHING),
-        // Its source is lost, and its target may not lead.
-        (Detect(1), Made(3), to_others),
-        (Join(1), Refused(MoveRefused::NotLive), NOTHING),
-        (Handover(2, 3), Refused(MoveRefused::NotEligible), NOTHING),
-        (Handover(3, 2), Refused(MoveRefused::NotThere), NOTHING),
-        (Reopen, NotReopened(ReopenRefused::NotLost), NOTHING),
-        // Nobody is left who may lead.
-        (Detect(2), Made(4), &[(0, Kind::Row), (3, Kind::Row)]),
-        (Move(0, 4), Refused(MoveRefused::Lost), NOTHING),
-        (Join(4), Refused(MoveRefused::Lost), NOTHING),
-        (Handover(2, 3), Refused(MoveRefused::Lost), NOTHING),
-    ];
-    assert_calls(&rt, rt.alloc(), &mut service, lines)?;
-    assert_row(&rt, service.row(), 4, &[]);
-    Ok(())
+    assert_calls(&rt, rt.alloc(), &mut service, REFUSALS)
 }
 
 /// Partition 6 of five members: member 1 leads, with 2 and 3 as backups, and 4 takes its place by so many steps.
@@ -318,161 +298,123 @@ fn moved_by(rt: &impl Abort, alloc: Global, steps: usize) -> Result<Service, Fai
     Ok(service)
 }
 
+const WAITS_AGAIN: &[Line] = &[
+    (Detect(3), Made(3), "0 1 2 4", "3: 1* 2* 4 moving"),
+    (Advance, NothingDue, "", "3: 1* 2* 4 moving"),
+    (Joined(2, 4), STALE, "", "3: 1* 2* 4 moving"),
+];
+
+// The target may lead already, so the source is told to freeze in the new row, also where it was frozen before.
+const FREEZES_AGAIN: &[Line] = &[
+    (Detect(3), Made(3), "0 1 2 4", "3: 1* 2* 4* moving"),
+    (Frozen(2), STALE, "", "3: 1* 2* 4* moving"),
+    (Advance, Froze, "1 freezes", "3: 1* 2* 4* moving"),
+    (Frozen(3), DRAINED, "", "3: 1* 2* 4* moving"),
+    (Advance, Made(4), "0 1 2 4", "4: 4* 2*"),
+];
+
 #[test]
 fn a_move_begins_again_without_a_backup(rt: HostRuntime) -> Result<(), Fail> {
-    let alloc = rt.alloc();
-    let told: &[(MemberId, Kind)] = &[
-        (0, Kind::Row),
-        (1, Kind::Row),
-        (2, Kind::Row),
-        (4, Kind::Row),
-    ];
-    let mut joining = moved_by(&rt, alloc, 1)?;
-    let waits: &[Line] = &[(Detect(3), Made(3), told), (Advance, NothingDue, NOTHING)];
-    assert_calls(&rt, alloc, &mut joining, waits)?;
-    assert_row(&rt, joining.row(), 3, &[may(1), may(2), later(4)]);
-    assert!(rt; joining.moving());
+    let mut joining = moved_by(&rt, rt.alloc(), 1)?;
+    assert_calls(&rt, rt.alloc(), &mut joining, WAITS_AGAIN)?;
     assert!(rt; joining.is_detected(3) && !joining.is_detected(2));
-    // The target may lead already: the source is told to freeze in the new row, also where it was frozen.
-    let goes_on: &[Line] = &[
-        (Detect(3), Made(3), told),
-        (Frozen(2), STALE, NOTHING),
-        (Advance, Froze, &[(1, Kind::Freeze)]),
-        (Frozen(3), DRAINED, NOTHING),
-        (Advance, Made(4), told),
-    ];
     for steps in 2..5 {
-        let mut service = moved_by(&rt, alloc, steps)?;
-        assert_calls(&rt, alloc, &mut service, goes_on)?;
-        assert_row(&rt, service.row(), 4, &[may(4), may(2)]);
+        let mut service = moved_by(&rt, rt.alloc(), steps)?;
+        assert_calls(&rt, rt.alloc(), &mut service, FREEZES_AGAIN)?;
     }
     Ok(())
 }
 
+const ENDS_WITHOUT_A_JOINER: &[Line] = &[
+    (Detect(4), Made(3), "0 1 2 3", "3: 1* 2* 3*"),
+    (Advance, NothingDue, "", "3: 1* 2* 3*"),
+];
+
+const ENDS_AS_IT_JOINS: &[Line] = &[
+    (Detect(1), Made(3), "0 2 3 4", "3: 2* 3* 4"),
+    (Advance, NothingDue, "", "3: 2* 3* 4"),
+];
+
+const ENDS_WITHOUT_A_SOURCE: &[Line] = &[
+    (Detect(1), Made(3), "0 2 3 4", "3: 2* 3* 4*"),
+    (Advance, NothingDue, "", "3: 2* 3* 4*"),
+    (Frozen(3), STALE, "", "3: 2* 3* 4*"),
+];
+
 #[test]
 fn a_move_ends_without_its_source_or_target(rt: HostRuntime) -> Result<(), Fail> {
-    let alloc = rt.alloc();
     for steps in 1..5 {
-        for lost in [1, 4] {
-            let mut service = moved_by(&rt, alloc, steps)?;
-            let mut out = Outbox::new(alloc);
-            assert_eq!(rt;
-                run_call(&rt, alloc, &mut service, Detect(lost), &mut out)?,
-                Made(3)
-            );
-            assert_eq!(rt; out.len(), 4);
-            assert!(rt; !service.moving());
-            assert!(rt; !service.row().contains(lost));
-            let ended: &[Line] = &[(Advance, NothingDue, NOTHING), (Frozen(3), STALE, NOTHING)];
-            assert_calls(&rt, alloc, &mut service, ended)?;
-        }
+        let mut service = moved_by(&rt, rt.alloc(), steps)?;
+        assert_calls(&rt, rt.alloc(), &mut service, ENDS_WITHOUT_A_JOINER)?;
+    }
+    let mut joining = moved_by(&rt, rt.alloc(), 1)?;
+    assert_calls(&rt, rt.alloc(), &mut joining, ENDS_AS_IT_JOINS)?;
+    for steps in 2..5 {
+        let mut service = moved_by(&rt, rt.alloc(), steps)?;
+        assert_calls(&rt, rt.alloc(), &mut service, ENDS_WITHOUT_A_SOURCE)?;
     }
     Ok(())
 }
+
+const A_LOSS: &[Line] = &[
+    (Reopen, NOT_LOST, "", "1: 1* 2*"),
+    (Detect(1), Made(2), "0 2 3", "2: 2*"),
+    (Detect(2), Made(3), "0 3", "3:"),
+    (Resend, Done, "0 3", "3:"),
+    // From member 1 on, those that are left: the first leads.
+    (Reopen, Made(4), "0 3", "4: 3* 0"),
+    (Detect(0), Made(5), "3", "5: 3*"),
+    (Detect(3), Made(6), "", "6:"),
+    (Reopen, NO_MEMBER, "", "6:"),
+    (Detect(3), Done, "", "6:"),
+];
 
 #[test]
 fn a_lost_partition_is_reopened(rt: HostRuntime) -> Result<(), Fail> {
     let mut service = service(rt.alloc())?;
-    let left: &[(MemberId, Kind)] = &[(0, Kind::Row), (3, Kind::Row)];
-    let lines: &[Line] = &[
-        (Reopen, NotReopened(ReopenRefused::NotLost), NOTHING),
-        (
-            Detect(1),
-            Made(2),
-            &[(0, Kind::Row), (2, Kind::Row), (3, Kind::Row)],
-        ),
-        (Detect(2), Made(3), left),
-        (Resend, Done, left),
-        (Reopen, Made(4), left),
-    ];
-    assert_calls(&rt, rt.alloc(), &mut service, lines)?;
-    // From member 1 on, those that are left: the first leads.
-    assert_row(&rt, service.row(), 4, &[may(3), later(0)]);
+    assert_calls(&rt, rt.alloc(), &mut service, A_LOSS)?;
     assert_eq!(rt; service.row().reset, 4);
-    let nobody: &[Line] = &[
-        (Detect(0), Made(5), &[(3, Kind::Row)]),
-        (Detect(3), Made(6), NOTHING),
-        (Reopen, NotReopened(ReopenRefused::NoMember), NOTHING),
-        (Detect(3), Done, NOTHING),
-    ];
-    assert_calls(&rt, rt.alloc(), &mut service, nobody)?;
-    assert_row(&rt, service.row(), 6, &[]);
     Ok(())
 }
+
+const A_STRANGER_CRASHES: &[Line] = &[
+    (Detect(0), Done, "", "1: 1* 2*"),
+    (Resend, Done, "1 2 3", "1: 1* 2*"),
+];
 
 #[test]
 fn one_outside_the_row_makes_no_row(rt: HostRuntime) -> Result<(), Fail> {
     let mut service = service(rt.alloc())?;
-    let lines: &[Line] = &[
-        (Detect(0), Done, NOTHING),
-        (
-            Resend,
-            Done,
-            &[(1, Kind::Row), (2, Kind::Row), (3, Kind::Row)],
-        ),
-    ];
-    assert_calls(&rt, rt.alloc(), &mut service, lines)?;
+    assert_calls(&rt, rt.alloc(), &mut service, A_STRANGER_CRASHES)?;
     assert!(rt; service.is_detected(0));
-    assert_row(&rt, service.row(), 1, &[may(1), may(2)]);
     Ok(())
 }
 
-#[test]
-fn a_freeze_is_sent_again(rt: HostRuntime) -> Result<(), Fail> {
-    let mut service = moved_by(&rt, rt.alloc(), 3)?;
-    let rows_and_freeze: &[(MemberId, Kind)] = &[
-        (0, Kind::Row),
-        (1, Kind::Row),
-        (2, Kind::Row),
-        (3, Kind::Row),
-        (4, Kind::Row),
-        (1, Kind::Freeze),
-    ];
-    let lines: &[Line] = &[
-        (Resend, Done, rows_and_freeze),
-        (Frozen(2), DRAINED, NOTHING),
-    ];
-    assert_calls(&rt, rt.alloc(), &mut service, lines)?;
-    let mut out = Outbox::new(rt.alloc());
-    service.resend(rt.alloc(), &mut out)?;
-    assert_eq!(rt; out.len(), 5);
-    Ok(())
+fn assert_other(rt: &impl Abort, service: &mut Service, message: &MemberMessage) {
+    assert_eq!(rt; service.take(message), Took::Other);
 }
 
 #[test]
 fn what_is_said_to_members_is_for_others(rt: HostRuntime) -> Result<(), Fail> {
     let alloc = rt.alloc();
     let mut service = moved_by(&rt, alloc, 3)?;
+    let version = 2;
+    let (number, count) = (1, 1);
+    let effect = Bytes::new(alloc);
     let row = Row::initial(alloc, 6, 5, 2)?;
-    let messages = [
-        MemberMessage::Row {
-            row: row.copied(alloc)?,
+    assert_other(&rt, &mut service, &MemberMessage::Row { row });
+    assert_other(
+        &rt,
+        &mut service,
+        &MemberMessage::Effect {
+            version,
+            number,
+            effect,
         },
-        MemberMessage::Sync {
-            row: row.copied(alloc)?,
-            count: 0,
-            snapshot: Bytes::new(alloc),
-        },
-        MemberMessage::Effect {
-            version: 2,
-            number: 1,
-            effect: Bytes::new(alloc),
-        },
-        MemberMessage::Ack {
-            version: 2,
-            count: 1,
-        },
-        MemberMessage::Freeze { version: 2 },
-        MemberMessage::Bridge {
-            row,
-            base: 1,
-            count: 0,
-        },
-    ];
-    for message in &messages {
-        assert_eq!(rt; service.take(message), Took::Other);
-    }
-    assert_row(&rt, service.row(), 2, &[may(1), may(2), may(3), may(4)]);
-    assert!(rt; service.moving());
+    );
+    assert_other(&rt, &mut service, &MemberMessage::Ack { version, count });
+    assert_other(&rt, &mut service, &MemberMessage::Freeze { version });
+    let stands = standing_text(alloc, &service)?;
+    assert_eq!(rt; stands.as_str(), "2: 1* 2* 3* 4* moving");
     Ok(())
 }
