@@ -34,7 +34,7 @@ module _ (net new : Net) (from to : ℕ) (bytes : List ℕ) (rest : List (ℕ ×
       go : (f ≡ from) ⊎ (f ≢ from) → (t ≡ to) ⊎ (t ≢ to) → with_sent from rest (list_of new) f t ≡ with_sent from ((to, bytes) ∷ rest) (list_of net) f t
       go (inl e) (inl g) =
           let here : list_of new f t ≡ list_of net f t ++ bytes ∷ [] =
-              lists f t ∙ rw (is_same f from e, is_same t to g) refl ∙ ap (λ x. list_of net x to ++ bytes ∷ []) (sym e) ∙ ap (λ x. list_of net f x ++ bytes ∷ []) (sym g) in
+          lists f t ∙ rw (is_same f from e, is_same t to g) refl ∙ ap (λ x. list_of net x to ++ bytes ∷ []) (sym e) ∙ ap (λ x. list_of net f x ++ bytes ∷ []) (sym g) in
           let left : with_sent from rest (list_of new) f t ≡ list_of new f t ++ sent_to t rest = rw (is_same f from e) refl in
           let right : with_sent from ((to, bytes) ∷ rest) (list_of net) f t ≡ list_of net f t ++ sent_to t ((to, bytes) ∷ rest) = rw (is_same f from e) refl in
           left ∙ ap (λ xs. xs ++ sent_to t rest) here ∙ append_assoc (list_of net f t) (bytes ∷ []) (sent_to t rest)

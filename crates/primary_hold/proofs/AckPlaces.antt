@@ -131,6 +131,6 @@ pub places_kept : (row : Row) (old new : AckList) (m c : ℕ) → HasPlaces row 
 places_kept row old new m c has backup list room = record {
   once = ap (λ xs. are_distinct (ackers_of xs)) list ∙ distinct_with_ack m c old.list has.once;
   backups = λ n i. ⊎_elim (λ there. has.backups n there) (λ same. subst (λ k. is_among (backup_numbers row) k ≡ true) (sym same) (backup_among row m backup))
-  (among_with_ack m c n old.list (sym (ap (λ xs. is_among (ackers_of xs) n) list) ∙ i));
+      (among_with_ack m c n old.list (sym (ap (λ xs. is_among (ackers_of xs) n) list) ∙ i));
   places = let places = has.places in omega arith;
 }

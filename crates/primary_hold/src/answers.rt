@@ -40,10 +40,8 @@ fn has_call(answers: &VecDeque<Released>, first: usize, id: CallId) -> bool
     ensures { let behind = drop first answers.now.items in
         result ≡ list_any (λ (a : Answer). (a.id.conn == id.conn) && (a.id.number == id.number)) behind }
 {
-    answers
-        .iter()
-        .skip(first)
-        .any(|answer| answer.id.conn == id.conn && answer.id.number == id.number)
+    answers.iter().skip(first).any(|answer| answer.id.conn == id.conn
+        && answer.id.number == id.number)
 }
 
 impl Answers {

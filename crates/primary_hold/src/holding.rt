@@ -37,13 +37,7 @@ impl Earlier {
 
 impl Hold {
     /// A primary that begins with the row.
-    pub(crate) fn start(
-        row: Row,
-        count: u32,
-        opening: bool,
-        answers: Answers,
-        room: Room,
-    ) -> Hold
+    pub(crate) fn start(row: Row, count: u32, opening: bool, answers: Answers, room: Room) -> Hold
         requires { length (backups_of row) ≤ room }
         ensures node { hold_node result ≡ started row count opening (map held_of answers.held) }
         ensures answers { hold_answers result ≡ answering_of answers }

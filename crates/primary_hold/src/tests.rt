@@ -227,12 +227,18 @@ fn keeps_no_acknowledgement_but_of_its_version_and_backups(rt: HostRuntime) -> R
     assert_eq!(rt; primary.take_ack(1, 2, 1), AckTaken::Stale);
     assert_eq!(rt; primary.take_ack(2, 3, 1), AckTaken::Stale);
     assert_eq!(rt; primary.take_ack(0, 3, 1), AckTaken::Stale);
-    assert_eq!(rt; (primary.acked(1), primary.took(1), primary.lags(1)), (None, None, true));
+    assert_eq!(rt;
+        (primary.acked(1), primary.took(1), primary.lags(1)),
+        (None, None, true)
+    );
     assert_eq!(rt; primary.take_ack(1, 3, 0), AckTaken::First);
     assert!(rt; primary.holds_any());
     assert_eq!(rt; primary.take_ack(1, 3, 1), AckTaken::Further);
     assert_eq!(rt; primary.take_ack(1, 3, 0), AckTaken::Further);
-    assert_eq!(rt; (primary.acked(1), primary.took(1), primary.lags(1)), (Some(1), Some(1), false));
+    assert_eq!(rt;
+        (primary.acked(1), primary.took(1), primary.lags(1)),
+        (Some(1), Some(1), false)
+    );
     assert!(rt; !primary.holds_any());
     Ok(())
 }
@@ -268,8 +274,14 @@ fn keeps_what_it_heard_as_it_goes_on_in_a_newer_row(rt: HostRuntime) -> Result<(
 
     let next = row(alloc, 4, &[(2, true), (1, true), (4, false)])?;
     let ahead = primary.view_in(&next);
-    assert_eq!(rt; (ahead.row().version, ahead.count(), ahead.adopted()), (4, 3, 3));
-    let bridged = CatchUp::Bridged { version: 3, after: 2 };
+    assert_eq!(rt;
+        (ahead.row().version, ahead.count(), ahead.adopted()),
+        (4, 3, 3)
+    );
+    let bridged = CatchUp::Bridged {
+        version: 3,
+        after: 2,
+    };
     assert_eq!(rt; ahead.catch_up(&may_lead(1)), bridged);
     assert_eq!(rt; ahead.catch_up(&may_lead(2)), CatchUp::Whole);
 
@@ -291,7 +303,10 @@ fn keeps_what_it_heard_as_it_goes_on_in_a_newer_row(rt: HostRuntime) -> Result<(
 fn sends_the_recent_effects_to_a_backup_that_lags(rt: HostRuntime) -> Result<(), Fail> {
     let alloc = rt.alloc();
     let mut primary = primary(alloc, &[(1, true), (2, false)])?;
-    assert_eq!(rt; View::first(primary.row(), 0).catch_up(&may_lead(1)), CatchUp::Whole);
+    assert_eq!(rt;
+        View::first(primary.row(), 0).catch_up(&may_lead(1)),
+        CatchUp::Whole
+    );
     for number in 0..64 {
         call(&mut primary, alloc, number, Some(number as u8))?;
     }
@@ -302,15 +317,27 @@ fn sends_the_recent_effects_to_a_backup_that_lags(rt: HostRuntime) -> Result<(),
         eligible: false,
     };
     assert_eq!(rt; primary.view().catch_up(&joiner), CatchUp::Whole);
-    assert_eq!(rt; primary.view().catch_up(&may_lead(1)), CatchUp::Effects { after: 0 });
+    assert_eq!(rt;
+        primary.view().catch_up(&may_lead(1)),
+        CatchUp::Effects { after: 0 }
+    );
     assert!(rt; primary.view().lags(1));
-    assert_eq!(rt; primary.recent(1).map(|effect| effect.as_slice()[0]), Some(0));
+    assert_eq!(rt;
+        primary.recent(1).map(|effect| effect.as_slice()[0]),
+        Some(0)
+    );
 
     call(&mut primary, alloc, 64, Some(64))?;
     assert_eq!(rt; primary.view().catch_up(&may_lead(1)), CatchUp::Whole);
     assert!(rt; primary.recent(1).is_none());
-    assert_eq!(rt; primary.recent(2).map(|effect| effect.as_slice()[0]), Some(1));
-    assert_eq!(rt; primary.recent(65).map(|effect| effect.as_slice()[0]), Some(64));
+    assert_eq!(rt;
+        primary.recent(2).map(|effect| effect.as_slice()[0]),
+        Some(1)
+    );
+    assert_eq!(rt;
+        primary.recent(65).map(|effect| effect.as_slice()[0]),
+        Some(64)
+    );
     assert!(rt; primary.recent(66).is_none());
     Ok(())
 }

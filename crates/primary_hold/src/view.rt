@@ -133,13 +133,7 @@ impl<'a> View<'a> {
     {
         match acked_by(self.acks, member) {
             Some(count) => Some(count),
-            None => {
-                if self.opening {
-                    Some(0)
-                } else {
-                    None
-                }
-            }
+            None => { if self.opening { Some(0) } else { None } }
         }
     }
 

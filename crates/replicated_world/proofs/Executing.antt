@@ -98,7 +98,7 @@ module _ {S C State : Type 0} (k : Meaning S C State) (limits : C → Type 0) (w
   first_next e =
       ap (λ (u : Machine C). effect_call u n.pair.version (n.pair.count + 1)) (next_is ∙ ap run_with e)
       ∙ first_called k.object w stood.good.0 stood.good.1 m n there alive leads thawed (entry true) (n.pair.count + 1) (n.recent + 1)
-        (record { conn = conn; number = number; seen = n.pair.count + 1 }) (omega arith) refl refl refl refl refl refl (omega arith)
+      (record { conn = conn; number = number; seen = n.pair.count + 1 }) (omega arith) refl refl refl refl refl refl (omega arith)
 
   -- and its bytes are those of the new number
   pub bytes_next : changes ≡ true → effect_bytes k next n.pair.version (n.pair.count + 1) ≡ unwrap_or (k.effect_of before call now) []

@@ -95,7 +95,7 @@ module _ {S C State : Type 0} (k : Meaning S C State) (limits : C → Type 0) (w
 
   pub keeps_on : (ring : List (List ℕ))
       → KeepsOn k limits within applied shelf w stood m conn number call now n lives there executed (kept ring n.pair.count)
-        (kept (ring_after (k.effect_of before call now) ring) (executing (k.object.changes before call now) conn number n).pair.count)
+      (kept (ring_after (k.effect_of before call now) ring) (executing (k.object.changes before call now) conn number n).pair.count)
   keeps_on ring = by_effect (k.effect_of before call now) (k.object.changes before call now) refl refl (shelf.changes_by_effect before call now)
     where
       by_effect : (e : Option (List ℕ)) (b : Bool) → k.effect_of before call now ≡ e → k.object.changes before call now ≡ b → k.object.changes before call now ≡ is_some (k.effect_of before call now)

@@ -28,4 +28,3 @@ before_newest {C = C} log x =
     let all : List (Entry C) = log ++ Called x ∷ [] in
     let there : length all - suffix_len (λ (e : Entry C). not (is_call (id_of x) e)) all - 1 ≡ length log = omega (arith, none_after log x, length-append log (Called x ∷ [])) in
     ap (λ k. take k all) there ∙ take-append_seam log (Called x ∷ [])
-

@@ -95,13 +95,15 @@ module _ {S C State : Type 0} (k : Meaning S C State) (limits : C → Type 0) (w
 
     pub earlier_stays : (e : Earlier) (b : Base) (i : ℕ) → n.earlier ≡ Some e → Contains next.recorded.bases b → b.version ≡ e.version → b.pair.count < i → i ≤ n.adopted
         → Contains w.recorded.bases b × (effect_bytes k next e.version i ≡ effect_bytes k w e.version i)
-    earlier_stays e b i z c s l r = (subst (Contains w.recorded.bases) (sym same) knows.recorded,
-        effect_bytes_stay k law w stood.good event e.version i
-        (part_known k.object w stood.good.0 stood.good.1 (record { version = e.version; count = i - 1 }) began.pair (ap (λ (p : Pair). p.version) (sym knows.pair), (let count = ap (λ (p : Pair). p.count) knows.pair in omega (arith, r, count)))
-        (base_known k.object w stood.good.0 stood.good.1 began (in_contains began w.recorded.bases begins.recorded)))
-        (subst (λ v. IsEffect k.object w v i) (ap (λ (p : Pair). p.version) knows.pair)
-        (counts.bases began knows.before i begins.recorded knows.recorded (knows.version ∙ ap (λ (p : Pair). p.version) (sym knows.pair))
-        (let count = ap (λ (x : Base). x.pair.count) same in omega (arith, count, l)) (let count = ap (λ (p : Pair). p.count) knows.pair in omega (arith, r, count)))))
+    earlier_stays e b i z c s l r = (
+      subst (Contains w.recorded.bases) (sym same) knows.recorded,
+      effect_bytes_stay k law w stood.good event e.version i
+          (part_known k.object w stood.good.0 stood.good.1 (record { version = e.version; count = i - 1 }) began.pair (ap (λ (p : Pair). p.version) (sym knows.pair), (let count = ap (λ (p : Pair). p.count) knows.pair in omega (arith, r, count)))
+          (base_known k.object w stood.good.0 stood.good.1 began (in_contains began w.recorded.bases begins.recorded)))
+          (subst (λ v. IsEffect k.object w v i) (ap (λ (p : Pair). p.version) knows.pair)
+          (counts.bases began knows.before i begins.recorded knows.recorded (knows.version ∙ ap (λ (p : Pair). p.version) (sym knows.pair))
+          (let count = ap (λ (x : Base). x.pair.count) same in omega (arith, count, l)) (let count = ap (λ (p : Pair). p.count) knows.pair in omega (arith, r, count)))),
+    )
       where
         began : Base
         began = begins.began

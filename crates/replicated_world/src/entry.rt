@@ -20,7 +20,9 @@ pub enum Entry<C> {
         reply: Bytes,
     },
     /// The partition was reopened by the row of that version, and goes on empty.
-    Reset { version: u32 },
+    Reset {
+        version: u32,
+    },
 }
 
 impl<C> Entry<C> {

@@ -14,23 +14,49 @@ pub enum Event<C> {
         now: Moment,
     },
     /// The message at that place of a link, from 0, is handed over.
-    Deliver { from: u8, to: u8, place: usize },
+    Deliver {
+        from: u8,
+        to: u8,
+        place: usize,
+    },
     /// It is lost.
-    Lose { from: u8, to: u8, place: usize },
+    Lose {
+        from: u8,
+        to: u8,
+        place: usize,
+    },
     /// It is in flight once more.
-    Repeat { from: u8, to: u8, place: usize },
+    Repeat {
+        from: u8,
+        to: u8,
+        place: usize,
+    },
     /// A primary or the table service sends again what may have been lost.
-    Resend { end: u8 },
+    Resend {
+        end: u8,
+    },
     /// A member takes no further step. What it sent stays in flight.
-    Crash { member: MemberId },
+    Crash {
+        member: MemberId,
+    },
     /// The table service is told that a member has crashed.
-    Detect { member: MemberId },
+    Detect {
+        member: MemberId,
+    },
     /// A member is to take another's place in the row.
-    BeginMove { from: MemberId, to: MemberId },
+    BeginMove {
+        from: MemberId,
+        to: MemberId,
+    },
     /// A member is to join the row.
-    BeginJoin { to: MemberId },
+    BeginJoin {
+        to: MemberId,
+    },
     /// A backup is to lead in place of the primary, which leaves the row.
-    BeginHandover { from: MemberId, to: MemberId },
+    BeginHandover {
+        from: MemberId,
+        to: MemberId,
+    },
     /// The move under way takes its next step.
     Advance,
     /// The loss of a lost partition is accepted, and it goes on empty.

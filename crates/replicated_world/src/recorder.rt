@@ -41,10 +41,10 @@ impl<C> Recorder<C> {
     /// Nothing has happened since this row, which is the first one of the partition.
     pub(crate) fn new(alloc: Global, row: &Row) -> Result<Self, Memory>
         ensures { IfOk result (λ recorder. Records recorder (record {
-            standing = row.now;
-            log = [];
-            bases = record { version = 1; reset = 0; pair = no_pair } ∷ [];
-            openings = [];
+          standing = row.now;
+          log = [];
+          bases = record { version = 1; reset = 0; pair = no_pair } ∷ [];
+          openings = [];
         })) }
     {
         let mut bases = Vec::new(alloc);
@@ -118,8 +118,8 @@ impl<C> Recorder<C> {
         leader: Option<(u32, u32)>,
     ) -> Result<(), Memory>
         ensures ok { (r : Recorded C) → Records self.old r → OnOk result (Records self.new (record r {
-            log = r.log ++ HasReset version ∷ [];
-            openings = record { reset = version; entries = trail_by r (leader_pair leader) ++ HasReset version ∷ [] } ∷ r.openings;
+          log = r.log ++ HasReset version ∷ [];
+          openings = record { reset = version; entries = trail_by r (leader_pair leader) ++ HasReset version ∷ [] } ∷ r.openings;
         })) }
         ensures err { (r : Recorded C) → Records self.old r → OnErr result (Records self.new r) }
         ensures room { HasBaseRoom self.old → HasBaseRoom self.new }

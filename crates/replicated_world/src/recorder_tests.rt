@@ -128,16 +128,40 @@ fn a_reopening_keeps_the_history(rt: HostRuntime) -> Result<(), Fail> {
     assert_trail(&rt, rt.alloc(), &recorder, Some((2, 3)), &[0, 1, 3, 4, 104])?;
     begin(&mut recorder, 4, 4, (0, 0))?;
     call(rt.alloc(), &mut recorder, 5, 4, 1)?;
-    assert_trail(&rt, rt.alloc(), &recorder, Some((4, 1)), &[0, 1, 3, 4, 104, 5])?;
+    assert_trail(
+        &rt,
+        rt.alloc(),
+        &recorder,
+        Some((4, 1)),
+        &[0, 1, 3, 4, 104, 5],
+    )?;
 
     recorder.reopen(rt.alloc(), 6, Some((4, 1)))?;
     recorder.stand(&row(rt.alloc(), 6, 6)?);
-    assert_trail(&rt, rt.alloc(), &recorder, Some((4, 1)), &[0, 1, 3, 4, 104, 5, 106])?;
+    assert_trail(
+        &rt,
+        rt.alloc(),
+        &recorder,
+        Some((4, 1)),
+        &[0, 1, 3, 4, 104, 5, 106],
+    )?;
     begin(&mut recorder, 6, 6, (0, 0))?;
     call(rt.alloc(), &mut recorder, 6, 6, 1)?;
     call(rt.alloc(), &mut recorder, 7, 6, 2)?;
-    assert_trail(&rt, rt.alloc(), &recorder, Some((6, 2)), &[0, 1, 3, 4, 104, 5, 106, 6, 7])?;
-    assert_trail(&rt, rt.alloc(), &recorder, Some((6, 0)), &[0, 1, 3, 4, 104, 5, 106])
+    assert_trail(
+        &rt,
+        rt.alloc(),
+        &recorder,
+        Some((6, 2)),
+        &[0, 1, 3, 4, 104, 5, 106, 6, 7],
+    )?;
+    assert_trail(
+        &rt,
+        rt.alloc(),
+        &recorder,
+        Some((6, 0)),
+        &[0, 1, 3, 4, 104, 5, 106],
+    )
 }
 
 #[test]

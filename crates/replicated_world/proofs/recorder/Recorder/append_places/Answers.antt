@@ -20,16 +20,16 @@ loop-place-preserved g c =
     let inside : i < length entries = omega (arith, ap length c.deref-entry-items.ensures.value) in
     let there = read_map entry_of entries i entry inside (c.entry-item.is ∙ ap (λ es. get_or es i entry) c.deref-entry-items.ensures.value) in
     elim c.if-is_in.branch [
-      then-is_in+in_ok-push w ↦
-        let grown : c.if-is_in.places.items ≡ so_far ++ i ∷ [] = cc (w.in_ok-push.ensures.items, w.places-is) in
-        record {
-          places = ap (at_places log) grown ∙ passes log (is_in_pair c.args.pair) before so_far i (entry_of entry) there kept.places (sym c.is_in.ensures ∙ w.if-is_in.true);
-          within = subst (AreBelow (length entries)) (sym grown) (below_more (length entries) so_far i kept.within inside);
-        }
+      | then-is_in+in_ok-push w ↦
+          let grown : c.if-is_in.places.items ≡ so_far ++ i ∷ [] = cc (w.in_ok-push.ensures.items, w.places-is) in
+          record {
+            places = ap (at_places log) grown ∙ passes log (is_in_pair c.args.pair) before so_far i (entry_of entry) there kept.places (sym c.is_in.ensures ∙ w.if-is_in.true);
+            within = subst (AreBelow (length entries)) (sym grown) (below_more (length entries) so_far i kept.within inside);
+          }
       | else-is_in w ↦
-        let same : c.if-is_in.places.items ≡ so_far = cc (w.places-is) in
-        record {
-          places = ap (at_places log) same ∙ fails log (is_in_pair c.args.pair) before so_far i (entry_of entry) there kept.places (sym c.is_in.ensures ∙ w.if-is_in.false);
-          within = subst (AreBelow (length entries)) (sym same) kept.within;
-        }
+          let same : c.if-is_in.places.items ≡ so_far = cc (w.places-is) in
+          record {
+            places = ap (at_places log) same ∙ fails log (is_in_pair c.args.pair) before so_far i (entry_of entry) there kept.places (sym c.is_in.ensures ∙ w.if-is_in.false);
+            within = subst (AreBelow (length entries)) (sym same) kept.within;
+          }
     ]

@@ -20,16 +20,16 @@ returns-clause-ok g c r kept =
     let more = Reset c.args.version ∷ [] in
     let new : Opening = record { reset = c.args.version; places = c.push.new.self } in
     let longer : map entry_of c.push_reserved.new.self.items ≡ log ++ more =
-        ap (map entry_of) (c.push_reserved.ensures.items ∙ ap (λ es. es ++ ResetEntry c.args.version ∷ []) c.reserve.ensures.items)
-        ∙ map-append entry_of entries (ResetEntry c.args.version ∷ []) in
+    ap (map entry_of) (c.push_reserved.ensures.items ∙ ap (λ es. es ++ ResetEntry c.args.version ∷ []) c.reserve.ensures.items)
+    ∙ map-append entry_of entries (ResetEntry c.args.version ∷ []) in
     let same_length : length log ≡ length entries = length-map entries entry_of in
     let last : c.len.result ≡ length log = omega arith in
     let within : AreWithin (length log) openings = subst (λ n. AreWithin n openings) (sym same_length) c.args.self.now.within in
     let below : AreBelow (length log) places = subst (λ n. AreBelow n places) (sym same_length) c.in_ok-places.ensures.within in
     let told : at_places (log ++ more) c.push.new.self.items ≡ trail_by r (leader_pair c.args.leader) ++ more =
-        ap (at_places (log ++ more)) (c.in_ok-push.ensures.items ∙ ap (λ k. places ++ k ∷ []) last)
-        ∙ reopened log places (Reset c.args.version) below
-        ∙ ap (λ es. es ++ more) (c.in_ok-places.ensures.places r kept) in
+    ap (at_places (log ++ more)) (c.in_ok-push.ensures.items ∙ ap (λ k. places ++ k ∷ []) last)
+    ∙ reopened log places (Reset c.args.version) below
+    ∙ ap (λ es. es ++ more) (c.in_ok-places.ensures.places r kept) in
     record {
       log = longer ∙ ap (λ es. es ++ more) kept.log;
       bases = kept.bases;
