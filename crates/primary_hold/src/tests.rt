@@ -145,13 +145,12 @@ fn call(
     alloc: Global,
     number: u32,
     asks: Option<u8>,
-) -> Result<Called, Fail> {
+) -> Result<Called, PrimaryRefused> {
     let _value = primary.shelf().value;
     if primary.count() > 1000 {
-        return Err("a test has few effects".into());
+        return Err(PrimaryRefused::Memory);
     }
-    let id = CallId { conn: 7, number };
-    Ok(primary.call(alloc, &(), id, &asks, 10)?)
+    primary.call(alloc, &(), CallId { conn: 7, number }, &asks, 10)
 }
 
 fn holds_with(called: &Called, saw: u32, byte: u8) -> bool {
@@ -166,6 +165,10 @@ fn releases_with(called: &Called, saw: u32, byte: u8) -> bool {
         Called::Released { seen, reply } => *seen == saw && reply.as_slice() == [byte].as_slice(),
         Called::Held { .. } => false,
     }
+}
+
+fn first_byte(effect: Option<&Bytes>) -> Option<u8> {
+    effect?.as_slice().first().copied()
 }
 
 fn may_lead(member: u8) -> RowMember {
@@ -252,11 +255,8 @@ fn is_drained_once_it_is_frozen_and_holds_nothing(rt: HostRuntime) -> Result<(),
     assert!(rt; !primary.is_frozen());
     assert!(rt; primary.freeze(3));
     assert!(rt; primary.is_frozen() && !primary.is_drained());
-    let id = CallId { conn: 7, number: 1 };
-    match primary.call(alloc, &(), id, &None, 10) {
-        Ok(_) => assert!(rt; false),
-        Err(refused) => assert_eq!(rt; refused, PrimaryRefused::Migrating { version: 3 }),
-    }
+    let migrating = PrimaryRefused::Migrating { version: 3 };
+    assert_eq!(rt; call(&mut primary, alloc, 1, None).err(), Some(migrating));
     assert_eq!(rt; primary.take_ack(1, 3, 1), AckTaken::First);
     assert!(rt; primary.is_drained());
     Ok(())
@@ -322,22 +322,13 @@ fn sends_the_recent_effects_to_a_backup_that_lags(rt: HostRuntime) -> Result<(),
         CatchUp::Effects { after: 0 }
     );
     assert!(rt; primary.view().lags(1));
-    assert_eq!(rt;
-        primary.recent(1).map(|effect| effect.as_slice()[0]),
-        Some(0)
-    );
+    assert_eq!(rt; first_byte(primary.recent(1)), Some(0));
 
     call(&mut primary, alloc, 64, Some(64))?;
     assert_eq!(rt; primary.view().catch_up(&may_lead(1)), CatchUp::Whole);
     assert!(rt; primary.recent(1).is_none());
-    assert_eq!(rt;
-        primary.recent(2).map(|effect| effect.as_slice()[0]),
-        Some(1)
-    );
-    assert_eq!(rt;
-        primary.recent(65).map(|effect| effect.as_slice()[0]),
-        Some(64)
-    );
+    assert_eq!(rt; first_byte(primary.recent(2)), Some(1));
+    assert_eq!(rt; first_byte(primary.recent(65)), Some(64));
     assert!(rt; primary.recent(66).is_none());
     Ok(())
 }
