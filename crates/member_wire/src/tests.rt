@@ -78,12 +78,12 @@ fn messages_are_written_from_what_they_are_made_of(rt: HostRuntime) -> Result<()
     Ok(())
 }
 
-/// A row of so many members.
+/// A row that lists one member so many times.
 fn row_of(alloc: Global, members: u16) -> Result<Row, Fail> {
     let mut listed = Vec::new(alloc);
-    for member in 0..members {
+    for _ in 0..members {
         listed.push(RowMember {
-            member: member as u8,
+            member: 3,
             eligible: false,
         })?;
     }
