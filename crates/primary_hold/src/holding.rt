@@ -151,7 +151,7 @@ impl Hold {
     }
 
     /// Releases the answers that each backup has acknowledged, up to the first that one hasn't.
-    fn settle(&mut self)
+    pub(crate) fn settle(&mut self)
         ensures node { hold_node self.new ≡ settled (hold_node self.old) }
         ensures answers { all_of (hold_answers self.new) ≡ all_of (hold_answers self.old) }
         ensures ring { hold_ring self.new ≡ hold_ring self.old }

@@ -227,6 +227,16 @@ impl<S: Shelf> Primary<S> {
         self.hold.take_ack(member, version, count)
     }
 
+    /// Releases the held answers that may go, up to the first one that has to wait. Takes no memory.
+    pub fn settle(&mut self)
+        ensures node { node_of self.new ≡ settled (node_of self.old) }
+        ensures contents { contents_of self.new ≡ contents_of self.old }
+        ensures answers { all_of (answers_of self.new) ≡ all_of (answers_of self.old) }
+        ensures ring { ring_of self.new ≡ ring_of self.old }
+    {
+        self.hold.settle();
+    }
+
     /// Executes no more from now on, if that version is the known one. Takes no memory.
     pub fn freeze(&mut self, version: u32) -> bool
         ensures node { (service m : ℕ) → is_primary (node_of self.old).known m ≡ true →

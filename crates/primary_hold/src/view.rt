@@ -128,7 +128,7 @@ impl<'a> View<'a> {
     }
 
     /// What a member has acknowledged in the known version.
-    pub(crate) fn acked(&self, member: MemberId) -> Option<u32>
+    pub fn acked(&self, member: MemberId) -> Option<u32>
         ensures { result ≡ acked (viewed self.now) member }
     {
         match acked_by(self.acks, member) {

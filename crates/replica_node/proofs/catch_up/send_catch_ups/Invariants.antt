@@ -1,0 +1,15 @@
+use Rattle.std.proofs.Common.{◌≡◌, take}
+use Rattle.std.specs.List.{flat_map}
+use Rattle.partition_table.specs.declared.RowMember.{RowMember}
+use Rattle.replica_node.specs.Sending.{Sends, IsOf, primary_carries}
+use Rattle.partition_protocol.specs.CatchUp.{catch_up}
+use Rattle.primary_hold.specs.Primaries.{contents_of}
+use Rattle.primary_hold.specs.Views.{viewed}
+use Rattle.replica_node.proofs.catch_up.send_catch_ups.Given as goal
+
+-- the backups before this one were sent what they lack, and the snapshot is of the contents
+abbrev pub invariant-loop-backup : goal.invariant-loop-backup
+invariant-loop-backup g l = record {
+  sent : Sends (primary_carries g.S.Shelf.snapshot_of g.S.Shelf.state l.primary) (flat_map (catch_up (viewed l.view)) (take l.backup-index l.backup-items)) l.initial.out l.out;
+  made : IsOf (g.S.Shelf.snapshot_of (g.S.Shelf.state (contents_of l.primary))) l.snapshot;
+}
