@@ -1,220 +1,288 @@
--- The world of the code goes on agreeing with that of the protocol.
-use Rattle.std.proofs.Common.{◌≡◌, ◌≢◌, ℕ, zero, suc, ◌==◌, if◌then◌else◌, Bool, true, false, cond, List, [], ◌∷◌, ◌++◌, map, vec_len, Option, Some, slice_get, slice_set, Contains, refl, ap, sym, ◌∙◌, subst, ◌⊎◌, inl, inr, arith, eq-eqb, append-nil}
-use Rattle.std.proofs.lemmas.List.Elements.{Contains-append_left, Contains-append_right, Contains-append_cases}
+-- What goes on as an event happens: each member's part, and each answer that waits; and the world of the code that agrees then.
+use Rattle.std.proofs.Common.{◌≡◌, ◌≢◌, ℕ, ◌+◌, true, List, [], ◌∷◌, ◌++◌, map, length, drop, Option, Some, None, slice_get, slice_set, vec_len, Contains, refl, ap, sym, ◌∙◌, subst, ◌⊎◌, inl, inr, append-nil, arith}
+use Rattle.std.specs.List.{filter_map}
+use Rattle.std.proofs.lemmas.List.Elements.{Contains-append_left}
 use Rattle.grid_base.specs.Objects.{Object}
-use Rattle.grid_base.specs.declared.names.CallId.{CallId}
-use Rattle.grid_base.specs.declared.calls.Change.{Change}
-use Rattle.partition_protocol.specs.Node.{Node as ProtocolNode, Held, settled}
-use Rattle.partition_protocol.specs.Execution.{Executes, reached, executing}
-use Rattle.partition_protocol.specs.History.{Executed, Called}
-use Rattle.partition_protocol.specs.World.{World as Machine, map_or, pair_state}
-use Rattle.partition_protocol.specs.Events.{Event, Call, Happened, ReleasedAt, happens}
-use Rattle.partition_world.specs.declared.node.Node.{Node}
-use Rattle.partition_world.specs.declared.node.Released.{Released}
+use Rattle.partition_table.specs.Rows.{is_primary}
+use Rattle.partition_protocol.specs.Node.{Node as ProtocolNode, Held}
+use Rattle.partition_protocol.specs.History.{Executed, Entry, Called}
+use Rattle.partition_protocol.specs.Sequences.{IsFrontOf}
+use Rattle.partition_protocol.specs.World.{World as Machine, pair_state}
+use Rattle.partition_protocol.specs.Events.{Event, happens}
+use Rattle.partition_protocol.specs.Claims.{IsLawful}
+use Rattle.partition_protocol.proofs.Lists.{In, Every, every_from_in, get_set, set_get_same, set_get_other, set_itself}
+use Rattle.partition_protocol.proofs.Invariant.{NodeAt}
+use Rattle.partition_protocol.proofs.Answers.{Single}
+use Rattle.partition_protocol.proofs.Extends.{extends}
+use Rattle.partition_protocol.proofs.Walk.{walk}
+use Rattle.partition_protocol.proofs.NamedStates.{node_known, state_after_event}
+use Rattle.link_net.specs.Links.{HasLists, list_of}
+use Rattle.primary_hold.specs.declared.released.Released.{Released}
+use Rattle.primary_hold.specs.Rings.{kept}
+use Rattle.replica_node.specs.declared.node.Node.{Node}
+use Rattle.replica_node.specs.Nodes.{node_of, contents_of, waiting as node_waiting, held_answers, ring_of, ends_of, Ends, IsUnchanged}
+use Rattle.table_service.specs.Services.{Setup, service_of}
 use Rattle.partition_world.specs.declared.world.World.{World}
-use Rattle.partition_world.specs.Nodes.{protocol_node}
-use Rattle.partition_world.specs.Entries.{entry_of}
-use Rattle.partition_world.specs.Answers.{released_by, released_at}
-use Rattle.partition_world.specs.Executions.{HasKept, HasExecuted}
-use Rattle.partition_world.specs.Worlds.{Setup, setup_of, waiting, IsReleased, Agrees}
-use Rattle.partition_world.proofs.Places.{get_map, map_set, set_itself, get_set, set_get_same, set_get_other, only_one, same_or_not, other_number}
-use Rattle.partition_world.proofs.LoneCalls as lone
+use Rattle.partition_world.specs.declared.event.Happened.{Happened}
+use Rattle.partition_world.specs.Meanings.{Meaning}
+use Rattle.partition_world.specs.Shelves.{IsShelf}
+use Rattle.partition_world.specs.Events.{happened_of}
+use Rattle.partition_world.specs.Answers.{held_answer, released_by, released_at, is_at}
+use Rattle.partition_world.specs.InFlight.{IsRing}
+use Rattle.partition_world.specs.Sending.{HasNewest, HasFit, flying}
+use Rattle.partition_world.specs.Recorders.{Records}
+use Rattle.partition_world.specs.Worlds.{setup_of, waiting, IsReleased, IsMember, Agrees}
+use Rattle.partition_world.proofs.EffectsLead.{lawful, Stood}
+use Rattle.partition_world.proofs.HeldAnswers.{IsNewlyNamed, node_answer_stays}
+use Rattle.partition_world.proofs.LinkBytes.{map_same}
+use Rattle.partition_world.proofs.Places.{get_map, map_set}
+use Rattle.partition_world.proofs.Rings.{ring_stays}
 
-pub map_append : {X Y : Type 0} (f : X → Y) (xs ys : List X) → map f (xs ++ ys) ≡ map f xs ++ map f ys
-map_append f [] ys = refl
-map_append f (x ∷ xs) ys = ap (λ zs. f x ∷ zs) (map_append f xs ys)
+-- the answers that wait at a node, if there is one
+abbrev pub waits_in : {S : Type 0} → Option (Node S) → List Released
+waits_in None = []
+waits_in (Some node) = node_waiting node
 
-pub one_there : {X : Type 0} (x y : X) → Contains (x ∷ []) y → x ≡ y
-one_there x y (zero, l, e) = e
-one_there x y (suc k, l, e) = absurd (omega arith)
-
-abbrev pub released_of : {S : Type 0} → Option (Node S) → List Released
-released_of {S = S} node = map_or node [] (λ (x : Node S). x.replica.released.items)
-
--- the answers that wait, where one node is another one
-pub waiting_at : {S Env C : Type 0} (old new : World S Env C) (member : ℕ) (node next : Node S) (more : List Released) → slice_get old.nodes.items member ≡ Some node → new.nodes.items ≡ slice_set old.nodes.items member next
-    → next.replica.released.items ≡ node.replica.released.items ++ more → (q : ℕ) → waiting new q ≡ waiting old q ++ (if member == q then more else [])
-waiting_at old new member node next more there nodes gains q = go (same_or_not q member)
+pub waiting_in : {S Env C : Type 0} (world : World S Env C) (m : ℕ) → waiting world m ≡ waits_in (slice_get world.nodes.items m)
+waiting_in {S = S} world m = go (slice_get world.nodes.items m) refl
   where
-    go : (q ≡ member) ⊎ (q ≢ member) → waiting new q ≡ waiting old q ++ (if member == q then more else [])
-    go (inl e) =
-        let seen : slice_get new.nodes.items q ≡ Some next = ap (λ ns. slice_get ns q) nodes ∙ ap (slice_get (slice_set old.nodes.items member next)) e ∙ set_get_same old.nodes.items member next node there in
-        let was : slice_get old.nodes.items q ≡ Some node = ap (slice_get old.nodes.items) e ∙ there in
-        ap released_of seen ∙ gains ∙ ap (λ xs. xs ++ more) (ap released_of (sym was)) ∙ ap (λ b. waiting old q ++ (if b then more else [])) (sym (eq-eqb member q (sym e)))
-    go (inr other) =
-        ap released_of (ap (λ ns. slice_get ns q) nodes ∙ set_get_other old.nodes.items member q next other)
-        ∙ sym (append-nil (waiting old q)) ∙ ap (λ b. waiting old q ++ (if b then more else [])) (sym (other_number member q (λ e. other (sym e))))
+    go : (node : Option (Node S)) → slice_get world.nodes.items m ≡ node → waiting world m ≡ waits_in node
+    go None e = rw e refl
+    go (Some node) e = rw e refl
 
-pub none_either : {X : Type 0} (b : Bool) → cond {A = List X} b [] [] ≡ []
-none_either true = refl
-none_either false = refl
+-- the same nodes have the same answers
+pub same_waiting : {S Env C : Type 0} (old new : World S Env C) → new.nodes.items ≡ old.nodes.items → (m : ℕ) → waiting new m ≡ waiting old m
+same_waiting old new same m = waiting_in new m ∙ ap (λ ns. waits_in (slice_get ns m)) same ∙ sym (waiting_in old m)
 
-pub nothing_more : {S Env C : Type 0} (old new : World S Env C) (member : ℕ) (node next : Node S) → slice_get old.nodes.items member ≡ Some node → new.nodes.items ≡ slice_set old.nodes.items member next
-    → next.replica.released.items ≡ node.replica.released.items → (q : ℕ) → waiting new q ≡ waiting old q
-nothing_more old new member node next there nodes same q =
-    waiting_at old new member node next [] there nodes (same ∙ sym (append-nil node.replica.released.items)) q ∙ ap (λ xs. waiting old q ++ xs) (none_either (member == q)) ∙ append-nil (waiting old q)
+-- a member's number, the partition's and that of the backups never change
+pub record SameGrid {C : Type 0} (w u : Machine C) : Type 0 where
+  pub partition : u.partition ≡ w.partition
+  pub members : u.members ≡ w.members
+  pub backups : u.backups ≡ w.backups
 
-module _ {S Env C State : Type 0} (o : Object C State) (state : S → State) (old new : World S Env C) (w : Machine C) (member : ℕ) (node : Node S)
-    (a : Agrees o state old w) (there : slice_get old.nodes.items member ≡ Some node) (setup : setup_of new ≡ setup_of old) where
-  pub members : vec_len new.nodes ≡ w.members
-  members = ap (λ (u : Setup). u.members) setup ∙ a.members
+pub same_grid : {C State : Type 0} (o : Object C State) (w : Machine C) (e : Event C) → SameGrid w (happens o w e).world
+same_grid o w = walk o w (λ e u. SameGrid w u) (λ e ps. record { partition = refl; members = refl; backups = refl }) (λ e m. record { partition = refl; members = refl; backups = refl })
+    (λ e s st ps. record { partition = refl; members = refl; backups = refl }) (λ e s st ps. record { partition = refl; members = refl; backups = refl })
+    (λ e f t i q n j at l. record { partition = refl; members = refl; backups = refl }) (λ m conn number call now n at l p f. record { partition = refl; members = refl; backups = refl })
 
-  pub there_too : slice_get w.nodes member ≡ Some (protocol_node node)
-  there_too = ap (λ ns. slice_get ns member) (sym a.nodes) ∙ get_map protocol_node old.nodes.items member node there
+module _ {S Env C State : Type 0} (k : Meaning S C State) (limits : C → Type 0) (within : ℕ → State → Type 0) (applied : List ℕ → State → Option State) (shelf : IsShelf k limits within applied)
+    (world : World S Env C) (w : Machine C) (stood : Stood k.object limits within w) (agrees : Agrees k world w) where
+  -- what a member knows is the protocol's node
+  pub node_at : (m : ℕ) (node : Node S) → slice_get world.nodes.items m ≡ Some node → NodeAt w.nodes m (node_of node)
+  node_at m node there = ap (λ ns. slice_get ns m) (sym agrees.nodes) ∙ get_map node_of world.nodes.items m node there
 
-  -- one node is another one with the same facts and contents, and some of the answers
-  pub agrees_set : (next : Node S) → new.nodes.items ≡ slice_set old.nodes.items member next → protocol_node next ≡ protocol_node node → state next.shelf ≡ state node.shelf
-      → new.trail.entries.items ≡ old.trail.entries.items → ((q : ℕ) (answer : Released) → Contains (waiting new q) answer → Contains (waiting old q) answer) → Agrees o state new w
-  agrees_set next nodes says contents same fewer = record {
-    members = members;
-    nodes =
-        ap (map protocol_node) nodes ∙ map_set protocol_node old.nodes.items member next ∙ ap (slice_set (map protocol_node old.nodes.items) member) says
-        ∙ set_itself (map protocol_node old.nodes.items) member (protocol_node node) (get_map protocol_node old.nodes.items member node there) ∙ a.nodes;
-    shelves = λ q x e. shelf q x (get_set old.nodes.items member q next x (ap (λ ns. slice_get ns q) (sym nodes) ∙ e));
-    trail = ap (map entry_of) same ∙ a.trail;
-    waiting = λ q answer c. a.waiting q answer (fewer q answer c);
-    alone = a.alone;
+  -- no event, and at most one node that is another one and says the same
+
+  pub record IsQuiet (new : World S Env C) : Type 0 where
+    pub setup : setup_of new ≡ setup_of world
+    pub members : new.members ≡ world.members
+    pub size : vec_len new.nodes ≡ vec_len world.nodes
+    pub crashed : new.crashed.items ≡ world.crashed.items
+    pub service : service_of new.service ≡ service_of world.service
+    pub ends : new.links.ends ≡ world.links.ends
+    pub links : HasLists new.links (list_of world.links)
+    pub recorded : Records new.recorder w.recorded
+
+  pub same_lists : (new : World S Env C) → HasLists new.links (list_of world.links) → HasLists new.links (flying k w)
+  same_lists new links f t = links f t ∙ agrees.links f t
+
+  pub agrees_still : (new : World S Env C) → IsQuiet new → new.nodes.items ≡ world.nodes.items → Agrees k new w
+  agrees_still new quiet nodes = record {
+    setup = quiet.setup ∙ agrees.setup;
+    members = quiet.members ∙ agrees.members;
+    size = quiet.size ∙ agrees.size;
+    nodes = ap (map node_of) nodes ∙ agrees.nodes;
+    each = λ m node there. agrees.each m node (ap (λ ns. slice_get ns m) (sym nodes) ∙ there);
+    crashed = quiet.crashed ∙ agrees.crashed;
+    service = quiet.service ∙ agrees.service;
+    ends = quiet.ends ∙ agrees.ends;
+    links = same_lists new quiet.links;
+    fit = agrees.fit;
+    recorded = quiet.recorded;
+    waiting = λ m answer c. agrees.waiting m answer (subst (λ rs. Contains rs answer) (same_waiting world new nodes m) c);
   }
-    where
-      shelf : (q : ℕ) (x : Node S) → ((q ≡ member) × (next ≡ x)) ⊎ ((q ≢ member) × (slice_get old.nodes.items q ≡ Some x)) → state x.shelf ≡ pair_state o w (protocol_node x).pair
-      shelf q x (inl e) = subst (λ (z : Node S). state z.shelf ≡ pair_state o w (protocol_node z).pair) e.1 (contents ∙ a.shelves member node there ∙ ap (λ (z : ProtocolNode). pair_state o w z.pair) (sym says))
-      shelf q x (inr e) = a.shelves q x e.1
 
-  pub agrees_kept : HasKept state old new member node → Agrees o state new w
-  agrees_kept k = agrees_set k.next k.nodes k.says k.contents k.trail (λ q answer c. subst (λ xs. Contains xs answer) (nothing_more old new member node k.next there k.nodes k.released q) c)
-
-  pub waits_kept : HasKept state old new member node → (q : ℕ) → waiting new q ≡ waiting old q
-  waits_kept k = nothing_more old new member node k.next there k.nodes k.released
-
-  module _ (change_of : State → C → ℕ → Option Change) (id : CallId) (call : C) (now seen : ℕ) (h : HasExecuted o change_of state old new member node id call now seen)
-      (executes_it : reached member (protocol_node node) ≡ Executes) where
-    abbrev n : ProtocolNode
-    n = protocol_node node
-
-    abbrev s : State
-    s = pair_state o w n.pair
-
-    abbrev after : ProtocolNode
-    after = executing (o.changes s call now) id.conn id.number n
-
-    abbrev pub event : Event C
-    event = Call member id.conn id.number call now
-
-    abbrev then_so : Happened C
-    then_so = lone.then_so o w a.alone member id.conn id.number call now n there_too
-
-    pub happened : happens o w event ≡ then_so
-    happened = lone.happened o w a.alone member id.conn id.number call now n there_too executes_it
-
-    contents_were : state node.shelf ≡ s
-    contents_were = a.shelves member node there
-
-    says : protocol_node h.next ≡ settled after
-    says = h.says ∙ ap (λ z. settled (executing (o.changes z call now) id.conn id.number n)) contents_were
-
-    version : h.next.replica.version ≡ after.pair.version
-    version = ap (λ (z : ProtocolNode). z.pair.version) says
-
-    count : h.next.replica.count ≡ after.pair.count
-    count = ap (λ (z : ProtocolNode). z.pair.count) says
-
-    abbrev x : Executed C
-    x = lone.x o w a.alone member id.conn id.number call now n there_too
-
-    abbrev answer : Released
-    answer = lone.answer o w a.alone member id.conn id.number call now n there_too change_of
-
-    -- the answer and the entry of the code are those of the protocol
-    answer_is : h.next.replica.released.items ≡ node.replica.released.items ++ answer ∷ []
-    answer_is =
-        h.released
-        ∙ ap (λ v. node.replica.released.items ++ (let r : Released = record { id = id; version = v; seen = h.next.replica.count; reply = o.reply (state node.shelf) call now; change = change_of (state node.shelf) call now } in r) ∷ []) version
-        ∙ ap (λ c. node.replica.released.items ++ (let r : Released = record { id = id; version = after.pair.version; seen = c; reply = o.reply (state node.shelf) call now; change = change_of (state node.shelf) call now } in r) ∷ []) count
-        ∙ ap (λ z. node.replica.released.items ++ (let r : Released = record { id = id; version = after.pair.version; seen = after.pair.count; reply = o.reply z call now; change = change_of z call now } in r) ∷ []) contents_were
-
-    entry_is : map entry_of new.trail.entries.items ≡ map entry_of old.trail.entries.items ++ Called x ∷ []
-    entry_is =
-        ap (map entry_of) h.trail
-        ∙ map_append entry_of old.trail.entries.items (record { id = id; version = h.next.replica.version; seen = h.next.replica.count; now = now; call = call; reply = o.reply (state node.shelf) call now } ∷ [])
-        ∙ ap (λ v. map entry_of old.trail.entries.items ++ Called (record { conn = id.conn; number = id.number; version = v; seen = h.next.replica.count; now = now; call = call; reply = o.reply (state node.shelf) call now }) ∷ []) version
-        ∙ ap (λ c. map entry_of old.trail.entries.items ++ Called (record { conn = id.conn; number = id.number; version = after.pair.version; seen = c; now = now; call = call; reply = o.reply (state node.shelf) call now }) ∷ []) count
-        ∙ ap (λ z. map entry_of old.trail.entries.items ++ Called (record { conn = id.conn; number = id.number; version = after.pair.version; seen = after.pair.count; now = now; call = call; reply = o.reply z call now }) ∷ []) contents_were
-
-    pub outcome : ReleasedAt seen ≡ (happens o w event).outcome
-    outcome =
-        ap ReleasedAt (h.saw ∙ count) ∙ sym (lone.outcome o w a.alone member id.conn id.number call now n there_too)
-        ∙ ap (λ (z : Happened C). z.outcome) (sym happened)
-
-    waits : (q : ℕ) → waiting new q ≡ waiting old q ++ (if member == q then answer ∷ [] else [])
-    waits = waiting_at old new member node h.next (answer ∷ []) there h.nodes answer_is
-
-    pub waiting_gains : (q : ℕ) → waiting new q ≡ waiting old q ++ released_at o change_of w event q
-    waiting_gains q =
-        waits q
-        ∙ ap (λ rs. waiting old q ++ (if member == q then rs else [])) (sym (lone.released o w a.alone member id.conn id.number call now n there_too change_of))
-        ∙ ap (λ (z : Happened C). waiting old q ++ (if member == q then released_by o change_of w z.world else [])) (sym happened)
-
-    -- an answer that waits was released, and stands in the log
-    was_released : (answer' : Released) → IsReleased w answer' → IsReleased then_so.world answer'
-    was_released answer' r = record {
-      released =
-          subst (λ hs. Contains hs (let held : Held = record { conn = answer'.id.conn; number = answer'.id.number; seen = answer'.seen } in held))
-          (sym (lone.released_now o w a.alone member id.conn id.number call now n there_too))
-          (Contains-append_left w.released _ _ r.released);
-      call = r.call;
-      executed = Contains-append_left w.recorded.log _ _ r.executed;
-      id = r.id;
-      version = r.version;
-      seen = r.seen;
-      reply = r.reply;
-    }
-
-    is_released : IsReleased then_so.world answer
-    is_released = record {
-      released =
-          subst (λ hs. Contains hs (let held : Held = record { conn = id.conn; number = id.number; seen = after.pair.count } in held))
-          (sym (lone.released_now o w a.alone member id.conn id.number call now n there_too))
-          (Contains-append_right w.released _ _ (zero, omega arith, refl));
-      call = x;
-      executed = Contains-append_right w.recorded.log (Called x ∷ []) _ (zero, omega arith, refl);
-      id = refl;
-      version = refl;
-      seen = refl;
-      reply = refl;
-    }
-
-    all_released : (q : ℕ) (answer' : Released) (b : Bool) → Contains (waiting old q ++ (if b then answer ∷ [] else [])) answer' → IsReleased then_so.world answer'
-    all_released q answer' true c = go (Contains-append_cases (waiting old q) (answer ∷ []) answer' c)
+  module _ (m : ℕ) (node kin : Node S) (there : slice_get world.nodes.items m ≡ Some node) (same : IsUnchanged k.state node kin) (ends : ends_of kin ≡ ends_of node) where
+    pub kin_member : IsMember k w m kin
+    kin_member =
+        let was = agrees.each m node there in
+        record {
+          ends = ends ∙ was.ends;
+          contents = same.contents ∙ was.contents ∙ ap (λ (n : ProtocolNode). pair_state k.object w n.pair) (sym same.node);
+          held = ap (λ (n : ProtocolNode). map (held_answer k.object k.change_of w) n.held) same.node ∙ was.held ∙ ap (map (λ a. Some a)) (sym same.held);
+          ring = λ leads. ringed (was.ring (ap (λ (n : ProtocolNode). is_primary n.known m) (sym same.node) ∙ leads));
+          newest = λ leads. newest (was.newest (ap (λ (n : ProtocolNode). is_primary n.known m) (sym same.node) ∙ leads));
+        }
       where
-        go : Contains (waiting old q) answer' ⊎ Contains (answer ∷ []) answer' → IsReleased then_so.world answer'
-        go (inl k) = was_released answer' (a.waiting q answer' k)
-        go (inr k) = subst (λ z. IsReleased then_so.world z) (one_there answer answer' k) is_released
-    all_released q answer' false c = was_released answer' (a.waiting q answer' (subst (λ xs. Contains xs answer') (append-nil (waiting old q)) c))
+        ringed : IsRing k w (node_of node) (kept (ring_of node) (node_of node).pair.count) → IsRing k w (node_of kin) (kept (ring_of kin) (node_of kin).pair.count)
+        ringed ring =
+            subst (λ (n : ProtocolNode). IsRing k w n (kept (ring_of kin) n.pair.count)) (sym same.node)
+            (subst (λ r. IsRing k w (node_of node) (kept r (node_of node).pair.count)) (sym same.ring) ring)
 
-    shelf : (q : ℕ) (z : Node S) → ((q ≡ member) × (h.next ≡ z)) ⊎ ((q ≢ member) × (slice_get old.nodes.items q ≡ Some z)) → state z.shelf ≡ pair_state o then_so.world (protocol_node z).pair
-    shelf q z (inl e) =
-        subst (λ (z : Node S). state z.shelf ≡ pair_state o then_so.world (protocol_node z).pair) e.1
-        (h.contents ∙ ap (λ z. o.after z call now) contents_were ∙ sym (lone.state_now o w a.alone member id.conn id.number call now n there_too)
-        ∙ ap (λ (z : ProtocolNode). pair_state o then_so.world z.pair) (sym says))
-    shelf q z (inr e) = absurd (e.0 (other_place q z e.1 ∙ sym (lone.only o w a.alone member id.conn id.number call now n there_too).0))
+        newest : HasNewest (node_of node) (kept (ring_of node) (node_of node).pair.count) → HasNewest (node_of kin) (kept (ring_of kin) (node_of kin).pair.count)
+        newest has =
+            subst (λ (n : ProtocolNode). HasNewest n (kept (ring_of kin) n.pair.count)) (sym same.node)
+            (subst (λ r. HasNewest (node_of node) (kept r (node_of node).pair.count)) (sym same.ring) has)
+
+    pub kin_waiting : (new : World S Env C) → new.nodes.items ≡ slice_set world.nodes.items m kin → (q : ℕ) → waiting new q ≡ waiting world q
+    kin_waiting new nodes q = waiting_in new q ∙ ap (λ ns. waits_in (slice_get ns q)) nodes ∙ go (numbers q m) ∙ sym (waiting_in world q)
       where
-        other_place : (q : ℕ) (z : Node S) → slice_get old.nodes.items q ≡ Some z → q ≡ 0
-        other_place q z e =
-            (only_one a.alone.node (protocol_node z) q
-            (ap (λ ns. slice_get ns q) (sym a.alone.nodes) ∙ ap (λ ns. slice_get ns q) (sym a.nodes) ∙ get_map protocol_node old.nodes.items q z e)).0
+        numbers : (a b : ℕ) → (a ≡ b) ⊎ (a ≢ b)
+        numbers a b = grind arith
 
-    agrees_so : Agrees o state new then_so.world
-    agrees_so = record {
-      members = members;
-      nodes =
-          ap (map protocol_node) h.nodes ∙ map_set protocol_node old.nodes.items member h.next ∙ ap (slice_set (map protocol_node old.nodes.items) member) says
-          ∙ ap (λ ns. slice_set ns member (settled after)) a.nodes;
-      shelves = λ q z e. shelf q z (get_set old.nodes.items member q h.next z (ap (λ ns. slice_get ns q) (sym h.nodes) ∙ e));
-      trail =
-          entry_is ∙ ap (λ es. es ++ Called x ∷ []) a.trail ∙ sym (lone.trail_gains o w a.alone member id.conn id.number call now n there_too);
-      waiting = λ q answer' c. all_released q answer' (member == q) (subst (λ xs. Contains xs answer') (waits q) c);
-      alone = lone.next_alone o w a.alone member id.conn id.number call now n there_too;
+        go : (q ≡ m) ⊎ (q ≢ m) → waits_in (slice_get (slice_set world.nodes.items m kin) q) ≡ waits_in (slice_get world.nodes.items q)
+        go (inl e) =
+            ap (λ j. waits_in (slice_get (slice_set world.nodes.items m kin) j)) e ∙ ap waits_in (set_get_same world.nodes.items m kin node there) ∙ same.waiting
+            ∙ ap waits_in (sym there) ∙ ap (λ j. waits_in (slice_get world.nodes.items j)) (sym e)
+        go (inr d) = ap waits_in (set_get_other world.nodes.items m q kin d)
+
+    pub agrees_with_kin : (new : World S Env C) → IsQuiet new → new.nodes.items ≡ slice_set world.nodes.items m kin → Agrees k new w
+    agrees_with_kin new quiet nodes = record {
+      setup = quiet.setup ∙ agrees.setup;
+      members = quiet.members ∙ agrees.members;
+      size = quiet.size ∙ agrees.size;
+      nodes = ap (map node_of) nodes ∙ map_set node_of world.nodes.items m kin ∙ ap (slice_set (map node_of world.nodes.items) m) same.node ∙ unset ∙ agrees.nodes;
+      each = λ q x at. each q x (get_set world.nodes.items m q kin x (ap (λ ns. slice_get ns q) (sym nodes) ∙ at));
+      crashed = quiet.crashed ∙ agrees.crashed;
+      service = quiet.service ∙ agrees.service;
+      ends = quiet.ends ∙ agrees.ends;
+      links = same_lists new quiet.links;
+      fit = agrees.fit;
+      recorded = quiet.recorded;
+      waiting = λ q answer c. agrees.waiting q answer (subst (λ rs. Contains rs answer) (kin_waiting new nodes q) c);
+    }
+      where
+        unset : slice_set (map node_of world.nodes.items) m (node_of node) ≡ map node_of world.nodes.items
+        unset = set_itself (map node_of world.nodes.items) m (node_of node) (get_map node_of world.nodes.items m node there)
+
+        each : (q : ℕ) (x : Node S) → ((q ≡ m) × (kin ≡ x)) ⊎ ((q ≢ m) × (slice_get world.nodes.items q ≡ Some x)) → IsMember k w q x
+        each q x (inl (e, is)) = subst (λ j. IsMember k w j x) (sym e) (subst (λ y. IsMember k w m y) is kin_member)
+        each q x (inr (d, at)) = agrees.each q x at
+
+  -- an event
+
+  module _ (event : Event C) (new_name : IsNewlyNamed w event) (single : Single w) where
+    abbrev pub next : Machine C
+    next = (happens k.object w event).world
+
+    pub law : IsLawful k.object
+    law = lawful k limits within applied shelf
+
+    pub grid : SameGrid w next
+    grid = same_grid k.object w event
+
+    pub held_stay : (m : ℕ) (node : Node S) → slice_get world.nodes.items m ≡ Some node → map (held_answer k.object k.change_of next) (node_of node).held ≡ map (held_answer k.object k.change_of w) (node_of node).held
+    held_stay m node there =
+        map_same (held_answer k.object k.change_of next) (held_answer k.object k.change_of w) (node_of node).held
+        (every_from_in (λ h. held_answer k.object k.change_of next h ≡ held_answer k.object k.change_of w h) (node_of node).held
+        (λ h i. node_answer_stays k.object k.change_of w stood.good event new_name single m (node_of node) h (node_at m node there) i))
+
+    -- a member that takes no step
+    pub member_stays : (m : ℕ) (node : Node S) → slice_get world.nodes.items m ≡ Some node → IsMember k next m node
+    member_stays m node there = record {
+      ends = was.ends ∙ ap (λ s. let e : Ends = record { member = m; service = s } in e) (sym grid.members);
+      contents = was.contents ∙ sym (state_after_event k.object w stood.good.0 stood.good.1 law (node_of node).pair (node_known k.object w stood.good.0 stood.good.1 m (node_of node) at) event);
+      held = held_stay m node there ∙ was.held;
+      ring = λ leads. ring_stays k limits within applied shelf w stood event m (node_of node) at leads (kept (ring_of node) (node_of node).pair.count) (was.ring leads);
+      newest = was.newest;
+    }
+      where
+        was : IsMember k w m node
+        was = agrees.each m node there
+
+        at : NodeAt w.nodes m (node_of node)
+        at = node_at m node there
+
+    pub in_front : {X : Type 0} (xs ys : List X) (x : X) → IsFrontOf xs ys → Contains xs x → Contains ys x
+    in_front xs ys x front c = subst (λ zs. Contains zs x) front.1 (Contains-append_left xs front.0 x c)
+
+    -- an answer that waits
+    pub answer_stays : (answer : Released) → IsReleased w answer → IsReleased next answer
+    answer_stays answer was = record {
+      released = in_front w.released next.released _ longer.1 was.released;
+      call = was.call;
+      executed = in_front w.recorded.log next.recorded.log (Called was.call) longer.0 was.executed;
+      id = was.id;
+      version = was.version;
+      seen = was.seen;
+      reply = was.reply;
+    }
+      where
+        longer : IsFrontOf w.recorded.log next.recorded.log × IsFrontOf w.released next.released
+        longer = extends k.object w event
+
+    -- all but the nodes is that of the next world
+    pub record IsRest (new : World S Env C) : Type 0 where
+      pub setup : setup_of new ≡ setup_of world
+      pub members : new.members ≡ world.members
+      pub size : vec_len new.nodes ≡ vec_len world.nodes
+      pub crashed : new.crashed.items ≡ next.crashed
+      pub service : service_of new.service ≡ next.service
+      pub ends : new.links.ends ≡ world.links.ends
+      pub links : HasLists new.links (flying k next)
+      pub fit : HasFit k next
+      pub recorded : Records new.recorder next.recorded
+
+    pub setup_next : (new : World S Env C) → setup_of new ≡ setup_of world → setup_of new ≡ record { partition = next.partition; members = next.members; backups = next.backups }
+    setup_next new same =
+        same ∙ agrees.setup ∙ ap (λ p. let s : Setup = record { partition = p; members = w.members; backups = w.backups } in s) (sym grid.partition)
+        ∙ ap (λ m. let s : Setup = record { partition = next.partition; members = m; backups = w.backups } in s) (sym grid.members)
+        ∙ ap (λ b. let s : Setup = record { partition = next.partition; members = next.members; backups = b } in s) (sym grid.backups)
+
+    -- where no member takes a step
+    pub agrees_same : (new : World S Env C) → IsRest new → new.nodes.items ≡ world.nodes.items → next.nodes ≡ w.nodes → Agrees k new next
+    agrees_same new rest nodes same = record {
+      setup = setup_next new rest.setup;
+      members = rest.members ∙ agrees.members ∙ sym grid.members;
+      size = rest.size ∙ agrees.size ∙ sym grid.members;
+      nodes = ap (map node_of) nodes ∙ agrees.nodes ∙ sym same;
+      each = λ m node there. member_stays m node (ap (λ ns. slice_get ns m) (sym nodes) ∙ there);
+      crashed = rest.crashed;
+      service = rest.service;
+      ends = rest.ends ∙ agrees.ends ∙ ap (λ n. n + 1) (sym grid.members);
+      links = rest.links;
+      fit = rest.fit;
+      recorded = rest.recorded;
+      waiting = λ m answer c. answer_stays answer (agrees.waiting m answer (subst (λ rs. Contains rs answer) (same_waiting world new nodes m) c));
     }
 
-    pub agrees_executed : Agrees o state new (happens o w event).world
-    agrees_executed = subst (λ (z : Happened C). Agrees o state new z.world) (sym happened) agrees_so
+    -- and where one does
+    module _ (m : ℕ) (node moved : Node S) (there : slice_get world.nodes.items m ≡ Some node) (is : IsMember k next m moved)
+        (answers : (answer : Released) → Contains (node_waiting moved) answer → Contains (node_waiting node) answer ⊎ IsReleased next answer) where
+      pub agrees_moved : (new : World S Env C) → IsRest new → new.nodes.items ≡ slice_set world.nodes.items m moved → next.nodes ≡ slice_set w.nodes m (node_of moved) → Agrees k new next
+      agrees_moved new rest nodes set = record {
+        setup = setup_next new rest.setup;
+        members = rest.members ∙ agrees.members ∙ sym grid.members;
+        size = rest.size ∙ agrees.size ∙ sym grid.members;
+        nodes = ap (map node_of) nodes ∙ map_set node_of world.nodes.items m moved ∙ ap (λ ns. slice_set ns m (node_of moved)) agrees.nodes ∙ sym set;
+        each = λ q x at. each q x (get_set world.nodes.items m q moved x (ap (λ ns. slice_get ns q) (sym nodes) ∙ at));
+        crashed = rest.crashed;
+        service = rest.service;
+        ends = rest.ends ∙ agrees.ends ∙ ap (λ n. n + 1) (sym grid.members);
+        links = rest.links;
+        fit = rest.fit;
+        recorded = rest.recorded;
+        waiting = λ q answer c. waits q answer (ap (λ ns. waits_in (slice_get ns q)) nodes) (subst (λ rs. Contains rs answer) (waiting_in new q) c);
+      }
+        where
+          each : (q : ℕ) (x : Node S) → ((q ≡ m) × (moved ≡ x)) ⊎ ((q ≢ m) × (slice_get world.nodes.items q ≡ Some x)) → IsMember k next q x
+          each q x (inl (e, same)) = subst (λ j. IsMember k next j x) (sym e) (subst (λ y. IsMember k next m y) same is)
+          each q x (inr (d, at)) = member_stays q x at
+
+          old_one : (q : ℕ) (answer : Released) → Contains (waits_in (slice_get world.nodes.items q)) answer → IsReleased next answer
+          old_one q answer c = answer_stays answer (agrees.waiting q answer (subst (λ rs. Contains rs answer) (sym (waiting_in world q)) c))
+
+          moved_one : (answer : Released) → Contains (node_waiting node) answer ⊎ IsReleased next answer → IsReleased next answer
+          moved_one answer (inl c) = old_one m answer (subst (λ x. Contains (waits_in x) answer) (sym there) c)
+          moved_one answer (inr r) = r
+
+          numbers : (a b : ℕ) → (a ≡ b) ⊎ (a ≢ b)
+          numbers a b = grind arith
+
+          waits : (q : ℕ) (answer : Released) → waits_in (slice_get new.nodes.items q) ≡ waits_in (slice_get (slice_set world.nodes.items m moved) q) → Contains (waits_in (slice_get new.nodes.items q)) answer → IsReleased next answer
+          waits q answer same c = go (numbers q m) (subst (λ rs. Contains rs answer) same c)
+            where
+              go : (q ≡ m) ⊎ (q ≢ m) → Contains (waits_in (slice_get (slice_set world.nodes.items m moved) q)) answer → IsReleased next answer
+              go (inl e) c =
+                  moved_one answer (answers answer (subst (λ x. Contains (waits_in x) answer) (set_get_same world.nodes.items m moved node there) (subst (λ j. Contains (waits_in (slice_get (slice_set world.nodes.items m moved) j)) answer) e c)))
+              go (inr d) c = old_one q answer (subst (λ x. Contains (waits_in x) answer) (set_get_other world.nodes.items m q moved d) c)

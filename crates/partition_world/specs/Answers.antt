@@ -10,7 +10,7 @@ use Rattle.partition_protocol.specs.Node.{Held}
 use Rattle.partition_protocol.specs.History.{Entry, Executed, Called, Reset, state_after}
 use Rattle.partition_protocol.specs.World.{World, pair_history}
 use Rattle.partition_protocol.specs.Events.{Event, Call, Deliver, happens}
-use Rattle.partition_world.specs.declared.node.Released.{Released}
+use Rattle.primary_hold.specs.declared.released.Released.{Released}
 
 abbrev pub id_of : {C : Type 0} → Executed C → CallId
 id_of x = record { conn = x.conn; number = x.number }

@@ -3,7 +3,6 @@ use Rattle.std.specs.Prelude.{ℕ, slice_get}
 use Rattle.grid_base.specs.Objects.{Object}
 use Rattle.partition_protocol.specs.Node.{Node, Pair, no_pair}
 use Rattle.partition_protocol.specs.World.{World, map_or, pair_state}
-use Rattle.partition_world.specs.declared.contents.Contents.{Contents}
 
 -- the pair of a member's contents: nothing where the number is no member's
 abbrev pub pair_at : {C : Type 0} → World C → ℕ → Pair
@@ -12,7 +11,3 @@ pair_at w m = map_or (slice_get w.nodes m) no_pair (λ (node : Node). node.pair)
 -- the state that this pair names
 abbrev pub contents_at : {C State : Type 0} → Object C State → World C → ℕ → State
 contents_at o w m = pair_state o w (pair_at w m)
-
--- the pair by which the code names contents
-abbrev pub pair_of : {S : Type 0} → Contents S → Pair
-pair_of contents = record { version = contents.version; count = contents.count }

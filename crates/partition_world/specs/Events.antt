@@ -1,30 +1,60 @@
 -- The events and outcomes of the code, as those of the protocol.
+use Rattle.std.specs.Prelude.{Option, Some, None}
+use Rattle.member_wire.specs.Said.{took_of}
 use Rattle.partition_protocol.specs.Execution.{PartitionLost as IsLost, WrongTarget as IsElsewhere, Migrating as IsFrozen}
-use Rattle.partition_protocol.specs.Events.{Event as ProtocolEvent, Call as CallEvent, Outcome, NothingDone, HeldAt, ReleasedAt, Refused}
+use Rattle.partition_protocol.specs.Service.{MoveRefused as WhyNotMoved, ReopenRefused as WhyNotReopened}
+use Rattle.partition_protocol.specs.Events as protocol
+use Rattle.table_service.specs.Refusals.{why_not_moved, why_not_reopened}
 use Rattle.partition_world.specs.declared.event.Event.{Event}
-use Rattle.partition_world.specs.declared.event.Event.TheVariants.{Call}
+use Rattle.partition_world.specs.declared.event.Event.TheVariants as event
 use Rattle.partition_world.specs.declared.event.CallOutcome.{CallOutcome}
-use Rattle.partition_world.specs.declared.event.CallOutcome.TheVariants.{Held, Released, PartitionLost, WrongTarget, Migrating}
+use Rattle.partition_world.specs.declared.event.CallOutcome.TheVariants as call
 use Rattle.partition_world.specs.declared.event.Happened.{Happened}
-use Rattle.partition_world.specs.declared.event.Happened.TheVariants.{Nothing, Called}
+use Rattle.partition_world.specs.declared.event.Happened.TheVariants as happened
 
-abbrev pub event_of : {C : Type 0} → Event C → ProtocolEvent C
-event_of (Call member id call now) = CallEvent member id.conn id.number call now
+abbrev pub event_of : {C : Type 0} → Event C → protocol.Event C
+event_of (event.Call member id call now) = protocol.Call member id.conn id.number call now
+event_of (event.Deliver from to place) = protocol.Deliver from to place
+event_of (event.Lose from to place) = protocol.Lose from to place
+event_of (event.Repeat from to place) = protocol.Repeat from to place
+event_of (event.Resend end) = protocol.Resend end
+event_of (event.Crash member) = protocol.Crash member
+event_of (event.Detect member) = protocol.Detect member
+event_of (event.BeginMove from to) = protocol.BeginMove from to
+event_of (event.BeginJoin to) = protocol.BeginJoin to
+event_of (event.BeginHandover from to) = protocol.BeginHandover from to
+event_of event.Advance = protocol.Advance
+event_of event.Reopen = protocol.Reopen
 
-abbrev pub outcome_of : CallOutcome → Outcome
-outcome_of (Held seen) = HeldAt seen
-outcome_of (Released seen) = ReleasedAt seen
-outcome_of (PartitionLost version) = Refused (IsLost version)
-outcome_of (WrongTarget version) = Refused (IsElsewhere version)
-outcome_of (Migrating version) = Refused (IsFrozen version)
+abbrev pub outcome_of : CallOutcome → protocol.Outcome
+outcome_of (call.Held seen) = protocol.HeldAt seen
+outcome_of (call.Released seen) = protocol.ReleasedAt seen
+outcome_of (call.PartitionLost version) = protocol.Refused (IsLost version)
+outcome_of (call.WrongTarget version) = protocol.Refused (IsElsewhere version)
+outcome_of (call.Migrating version) = protocol.Refused (IsFrozen version)
 
-abbrev pub happened_of : Happened → Outcome
-happened_of Nothing = NothingDone
-happened_of (Called outcome) = outcome_of outcome
+-- a refusal of an event is never want of memory, which is no event
+
+abbrev pub move_outcome : Option WhyNotMoved → protocol.Outcome
+move_outcome (Some why) = protocol.MoveIsRefused why
+move_outcome None = protocol.NothingDone
+
+abbrev pub reopen_outcome : Option WhyNotReopened → protocol.Outcome
+reopen_outcome (Some why) = protocol.ReopenIsRefused why
+reopen_outcome None = protocol.NothingDone
+
+abbrev pub happened_of : Happened → protocol.Outcome
+happened_of happened.Nothing = protocol.NothingDone
+happened_of happened.Done = protocol.Done
+happened_of (happened.Called outcome) = outcome_of outcome
+happened_of (happened.Took took) = protocol.TookMessage (took_of took)
+happened_of (happened.RowMade version) = protocol.RowMadeAt version
+happened_of (happened.MoveRefused why) = move_outcome (why_not_moved why)
+happened_of (happened.ReopenRefused why) = reopen_outcome (why_not_reopened why)
 
 -- the call that the protocol's event brings keeps to the limits, if it brings one
-abbrev pub EventWithin : {C : Type 0} → (C → Type 0) → ProtocolEvent C → Type 0
-EventWithin limits (CallEvent member conn number call now) = limits call
+abbrev pub EventWithin : {C : Type 0} → (C → Type 0) → protocol.Event C → Type 0
+EventWithin limits (protocol.Call member conn number call now) = limits call
 EventWithin limits event = Unit {0}
 
 -- and so does that of an event of the code

@@ -1,8 +1,13 @@
-pub mod Alone
 pub mod Answers
+pub mod Chains
 pub mod ContentsOf
-pub mod Entries
 pub mod Events
-pub mod Executions
-pub mod Nodes
+pub mod InFlight
+pub mod Meanings
+pub mod Openings
+pub mod Places
+pub mod RecordedEntries
+pub mod Recorders
+pub mod Sending
+pub mod Shelves
 pub mod Worlds

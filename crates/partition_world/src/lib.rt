@@ -1,18 +1,30 @@
-//! The world of one partition: its members' nodes and its recorded history, moved on by events.
-//! At this stage a world has one member, and the one event is a call.
+//! The world of one partition with any number of members: their nodes, the table service, the messages in flight and
+//! the recorded history, moved on by events.
 #![tactic(auto)]
 
-mod contents;
+mod base;
+mod calls;
+mod chain;
+mod deliveries;
+mod entry;
 mod event;
-mod node;
-mod trail;
+mod history;
+mod in_flight;
+mod losses;
+mod moves;
+mod opening;
+mod readers;
+mod recorder;
+mod steps;
 mod world;
 
-pub use contents::Contents;
+pub use entry::Entry;
 pub use event::{CallOutcome, Event, Happened};
-pub use node::Released;
-pub use trail::Entry;
-pub use world::{MOST_EVENTS, World, every_world_is_safe};
+pub use history::Trail;
+pub use steps::{MOST_EVENTS, every_world_is_safe};
+pub use world::World;
 
+#[cfg(test)]
+mod recorder_tests;
 #[cfg(test)]
 mod tests;

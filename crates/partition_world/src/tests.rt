@@ -1,10 +1,18 @@
-ghost use Rattle.std.specs.Prelude.{◌≡◌, ◌<◌, ◌^◌, ℕ, IfSome, List, [], ◌∷◌, Option, Some, None, is_some, option_map, unwrap_or, slice_get, refl};
+ghost use Rattle.std.specs.Prelude.{◌≡◌, ◌+◌, ◌<◌, ◌^◌, ℕ, IfSome, OnOk, List, [], ◌∷◌, Option, Some, None, is_some, option_map, unwrap_or, slice_get, refl};
 ghost use Rattle.std.proofs.Common.{ap, sym, zero-lt-suc};
+ghost use Rattle.partition_protocol.specs.Arrivals.{asked_by};
+ghost use Rattle.partition_protocol.specs.Events.{Event as ProtocolEvent};
+ghost use Rattle.partition_world.specs.Events.{event_of};
+ghost use Rattle.partition_world.specs.Meanings.{meaning};
+ghost use Rattle.partition_world.specs.Worlds.{StandsFor, steps_of};
 
-use crate::{CallOutcome, Event, Happened, World};
-use grid_base::{Bytes, CallId, Executed, Memory, Moment, Shelf};
+use crate::{CallOutcome, Entry, Event, Happened, World};
+use grid_base::{Bytes, CallId, Executed, MemberId, Memory, Moment, Shelf};
+use member_wire::Took;
 use std::alloc::Global;
+use std::process::Abort;
 use std::test::Fail;
+use table_service::{MoveRefused, ReopenRefused};
 
 /// Keeps one byte. A call of `Some` puts a byte and one of `None` reads; both answer the byte before.
 #[derive(Drop)]
@@ -91,52 +99,166 @@ impl Shelf for Register {
     ghost one_spelling = { λ s t small also same. ap (λ bytes. unwrap_or (slice_get bytes 0) 0) same };
 }
 
-fn call(member: u8, number: u32, asks: Option<u8>) -> Event<Option<u8>> {
-    Event::Call {
+/// The one call of a test reaches a member.
+fn call(
+    rt: &impl Abort,
+    alloc: Global,
+    world: &mut World<Register>,
+    member: MemberId,
+    expected: CallOutcome,
+) -> Result<(), Fail>
+    requires stands { let S = ⟦<Register as Shelf>⟧ in StandsFor (meaning S.object S.state S.effect_of S.change_of S.snapshot_of tt) S.within_limits world.old [] }
+    ensures stands { let S = ⟦<Register as Shelf>⟧ in OnOk result ((events : List (ProtocolEvent (Option ℕ))) × StandsFor (meaning S.object S.state S.effect_of S.change_of S.snapshot_of tt) S.within_limits world.new events) }
+    ensures steps { OnOk result (steps_of world.new ≡ 1) }
+{
+    let event = Event::Call {
         member,
-        id: CallId { conn: 3, number },
-        call: asks,
+        id: CallId { conn: 3, number: 0 },
+        call: Some(7),
         now: 10,
-    }
+    };
+    assert_eq!(rt; world.step(alloc, &(), event)?, Happened::Called(expected));
+    Ok(())
+}
+
+/// Something else happens.
+fn happen(
+    rt: &impl Abort,
+    alloc: Global,
+    world: &mut World<Register>,
+    event: Event<Option<u8>>,
+    expected: Happened,
+) -> Result<(), Fail>
+    requires quiet { asked_by (event_of event) ≡ [] }
+    requires few { steps_of world.old < 1000 }
+    requires stands { let S = ⟦<Register as Shelf>⟧ in (events : List (ProtocolEvent (Option ℕ))) × StandsFor (meaning S.object S.state S.effect_of S.change_of S.snapshot_of tt) S.within_limits world.old events }
+    ensures stands { let S = ⟦<Register as Shelf>⟧ in OnOk result ((events : List (ProtocolEvent (Option ℕ))) × StandsFor (meaning S.object S.state S.effect_of S.change_of S.snapshot_of tt) S.within_limits world.new events) }
+    ensures steps { OnOk result (steps_of world.new ≡ steps_of world.old + 1) }
+{
+    assert_eq!(rt; world.step(alloc, &(), event)?, expected);
+    Ok(())
+}
+
+/// The first message of a link is handed over.
+fn deliver(
+    rt: &impl Abort,
+    alloc: Global,
+    world: &mut World<Register>,
+    from: u8,
+    to: u8,
+    took: Took,
+) -> Result<(), Fail>
+    requires few { steps_of world.old < 1000 }
+    requires stands { let S = ⟦<Register as Shelf>⟧ in (events : List (ProtocolEvent (Option ℕ))) × StandsFor (meaning S.object S.state S.effect_of S.change_of S.snapshot_of tt) S.within_limits world.old events }
+    ensures stands { let S = ⟦<Register as Shelf>⟧ in OnOk result ((events : List (ProtocolEvent (Option ℕ))) × StandsFor (meaning S.object S.state S.effect_of S.change_of S.snapshot_of tt) S.within_limits world.new events) }
+    ensures steps { OnOk result (steps_of world.new ≡ steps_of world.old + 1) }
+{
+    let event = Event::Deliver { from, to, place: 0 };
+    happen(rt, alloc, world, event, Happened::Took(took))
+}
+
+/// The history has so many entries.
+fn assert_trail(
+    rt: &impl Abort,
+    alloc: Global,
+    world: &World<Register>,
+    entries: usize,
+) -> Result<(), Fail> {
+    assert_eq!(rt; world.trail(alloc)?.len(), entries);
+    Ok(())
 }
 
 #[test]
-fn puts_and_gets(rt: HostRuntime) -> Result<(), Fail> {
-    let mut world: World<Register> = World::new(rt.alloc(), 5, 1, 2)?;
-    assert!(rt; world.is_live(0));
-    assert!(rt; !world.is_live(1));
-
-    let opened = world.contents(0);
-    assert_eq!(rt; (opened.version, opened.count), (1, 0));
-    assert_eq!(rt; opened.shelf.value, 0);
-
-    let executed = Happened::Called(CallOutcome::Released { seen: 1 });
-    assert_eq!(rt; world.step(rt.alloc(), &(), call(0, 0, Some(7)))?, executed);
-    assert_eq!(rt; world.step(rt.alloc(), &(), call(0, 1, None))?, executed);
-    assert_eq!(rt;
-        world.step(rt.alloc(), &(), call(1, 2, None))?,
-        Happened::Nothing
-    );
-    assert_eq!(rt; world.steps(), 3);
-
-    let contents = world.contents(0);
-    assert_eq!(rt; (contents.version, contents.count), (1, 1));
-    assert_eq!(rt; contents.shelf.value, 7);
-
-    for (number, reply) in [(0, 0), (1, 7)] {
-        let answer = world.pop_released(0).ok_or("an answer waits")?;
-        assert_eq!(rt; answer.id.number, number);
-        assert_eq!(rt; answer.version, 1);
-        assert_eq!(rt; answer.seen, 1);
-        assert_eq!(rt; answer.reply.as_slice(), [reply].as_slice());
-    }
-    assert!(rt; world.pop_released(0).is_none());
-    assert!(rt; world.pop_released(1).is_none());
-
-    assert_eq!(rt; world.trail_len(), 2);
-    let entry = world.trail_at(1);
-    assert_eq!(rt; entry.id.number, 1);
-    assert_eq!(rt; entry.call, None);
-    assert_eq!(rt; entry.reply.as_slice(), [7].as_slice());
+fn an_answer_waits_for_its_backup(rt: HostRuntime) -> Result<(), Fail> {
+    let alloc = rt.alloc();
+    // Member 2 leads, and 0 is its backup; the table service has the number 3.
+    let mut world: World<Register> = World::new(alloc, 5, 3, 1)?;
+    call(&rt, alloc, &mut world, 2, CallOutcome::Held { seen: 1 })?;
+    deliver(&rt, alloc, &mut world, 2, 0, Took::Applied)?;
+    deliver(&rt, alloc, &mut world, 0, 2, Took::Acked)?;
+    let answer = world.pop_released(2).ok_or("the answer was released")?;
+    assert_eq!(rt; answer.reply.as_slice(), [0].as_slice());
+    assert!(rt; world.pop_released(2).is_none());
     Ok(())
+}
+
+#[test]
+fn an_answered_write_survives_its_primary(rt: HostRuntime) -> Result<(), Fail> {
+    let alloc = rt.alloc();
+    let mut world: World<Register> = World::new(alloc, 5, 3, 1)?;
+    call(&rt, alloc, &mut world, 2, CallOutcome::Held { seen: 1 })?;
+    deliver(&rt, alloc, &mut world, 2, 0, Took::Applied)?;
+    deliver(&rt, alloc, &mut world, 0, 2, Took::Acked)?;
+    let crash = Event::Crash { member: 2 };
+    happen(&rt, alloc, &mut world, crash, Happened::Done)?;
+    let detect = Event::Detect { member: 2 };
+    let made = Happened::RowMade { version: 2 };
+    happen(&rt, alloc, &mut world, detect, made)?;
+    deliver(&rt, alloc, &mut world, 3, 0, Took::Adopted)?;
+    assert_trail(&rt, alloc, &world, 1)
+}
+
+#[test]
+fn what_was_lost_is_sent_again(rt: HostRuntime) -> Result<(), Fail> {
+    let alloc = rt.alloc();
+    let mut world: World<Register> = World::new(alloc, 5, 3, 1)?;
+    call(&rt, alloc, &mut world, 2, CallOutcome::Held { seen: 1 })?;
+    let lose = Event::Lose {
+        from: 2,
+        to: 0,
+        place: 0,
+    };
+    happen(&rt, alloc, &mut world, lose, Happened::Done)?;
+    assert_eq!(rt; world.in_flight(2, 0).len(), 0);
+    let again = Event::Lose {
+        from: 2,
+        to: 0,
+        place: 0,
+    };
+    happen(&rt, alloc, &mut world, again, Happened::Nothing)?;
+    let resend = Event::Resend { end: 2 };
+    happen(&rt, alloc, &mut world, resend, Happened::Done)?;
+    let repeat = Event::Repeat {
+        from: 2,
+        to: 0,
+        place: 0,
+    };
+    happen(&rt, alloc, &mut world, repeat, Happened::Done)?;
+    deliver(&rt, alloc, &mut world, 2, 0, Took::Applied)?;
+    deliver(&rt, alloc, &mut world, 2, 0, Took::Already)?;
+    deliver(&rt, alloc, &mut world, 0, 2, Took::Acked)?;
+    assert!(rt; world.pop_released(2).is_some());
+    Ok(())
+}
+
+#[test]
+fn a_lost_partition_goes_on_empty(rt: HostRuntime) -> Result<(), Fail> {
+    let alloc = rt.alloc();
+    // Member 1 leads alone; the table service has the number 2.
+    let mut world: World<Register> = World::new(alloc, 5, 2, 0)?;
+    call(&rt, alloc, &mut world, 1, CallOutcome::Released { seen: 1 })?;
+    let crash = Event::Crash { member: 1 };
+    happen(&rt, alloc, &mut world, crash, Happened::Done)?;
+    let detect = Event::Detect { member: 1 };
+    happen(
+        &rt,
+        alloc,
+        &mut world,
+        detect,
+        Happened::RowMade { version: 2 },
+    )?;
+    let moved = Event::BeginMove { from: 0, to: 1 };
+    let lost = Happened::MoveRefused(MoveRefused::Lost);
+    happen(&rt, alloc, &mut world, moved, lost)?;
+    happen(
+        &rt,
+        alloc,
+        &mut world,
+        Event::Reopen,
+        Happened::RowMade { version: 3 },
+    )?;
+    deliver(&rt, alloc, &mut world, 2, 0, Took::Adopted)?;
+    deliver(&rt, alloc, &mut world, 2, 0, Took::Adopted)?;
+
+    assert_trail(&rt, alloc, &world, 2)
 }

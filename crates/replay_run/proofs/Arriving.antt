@@ -1,5 +1,5 @@
 -- A line that is counted, and a call that is asked, keep what holds of arrivals.
-use Rattle.std.proofs.Common.{◌≡◌, ◌≢◌, ℕ, ◌+◌, ◌≤◌, ◌<◌, Bool, true, false, cond, ◌==◌, List, [], ◌∷◌, ◌++◌, length, map, filter, None, Some, refl, ap, sym, ◌∙◌, subst, ◌⊎◌, ⊎_elim, inl, inr, arith, append-nil, append_assoc, length-append, true≢false}
+use Rattle.std.proofs.Common.{◌≡◌, ◌≢◌, ℕ, ◌+◌, ◌≤◌, ◌<◌, Bool, true, false, cond, ◌==◌, List, [], ◌∷◌, ◌++◌, length, map, filter, None, Some, refl, ap, sym, ◌∙◌, subst, ◌⊎◌, ⊎_elim, inl, inr, arith, append-nil, append_assoc, true≢false}
 use Rattle.std.proofs.lemmas.List.{map-append}
 use Rattle.std.proofs.lemmas.List.Elements.{filter-append}
 use Rattle.std.proofs.lemmas.Bool.Decides.{nat_tests}
@@ -10,11 +10,12 @@ use Rattle.grid_base.specs.declared.calls.Request.{Request}
 use Rattle.partition_protocol.specs.Events.{Event}
 use Rattle.partition_protocol.specs.Arrivals.{CallName, asked_by, arrivals}
 use Rattle.partition_protocol.proofs.Lists.{In, in_cases, contains_in, IsPart, part_longer, part_both, cases}
-use Rattle.replay_run.specs.Runs.{Run, Arrival, Appended, Connection, At, is_at, events_at, is_connection, connection_of, messages_on, updated, arrival_at, call_of, arrived}
+use Rattle.replay_run.specs.Runs.{Run, Arrival, Appended, Connection, At, is_at, events_at, world_at, reopened_at, is_connection, connection_of, messages_on, updated, arrival_at, call_of, arrived}
 use Rattle.replay_run.specs.ScriptRuns.{IsPlaced, IsNext}
 use Rattle.replay_run.proofs.Parts.{in_mapped, before_last, named_more}
 use Rattle.replay_run.proofs.Places.{same_number}
 use Rattle.replay_run.proofs.Trails.{find_some}
+use Rattle.replay_run.proofs.Stamps.{stamped_later}
 use Rattle.replay_run.proofs.RunFacts.{asked_of, arrival_name, is_of, ArrivalsOk, AreApart, RunOk}
 
 -- connections
@@ -103,10 +104,13 @@ quiet o r moments ks ok apart grows = record {
     of_line = ok.of_arrivals.of_line;
     by_now = λ a i. let l = ok.of_arrivals.by_now a i in omega (arith, l);
     calls = ok.of_arrivals.calls;
-    events = ok.of_arrivals.events;
   };
-  of_answers = record { given = ok.of_answers.given; once = ok.of_answers.once; resets = ok.of_answers.resets };
+  of_answers = record { given = ok.of_answers.given; once = ok.of_answers.once };
   of_refusals = record { arrived = ok.of_refusals.arrived; unexecuted = ok.of_refusals.unexecuted };
+  of_reopenings = record {
+    within = ok.of_reopenings.within;
+    stamped = λ p. stamped_later r.arrivals r.arrivals 0 r.lines (r.lines + 1) (reopened_at p r.reopened) (world_at o r p).recorded.log (λ a i. i) (omega arith) (ok.of_reopenings.stamped p);
+  };
 }
 
 -- events
@@ -146,9 +150,13 @@ arrivals_of_more p come a =
     ap (map asked_of) (filter-append (is_of p) come (a ∷ [])) ∙ map-append asked_of (filter (is_of p) come) (maybe_one (is_of p a) a)
     ∙ ap (λ ks. map asked_of (filter (is_of p) come) ++ ks) (map-maybe_one asked_of (is_of p a) a)
 
--- the partition's events with that of a call
+-- the partition's events with one more
+pub events_with_one : (p : ℕ) (es : List At) (e : At) → events_at p (es ++ e ∷ []) ≡ events_at p es ++ maybe_one (is_at p e) e.event
+events_with_one p es e = events_at-append p es (e ∷ []) ∙ ap (λ fs. events_at p es ++ fs) (map-maybe_one (λ (f : At). f.event) (is_at p e) e)
+
+-- and with that of a call
 pub events_of_more : (p : ℕ) (es : List At) (a : Arrival) → events_at p (es ++ its_event a ∷ []) ≡ events_at p es ++ maybe_one (is_of p a) (call_of a)
-events_of_more p es a = events_at-append p es (its_event a ∷ []) ∙ ap (λ fs. events_at p es ++ fs) (map-maybe_one (λ (e : At). e.event) (is_of p a) (its_event a))
+events_of_more p es a = events_with_one p es (its_event a)
 
 pub asked_of_maybe : (b : Bool) (a : Arrival) → arrivals (maybe_one b (call_of a)) ≡ maybe_one b (asked_of a)
 asked_of_maybe true a = refl
@@ -184,14 +192,6 @@ module _ (r : Run) (ok : ArrivalsOk r) (member : ℕ) (request : Request) (next 
       (subst (λ es. IsPart es (map asked_of (filter (is_of p) r.arrivals) ++ maybe_one (is_of p a) (asked_of a))) (sym (ap (λ fs. arrivals (events_at p (r.events ++ fs))) e ∙ calls_of_more p r.events a))
       (part_maybe_both (arrivals (events_at p r.events)) (map asked_of (filter (is_of p) r.arrivals)) (is_of p a) (asked_of a) (ok.calls p)))
 
-  events_with : (events : List At) → IsMade a events → length (r.events ++ events) ≤ length (r.arrivals ++ a ∷ [])
-  events_with events h =
-      let one = ⊎_elim {C = length events ≤ 1} (λ e. let n = ap length e in omega (arith, n)) (λ e. let n = ap length e in omega (arith, n)) h in
-      let fewer = ok.events in
-      let more = length-append r.events events in
-      let calls = length-append r.arrivals (a ∷ []) in
-      omega (arith, one, fewer, more, calls)
-
   pub arrivals_with : (events : List At) (appended : List Appended) → IsMade a events → ArrivalsOk (arrived r a events appended)
   arrivals_with events appended h = record {
     placed = λ b i. ⊎_elim (ok.placed b) last_placed (in_cases b r.arrivals (a ∷ []) i);
@@ -202,7 +202,6 @@ module _ (r : Run) (ok : ArrivalsOk r) (member : ℕ) (request : Request) (next 
     of_line = λ b c i j. with_last b c (in_cases b r.arrivals (a ∷ []) i) (in_cases c r.arrivals (a ∷ []) j);
     by_now = λ b i. ⊎_elim (ok.by_now b) (last_now b) (in_cases b r.arrivals (a ∷ []) i);
     calls = λ p. calls_with p events h;
-    events = events_with events h;
   }
     where
       last_placed : {b : Arrival} → In b (a ∷ []) → IsPlaced b.request

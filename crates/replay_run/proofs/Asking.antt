@@ -1,43 +1,49 @@
 -- The world of a call's partition, where the code reads it.
-use Rattle.std.proofs.Common.{◌≡◌, ℕ, ◌+◌, ◌-◌, ◌≤◌, ◌<◌, ◌^◌, Bool, true, false, cond, List, [], ◌∷◌, length, get_or, map, filter, Result, Ok, Err, Some, slice_get, ap, sym, subst, ◌∙◌, ◌++◌, ◌⊎◌, arith}
+use Rattle.std.proofs.Common.{◌≡◌, ℕ, ◌+◌, ◌-◌, ◌*◌, ◌≤◌, ◌<◌, ◌^◌, true, List, [], ◌∷◌, length, get_or, map, Result, Ok, Err, Some, slice_get, refl, ap, sym, subst, ◌∙◌, ◌++◌, ◌⊎◌, arith}
 use Rattle.std.specs.Result.{OnOk}
 use Rattle.std.specs.Prelude.{Option, unwrap_or}
+use Rattle.std.proofs.lemmas.Bool.{eq-eqb}
 use Rattle.std.proofs.lemmas.Option.{slice_get_within, slice_get-get_or}
+use Rattle.grid_base.specs.Objects.{Object}
 use Rattle.grid_base.specs.declared.calls.Request.{Request}
 use Rattle.partition_protocol.specs.Events.{Event}
+use Rattle.partition_protocol.specs.World.{trail}
+use Rattle.partition_protocol.specs.Arrivals.{NamedOnce, arrivals, name}
 use Rattle.call_engine.specs.declared.env.GridEnv.{GridEnv}
 use Rattle.call_engine.specs.Calls.{Settings}
 use Rattle.call_engine.specs.Env.{settings_of}
-use Rattle.partition_world.specs.Worlds.{steps_of}
+use Rattle.call_engine.specs.Limits.{RequestFits}
+use Rattle.call_engine.specs.Objects.{partition_object}
+use Rattle.object_store.specs.Partitions.{Partition}
+use Rattle.partition_world.specs.declared.entry.Entry.{Entry}
+use Rattle.partition_world.specs.RecordedEntries.{entry_of}
+use Rattle.partition_world.specs.Worlds.{steps_of, run_of, Comes}
 use Rattle.partition_world.proofs.Places.{read_there}
 use Rattle.replay_run.specs.declared.grid.Grid.{Grid}
-use Rattle.replay_run.specs.Runs.{Run, At, Arrival, is_at, events_at, moment_of}
+use Rattle.replay_run.specs.Runs.{Run, Arrival, events_at, moment_of, world_at, call_of, arrival_at, arrived, happening}
 use Rattle.replay_run.specs.Printing.{partitions}
-use Rattle.replay_run.specs.Grids.{FormOf, GridWorld, StandsForEvents, IsWorld, Holds}
-use Rattle.replay_run.specs.WorldCalls.{IsCalled, IsSkipped}
+use Rattle.replay_run.specs.Grids.{FormOf, GridWorld, grid_meaning, StandsForEvents, IsWorld, Holds, Stands, AreFew}
+use Rattle.replay_run.specs.ScriptRuns.{IsRun, IsNext, call_asked}
+use Rattle.replay_run.specs.WorldCalls.{IsCalled, IsSkipped, arrival_to}
+use Rattle.replay_run.proofs.Arriving.{its_event, maybe_one, events_of_more}
+use Rattle.replay_run.proofs.RunFacts.{is_of, named}
+use Rattle.replay_run.proofs.RunsOfLines.{run_ok}
 use Rattle.replay_run.proofs.HistoryTexts.{indexed_world}
+use Rattle.replay_run.proofs.WorldRuns.{run_is}
 
 -- what follows of three facts on a result
 pub on_ok_all : {T E P Q R S : Type 0} (r : Result T E) → OnOk r P → OnOk r Q → OnOk r R → (P → Q → R → S) → OnOk r S
 on_ok_all (Ok x) p q r f = f p q r
 on_ok_all (Err e) p q r f = tt
 
--- A partition has no more events than there are.
-few_events : (p : ℕ) (es : List At) → length (events_at p es) ≤ length es
-few_events p [] = omega arith
-few_events p (e ∷ es) = go (is_at p e) (few_events p es)
-  where
-    go : (b : Bool) → length (events_at p es) ≤ length es → length (map (λ (x : At). x.event) (cond b (e ∷ filter (is_at p) es) (filter (is_at p) es))) ≤ length (e ∷ es)
-    go true h = omega (arith, h)
-    go false h = omega (arith, h)
-
 -- what a call did, in an environment that makes these settings
 abbrev pub Did : {V : Type 0} {T : V → Type 0} → Settings → GridWorld V T → GridWorld V T → List (Event Request) → Arrival → List ℕ → List ℕ → Type 0
 Did settings old new events a before after = (text : List ℕ) × (after ≡ before ++ text) × (IsCalled settings old new events a text ⊎ IsSkipped settings old new events a text)
 
 pub did_by : {V : Type 0} {T : V → Type 0} (form : FormOf V T) (env : GridEnv V T) (settings : Settings) → settings_of form env ≡ settings → (old new : GridWorld V T) (events : List (Event Request)) (a : Arrival) (before after : List ℕ)
-    → (StandsForEvents (settings_of form env) old events → Did (settings_of form env) old new events a before after) → StandsForEvents settings old events → Did settings old new events a before after
-did_by form env settings goes_by old new events a before after = subst (λ s. StandsForEvents s old events → Did s old new events a before after) goes_by
+    → (StandsForEvents (settings_of form env) old events → NamedOnce (map name (arrivals (events ++ call_of a ∷ []))) → Did (settings_of form env) old new events a before after)
+    → StandsForEvents settings old events → NamedOnce (map name (arrivals (events ++ call_of a ∷ []))) → Did settings old new events a before after
+did_by form env settings goes_by old new events a before after = subst (λ s. StandsForEvents s old events → NamedOnce (map name (arrivals (events ++ call_of a ∷ []))) → Did s old new events a before after) goes_by
 
 pub stands_by : {V : Type 0} {T : V → Type 0} (form : FormOf V T) (env : GridEnv V T) (settings : Settings) → settings_of form env ≡ settings → (world : GridWorld V T) (events : List (Event Request))
     → StandsForEvents settings world events → StandsForEvents (settings_of form env) world events
@@ -56,8 +62,8 @@ module _ {V : Type 0} {T : V → Type 0} {form : FormOf V T} {settings : Setting
     world_is = indexed_world grid.worlds.items r p i world (h.worlds p low) same read
 
     -- it has room for one event more
-    pub world_room : length r.events + 1 < 2 ^ 32 - 1 → steps_of world + 1 < 2 ^ 32 - 1
-    world_room room = omega (arith, room, world_is.stands.steps, few_events p r.events)
+    pub world_room : length r.arrivals + 1001 * r.lines + 1 < 2 ^ 32 - 1 → AreFew r → steps_of world + 1 < 2 ^ 32 - 1
+    world_room room few = let own = few p in omega (arith, room, world_is.stands.steps, own)
 
 -- the clock of a member, where the code reads it
 module _ {V : Type 0} {T : V → Type 0} {form : FormOf V T} {settings : Settings} (grid : Grid V T) (r : Run) (h : Holds form settings grid r) (member i : ℕ) (within : member < grid.members) (same : i ≡ member) where
@@ -71,3 +77,46 @@ module _ {V : Type 0} {T : V → Type 0} {form : FormOf V T} {settings : Setting
   moment_there now read =
       let there = ap (λ ms. slice_get ms member) (sym h.moments) ∙ ap (slice_get grid.moments.items) (sym same) ∙ slice_get-get_or grid.moments.items i now moment_within ∙ ap Some (sym read) in
       sym (ap (λ (o : Option ℕ). unwrap_or o 0) there)
+
+-- The call that comes has a name of its own.
+pub named_next : (settings : Settings) (r : Run) → IsRun (partition_object settings) r → (member line now : ℕ) (request : Request) → IsNext r request → line ≡ r.lines → now ≡ moment_of r member
+    → NamedOnce (map name (arrivals (events_at request.partition r.events ++ call_of (arrival_to line member now request) ∷ [])))
+named_next settings r run member line now request next at_line at_moment =
+    ap_names (λ i. call_of (arrival_to (at_line i) member (at_moment i) request))
+  where
+    o : Object Request Partition
+    o = partition_object settings
+
+    a : Arrival
+    a = arrival_at r member request
+
+    then : Run
+    then = arrived r a (its_event a ∷ []) (happening o r a)
+
+    its : events_at request.partition then.events ≡ events_at request.partition r.events ++ call_of a ∷ []
+    its =
+        let here : is_of request.partition a ≡ true = eq-eqb request.partition request.partition refl in
+        events_of_more request.partition r.events a ∙ ap (λ b. events_at request.partition r.events ++ maybe_one b (call_of a)) here
+
+    once : NamedOnce (map name (arrivals (events_at request.partition r.events ++ call_of a ∷ [])))
+    once = subst (λ es. NamedOnce (map name (arrivals es))) its (named o then (run_ok (call_asked [] r member request run next)).members (run_ok (call_asked [] r member request run next)).of_arrivals request.partition)
+
+    ap_names : call_of (arrival_to line member now request) ≡ call_of a → NamedOnce (map name (arrivals (events_at request.partition r.events ++ call_of (arrival_to line member now request) ∷ [])))
+    ap_names e = subst (λ x. NamedOnce (map name (arrivals (events_at request.partition r.events ++ x ∷ [])))) (sym e) once
+
+-- It may come next in its partition's world.
+pub call_comes : {V : Type 0} {T : V → Type 0} (settings : Settings) (world : GridWorld V T) (events : List (Event Request)) (a : Arrival) → StandsForEvents settings world events → steps_of world + 1 < 2 ^ 32 - 1
+    → RequestFits a.request → NamedOnce (map name (arrivals (events ++ call_of a ∷ []))) → Comes (grid_meaning settings) RequestFits world events (call_of a)
+call_comes settings world events a stands room fits once = record {
+  stands = stands;
+  may = record { room = (let steps = stands.steps in omega (arith, room, steps)); within = fits; once = once };
+}
+
+-- the history that a partition's world tells
+pub told_history : {V : Type 0} {T : V → Type 0} {settings : Settings} (form : FormOf V T) (grid : Grid V T) (r : Run) → Stands form settings grid r → (p i : ℕ) → p < partitions → i ≡ p → (world : GridWorld V T) → world ≡ get_or grid.worlds.items i world
+    → (entries : List (Entry Request)) → ((events : List (Event Request)) → StandsForEvents (settings_of form grid.env) world events → map entry_of entries ≡ trail (run_of (grid_meaning (settings_of form grid.env)) world events))
+    → map entry_of entries ≡ trail (world_at (partition_object settings) r p)
+told_history {settings = settings} form grid r s p i low same world read entries told =
+    let is = world_is grid r s.holds p i low same world read in
+    subst (λ x. StandsForEvents x world (events_at p r.events) → map entry_of entries ≡ trail (run_of (grid_meaning x) world (events_at p r.events))) s.holds.goes_by (told (events_at p r.events)) is.stands
+    ∙ ap trail (run_is world r p is)

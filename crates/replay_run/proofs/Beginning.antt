@@ -49,11 +49,12 @@ begun_settled : (members backups : ℕ) → IsSettled no_connections (begun memb
 begun_settled members backups c o k at there = absurd cc
 
 pub begun_stands : {V : Type 0} {T : V → Type 0} {form : FormOf V T} (grid : Grid V T) (env : GridEnv V T) (members backups : ℕ) → 1 ≤ members → grid.env ≡ env → grid.lines ≡ 1 → grid.members ≡ members → grid.moments.items ≡ replicate members 0
-    → grid.connections ≡ no_connections → ((p : ℕ) → p < partitions → HasWorld (settings_of form env) grid.worlds.items (begun members backups) p)
+    → grid.connections ≡ no_connections → grid.reopened.items ≡ [] → ((p : ℕ) → p < partitions → HasWorld (settings_of form env) grid.worlds.items (begun members backups) p)
     → Stands form (settings_of form env) grid (begun members backups)
-begun_stands {form = form} grid env members backups some same lines own moments table worlds = record {
+begun_stands {form = form} grid env members backups some same lines own moments table none worlds = record {
   run = grid_begun members backups some;
   small = omega arith;
+  few = λ p. omega arith;
   holds = record {
     goes_by = ap (settings_of form) same;
     lines = lines;
@@ -61,6 +62,7 @@ begun_stands {form = form} grid env members backups some same lines own moments 
     moments = moments;
     clocks = length-replicate members 0;
     table = subst (λ t. HasTable t (begun members backups)) (sym table) (begun_table members backups);
+    reopened = none;
     worlds = worlds;
   };
   settled = subst (λ t. IsSettled t (begun members backups)) (sym table) (begun_settled members backups);

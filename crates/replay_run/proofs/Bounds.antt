@@ -1,5 +1,5 @@
--- A run has no more events than calls, no more calls than messages, and far fewer messages than bytes; and what a line adds to those.
-use Rattle.std.proofs.Common.{◌≡◌, ◌≢◌, ℕ, ◌+◌, ◌*◌, ◌≤◌, ◌<◌, ◌^◌, ◌-◌, ◌==◌, Bool, true, false, cond, List, [], ◌∷◌, length, Option, Some, None, pos, refl, ap, sym, ◌∙◌, subst, ⊎_elim, inl, inr, arith, length-append}
+-- A run has no more calls than messages, and far fewer messages than bytes; a partition has few events; and what a line adds to those.
+use Rattle.std.proofs.Common.{◌≡◌, ◌≢◌, ℕ, ◌+◌, ◌*◌, ◌≤◌, ◌<◌, ◌^◌, ◌-◌, ◌==◌, Bool, true, false, cond, List, [], ◌∷◌, ◌++◌, map, filter, length, Option, Some, None, pos, refl, ap, sym, ◌∙◌, subst, ⊎_elim, inl, inr, arith, length-append}
 use Rattle.std.proofs.lemmas.List.Sums.{sum_by-cons, sum_by-append}
 use Rattle.std.specs.List.{find, sum_by}
 use Rattle.std.specs.Prelude.{is_some}
@@ -8,7 +8,7 @@ use Rattle.grid_base.specs.Objects.{Object}
 use Rattle.grid_base.specs.declared.calls.Request.{Request}
 use Rattle.grid_base.specs.declared.names.CallId.{CallId}
 use Rattle.object_store.specs.Partitions.{Partition}
-use Rattle.partition_protocol.proofs.Lists.{In, contains_in, cases}
+use Rattle.partition_protocol.proofs.Lists.{In, contains_in, cases, on_if}
 use Rattle.partition_protocol.proofs.RowFacts.{false_or_not}
 use Rattle.session_core.specs.declared.item.Item.{Item}
 use Rattle.session_core.specs.declared.item.Item.TheVariants.{Call as Asks, Reply}
@@ -16,10 +16,10 @@ use Rattle.script_lang.specs.Limits.{most_lines, most_line_bytes}
 use Rattle.script_lang.specs.Lines.{IsWithin}
 use Rattle.script_lang.specs.declared.line.Line.{Line}
 use Rattle.script_lang.specs.declared.line.Line.TheVariants.{Grid, OpenConn, Arrive, Clock, Dump, Trail, Comment, End}
-use Rattle.replay_run.specs.Runs.{Run, Connection, Arrival, is_connection, connection_of, messages_on, bytes_of, updated, with_bytes, took_bytes, opened, next_line, fault_on, items_by, told, refusal, arrival_at, happening, arrived, is_skipped, asked, bytes_arrived, after_line, handled_all}
+use Rattle.replay_run.specs.Runs.{Run, At, Connection, Arrival, is_at, events_at, clock_set, is_connection, connection_of, messages_on, bytes_of, updated, with_bytes, took_bytes, opened, next_line, fault_on, items_by, told, refusal, arrival_at, happening, arrived, is_skipped, asked, bytes_arrived, after_line, handled_all}
 use Rattle.replay_run.specs.Linearizability.{Before}
 use Rattle.replay_run.specs.ScriptRuns.{IsRun}
-use Rattle.replay_run.specs.Grids.{IsSmall}
+use Rattle.replay_run.specs.Grids.{IsSmall, AreFew}
 use Rattle.replay_run.specs.WorldCalls.{HasRoom}
 use Rattle.replay_run.proofs.Counts.{count}
 use Rattle.replay_run.proofs.Hearing.{header, messages_sized}
@@ -27,7 +27,7 @@ use Rattle.replay_run.proofs.Items.{items_room}
 use Rattle.replay_run.proofs.Places.{same_number}
 use Rattle.replay_run.proofs.Trails.{find_some}
 use Rattle.replay_run.proofs.RunFacts.{AreApart, RunOk}
-use Rattle.replay_run.proofs.Arriving.{same_test, its_event}
+use Rattle.replay_run.proofs.Arriving.{same_test, its_event, events_at-append}
 use Rattle.replay_run.proofs.RunsOfLines.{run_ok}
 use Rattle.replay_run.proofs.Lines.{connection_there, handled_all_come}
 use Rattle.replay_run.proofs.SkipLaws.{line_counts}
@@ -128,10 +128,7 @@ apart_found (j ∷ js) k apart (inr i) =
     let test : (j.conn == k.conn) ≡ false = false_or_not (j.conn == k.conn) (λ e. apart.0 k i (sym (same_number j.conn k.conn e))) in
     rw test (apart_found js k apart.1 i)
 
--- events and calls
-
-pub events_fewer : {o : Object Request Partition} (r : Run) → IsRun o r → length r.events ≤ length r.arrivals
-events_fewer r is = (run_ok is).of_arrivals.events
+-- calls
 
 pub arrivals_fewer : {o : Object Request Partition} (r : Run) → IsRun o r → length r.arrivals ≤ messages_in r
 arrivals_fewer {o} r is =
@@ -157,9 +154,6 @@ arrivals_fewer {o} r is =
 
     fewer : (k : Connection) → In k r.connections → count (is_on_conn k.conn) r.arrivals ≤ messages_at k
     fewer k j = let messages = rising_fewer k.conn 0 (length (messages_on k)) r.arrivals (omega arith) ok.of_arrivals.rising (below k j) in omega (arith, messages)
-
-pub events_within : {o : Object Request Partition} (r : Run) → IsRun o r → length r.events ≤ messages_in r
-events_within r is = let a = events_fewer r is in let b = arrivals_fewer r is in omega (arith, a, b)
 
 -- what bytes add
 
@@ -203,9 +197,9 @@ module _ {o : Object Request Partition} (r : Run) (k : Connection) (bytes : List
   -- There is room for one line more, whatever its bytes.
   pub room : IsSmall r → r.lines + 1 ≤ most_lines → 2 * length bytes ≤ most_line_bytes → HasRoom r k bytes
   room small lines size =
-      let events = events_within r is in
+      let come = arrivals_fewer r is in
       let fewer = messages_fewer (took_bytes r k bytes) in
-      omega (arith, small, lines, size, events, fewer, bytes_taken_more, messages_taken_more)
+      omega (arith, small, lines, size, come, fewer, bytes_taken_more, messages_taken_more)
 
   -- and its messages have numbers of four bytes
   pub numbers_room : IsSmall r → r.lines + 1 ≤ most_lines → 2 * length bytes ≤ most_line_bytes → length (messages_on (with_bytes k bytes)) < 2 ^ 32 - 1
@@ -224,24 +218,83 @@ opened_no_more r c member =
 pub handled_no_more : (o : Object Request Partition) (skips : List CallId) (r : Run) (k : Connection) (items : List Item) → bytes_of (handled_all o skips r k items) ≡ bytes_of r
 handled_no_more o skips r k items = ap (sum_by bytes_at) (handled_all_come o skips r k items).connections
 
--- what items add to the events: one at most for each
-
-asked_event : (o : Object Request Partition) (skips : List CallId) (r : Run) (a : Arrival) → length (asked o skips r a).events ≤ length r.events + 1
-asked_event o skips r a = go (is_skipped skips a.id)
+-- A partition has no more events than there are.
+pub few_events : (p : ℕ) (es : List At) → length (events_at p es) ≤ length es
+few_events p [] = omega arith
+few_events p (e ∷ es) = go (is_at p e) (few_events p es)
   where
-    go : (b : Bool) → length (cond b (arrived r a [] (refusal a.line a.request (pos want_of_memory) 0 ∷ [])) (arrived r a (its_event a ∷ []) (happening o r a))).events ≤ length r.events + 1
-    go true = let more = length-append r.events [] in omega (arith, more)
-    go false = let more = length-append r.events (its_event a ∷ []) in omega (arith, more)
+    go : (b : Bool) → length (events_at p es) ≤ length es → length (map (λ (x : At). x.event) (cond b (e ∷ filter (is_at p) es) (filter (is_at p) es))) ≤ length (e ∷ es)
+    go true h = omega (arith, h)
+    go false h = omega (arith, h)
 
-pub handled_events : (o : Object Request Partition) (skips : List CallId) (r : Run) (k : Connection) (items : List Item) → length (handled_all o skips r k items).events ≤ length r.events + length items
-handled_events o skips r k [] = omega arith
-handled_events o skips r k (Reply bytes ∷ items) = let rest = handled_events o skips (told r k.conn bytes) k items in omega (arith, rest)
-handled_events o skips r k (Asks request ∷ items) =
-    let one = asked_event o skips r (arrival_at r k.member request) in
-    let rest = handled_events o skips (asked o skips r (arrival_at r k.member request)) k items in
-    omega (arith, one, rest)
+pub events_more : (p : ℕ) (es fs : List At) → length (events_at p (es ++ fs)) ≤ length (events_at p es) + length fs
+events_more p es fs =
+    let whole = ap length (events_at-append p es fs) ∙ length-append (events_at p es) (events_at p fs) in
+    let few = few_events p fs in
+    omega (arith, whole, few)
 
--- lines
+-- what items add: one call at most for each, and no more events than calls
+
+module _ (o : Object Request Partition) (skips : List CallId) where
+  pub asked_few : (r : Run) (a : Arrival) → AreFew r → AreFew (asked o skips r a)
+  asked_few r a few p = go (is_skipped skips a.id)
+    where
+      go : (b : Bool) → let next = cond b (arrived r a [] (refusal a.line a.request (pos want_of_memory) 0 ∷ [])) (arrived r a (its_event a ∷ []) (happening o r a)) in
+          length (events_at p next.events) ≤ length next.arrivals + 1001 * next.lines
+      go true = let f = few p in let more = events_more p r.events [] in let come = length-append r.arrivals (a ∷ []) in omega (arith, f, more, come)
+      go false = let f = few p in let more = events_more p r.events (its_event a ∷ []) in let come = length-append r.arrivals (a ∷ []) in omega (arith, f, more, come)
+
+  pub handled_few : (r : Run) (k : Connection) (items : List Item) → AreFew r → AreFew (handled_all o skips r k items)
+  handled_few r k [] few = few
+  handled_few r k (Reply bytes ∷ items) few = handled_few (told r k.conn bytes) k items few
+  handled_few r k (Asks request ∷ items) few = handled_few (asked o skips r (arrival_at r k.member request)) k items (asked_few r (arrival_at r k.member request) few)
+
+  asked_arrivals : (r : Run) (a : Arrival) → length (asked o skips r a).arrivals ≤ length r.arrivals + 1
+  asked_arrivals r a = go (is_skipped skips a.id)
+    where
+      go : (b : Bool) → length (cond b (arrived r a [] (refusal a.line a.request (pos want_of_memory) 0 ∷ [])) (arrived r a (its_event a ∷ []) (happening o r a))).arrivals ≤ length r.arrivals + 1
+      go true = let more = length-append r.arrivals (a ∷ []) in omega (arith, more)
+      go false = let more = length-append r.arrivals (a ∷ []) in omega (arith, more)
+
+  pub handled_arrivals : (r : Run) (k : Connection) (items : List Item) → length (handled_all o skips r k items).arrivals ≤ length r.arrivals + length items
+  handled_arrivals r k [] = omega arith
+  handled_arrivals r k (Reply bytes ∷ items) = let rest = handled_arrivals (told r k.conn bytes) k items in omega (arith, rest)
+  handled_arrivals r k (Asks request ∷ items) =
+      let one = asked_arrivals r (arrival_at r k.member request) in
+      let rest = handled_arrivals (asked o skips r (arrival_at r k.member request)) k items in
+      omega (arith, one, rest)
+
+  -- lines
+
+  pub next_few : (r : Run) → AreFew r → AreFew (next_line r)
+  next_few r few p = let f = few p in omega (arith, f)
+
+  pub took_few : (r : Run) (k : Connection) (bytes : List ℕ) → AreFew r → AreFew (took_bytes r k bytes)
+  took_few r k bytes few p = let f = few p in omega (arith, f)
+
+  pub opened_few : (r : Run) (c member : ℕ) → AreFew r → AreFew (opened r c member)
+  opened_few r c member few p = let f = few p in omega (arith, f)
+
+  pub clock_few : (r : Run) (member moment : ℕ) → AreFew r → AreFew (clock_set r member moment)
+  clock_few r member moment few p = let f = few p in omega (arith, f)
+
+  bytes_few : (r : Run) (k : Connection) (bytes : List ℕ) → AreFew r → AreFew (bytes_arrived o skips r k bytes)
+  bytes_few r k bytes few = on_if AreFew (is_some (fault_on k)) (next_line r) (handled_all o skips (took_bytes r k bytes) k (items_by k bytes)) (next_few r few) (handled_few (took_bytes r k bytes) k (items_by k bytes) (took_few r k bytes few))
+
+  found_few : (r : Run) (bytes : List ℕ) (found : Option Connection) → AreFew r → AreFew (elim found [ None ↦ next_line r | Some k ↦ bytes_arrived o skips r k bytes ])
+  found_few r bytes None few = next_few r few
+  found_few r bytes (Some k) few = bytes_few r k bytes few
+
+  -- A line adds 1,001 events of a partition at most beside those of its calls.
+  pub stays_few : (r : Run) (line : Line) → AreFew r → AreFew (after_line o skips r line)
+  stays_few r (Grid members backups capacity) few = next_few r few
+  stays_few r (OpenConn c member) few = on_if AreFew (is_some (connection_of r c)) (next_line r) (opened r c member) (next_few r few) (opened_few r c member few)
+  stays_few r (Arrive c bytes) few = found_few r bytes (connection_of r c) few
+  stays_few r (Clock member moment) few = clock_few r member moment few
+  stays_few r (Dump partition member) few = next_few r few
+  stays_few r (Trail partition) few = next_few r few
+  stays_few r Comment few = next_few r few
+  stays_few r End few = next_few r few
 
 -- the bytes of a line
 abbrev pub length_of : Line → ℕ

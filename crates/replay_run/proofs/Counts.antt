@@ -1,7 +1,7 @@
 -- How many elements of a list pass a test, and which of them is found.
-use Rattle.std.proofs.Common.{◌≡◌, ℕ, ◌+◌, ◌≤◌, Bool, true, false, cond, List, [], ◌∷◌, ◌++◌, Some, refl, ap, ◌∙◌, ◌⊎◌, ⊎_elim, inl, inr, arith}
+use Rattle.std.proofs.Common.{◌≡◌, ℕ, ◌+◌, ◌≤◌, Bool, true, false, cond, List, [], ◌∷◌, ◌++◌, length, filter, Some, refl, ap, ◌∙◌, ◌⊎◌, ⊎_elim, inl, inr, arith}
 use Rattle.std.specs.List.{find}
-use Rattle.partition_protocol.proofs.Lists.{In, in_contains, cases}
+use Rattle.partition_protocol.proofs.Lists.{In, in_contains, IsPart, cases}
 use Rattle.partition_protocol.proofs.RowFacts.{false_or_not}
 use Rattle.replay_run.specs.Linearizability.{Before}
 
@@ -24,6 +24,20 @@ pub count_in : {X : Type 0} (t : X → Bool) (xs : List X) (x : X) → In x xs �
 count_in t [] x i e = absurd i
 count_in t (y ∷ ys) x (inl s) e = let p : t y ≡ true = ap t s ∙ e in rw p (omega arith)
 count_in t (y ∷ ys) x (inr i) e = let r = count_in t ys x i e in omega (arith, r)
+
+-- a part has no more of them
+pub count_part : {X : Type 0} (t : X → Bool) (xs ys : List X) → IsPart xs ys → count t xs ≤ count t ys
+count_part t xs [] h = let e = ap (count t) h in omega (arith, e)
+count_part t xs (y ∷ ys) (inl h) = let l = count_part t xs ys h in omega (arith, l)
+count_part t xs (y ∷ ys) (inr (zs, e, h)) = let l = count_part t zs ys h in let s = ap (count t) e in omega (arith, l, s)
+
+pub count_filter : {X : Type 0} (t : X → Bool) (xs : List X) → count t xs ≡ length (filter t xs)
+count_filter t [] = refl
+count_filter t (x ∷ xs) = go (t x) (count_filter t xs)
+  where
+    go : (b : Bool) → count t xs ≡ length (filter t xs) → cond b 1 0 + count t xs ≡ length (cond b (x ∷ filter t xs) (filter t xs))
+    go true e = omega (arith, e)
+    go false e = omega (arith, e)
 
 -- none passes, or one does
 pub count_cases : {X : Type 0} (t : X → Bool) (xs : List X) → (count t xs ≡ 0) ⊎ ((x : X) × In x xs × (t x ≡ true))

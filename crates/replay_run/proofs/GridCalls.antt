@@ -8,7 +8,7 @@ use Rattle.grid_base.specs.declared.calls.Request.{Request}
 use Rattle.partition_protocol.specs.World.{World}
 use Rattle.partition_protocol.specs.Events.{happens}
 use Rattle.partition_protocol.proofs.Lists.{In, in_contains}
-use Rattle.partition_world.specs.declared.node.Released.{Released}
+use Rattle.primary_hold.specs.declared.released.Released.{Released}
 use Rattle.partition_world.specs.Answers.{released_by as answers_by}
 use Rattle.partition_world.specs.Worlds.{waiting}
 use Rattle.replay_run.specs.declared.grid.Grid.{Grid}
@@ -44,6 +44,7 @@ pub record IsAfter {V : Type 0} {T : V → Type 0} (grid new : Grid V T) (line p
   pub members : new.members ≡ grid.members
   pub moments : new.moments.items ≡ grid.moments.items
   pub table : new.connections ≡ with_answers (with_arrival grid.connections conn line) line answers
+  pub reopened : new.reopened.items ≡ grid.reopened.items
   pub worlds : new.worlds.items ≡ slice_set grid.worlds.items partition world
 
 module _ {V : Type 0} {T : V → Type 0} {form : FormOf V T} {settings : Settings} (grid : Grid V T) (r : Run) (run : IsRun (partition_object settings) r) (h : Holds form settings grid r) (member : ℕ) (request : Request) (next : IsNext r request) (count : IsCounting grid.connections r request.id.conn request.id.number) (low : request.partition < partitions)
@@ -120,6 +121,7 @@ module _ {V : Type 0} {T : V → Type 0} {form : FormOf V T} {settings : Setting
       moments = after.moments ∙ h.moments;
       clocks = h.clocks;
       table = called_table;
+      reopened = after.reopened ∙ h.reopened;
       worlds = λ q below. subst (λ ws. HasWorld settings ws called_run q) (sym after.worlds) (called_worlds grid.worlds.items r a world called_run old refl refl called added did out refl q (h.worlds q below));
     }
 
@@ -176,6 +178,7 @@ module _ {V : Type 0} {T : V → Type 0} {form : FormOf V T} {settings : Setting
       moments = after.moments ∙ h.moments;
       clocks = h.clocks;
       table = skipped_table;
+      reopened = after.reopened ∙ h.reopened;
       worlds = λ q below. subst (λ ws. HasWorld settings ws skipped_run q) (sym after.worlds)
           (skipped_worlds grid.worlds.items r a world skipped_run old refl refl called added did out (append-nil r.events) q (h.worlds q below));
     }

@@ -20,12 +20,12 @@ use Rattle.replay_run.specs.Printing.{ok_text, nothing_text, close_text, outcome
 use Rattle.replay_run.specs.Skips.{AreOfLine}
 use Rattle.replay_run.specs.ScriptRuns.{line_counted, clock_was_set, connection_opened}
 use Rattle.replay_run.specs.Tables.{Table, most_connections, opened_at, with_opened, with_session}
-use Rattle.replay_run.specs.Grids.{FormOf, GridWorld, HasTable, IsSettled, IsCounting, Holds, IsSmall, AreReached, Stands, MayRun, HasRun}
+use Rattle.replay_run.specs.Grids.{FormOf, GridWorld, HasTable, IsSettled, IsCounting, Holds, IsSmall, AreFew, AreReached, Stands, MayRun, HasRun}
 use Rattle.replay_run.specs.WorldCalls.{texts_of, member_if_open, open_member_in, Brings, HasHandledSome}
 use Rattle.replay_run.proofs.Bounds.{stays_small}
 use Rattle.replay_run.proofs.Items.{items_room}
 use Rattle.replay_run.proofs.LineTexts.{text_nothing, entries_text, text_without, new_with}
-use Rattle.replay_run.proofs.Midway.{begun_midway, midway_come, unopened_line, unopened_does_nothing, closed_line, closed_does_nothing, open_does_something, ended_line, ended_skips}
+use Rattle.replay_run.proofs.Midway.{begun_midway, midway_come, midway_few, unopened_line, unopened_does_nothing, closed_line, closed_does_nothing, open_does_something, ended_line, ended_skips}
 use Rattle.replay_run.proofs.Places.{same_number}
 use Rattle.replay_run.proofs.Reaching.{opened_reached, taken_reached}
 use Rattle.replay_run.proofs.Trails.{find_some}
@@ -48,6 +48,7 @@ counted_holds grid r number t ks h at_line table = record {
   moments = h.moments;
   clocks = h.clocks;
   table = table;
+  reopened = h.reopened;
   worlds = λ p low. let w = h.worlds p low in record { world = w.world; there = w.there; is = record { stands = w.is.stands; setup = w.is.setup }; given = w.given };
 }
 
@@ -55,6 +56,7 @@ pub counted_stands : {V : Type 0} {T : V → Type 0} {form : FormOf V T} {settin
 counted_stands grid r number s at_line = record {
   run = line_counted r s.run;
   small = let small : IsSmall r = s.small in omega (arith, small);
+  few = λ p. (let few = s.few p in omega (arith, few));
   holds = counted_holds grid r number grid.connections r.connections s.holds at_line (record { size = s.holds.table.size; connections = s.holds.table.connections; calls = s.holds.table.calls });
   settled = s.settled;
   reached = s.reached;
@@ -143,6 +145,7 @@ opened_line {form = form} {settings = settings} grid new r number c member writt
     stands_opened = record {
       run = connection_opened r c member s.run free;
       small = subst IsSmall after (stays_small [] r s.run (OpenConn c member) s.small (omega arith));
+      few = λ p. (let few = s.few p in omega (arith, few));
       holds = counted_holds grid r number (with_opened grid.connections c member) (opened r c member).connections s.holds at_line (opened_table grid.connections r s.holds.table c member within closed);
       settled = settled_opened grid.connections r s.holds.table c member within closed s.settled;
       reached = opened_reached r c member s.reached there;
@@ -163,6 +166,7 @@ pub record HasClock {V : Type 0} {T : V → Type 0} (grid new : Grid V T) (numbe
   pub members : new.members ≡ grid.members
   pub moments : new.moments.items ≡ slice_set grid.moments.items member moment
   pub connections : new.connections ≡ grid.connections
+  pub reopened : new.reopened.items ≡ grid.reopened.items
   pub worlds : new.worlds.items ≡ grid.worlds.items
 
 module _ {V : Type 0} {T : V → Type 0} {form : FormOf V T} {settings : Settings} (grid new : Grid V T) (r : Run) (number member moment : ℕ) (s : Stands form settings grid r) (at_line : number ≡ r.lines + 1) (set : HasClock grid new number member moment) where
@@ -180,6 +184,7 @@ module _ {V : Type 0} {T : V → Type 0} {form : FormOf V T} {settings : Setting
     moments = set.moments ∙ ap (λ ms. slice_set ms member moment) s.holds.moments;
     clocks = length-set r.moments member moment ∙ s.holds.clocks;
     table = subst (λ t. HasTable t clocked) (sym set.connections) clocked_table;
+    reopened = set.reopened ∙ s.holds.reopened;
     worlds = λ p low.
         let w = s.holds.worlds p low in
         record { world = w.world; there = ap (λ (ws : List (GridWorld V T)). slice_get ws p) set.worlds ∙ w.there; is = record { stands = w.is.stands; setup = w.is.setup }; given = w.given };
@@ -192,6 +197,7 @@ module _ {V : Type 0} {T : V → Type 0} {form : FormOf V T} {settings : Setting
     stands = record {
       run = clock_was_set r member moment s.run;
       small = let small : IsSmall r = s.small in omega (arith, small);
+      few = λ p. (let few = s.few p in omega (arith, few));
       holds = clocked_holds;
       settled = subst (λ t. IsSettled t clocked) (sym set.connections) s.settled;
       reached = s.reached;
@@ -308,14 +314,15 @@ module _ {V : Type 0} {T : V → Type 0} {form : FormOf V T} {settings : Setting
     its_text : line_text (partition_object settings) r (Arrive c bytes) did.now ≡ (ok_text (r.lines + 1) ++ texts_of (new_messages r did.now)) ++ close_text (r.lines + 1) c (fault_on (with_bytes k bytes))
     its_text = rw (open_does_something r c bytes k there sound, now_there, now_lines) (append-nil (its_parts ++ []) ∙ append-nil its_parts)
 
-    pub bytes_line : (fault : Option Malformed) (number : ℕ) (written text : List ℕ) → IsSmall r → AreReached r → 2 * length bytes ≤ most_line_bytes → start ≡ written ++ ok_text number → number ≡ r.lines + 1
+    pub bytes_line : (fault : Option Malformed) (number : ℕ) (written text : List ℕ) → IsSmall r → AreFew r → AreReached r → 2 * length bytes ≤ most_line_bytes → start ≡ written ++ ok_text number → number ≡ r.lines + 1
         → fault ≡ fault_on (with_bytes k bytes) → text ≡ mid ++ close_text number c fault → HasRun form settings new r (Arrive c bytes) written text
-    bytes_line fault number written text small reached size began at_line shown is = record {
+    bytes_line fault number written text small few reached size began at_line shown is = record {
       skips = did.skips;
       of_line = ended_skips (partition_object settings) r c bytes k there items did.skips did.now sound brings.come did.midway;
       stands = subst (Stands form settings new) (sym after) (record {
         run = did.midway.run;
         small = subst IsSmall after (stays_small did.skips r brings.run (Arrive c bytes) small size);
+        few = midway_few r brings.run k brings.there bytes items did.skips did.now did.midway few;
         holds = did.holds;
         settled = all_settled;
         reached = still_reached reached;

@@ -1,29 +1,27 @@
 -- The text of a recorded history: what the code prints of its entries is what the run has of them.
-use Rattle.std.proofs.Common.{◌≡◌, ℕ, zero, suc, ◌+◌, List, [], ◌∷◌, ◌++◌, length, get_or, take, map, Option, Some, None, slice_get, refl, ap, sym, ◌∙◌, subst, append_assoc, append-nil, arith}
+use Rattle.std.proofs.Common.{◌≡◌, ℕ, zero, suc, ◌+◌, ◌≤◌, List, [], ◌∷◌, ◌++◌, length, get_or, take, drop, map, Option, Some, None, slice_get, refl, ap, sym, ◌∙◌, subst, append_assoc, append-nil, arith}
 use Rattle.std.specs.Option.{option_map, unwrap_or}
 use Rattle.std.specs.List.{flat_map}
 use Rattle.std.proofs.lemmas.List.{take_all}
 use Rattle.std.proofs.lemmas.List.Concat.{flat_map-append}
 use Rattle.grid_base.specs.declared.calls.Request.{Request}
-use Rattle.partition_protocol.specs.History.{Entry as ProtocolEntry, Executed, Called, Reset}
+use Rattle.partition_protocol.specs.History.{Entry as ProtocolEntry, Called, Reset}
 use Rattle.partition_protocol.specs.Service.{numbers_below}
-use Rattle.partition_protocol.specs.World.{trail}
-use Rattle.partition_world.specs.Entries.{entry_of}
-use Rattle.partition_world.specs.Worlds.{trail_length}
-use Rattle.partition_world.specs.declared.trail.Entry.{Entry}
-use Rattle.partition_world.proofs.Places.{read_there}
+use Rattle.partition_world.specs.RecordedEntries.{entry_of}
+use Rattle.partition_world.specs.declared.entry.Entry.{Entry}
+use Rattle.partition_world.specs.declared.entry.Entry.TheVariants.{Call, Reset as ResetEntry}
+use Rattle.partition_world.proofs.Places.{read_there, get_map}
 use Rattle.replay_run.specs.declared.connections.CallLines.{CallLines}
 use Rattle.grid_base.specs.Objects.{Object}
 use Rattle.object_store.specs.Partitions.{Partition}
 use Rattle.call_engine.specs.Calls.{Settings}
-use Rattle.call_engine.specs.Objects.{partition_object}
-use Rattle.replay_run.specs.Runs.{Run, Arrival, Appended}
-use Rattle.replay_run.specs.Printing.{printed, printed_from, entry_text, entries_of, arrival_of, answer_of}
-use Rattle.replay_run.specs.PrintedEntries.{arrived_in, answered_in, printed_as}
+use Rattle.replay_run.specs.Runs.{Run, Arrival, Appended, reopened_at}
+use Rattle.replay_run.specs.Printing.{Printed, Call as CallShown, Reset as ResetShown, printed, first_line, printed_from, entry_text, entries_of, arrival_of, answer_of}
+use Rattle.replay_run.specs.PrintedEntries.{arrived_in, answered_in, printed_as, resets_in}
 use Rattle.replay_run.specs.ScriptRuns.{IsRun}
-use Rattle.replay_run.specs.Grids.{GridWorld, IsWorld, HasWorld, lines_in}
+use Rattle.replay_run.specs.Grids.{GridWorld, IsWorld, HasWorld, HasTable}
+use Rattle.replay_run.specs.Tables.{Table}
 use Rattle.replay_run.proofs.RunsOfLines.{unheard_unanswered}
-use Rattle.replay_run.proofs.WorldRuns.{run_is}
 
 -- the world that the code reads is a partition's
 pub indexed_world : {V : Type 0} {T : V → Type 0} {settings : Settings} (ws : List (GridWorld V T)) (r : Run) (p i : ℕ) (world : GridWorld V T) → HasWorld settings ws r p → i ≡ p → world ≡ get_or ws i world → IsWorld settings world r p
@@ -31,9 +29,15 @@ indexed_world {settings = settings} ws r p i world has same read = subst (λ w. 
 
 -- an entry
 
--- the call of an entry, as the protocol has it
-abbrev pub executed_as : Entry Request → Executed Request
-executed_as entry = record { conn = entry.id.conn; number = entry.id.number; version = entry.version; seen = entry.seen; now = entry.now; call = entry.call; reply = entry.reply }
+pub grouped : (out a b c d e f g h : List ℕ) → (((((((out ++ a) ++ b) ++ c) ++ d) ++ e) ++ f) ++ g) ++ h ≡ out ++ (((((((a ++ b) ++ c) ++ d) ++ e) ++ f) ++ g) ++ h)
+grouped out a b c d e f g h =
+    ap (λ t. (((((t ++ c) ++ d) ++ e) ++ f) ++ g) ++ h) (append_assoc out a b)
+    ∙ ap (λ t. ((((t ++ d) ++ e) ++ f) ++ g) ++ h) (append_assoc out (a ++ b) c)
+    ∙ ap (λ t. (((t ++ e) ++ f) ++ g) ++ h) (append_assoc out ((a ++ b) ++ c) d)
+    ∙ ap (λ t. ((t ++ f) ++ g) ++ h) (append_assoc out (((a ++ b) ++ c) ++ d) e)
+    ∙ ap (λ t. (t ++ g) ++ h) (append_assoc out ((((a ++ b) ++ c) ++ d) ++ e) f)
+    ∙ ap (λ t. t ++ h) (append_assoc out (((((a ++ b) ++ c) ++ d) ++ e) ++ f) g)
+    ∙ append_assoc out ((((((a ++ b) ++ c) ++ d) ++ e) ++ f) ++ g) h
 
 abbrev with_lines : Option Appended → Arrival → CallLines
 with_lines answer a = record { arrived = a.line; answered = option_map (λ (m : Appended). m.line) answer }
@@ -46,79 +50,107 @@ answered_same : (come : Option Arrival) (answer : Option Appended) → (come ≡
 answered_same None answer unheard = sym (ap (option_map (λ (m : Appended). m.line)) (unheard refl))
 answered_same (Some a) answer unheard = refl
 
-printed_is : {o : Object Request Partition} (r : Run) → IsRun o r → (p place : ℕ) (entry : Entry Request) (lines : Option CallLines) → lines ≡ lines_in r entry.id → printed_as p place entry lines ≡ printed r p place (executed_as entry)
-printed_is r is p place entry lines same =
-    ap (printed_as p place entry) same
-    ∙ (λ i. record {
+-- what the run prints of an entry at that place
+abbrev pub printed_one : Run → ℕ → ℕ → List ℕ → ProtocolEntry Request → List Printed
+printed_one r p place lines e = printed_from r p place lines (e ∷ [])
+
+printed_is : {o : Object Request Partition} (r : Run) → IsRun o r → (table : Table) → HasTable table r → (p place : ℕ) (lines : List ℕ) (entry : Entry Request)
+    → printed_as p place (first_line lines) entry table ∷ [] ≡ printed_one r p place lines (entry_of entry)
+printed_is r is table has p place lines (Call id version seen now call reply) =
+    let same = has.calls id in
+    let come = ap arrived_in same ∙ arrived_same (arrival_of r id) (answer_of r id) in
+    let answers = ap answered_in same ∙ answered_same (arrival_of r id) (answer_of r id) (unheard_unanswered r is id) in
+    λ i. CallShown (record {
       partition = p;
       place = place;
-      id = entry.id;
-      arrived = arrived_same (arrival_of r entry.id) (answer_of r entry.id) i;
-      answered = answered_same (arrival_of r entry.id) (answer_of r entry.id) (unheard_unanswered r is entry.id) i;
-      now = entry.now;
-      request = entry.call;
-      reply = entry.reply;
-    })
+      id = id;
+      arrived = come i;
+      answered = answers i;
+      now = now;
+      request = call;
+      reply = reply;
+    }) ∷ []
+printed_is r is table has p place lines (ResetEntry version) = refl
 
 -- a history
 
-printed_more : (r : Run) (p n k : ℕ) (es : List (ProtocolEntry Request)) (x : Executed Request) → slice_get es k ≡ Some (Called x)
-    → printed_from r p n (take (suc k) es) ≡ printed_from r p n (take k es) ++ printed r p (n + k) x ∷ []
-printed_more r p n k [] x there = absurd cc
-printed_more r p n zero (Called y ∷ es) x there =
+pub mapped_at : (es : List (Entry Request)) (k : ℕ) (e : Entry Request) → slice_get es k ≡ Some e → slice_get (map entry_of es) k ≡ Some (entry_of e)
+mapped_at es k e there = get_map entry_of es k e there
+
+drop_next : (n : ℕ) (xs : List ℕ) → drop n (drop 1 xs) ≡ drop (suc n) xs
+drop_next zero [] = refl
+drop_next (suc n) [] = refl
+drop_next n (x ∷ xs) = refl
+
+printed_more : (r : Run) (p n k : ℕ) (lines : List ℕ) (es : List (ProtocolEntry Request)) (x : ProtocolEntry Request) → slice_get es k ≡ Some x
+    → printed_from r p n lines (take (suc k) es) ≡ printed_from r p n lines (take k es) ++ printed_one r p (n + k) (drop (resets_in (take k es)) lines) x
+printed_more r p n k lines [] x there = absurd cc
+printed_more r p n zero lines (y ∷ es) x there =
     let same : y ≡ x = cc in
     let at : n ≡ n + 0 = omega arith in
-    λ i. printed r p (at i) (same i) ∷ []
-printed_more r p n zero (Reset version ∷ es) x there = absurd cc
-printed_more r p n (suc k) (Called y ∷ es) x there =
+    λ i. printed_one r p (at i) lines (same i)
+printed_more r p n (suc k) lines (Called y ∷ es) x there =
     let at : (n + 1) + k ≡ n + suc k = omega arith in
-    ap (λ ps. printed r p n y ∷ ps) (printed_more r p (n + 1) k es x there ∙ ap (λ m. printed_from r p (n + 1) (take k es) ++ printed r p m x ∷ []) at)
-printed_more r p n (suc k) (Reset version ∷ es) x there =
+    ap (λ ps. CallShown (printed r p n y) ∷ ps)
+    (printed_more r p (n + 1) k lines es x there ∙ ap (λ m. printed_from r p (n + 1) lines (take k es) ++ printed_one r p m (drop (resets_in (take k es)) lines) x) at)
+printed_more r p n (suc k) lines (Reset version ∷ es) x there =
     let at : (n + 1) + k ≡ n + suc k = omega arith in
-    printed_more r p (n + 1) k es x there ∙ ap (λ m. printed_from r p (n + 1) (take k es) ++ printed r p m x ∷ []) at
+    ap (λ ps. ResetShown (record { partition = p; place = n; line = first_line lines }) ∷ ps)
+    (printed_more r p (n + 1) k (drop 1 lines) es x there
+    ∙ ap (λ m. printed_from r p (n + 1) (drop 1 lines) (take k es) ++ printed_one r p m (drop (resets_in (take k es)) (drop 1 lines)) x) at
+    ∙ ap (λ ls. printed_from r p (n + 1) (drop 1 lines) (take k es) ++ printed_one r p (n + suc k) ls x) (drop_next (resets_in (take k es)) lines))
+
+resets_one : (y : ProtocolEntry Request) (es : List (ProtocolEntry Request)) → resets_in (take (suc zero) (y ∷ es)) ≡ resets_in (y ∷ [])
+resets_one (Called y) es = refl
+resets_one (Reset version) es = refl
+
+-- a reset counts, and a call doesn't
+pub resets_more : (k : ℕ) (es : List (ProtocolEntry Request)) (entry : Entry Request) → slice_get es k ≡ Some (entry_of entry) → resets_in (take (suc k) es) ≡ resets_in (take k es) + resets_in (entry_of entry ∷ [])
+resets_more k [] entry there = absurd cc
+resets_more zero (y ∷ es) entry there =
+    let same : y ≡ entry_of entry = cc in
+    let one : resets_in (take (suc zero) (y ∷ es)) ≡ resets_in (entry_of entry ∷ []) = resets_one y es ∙ ap (λ e. resets_in (e ∷ [])) same in
+    let none : resets_in (take zero (y ∷ es)) ≡ 0 = refl in
+    omega (arith, one, none)
+resets_more (suc k) (Called y ∷ es) entry there = resets_more k es entry there
+resets_more (suc k) (Reset version ∷ es) entry there = let more = resets_more k es entry there in omega (arith, more)
+
+pub resets_of_one : (entry : Entry Request) → resets_in (entry_of entry ∷ []) ≤ 1
+resets_of_one (Call id version seen now call reply) = omega arith
+resets_of_one (ResetEntry version) = omega arith
 
 -- the text of a history's entries below a place
 abbrev pub text_below : Run → ℕ → List (ProtocolEntry Request) → ℕ → List ℕ
-text_below r p es place = flat_map (entry_text r.lines) (printed_from r p 0 (take place es))
+text_below r p es place = flat_map (entry_text r.lines) (printed_from r p 0 (reopened_at p r.reopened) (take place es))
 
 -- one entry more
-pub text_more : {o : Object Request Partition} (r : Run) → IsRun o r → (p line place : ℕ) (es : List (ProtocolEntry Request)) (entry : Entry Request) (lines : Option CallLines) (written before after : List ℕ)
-    → slice_get es place ≡ Some (Called (executed_as entry)) → line ≡ r.lines → lines ≡ lines_in r entry.id
-    → before ≡ written ++ text_below r p es place → after ≡ before ++ entry_text line (printed_as p place entry lines) → after ≡ written ++ text_below r p es (place + 1)
-text_more r is p line place es entry lines written before after there at_line same so_far more =
-    more ∙ (λ i. so_far i ++ entry_text (at_line i) (printed_is r is p place entry lines same i))
-    ∙ append_assoc written (text_below r p es place) (entry_text r.lines (printed r p place (executed_as entry)))
+pub text_more : {o : Object Request Partition} (r : Run) → IsRun o r → (table : Table) → HasTable table r → (p line place reopened : ℕ) (es : List (ProtocolEntry Request)) (entry : Entry Request) (written before after : List ℕ)
+    → slice_get es place ≡ Some (entry_of entry) → line ≡ r.lines → reopened ≡ first_line (drop (resets_in (take place es)) (reopened_at p r.reopened))
+    → before ≡ written ++ text_below r p es place → after ≡ before ++ entry_text line (printed_as p place reopened entry table) → after ≡ written ++ text_below r p es (place + 1)
+text_more r is table has p line place reopened es entry written before after there at_line at_reset so_far more =
+    more ∙ (λ i. so_far i ++ entry_text (at_line i) (printed_as p place (at_reset i) entry table))
+    ∙ append_assoc written (text_below r p es place) (entry_text r.lines (printed_as p place (first_line left) entry table))
+    ∙ ap (λ xs. written ++ (text_below r p es place ++ xs)) (sym (append-nil (entry_text r.lines (printed_as p place (first_line left) entry table))) ∙ ap (flat_map (entry_text r.lines)) (printed_is r is table has p place left entry))
     ∙ ap (λ xs. written ++ xs) (sym grown)
   where
+    left : List ℕ
+    left = drop (resets_in (take place es)) (reopened_at p r.reopened)
+
     at : place ≡ 0 + place
     at = omega arith
 
     next : place + 1 ≡ suc place
     next = omega arith
 
-    grown : text_below r p es (place + 1) ≡ text_below r p es place ++ entry_text r.lines (printed r p place (executed_as entry))
+    grown : text_below r p es (place + 1) ≡ text_below r p es place ++ flat_map (entry_text r.lines) (printed_one r p place left (entry_of entry))
     grown =
-        ap (λ n. flat_map (entry_text r.lines) (printed_from r p 0 (take n es))) next
-        ∙ ap (flat_map (entry_text r.lines)) (printed_more r p 0 place es (executed_as entry) there)
-        ∙ flat_map-append (entry_text r.lines) (printed_from r p 0 (take place es)) (printed r p (0 + place) (executed_as entry) ∷ [])
-        ∙ ap (λ xs. text_below r p es place ++ xs) (append-nil (entry_text r.lines (printed r p (0 + place) (executed_as entry))))
-        ∙ ap (λ n. text_below r p es place ++ entry_text r.lines (printed r p n (executed_as entry))) (sym at)
+        ap (λ n. flat_map (entry_text r.lines) (printed_from r p 0 (reopened_at p r.reopened) (take n es))) next
+        ∙ ap (flat_map (entry_text r.lines)) (printed_more r p 0 place (reopened_at p r.reopened) es (entry_of entry) there)
+        ∙ flat_map-append (entry_text r.lines) (printed_from r p 0 (reopened_at p r.reopened) (take place es)) (printed_one r p (0 + place) left (entry_of entry))
+        ∙ ap (λ n. text_below r p es place ++ flat_map (entry_text r.lines) (printed_one r p n left (entry_of entry))) (sym at)
 
-pub text_whole : (r : Run) (p place : ℕ) (es : List (ProtocolEntry Request)) → length es ≡ place → text_below r p es place ≡ flat_map (entry_text r.lines) (printed_from r p 0 es)
-text_whole r p place es whole = ap (λ xs. flat_map (entry_text r.lines) (printed_from r p 0 xs)) (take_all place es (omega (arith, whole)))
-
--- how many entries a history has
-
-printed_all : (r : Run) (p place : ℕ) (es : List (Entry Request)) → length es ≡ length (printed_from r p place (map entry_of es))
-printed_all r p place [] = refl
-printed_all r p place (e ∷ es) = ap (λ n. suc n) (printed_all r p (place + 1) es)
-
--- The trail of a world that stands for its events has calls alone.
-pub entries_counted : {V : Type 0} {T : V → Type 0} {settings : Settings} (world : GridWorld V T) (r : Run) (p : ℕ) → IsWorld settings world r p → trail_length world ≡ length (entries_of (partition_object settings) r p)
-entries_counted world r p is =
-    printed_all r p 0 world.trail.entries.items
-    ∙ ap (λ es. length (printed_from r p 0 es)) is.stands.agrees.trail
-    ∙ ap (λ w. length (printed_from r p 0 (trail w))) (run_is world r p is)
+pub text_whole : (r : Run) (p place : ℕ) (es : List (ProtocolEntry Request)) → length es ≡ place → text_below r p es place ≡ flat_map (entry_text r.lines) (printed_from r p 0 (reopened_at p r.reopened) es)
+text_whole r p place es whole = ap (λ xs. flat_map (entry_text r.lines) (printed_from r p 0 (reopened_at p r.reopened) xs)) (take_all place es (omega (arith, whole)))
 
 -- all histories
 

@@ -5,11 +5,14 @@ pub mod Places
 pub mod Hearing
 pub mod Items
 pub mod Trails
+pub mod Stamps
 pub mod RunFacts
 pub mod Arriving
 pub mod Answers
 pub mod Answering
 pub mod Refusals
+pub mod Reopenings
+pub mod Occurring
 pub mod RunsOfLines
 pub mod Lines
 pub mod Locality

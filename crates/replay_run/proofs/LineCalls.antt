@@ -1,5 +1,5 @@
 -- The items of a line of bytes on the grid, one after the other.
-use Rattle.std.proofs.Common.{◌≡◌, ℕ, ◌+◌, ◌<◌, ◌^◌, ◌-◌, List, [], ◌∷◌, ◌++◌, length, get_or, map, take, drop, Option, Some, None, inl, refl, ap, sym, ◌∙◌, subst, append_assoc, arith, length-append}
+use Rattle.std.proofs.Common.{◌≡◌, ℕ, ◌+◌, ◌<◌, ◌^◌, ◌-◌, ◌*◌, List, [], ◌∷◌, ◌++◌, length, get_or, map, take, drop, Option, Some, None, inl, refl, ap, sym, ◌∙◌, subst, append_assoc, arith, length-append}
 use Rattle.std.proofs.lemmas.List.{take-append-drop, drop_more}
 use Rattle.std.specs.Iterator.{Yields}
 use Rattle.std.proofs.lemmas.Iterator.Adapters.{YieldsList-from_vec}
@@ -14,15 +14,15 @@ use Rattle.call_engine.specs.Calls.{Settings}
 use Rattle.call_engine.specs.Objects.{partition_object}
 use Rattle.replay_run.specs.Runs.{Run, Connection, Arrival, messages_on, arrival_at, asked, told}
 use Rattle.replay_run.specs.Printing.{partitions, new_messages}
-use Rattle.replay_run.specs.ScriptRuns.{IsNext}
+use Rattle.replay_run.specs.ScriptRuns.{IsRun, IsNext}
 use Rattle.grid_base.specs.Limits.{CallFits}
 use Rattle.session_core.specs.declared.item.Item.{Item}
 use Rattle.session_core.specs.declared.item.Item.TheVariants.{Call as Asks, Reply}
-use Rattle.replay_run.specs.Grids.{FormOf, IsCounting, Holds}
+use Rattle.replay_run.specs.Grids.{FormOf, IsCounting, Holds, AreFew}
 use Rattle.replay_run.specs.WorldCalls.{texts_of, HasAsked, HasTold, HasRoom, Brings, HasHandledSome}
 use Rattle.replay_run.proofs.Lines.{HasCome, asked_come, told_come}
 use Rattle.replay_run.proofs.LineTexts.{new_with, texts_more}
-use Rattle.replay_run.proofs.Midway.{midway_come, midway_events, its_name, next_midway, asked_midway, told_midway}
+use Rattle.replay_run.proofs.Midway.{midway_come, midway_arrivals, midway_few, its_name, next_midway, asked_midway, told_midway}
 
 map_same : {X : Type 0} (xs : List X) → map (λ (x : X). x) xs ≡ xs
 map_same [] = refl
@@ -99,7 +99,10 @@ pub record MayAskNext {V : Type 0} {T : V → Type 0} (form : FormOf V T) (setti
   pub reached : member < grid.members
   pub run : Run
   pub holds : Holds form settings grid run
-  pub room : length run.events + 1 < 2 ^ 32 - 1
+  pub room : length run.arrivals + 1001 * run.lines + 1 < 2 ^ 32 - 1
+  pub is : IsRun (partition_object settings) run
+  pub next : IsNext run q
+  pub few : AreFew run
 
 -- a call
 module _ {V : Type 0} {T : V → Type 0} {form : FormOf V T} {settings : Settings} (grid : Grid V T) (r : Run) (k : Connection) (bytes : List ℕ) (done : List Item) (q : Request) (rest : List Item) (brings : Brings settings r k bytes (done ++ Asks q ∷ rest))
@@ -113,12 +116,13 @@ module _ {V : Type 0} {T : V → Type 0} {form : FormOf V T} {settings : Setting
   next_placed : q.partition < partitions
   next_placed = next_call.placed.within
 
-  next_room : HasRoom r k bytes → length so_far.now.events + 1 < 2 ^ 32 - 1
+  next_room : HasRoom r k bytes → length so_far.now.arrivals + 1001 * so_far.now.lines + 1 < 2 ^ 32 - 1
   next_room room =
-      let events = midway_events r brings.run k brings.there bytes done so_far.skips so_far.now so_far.midway in
+      let come = midway_arrivals r brings.run k brings.there bytes done so_far.skips so_far.now so_far.midway in
+      let line = (midway_come r brings.run k brings.there bytes done so_far.skips so_far.now so_far.midway).lines in
       let items = ap length brings.come in
       let parts = length-append done (Asks q ∷ rest) in
-      omega (arith, events, items, parts, room)
+      omega (arith, come, line, items, parts, room)
 
   next_reached : k.member < grid.members
   next_reached =
@@ -126,8 +130,8 @@ module _ {V : Type 0} {T : V → Type 0} {form : FormOf V T} {settings : Setting
       subst (λ n. k.member < n) (sym (so_far.holds.members ∙ same)) brings.reached
 
   -- what the next call wants
-  pub may_ask : HasRoom r k bytes → MayAskNext form settings grid k.member q
-  may_ask room = record { fits = next_fits; placed = next_placed; reached = next_reached; run = so_far.now; holds = so_far.holds; room = next_room room }
+  pub may_ask : HasRoom r k bytes → AreFew r → MayAskNext form settings grid k.member q
+  may_ask room few = record { fits = next_fits; placed = next_placed; reached = next_reached; run = so_far.now; holds = so_far.holds; room = next_room room; is = so_far.midway.run; next = next_call; few = midway_few r brings.run k brings.there bytes done so_far.skips so_far.now so_far.midway few }
 
   name : q.id ≡ record { conn = k.conn; number = length (messages_on k) + length done }
   name = its_name r brings.run k brings.there bytes done q rest brings.come so_far.skips so_far.now so_far.midway

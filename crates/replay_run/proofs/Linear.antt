@@ -1,13 +1,13 @@
 -- What is printed for an object fits the run: it is the history of that object, used by one thread.
-use Rattle.std.proofs.Common.{◌≡◌, ◌≢◌, ℕ, ◌≤◌, ◌<◌, Bool, true, List, [], map, Option, Some, Contains, ap, sym, ◌∙◌, subst, ◌⊎◌, ⊎_elim, arith}
-use Rattle.std.specs.Prelude.{unwrap_or, option_map}
-use Rattle.grid_base.specs.Histories.{IsLegal}
+use Rattle.std.proofs.Common.{◌≡◌, ◌≢◌, ℕ, ◌≤◌, ◌<◌, true, List, [], length, Some, Contains, ap, sym, ◌∙◌, subst, ◌⊎◌, ⊎_elim, arith}
+use Rattle.std.specs.Prelude.{option_map}
 use Rattle.grid_base.specs.Objects.{Object}
 use Rattle.grid_base.specs.declared.names.CallId.{CallId}
 use Rattle.grid_base.specs.declared.calls.Request.{Request}
 use Rattle.partition_protocol.specs.History.{Executed}
 use Rattle.partition_protocol.specs.World.{World, trail}
 use Rattle.partition_protocol.specs.Arrivals.{Asked}
+use Rattle.partition_protocol.specs.Claims.{is_reset}
 use Rattle.partition_protocol.proofs.Lists.{In, in_contains, contains_in}
 use Rattle.partition_protocol.proofs.Faithful.{part_in}
 use Rattle.partition_world.specs.Answers.{id_of}
@@ -17,18 +17,20 @@ use Rattle.call_engine.specs.Objects.{one_object, partition_object}
 use Rattle.object_store.specs.Partitions.{Partition, nothing_stored}
 use Rattle.object_store.specs.Records.{nothing_of}
 use Rattle.object_store.proofs.PartitionLaws.{record_at-nothing}
-use Rattle.replay_run.specs.Runs.{Run, begun, Arrival, Appended, world_at, after_lines}
-use Rattle.replay_run.specs.Printing.{Printed, partitions, entries_of, all_entries, printed_from, arrival_of, is_answer_to, answer_of}
-use Rattle.replay_run.specs.Linearizability.{GridObject, is_on, history_of, Before, answered_call, IsOf, Fits, IsLinearizable, EveryRunIsLinearizable}
-use Rattle.replay_run.proofs.Parts.{before_first, before_second, part_filter, before_part, named_apart, in_filter, in_filtered}
+use Rattle.replay_run.specs.Runs.{Run, begun, Arrival, Appended, reopened_at, world_at, after_lines}
+use Rattle.replay_run.specs.Printing.{PrintedCall, PrintedReset, Printed, Call, Reset, partitions, entries_of, all_entries, printed_from, arrival_of, is_answer_to, answer_of}
+use Rattle.replay_run.specs.Linearizability.{GridObject, is_on, is_of, history_of, Before, IsLegal, reset_lines, IsOf, Fits, IsLinearizable, EveryRunIsLinearizable}
+use Rattle.replay_run.proofs.Parts.{subsequence_part, before_first, before_second, part_filter, before_part, named_apart, in_filter, in_filtered}
 use Rattle.replay_run.specs.ScriptRuns.{home, grid_begun}
 use Rattle.replay_run.proofs.Places.{same_number}
 use Rattle.replay_run.proofs.Trails.{executed, asked, executed_name, Prints, printed_in, in_printed, printed_before}
+use Rattle.replay_run.proofs.Stamps.{AreStamped, stamped_part, stamped_none, line_of, NeverFalls, falls_filtered, stands_first, printed_falls, printed_resets, history_resets}
 use Rattle.replay_run.proofs.RunFacts.{RunOk, asked_of, arrival_name, id_name, safe, log_once, origin, origins, arrival_found, IsGivenIn, given_executed, asked_as}
 use Rattle.replay_run.proofs.RunsOfLines.{run_ok}
 use Rattle.replay_run.proofs.Lines.{lines_run}
 use Rattle.replay_run.proofs.Locality.{on_partition, legal_on, history_elsewhere, history_past, history_at}
-use Rattle.replay_run.proofs.Counts.{count_before}
+use Rattle.replay_run.proofs.Counts.{count_before, count_filter}
+use Rattle.replay_run.proofs.Reopenings.{none_reopened}
 use Rattle.replay_run.proofs.Answers.{trail_part, answer_named, given_at, printed_answer, answer_stands, answer_found, arrived_before}
 
 pub answered_once : {State : Type 0} (o : Object Request State) (r : Run) → RunOk o r → (m n : Appended) (id : CallId) → Before r.appended m n → m.answers ≡ Some id → n.answers ≢ Some id
@@ -37,10 +39,6 @@ answered_once o r ok m n id before first second =
 
 le_or_less : (a b : ℕ) → (a ≤ b) ⊎ (b < a)
 le_or_less a b = grind arith
-
--- the line at which an arrival that was found arrived
-abbrev pub line_of : Option Arrival → ℕ
-line_of found = unwrap_or (option_map (λ (a : Arrival). a.line) found) 0
 
 module _ (settings : Settings) (r : Run) (ok : RunOk (partition_object settings) r) where
   abbrev pub o : Object Request Partition
@@ -64,33 +62,43 @@ module _ (settings : Settings) (r : Run) (ok : RunOk (partition_object settings)
     abbrev pub log : List (Executed Request)
     log = executed w.recorded.log
 
+    abbrev pub lines : List ℕ
+    lines = reopened_at p r.reopened
+
     abbrev pub entries : List Printed
-    entries = printed_from r p 0 (trail w)
+    entries = printed_from r p 0 lines (trail w)
 
     abbrev pub h : List Printed
     h = history_of object entries
 
-    abbrev pub on : Printed → Bool
-    on e = is_on object e.request
+    -- the trail has the lines of the log
+    pub trail_stamped : AreStamped r.arrivals 0 r.lines lines (trail w)
+    trail_stamped =
+        let safe_at = (safe o r ok.members ok.of_arrivals p).0 in
+        stamped_part r.arrivals 0 r.lines lines (trail w) w.recorded.log (subsequence_part (trail w) w.recorded.log safe_at.in_order)
+        (count_filter is_reset (trail w) ∙ ap length safe_at.resets ∙ sym (count_filter is_reset w.recorded.log)) (ok.of_reopenings.stamped p)
+
+    pub never_falls : NeverFalls 0 h
+    never_falls = falls_filtered (is_of object) 0 entries (printed_falls r (λ a i. arrival_found r ok.of_arrivals a i) p 0 0 r.lines lines (trail w) trail_stamped)
 
     -- an entry is of the arrival of its call
-    pub is_of_arrival : (a : Arrival) (x : Executed Request) (e : Printed) → In a r.arrivals → asked_of a ≡ asked x → Prints r p x e → IsOf a e
+    pub is_of_arrival : (a : Arrival) (x : Executed Request) (e : PrintedCall) → In a r.arrivals → asked_of a ≡ asked x → Prints r p x e → IsOf a e
     is_of_arrival a x e i same prints =
         let named : id_of x ≡ a.id = ap (λ (k : Asked Request). record { conn = k.conn; number = k.number }) (sym same) in
         let entry = sym prints.is in
         record {
-          id = ap (λ (f : Printed). f.id) entry ∙ named;
-          request = ap (λ (f : Printed). f.request) entry ∙ ap (λ (k : Asked Request). k.call) (sym same);
-          now = ap (λ (f : Printed). f.now) entry ∙ ap (λ (k : Asked Request). k.now) (sym same);
-          line = ap (λ (f : Printed). f.arrived) entry ∙ ap (λ c. line_of (arrival_of r c)) named ∙ ap line_of (arrival_found r ok.of_arrivals a i);
+          id = ap (λ (f : PrintedCall). f.id) entry ∙ named;
+          request = ap (λ (f : PrintedCall). f.request) entry ∙ ap (λ (k : Asked Request). k.call) (sym same);
+          now = ap (λ (f : PrintedCall). f.now) entry ∙ ap (λ (k : Asked Request). k.now) (sym same);
+          line = ap (λ (f : PrintedCall). f.arrived) entry ∙ ap (λ c. line_of (arrival_of r c)) named ∙ ap line_of (arrival_found r ok.of_arrivals a i);
         }
 
     -- it has the line of that arrival
-    pub line_of_entry : (x : Executed Request) (e : Printed) → In x log → Prints r p x e → (a : Arrival) → In a r.arrivals → arrival_name a ≡ executed_name x → e.arrived ≡ a.line
+    pub line_of_entry : (x : Executed Request) (e : PrintedCall) → In x log → Prints r p x e → (a : Arrival) → In a r.arrivals → arrival_name a ≡ executed_name x → e.arrived ≡ a.line
     line_of_entry x e i prints a j same = (is_of_arrival a x e j (asked_as o r ok.members ok.of_arrivals a p x j i (sym same)) prints).line
 
     -- two entries in order
-    pub record InOrder (a b : Printed) : Type 0 where
+    pub record InOrder (a b : PrintedCall) : Type 0 where
       pub first : Executed Request
       pub second : Executed Request
       pub before : Before log first second
@@ -98,15 +106,15 @@ module _ (settings : Settings) (r : Run) (ok : RunOk (partition_object settings)
       pub prints_second : Prints r p second b
 
     -- the call of an entry
-    pub entry_call : (e : Printed) → In e h → (is_on object e.request ≡ true) × ((x : Executed Request) × In x log × Prints r p x e)
+    pub entry_call : (e : PrintedCall) → In (Call e) h → (is_on object e.request ≡ true) × ((x : Executed Request) × In x log × Prints r p x e)
     entry_call e i =
-        let f = in_filtered on entries e i in
-        let k = printed_in r p 0 (trail w) e f.0 in
+        let f = in_filtered (is_of object) entries (Call e) i in
+        let k = printed_in r p 0 lines (trail w) e f.0 in
         (f.1, (k.0, part_in (executed (trail w)) log k.0 (trail_part o r ok p) k.1, k.2))
 
-    pub entries_in_order : (a b : Printed) → Before h a b → InOrder a b
+    pub entries_in_order : (a b : PrintedCall) → Before h (Call a) (Call b) → InOrder a b
     entries_in_order a b before =
-        let k = printed_before r p 0 (trail w) a b (before_part h entries a b (part_filter on entries) before) in
+        let k = printed_before r p 0 lines (trail w) a b (before_part h entries (Call a) (Call b) (part_filter (is_of object) entries) before) in
         record {
           first = k.0;
           second = k.1.0;
@@ -115,76 +123,76 @@ module _ (settings : Settings) (r : Run) (ok : RunOk (partition_object settings)
           prints_second = k.1.3;
         }
 
-    pub legal : IsLegal (one_object settings object.name) (nothing_of object.name) (map answered_call h)
+    pub legal : IsLegal (one_object settings object.name) (nothing_of object.name) h
     legal =
-        let safe_at = (safe o r ok.members ok.of_arrivals p).0 in
-        legal_on settings r object 0 nothing_stored (nothing_of object.name) (trail w) (λ x i. (at_home p x i).0) (safe_at.resets ∙ ok.of_answers.resets p) (record_at-nothing object.name) safe_at.legal
+        legal_on settings r object 0 lines nothing_stored (nothing_of object.name) (trail w) (λ x i. (at_home p x i).0) (record_at-nothing object.name)
+        (safe o r ok.members ok.of_arrivals p).0.legal
 
-    pub arrived : (e : Printed) → Contains h e → (is_on object e.request ≡ true) × ((a : Arrival) × Contains r.arrivals a × IsOf a e)
+    pub arrived : (e : PrintedCall) → Contains h (Call e) → (is_on object e.request ≡ true) × ((a : Arrival) × Contains r.arrivals a × IsOf a e)
     arrived e c =
-        let k = entry_call e (in_contains e h c) in
+        let k = entry_call e (in_contains (Call e) h c) in
         let from = origin o r ok.members ok.of_arrivals p k.1.0 k.1.1 in
         (k.0, (from.0, contains_in from.0 r.arrivals from.1, is_of_arrival from.0 k.1.0 e from.1 from.3 k.1.2))
 
-    pub unrefused : (e : Printed) (m : Appended) → Contains h e → Contains r.appended m → m.refuses ≢ Some e.id
+    pub unrefused : (e : PrintedCall) (m : Appended) → Contains h (Call e) → Contains r.appended m → m.refuses ≢ Some e.id
     unrefused e m c d refused =
-        let k = entry_call e (in_contains e h c) in
-        ok.of_refusals.unexecuted m e.id (in_contains m r.appended d) refused p k.1.0 k.1.1 (ap (λ (f : Printed). id_name f.id) k.1.2.is)
+        let k = entry_call e (in_contains (Call e) h c) in
+        ok.of_refusals.unexecuted m e.id (in_contains m r.appended d) refused p k.1.0 k.1.1 (ap (λ (f : PrintedCall). id_name f.id) k.1.2.is)
 
-    pub once : (a b : Printed) → Before h a b → a.id ≢ b.id
+    pub once : (a b : PrintedCall) → Before h (Call a) (Call b) → a.id ≢ b.id
     once a b before same =
         let k = entries_in_order a b before in
         named_apart executed_name log k.first k.second (log_once o r ok.members ok.of_arrivals p) k.before
-        (ap id_name (ap (λ (f : Printed). f.id) k.prints_first.is ∙ same ∙ ap (λ (f : Printed). f.id) (sym k.prints_second.is)))
+        (ap id_name (ap (λ (f : PrintedCall). f.id) k.prints_first.is ∙ same ∙ ap (λ (f : PrintedCall). f.id) (sym k.prints_second.is)))
 
     -- an entry of the call that an answer was given to
-    pub entry_of_answer : (a : Arrival) (m : Appended) (g : IsGivenIn o r p m a.id) (e : Printed) → In a r.arrivals → is_on object a.request ≡ true
-        → answer_of r a.id ≡ Some m → In e entries → Prints r p g.call e
-        → Contains h e × IsOf a e × (e.reply ≡ m.bytes) × (e.answered ≡ Some m.line)
+    pub entry_of_answer : (a : Arrival) (m : Appended) (g : IsGivenIn o r p m a.id) (e : PrintedCall) → In a r.arrivals → is_on object a.request ≡ true
+        → answer_of r a.id ≡ Some m → In (Call e) entries → Prints r p g.call e
+        → Contains h (Call e) × IsOf a e × (e.reply ≡ m.bytes) × (e.answered ≡ Some m.line)
     entry_of_answer a m g e i its found j prints =
         let is = is_of_arrival a g.call e i (asked_as o r ok.members ok.of_arrivals a p g.call i (given_executed m a.id g) (ap id_name g.call_is)) prints in (
-          contains_in e h (in_filter on entries e j (ap (is_on object) is.request ∙ its)),
+          contains_in (Call e) h (in_filter (is_of object) entries (Call e) j (ap (is_on object) is.request ∙ its)),
           is,
-          ap (λ (f : Printed). f.reply) (sym prints.is) ∙ sym g.reply,
-          ap (λ (f : Printed). f.answered) (sym prints.is) ∙ ap (λ c. option_map (λ (n : Appended). n.line) (answer_of r c)) g.call_is ∙ ap (λ n. option_map (λ (n : Appended). n.line) n) found,
+          ap (λ (f : PrintedCall). f.reply) (sym prints.is) ∙ sym g.reply,
+          ap (λ (f : PrintedCall). f.answered) (sym prints.is) ∙ ap (λ c. option_map (λ (n : Appended). n.line) (answer_of r c)) g.call_is ∙ ap (λ n. option_map (λ (n : Appended). n.line) n) found,
         )
 
     pub answered_there : (a : Arrival) (m : Appended) (g : IsGivenIn o r p m a.id) → In a r.arrivals → is_on object a.request ≡ true → answer_of r a.id ≡ Some m
-        → (e : Printed) × Contains h e × IsOf a e × (e.reply ≡ m.bytes) × (e.answered ≡ Some m.line)
+        → (e : PrintedCall) × Contains h (Call e) × IsOf a e × (e.reply ≡ m.bytes) × (e.answered ≡ Some m.line)
     answered_there a m g i its found =
-        let k = in_printed r p 0 (trail w) g.call (answer_stands o r ok p m a.id g) in
+        let k = in_printed r p 0 lines (trail w) g.call (answer_stands o r ok p m a.id g) in
         let e = entry_of_answer a m g k.0 i its found k.1 k.2 in
         (k.0, e.0, e.1, e.2, e.3)
 
     pub answered : (a : Arrival) (m : Appended) → Contains r.arrivals a → is_on object a.request ≡ true → Contains r.appended m → m.answers ≡ Some a.id
-        → (e : Printed) × Contains h e × IsOf a e × (e.reply ≡ m.bytes) × (e.answered ≡ Some m.line)
+        → (e : PrintedCall) × Contains h (Call e) × IsOf a e × (e.reply ≡ m.bytes) × (e.answered ≡ Some m.line)
     answered a m c its d s =
         let i = in_contains a r.arrivals c in
         let j = in_contains m r.appended d in
         let there : a.request.partition ≡ p = sym (ok.of_arrivals.placed a i).own ∙ on_partition object a.request its in
         answered_there a m (subst (λ k. IsGivenIn o r k m a.id) there (given_at o r ok a m i j s)) i its (answer_found o r ok m a.id j s)
 
-    pub given : (e : Printed) (line : ℕ) → Contains h e → e.answered ≡ Some line → (m : Appended) × Contains r.appended m × (m.answers ≡ Some e.id) × (m.line ≡ line) × (m.bytes ≡ e.reply)
+    pub given : (e : PrintedCall) (line : ℕ) → Contains h (Call e) → e.answered ≡ Some line → (m : Appended) × Contains r.appended m × (m.answers ≡ Some e.id) × (m.line ≡ line) × (m.bytes ≡ e.reply)
     given e line c s =
-        let k = entry_call e (in_contains e h c) in
+        let k = entry_call e (in_contains (Call e) h c) in
         let prints = k.1.2 in
-        let found = printed_answer o r ok p k.1.0 line k.1.1 (ap (λ (f : Printed). f.answered) prints.is ∙ s) in (
+        let found = printed_answer o r ok p k.1.0 line k.1.1 (ap (λ (f : PrintedCall). f.answered) prints.is ∙ s) in (
           found.message,
           contains_in found.message r.appended found.there,
-          found.answers ∙ ap (λ (f : Printed). Some f.id) prints.is,
+          found.answers ∙ ap (λ (f : PrintedCall). Some f.id) prints.is,
           found.at_line,
-          found.given.reply ∙ ap (λ (x : Executed Request). x.reply) found.is ∙ ap (λ (f : Printed). f.reply) prints.is,
+          found.given.reply ∙ ap (λ (x : Executed Request). x.reply) found.is ∙ ap (λ (f : PrintedCall). f.reply) prints.is,
         )
 
-    pub ordered : (a b : Printed) (line : ℕ) → Before h a b → b.answered ≡ Some line → a.arrived ≤ line
+    pub ordered : (a b : PrintedCall) (line : ℕ) → Before h (Call a) (Call b) → b.answered ≡ Some line → a.arrived ≤ line
     ordered a b line before s =
         let k = entries_in_order a b before in
-        let found = printed_answer o r ok p k.second line (before_second log k.first k.second k.before) (ap (λ (f : Printed). f.answered) k.prints_second.is ∙ s) in
+        let found = printed_answer o r ok p k.second line (before_second log k.first k.second k.before) (ap (λ (f : PrintedCall). f.answered) k.prints_second.is ∙ s) in
         let by_then = arrived_before o r ok p k.first k.second found.message (id_of k.second) found.given found.is k.before in
         let at = line_of_entry k.first a (before_first log k.first k.second k.before) k.prints_first by_then.0 by_then.1 by_then.2 in
         omega (arith, at, by_then.3, found.at_line)
 
-    pub same_line : (a b : Printed) → Before h a b → a.arrived ≡ b.arrived → a.id.number < b.id.number
+    pub same_line : (a b : PrintedCall) → Before h (Call a) (Call b) → a.arrived ≡ b.arrived → a.id.number < b.id.number
     same_line a b before s =
         let k = entries_in_order a b before in
         let from = origins o r ok.members ok.of_arrivals p k.first k.second k.before in
@@ -196,6 +204,26 @@ module _ (settings : Settings) (r : Run) (ok : RunOk (partition_object settings)
         let left = ap (λ (c : CallId). c.number) first.id in
         let right = ap (λ (c : CallId). c.number) second.id in
         omega (arith, apart, left, right)
+
+    pub resets : reset_lines h ≡ lines
+    resets = history_resets r object 0 lines (trail w) ∙ printed_resets r r.arrivals p 0 0 r.lines lines (trail w) trail_stamped
+
+    -- a call was answered after it arrived
+    pub arrived_by_answer : (a : PrintedCall) (line : ℕ) → In (Call a) h → a.answered ≡ Some line → a.arrived ≤ line
+    arrived_by_answer a line i s =
+        let k = entry_call a i in
+        let found = printed_answer o r ok p k.1.0 line k.1.1 (ap (λ (f : PrintedCall). f.answered) k.1.2.is ∙ s) in
+        let from = found.given.arrived found.given.call found.given.has in
+        let at = line_of_entry k.1.0 a k.1.1 k.1.2 from.0 from.1 (from.2 ∙ ap executed_name found.is) in
+        omega (arith, at, from.3, found.at_line)
+
+    pub before_reset : (a : PrintedCall) (b : PrintedReset) (line : ℕ) → Contains h (Call a) → Contains h (Reset b) → a.answered ≡ Some line → line < b.line → Before h (Call a) (Reset b)
+    before_reset a b line c d s l =
+        let by_then = arrived_by_answer a line (in_contains (Call a) h c) s in
+        stands_first 0 h (Call a) (Reset b) never_falls (in_contains (Call a) h c) (in_contains (Reset b) h d) (omega (arith, by_then, l))
+
+    pub after_reset : (a : PrintedCall) (b : PrintedReset) → Contains h (Call a) → Contains h (Reset b) → b.line < a.arrived → Before h (Reset b) (Call a)
+    after_reset a b c d l = stands_first 0 h (Reset b) (Call a) never_falls (in_contains (Reset b) h d) (in_contains (Call a) h c) l
 
     -- the history in the object's own partition
     pub fits : Fits (one_object settings object.name) object r h
@@ -209,14 +237,22 @@ module _ (settings : Settings) (r : Run) (ok : RunOk (partition_object settings)
       given = given;
       ordered = ordered;
       same_line = same_line;
+      resets = resets;
+      before_reset = before_reset;
+      after_reset = after_reset;
     }
 
     elsewhere : (q : ℕ) → p ≢ q → history_of object (entries_of o r q) ≡ []
-    elsewhere q other = history_elsewhere r q 0 object (trail (world_at o r q)) (λ x i e. other (sym e ∙ (at_home q x i).0))
+    elsewhere q other =
+        history_elsewhere r q 0 (reopened_at q r.reopened) object (trail (world_at o r q)) (λ e. other (sym e)) (λ x i e. other (sym e ∙ (at_home q x i).0))
 
-    -- No entry is on an object of a partition that the grid doesn't have.
+    -- No entry is of a partition that the grid doesn't have.
     nowhere : partitions ≤ p → h ≡ []
-    nowhere past = history_elsewhere r p 0 object (trail w) (λ x i e. let within = (at_home p x i).1 in omega (arith, past, within))
+    nowhere past =
+        let none = none_reopened partitions p r.reopened ok.of_reopenings.within past in
+        let empty = stamped_none r.arrivals 0 r.lines (trail w) (λ x i. let within = (at_home p x i).1 in absurd (omega (arith, past, within)))
+        (subst (λ ls. AreStamped r.arrivals 0 r.lines ls (trail w)) none trail_stamped) in
+        ap (λ es. history_of object (printed_from r p 0 lines es)) empty
 
     in_all : history_of object (all_entries o r) ≡ h
     in_all =

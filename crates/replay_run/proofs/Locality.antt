@@ -1,28 +1,26 @@
 -- A partition's history, of one of its objects: it is the history of that object, and no other partition has any of it.
-use Rattle.std.proofs.Common.{◌≡◌, ◌≢◌, ℕ, ◌+◌, ◌==◌, ◌<◌, ◌≤◌, suc, zero, true, false, cond, List, [], ◌∷◌, ◌++◌, map, filter, flat_map, refl, ap, sym, ◌∙◌, subst, ⊎_elim, inl, inr, arith, append-nil, true≢false}
+use Rattle.std.proofs.Common.{◌≡◌, ◌≢◌, ℕ, ◌+◌, ◌==◌, ◌<◌, ◌≤◌, suc, zero, true, false, cond, List, [], ◌∷◌, ◌++◌, drop, flat_map, refl, ap, sym, ◌∙◌, subst, ⊎_elim, inl, inr, arith, append-nil, true≢false}
 use Rattle.std.proofs.lemmas.List.Elements.{filter-append}
 use Rattle.std.proofs.lemmas.Bool.Decides.{nat_tests}
 use Rattle.std.proofs.lemmas.Grind.{flat_map-append}
-use Rattle.grid_base.specs.Histories.{IsLegal}
 use Rattle.grid_base.specs.Names.{is_same, object_of}
 use Rattle.grid_base.specs.declared.names.ObjectKey.{ObjectKey}
 use Rattle.grid_base.specs.declared.calls.GridCall.{GridCall}
 use Rattle.grid_base.specs.declared.calls.GridCall.TheVariants as call
 use Rattle.grid_base.specs.declared.calls.Request.{Request}
-use Rattle.object_store.specs.Records.{Record, suits}
-use Rattle.object_store.specs.Partitions.{Partition, record_at, with_record}
-use Rattle.object_store.proofs.PartitionLaws.{same_name, is_same_self, record_at-with, record_at-other}
+use Rattle.object_store.specs.Records.{Record, nothing_of, suits}
+use Rattle.object_store.specs.Partitions.{Partition, nothing_stored, record_at, with_record}
+use Rattle.object_store.proofs.PartitionLaws.{same_name, is_same_self, record_at-nothing, record_at-with, record_at-other}
 use Rattle.call_engine.specs.Calls.{Settings, after}
 use Rattle.call_engine.specs.Objects.{target_of, reply_to, one_object, partition_object}
 use Rattle.partition_protocol.specs.History.{Entry, Executed, Called, Reset, IsLegal as IsLegalOf}
 use Rattle.partition_protocol.specs.Service.{numbers_below}
-use Rattle.partition_protocol.specs.Claims.{is_reset}
 use Rattle.partition_protocol.proofs.Lists.{In, cases}
-use Rattle.partition_protocol.proofs.RowFacts.{false_or_not, both, both_left, both_right}
+use Rattle.partition_protocol.proofs.RowFacts.{false_or_not, both, both_left, both_right, number_same, number_other}
 use Rattle.partition_protocol.proofs.Forward.{le_cases}
 use Rattle.replay_run.specs.Runs.{Run}
-use Rattle.replay_run.specs.Printing.{Printed, printed, printed_from}
-use Rattle.replay_run.specs.Linearizability.{GridObject, is_on, history_of, answered_call}
+use Rattle.replay_run.specs.Printing.{Printed, Call, Reset as Reopening, printed, first_line, printed_from}
+use Rattle.replay_run.specs.Linearizability.{GridObject, is_on, is_of, history_of, IsLegal}
 use Rattle.replay_run.specs.ScriptRuns.{home}
 use Rattle.replay_run.proofs.Places.{same_number}
 use Rattle.replay_run.proofs.Trails.{executed}
@@ -64,16 +62,20 @@ module _ (settings : Settings) (s : Partition) (request : Request) (now : ℕ) w
   pub left_off : (name : ObjectKey) (kept : Record) → is_same (target_of request) name ≡ false → record_at s name ≡ kept → record_at next name ≡ kept
   left_off name kept other is = record_at-other s (target_of request) left name (same_name_sym (target_of request) name other) ∙ is
 
--- Of a partition whose calls are on its own objects, a legal history without reopenings is legal for each of these.
-pub legal_on : (settings : Settings) (r : Run) (object : GridObject) (place : ℕ) (s : Partition) (kept : Record) (es : List (Entry Request))
-    → ((x : Executed Request) → In x (executed es) → home x.call ≡ object.partition) → filter is_reset es ≡ []
+-- Of a partition whose calls are on its own objects, a legal history is legal for each of these: a reset empties them all.
+pub legal_on : (settings : Settings) (r : Run) (object : GridObject) (place : ℕ) (lines : List ℕ) (s : Partition) (kept : Record) (es : List (Entry Request))
+    → ((x : Executed Request) → In x (executed es) → home x.call ≡ object.partition)
     → record_at s object.name ≡ kept → IsLegalOf (partition_object settings) s es
-    → IsLegal (one_object settings object.name) kept (map answered_call (history_of object (printed_from r object.partition place es)))
-legal_on settings r object place s kept [] own none is h = tt
-legal_on settings r object place s kept (Reset version ∷ es) own none is h = absurd cc
-legal_on settings r object place s kept (Called x ∷ es) own none is h =
-    ⊎_elim (λ on. here on (legal_on settings r object (place + 1) then (after settings kept x.call.call x.now) es later none (left_on settings s x.call x.now object.name kept on is) h.1))
-    (λ other. there other (legal_on settings r object (place + 1) then kept es later none (left_off settings s x.call x.now object.name kept other is) h.1))
+    → IsLegal (one_object settings object.name) kept (history_of object (printed_from r object.partition place lines es))
+legal_on settings r object place lines s kept [] own is h = tt
+legal_on settings r object place lines s kept (Reset version ∷ es) own is h =
+    let entry : Printed = Reopening (record { partition = object.partition; place = place; line = first_line lines }) in
+    let rest = history_of object (printed_from r object.partition (place + 1) (drop 1 lines) es) in
+    subst (λ b. IsLegal (one_object settings object.name) kept (cond b (entry ∷ rest) rest)) (sym (number_same object.partition object.partition refl))
+    (legal_on settings r object (place + 1) (drop 1 lines) nothing_stored (nothing_of object.name) es own (record_at-nothing object.name) h)
+legal_on settings r object place lines s kept (Called x ∷ es) own is h =
+    ⊎_elim (λ on. here on (legal_on settings r object (place + 1) lines then (after settings kept x.call.call x.now) es later (left_on settings s x.call x.now object.name kept on is) h.1))
+    (λ other. there other (legal_on settings r object (place + 1) lines then kept es later (left_off settings s x.call x.now object.name kept other is) h.1))
     (cases (is_same (target_of x.call) object.name))
   where
     then : Partition
@@ -83,31 +85,31 @@ legal_on settings r object place s kept (Called x ∷ es) own none is h =
     later y i = own y (inr i)
 
     entry : Printed
-    entry = printed r object.partition place x
+    entry = Call (printed r object.partition place x)
 
     entries : List Printed
-    entries = history_of object (printed_from r object.partition (place + 1) es)
+    entries = history_of object (printed_from r object.partition (place + 1) lines es)
 
-    here : is_same (target_of x.call) object.name ≡ true → IsLegal (one_object settings object.name) (after settings kept x.call.call x.now) (map answered_call entries)
-        → IsLegal (one_object settings object.name) kept (map answered_call (history_of object (printed_from r object.partition place (Called x ∷ es))))
+    here : is_same (target_of x.call) object.name ≡ true → IsLegal (one_object settings object.name) (after settings kept x.call.call x.now) entries
+        → IsLegal (one_object settings object.name) kept (history_of object (printed_from r object.partition place lines (Called x ∷ es)))
     here on rest =
-        subst (λ b. IsLegal (one_object settings object.name) kept (map answered_call (cond b (entry ∷ entries) entries))) (sym (on_object object x.call (own x (inl refl)) on))
+        subst (λ b. IsLegal (one_object settings object.name) kept (cond b (entry ∷ entries) entries)) (sym (on_object object x.call (own x (inl refl)) on))
         (h.0 ∙ ap (λ k. reply_to settings k x.call x.now) (ap (record_at s) (same_name (target_of x.call) object.name on) ∙ is), rest)
 
-    there : is_same (target_of x.call) object.name ≡ false → IsLegal (one_object settings object.name) kept (map answered_call entries)
-        → IsLegal (one_object settings object.name) kept (map answered_call (history_of object (printed_from r object.partition place (Called x ∷ es))))
+    there : is_same (target_of x.call) object.name ≡ false → IsLegal (one_object settings object.name) kept entries
+        → IsLegal (one_object settings object.name) kept (history_of object (printed_from r object.partition place lines (Called x ∷ es)))
     there other rest =
-        subst (λ b. IsLegal (one_object settings object.name) kept (map answered_call (cond b (entry ∷ entries) entries))) (sym (on_other object x.call other)) rest
+        subst (λ b. IsLegal (one_object settings object.name) kept (cond b (entry ∷ entries) entries)) (sym (on_other object x.call other)) rest
 
--- entries of calls that are elsewhere
-pub history_elsewhere : (r : Run) (p place : ℕ) (object : GridObject) (es : List (Entry Request)) → ((x : Executed Request) → In x (executed es) → home x.call ≢ object.partition)
-    → history_of object (printed_from r p place es) ≡ []
-history_elsewhere r p place object [] away = refl
-history_elsewhere r p place object (Reset version ∷ es) away = history_elsewhere r p (place + 1) object es away
-history_elsewhere r p place object (Called x ∷ es) away =
-    let rest = history_elsewhere r p (place + 1) object es (λ y i. away y (inr i)) in
-    let entries = history_of object (printed_from r p (place + 1) es) in
-    ap (λ b. cond b (printed r p place x ∷ entries) entries) (false_or_not (is_on object x.call) (λ on. away x (inl refl) (on_partition object x.call on))) ∙ rest
+-- entries of another partition, with its resets and its calls, which are elsewhere
+pub history_elsewhere : (r : Run) (p place : ℕ) (lines : List ℕ) (object : GridObject) (es : List (Entry Request)) → p ≢ object.partition
+    → ((x : Executed Request) → In x (executed es) → home x.call ≢ object.partition) → history_of object (printed_from r p place lines es) ≡ []
+history_elsewhere r p place lines object [] other away = refl
+history_elsewhere r p place lines object (Reset version ∷ es) other away = rw (number_other p object.partition other) (history_elsewhere r p (place + 1) (drop 1 lines) object es other away)
+history_elsewhere r p place lines object (Called x ∷ es) other away =
+    let rest = history_elsewhere r p (place + 1) lines object es other (λ y i. away y (inr i)) in
+    let entries = history_of object (printed_from r p (place + 1) lines es) in
+    ap (λ b. cond b (Call (printed r p place x) ∷ entries) entries) (false_or_not (is_on object x.call) (λ on. away x (inl refl) (on_partition object x.call on))) ∙ rest
 
 -- of the entries of many partitions, those on an object are of its own
 module _ (object : GridObject) (entries : ℕ → List Printed) (elsewhere : (q : ℕ) → object.partition ≢ q → history_of object (entries q) ≡ []) where
@@ -117,7 +119,7 @@ module _ (object : GridObject) (entries : ℕ → List Printed) (elsewhere : (q 
   pub history_suc : (n : ℕ) → history_below (suc n) ≡ history_below n ++ history_of object (entries n)
   history_suc n =
       ap (history_of object) (flat_map-append entries (numbers_below n) (n ∷ []))
-      ∙ filter-append (λ (e : Printed). is_on object e.request) (flat_map entries (numbers_below n)) (flat_map entries (n ∷ []))
+      ∙ filter-append (is_of object) (flat_map entries (numbers_below n)) (flat_map entries (n ∷ []))
       ∙ ap (λ es. history_below n ++ history_of object es) (append-nil (entries n))
 
   pub history_past : (n : ℕ) → n ≤ object.partition → history_below n ≡ []

@@ -17,7 +17,8 @@ use Rattle.replay_run.specs.ScriptRuns.{MayAsk, IsNext, IsRun, IsMidway, answer_
 use Rattle.replay_run.proofs.Items.{IsNumbered, AreNumbered, numbered_at, items_room}
 use Rattle.replay_run.proofs.Lines.{HasCome, all_arriving, handled_all_come, may_ask_more, may_ask_after, is_next, has_taken}
 use Rattle.replay_run.proofs.SkipLaws.{Alike, skipped_by_either, not_skipped, unless_same, asked_alike, handled_all_alike, handled_all-append, on_bytes}
-use Rattle.replay_run.proofs.Bounds.{bytes_taken_more, handled_no_more, handled_events}
+use Rattle.replay_run.specs.Grids.{AreFew}
+use Rattle.replay_run.proofs.Bounds.{bytes_taken_more, handled_no_more, handled_arrivals, handled_few, took_few}
 
 -- numbers
 
@@ -53,12 +54,15 @@ module _ {o : Object Request Partition} (r : Run) (is : IsRun o r) (k : Connecti
   pub midway_bytes : (done : List Item) (skips : List CallId) (now : Run) → IsMidway o r k bytes done skips now → bytes_of now ≡ bytes_of r + length bytes
   midway_bytes done skips now m = ap bytes_of m.is ∙ handled_no_more o skips (took_bytes r k bytes) k done ∙ bytes_taken_more r k bytes is there
 
-  -- Each item makes one event at most.
-  pub midway_events : (done : List Item) (skips : List CallId) (now : Run) → IsMidway o r k bytes done skips now → length now.events ≤ length r.events + length done
-  midway_events done skips now m =
-      let more = handled_events o skips (took_bytes r k bytes) k done in
-      let same = ap (λ (n : Run). length n.events) m.is in
+  -- Each item makes one call at most.
+  pub midway_arrivals : (done : List Item) (skips : List CallId) (now : Run) → IsMidway o r k bytes done skips now → length now.arrivals ≤ length r.arrivals + length done
+  midway_arrivals done skips now m =
+      let more = handled_arrivals o skips (took_bytes r k bytes) k done in
+      let same = ap (λ (n : Run). length n.arrivals) m.is in
       omega (arith, more, same)
+
+  pub midway_few : (done : List Item) (skips : List CallId) (now : Run) → IsMidway o r k bytes done skips now → AreFew r → AreFew now
+  midway_few done skips now m few = subst AreFew (sym m.is) (handled_few o skips (took_bytes r k bytes) k done (took_few o skips r k bytes few))
 
   module _ (done : List Item) (item : Item) (rest : List Item) (come : items_by k bytes ≡ done ++ item ∷ rest) (skips : List CallId) (now : Run) (m : IsMidway o r k bytes done skips now) where
     numbered : AreNumbered k.conn first_number (done ++ item ∷ rest)

@@ -19,7 +19,7 @@ use Rattle.replay_run.proofs.Places.{same_number}
 use Rattle.replay_run.proofs.Trails.{executed, executed-append, executed_name}
 use Rattle.replay_run.proofs.RunFacts.{id_name, arrival_name, is_of, RefusalsOk, RunOk, origin}
 use Rattle.replay_run.proofs.Arriving.{its_event, fresh}
-use Rattle.replay_run.proofs.Answering.{refused_with, skipped, next, world_here, world_elsewhere}
+use Rattle.replay_run.proofs.Answering.{refused_with, world_here, world_elsewhere}
 
 -- a refusal names the call that it refuses
 pub refusals_name_the_call : (line : ℕ) (request : Request) (outcome : Outcome) (m : Appended) → In m (refused_by line request outcome) → m.refuses ≡ Some request.id
@@ -94,14 +94,18 @@ module _ {State : Type 0} (o : Object Request State) (r : Run) (ok : RunOk o r) 
           λ t. fresh r ok.of_arrivals member request is_next from.0 from.1 (ap id_name from.2 ∙ sym t ∙ s)
 
   -- the call found no memory
-  pub skipped_refusals : RefusalsOk o (skipped o r ok a)
+
+  abbrev skipped : Run
+  skipped = arrived r a [] (refusal a.line request (pos want_of_memory) 0 ∷ [])
+
+  pub skipped_refusals : RefusalsOk o skipped
   skipped_refusals = refused_more [] (refusal a.line request (pos want_of_memory) 0 ∷ []) (λ p x i. inl (as_before p x i)) refused
     where
-      as_before : (p : ℕ) (x : Executed Request) → In x (executed (world_at o (skipped o r ok a) p).recorded.log) → In x (executed (world_at o r p).recorded.log)
+      as_before : (p : ℕ) (x : Executed Request) → In x (executed (world_at o skipped p).recorded.log) → In x (executed (world_at o r p).recorded.log)
       as_before p x i = subst (λ es. In x (executed (run o (start p r.members r.backups) (events_at p es)).recorded.log)) (append-nil r.events) i
 
       refused : (m : Appended) (id : CallId) → In m (refusal a.line request (pos want_of_memory) 0 ∷ []) → m.refuses ≡ Some id
-          → (id ≡ a.id) × ((p : ℕ) (x : Executed Request) → In x (executed (world_at o (skipped o r ok a) p).recorded.log) → executed_name x ≢ arrival_name a)
+          → (id ≡ a.id) × ((p : ℕ) (x : Executed Request) → In x (executed (world_at o skipped p).recorded.log) → executed_name x ≢ arrival_name a)
       refused m id (inl s) e =
           let whose : Some request.id ≡ Some id = ap (λ (n : Appended). n.refuses) s ∙ e in
           let its : id ≡ request.id = cc in
@@ -114,7 +118,7 @@ module _ {State : Type 0} (o : Object Request State) (r : Run) (ok : RunOk o r) 
   p = request.partition
 
   abbrev after : Run
-  after = next o r ok a
+  after = arrived r a (its_event a ∷ []) (happening o r a)
 
   executed_in : ℕ → List (Executed Request)
   executed_in q = executed (world_at o after q).recorded.log
@@ -137,16 +141,16 @@ module _ {State : Type 0} (o : Object Request State) (r : Run) (ok : RunOk o r) 
 
   executed_after : (q : ℕ) (x : Executed Request) → In x (executed (world_at o after q).recorded.log)
       → In x (executed (world_at o r q).recorded.log) ⊎ ((executed_name x ≡ arrival_name a) × (refused_by a.line request (happens o (world_at o r p) (call_of a)).outcome ≡ []))
-  executed_after q x i = ⊎_elim here (λ e. inl (subst (λ (w : World Request). In x (executed w.recorded.log)) (world_elsewhere o r ok a q e) i)) (cases (is_of q a))
+  executed_after q x i = ⊎_elim here (λ e. inl (subst (λ (w : World Request). In x (executed w.recorded.log)) (world_elsewhere o r p (call_of a) q e) i)) (cases (is_of q a))
     where
       here : is_of q a ≡ true → In x (executed (world_at o r q).recorded.log) ⊎ ((executed_name x ≡ arrival_name a) × (refused_by a.line request (happens o (world_at o r p) (call_of a)).outcome ≡ []))
       here e =
           let same : p ≡ q = same_number request.partition q e in
           let now = subst (λ v. In x (executed (world_at o after v).recorded.log)) (sym same) i in
           subst (λ v. In x (executed (world_at o r v).recorded.log) ⊎ ((executed_name x ≡ arrival_name a) × (refused_by a.line request (happens o (world_at o r p) (call_of a)).outcome ≡ []))) same
-          (executed_now x (subst (λ (w : World Request). In x (executed w.recorded.log)) (world_here o r ok a) now))
+          (executed_now x (subst (λ (w : World Request). In x (executed w.recorded.log)) (world_here o r p (call_of a)) now))
 
-  pub refusals_after : RefusalsOk o (next o r ok a)
+  pub refusals_after : RefusalsOk o after
   refusals_after = refused_more (its_event a ∷ []) (happening o r a) (λ q x i. ⊎_elim (λ j. inl j) (λ j. inr j.0) (executed_after q x i)) refused
     where
       given : (m : Appended) (id : CallId) → In m (map (answer_to a.line) (released_by (world_at o r p) (happens o (world_at o r p) (call_of a)).world)) → m.refuses ≡ Some id → ⊥

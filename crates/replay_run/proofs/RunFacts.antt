@@ -10,20 +10,21 @@ use Rattle.partition_protocol.specs.History.{Entry, Executed}
 use Rattle.partition_protocol.specs.Answers.{answered_call}
 use Rattle.partition_protocol.specs.Arrivals.{Asked, CallName, NamedOnce, name, arrivals, calls_in}
 use Rattle.partition_protocol.specs.Sequences.{IsFrontOf}
-use Rattle.partition_protocol.specs.Claims.{IsSafe, IsFaithful, is_reset}
+use Rattle.partition_protocol.specs.Claims.{IsSafe, IsFaithful}
 use Rattle.partition_protocol.proofs.Lists.{In, in_left, contains_in, IsPart}
 use Rattle.partition_protocol.proofs.RowFacts.{false_or_not}
 use Rattle.partition_protocol.proofs.Faithful.{part_in, part_map, part_once}
 use Rattle.partition_protocol.proofs.Theorem.{every_run_is_safe}
 use Rattle.partition_world.specs.Answers.{id_of}
-use Rattle.replay_run.specs.Runs.{Run, Arrival, Appended, Connection, world_at, events_at, connection_of, messages_on}
+use Rattle.replay_run.specs.Runs.{Run, Arrival, Appended, Reopened, Connection, reopened_at, world_at, events_at, connection_of, messages_on}
 use Rattle.replay_run.specs.ScriptRuns.{IsPlaced}
-use Rattle.replay_run.specs.Printing.{arrival_of, is_answer_to}
+use Rattle.replay_run.specs.Printing.{partitions, arrival_of, is_answer_to}
 use Rattle.replay_run.specs.Linearizability.{Before}
 use Rattle.replay_run.proofs.Parts.{in_map, before_map, subsequence_part, part_filter, part_trans, before_part, before_mapped, in_mapped, in_filtered, named_same}
 use Rattle.replay_run.proofs.Counts.{count}
 use Rattle.replay_run.proofs.Places.{same_call, same_call_refl, same_number}
 use Rattle.replay_run.proofs.Trails.{executed, executed-append, asked, executed_name, calls_executed, names_executed}
+use Rattle.replay_run.proofs.Stamps.{AreStamped}
 
 -- arrivals
 
@@ -54,8 +55,6 @@ pub record ArrivalsOk (r : Run) : Type 0 where
   pub by_now : (a : Arrival) → In a r.arrivals → a.line ≤ r.lines
   -- the calls that reach a partition's members are arrivals of that partition, in order
   pub calls : (p : ℕ) → IsPart (arrivals (events_at p r.events)) (map asked_of (filter (is_of p) r.arrivals))
-  -- a call makes at most one event
-  pub events : length r.events ≤ length r.arrivals
 
 -- answers
 
@@ -80,8 +79,6 @@ pub record AnswersOk {State : Type 0} (o : Object Request State) (r : Run) : Typ
   pub given : (m : Appended) (id : CallId) → In m r.appended → m.answers ≡ Some id → (p : ℕ) × IsGivenIn o r p m id
   -- no call is answered twice
   pub once : (id : CallId) → count (is_answer_to id) r.appended ≤ 1
-  -- nothing is reopened
-  pub resets : (p : ℕ) → filter is_reset (world_at o r p).recorded.log ≡ []
 
 -- refusals
 
@@ -90,6 +87,14 @@ pub record RefusalsOk {State : Type 0} (o : Object Request State) (r : Run) : Ty
   pub arrived : (m : Appended) (id : CallId) → In m r.appended → m.refuses ≡ Some id → (a : Arrival) × In a r.arrivals × (a.id ≡ id)
   -- and is executed nowhere
   pub unexecuted : (m : Appended) (id : CallId) → In m r.appended → m.refuses ≡ Some id → (p : ℕ) (x : Executed Request) → In x (executed (world_at o r p).recorded.log) → executed_name x ≢ id_name id
+
+-- reopenings
+
+pub record ReopeningsOk {State : Type 0} (o : Object Request State) (r : Run) : Type 0 where
+  -- each is of a partition of the grid
+  pub within : (x : Reopened) → In x r.reopened → x.partition < partitions
+  -- the log's calls were logged as they arrived, and its resets at the reopenings
+  pub stamped : (p : ℕ) → AreStamped r.arrivals 0 r.lines (reopened_at p r.reopened) (world_at o r p).recorded.log
 
 -- no two connections have one number
 abbrev pub AreApart : List Connection → Type 0
@@ -102,6 +107,7 @@ pub record RunOk {State : Type 0} (o : Object Request State) (r : Run) : Type 0 
   pub of_arrivals : ArrivalsOk r
   pub of_answers : AnswersOk o r
   pub of_refusals : RefusalsOk o r
+  pub of_reopenings : ReopeningsOk o r
 
 -- the log is as it was then, and more
 pub log_since : {log : List (Entry Request)} {released : List Held} {come : List Arrival} (m : Appended) (id : CallId) (g : IsGiven log released come m id)

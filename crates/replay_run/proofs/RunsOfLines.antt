@@ -1,21 +1,27 @@
 -- What holds of every run that lines can make.
-use Rattle.std.proofs.Common.{pos, ◌≡◌, ℕ, ◌≤◌, Bool, true, false, cond, List, [], ◌∷◌, ◌++◌, slice_set, Option, Some, None, refl, ap, sym, ◌∙◌, ⊎_elim, inl, inr, arith}
+use Rattle.std.proofs.Common.{pos, ◌≡◌, ℕ, ◌≤◌, ◌<◌, Bool, true, false, cond, List, [], ◌∷◌, ◌++◌, filter, slice_set, Option, Some, None, refl, ap, sym, ◌∙◌, ⊎_elim, inl, inr, arith}
 use Rattle.grid_base.specs.Objects.{Object}
 use Rattle.grid_base.specs.declared.names.CallId.{CallId}
 use Rattle.grid_base.specs.declared.calls.Request.{Request}
 use Rattle.object_store.specs.Partitions.{Partition}
-use Rattle.partition_protocol.proofs.Lists.{In, in_cases}
+use Rattle.partition_protocol.specs.Arrivals.{asked_by}
+use Rattle.partition_protocol.specs.Events.{Event}
+use Rattle.partition_protocol.proofs.Lists.{In, in_left, in_cases}
+use Rattle.partition_protocol.proofs.Faithful.{part_itself}
 use Rattle.grid_base.specs.Errors.{want_of_memory}
-use Rattle.replay_run.specs.Runs.{Run, Connection, Arrival, Appended, begun, updated, with_bytes, own_answer, told, refusal, arrival_at, happening, arrived, is_skipped, asked}
-use Rattle.replay_run.specs.Printing.{arrival_of, answer_of, is_answer_to}
-use Rattle.replay_run.specs.ScriptRuns.{IsNext, IsRun, grid_begun, line_counted, clock_was_set, connection_opened, bytes_taken, answer_told, call_asked}
+use Rattle.replay_run.specs.Runs.{Run, Connection, Arrival, Appended, begun, updated, with_bytes, own_answer, told, refusal, refused_by, released_by, call_of, arrival_at, happening, arrived, is_skipped, is_heard, occurred, asked}
+use Rattle.replay_run.specs.Printing.{partitions, arrival_of, answer_of, is_answer_to}
+use Rattle.replay_run.specs.ScriptRuns.{IsNext, IsRun, grid_begun, line_counted, clock_was_set, connection_opened, bytes_taken, answer_told, event_occurred, call_asked}
 use Rattle.replay_run.proofs.Hearing.{no_fewer}
+use Rattle.replay_run.proofs.Parts.{part_filter}
 use Rattle.replay_run.proofs.Counts.{count-append}
 use Rattle.replay_run.proofs.Trails.{find_some}
 use Rattle.replay_run.proofs.RunFacts.{RunOk, arrival_found}
 use Rattle.replay_run.proofs.Arriving.{apart_opened, apart_updated, opened_grows, updated_grows, quiet, arrivals_with, its_event}
-use Rattle.replay_run.proofs.Answering.{skipped_answers, answers_after}
+use Rattle.replay_run.proofs.Answering.{before, happened, refusals_answer_none, answers_still, answers_after}
 use Rattle.replay_run.proofs.Refusals.{skipped_refusals, refusals_after}
+use Rattle.replay_run.proofs.Reopenings.{skipped_reopenings, called_reopenings}
+use Rattle.replay_run.proofs.Occurring.{occurred_arrivals, occurred_refusals, occurred_reopenings}
 use Rattle.replay_run.proofs.Answers.{id_of_name, named_answer}
 
 -- the first line has made nothing
@@ -32,10 +38,10 @@ begun_ok o members backups grid = record {
     of_line = λ a b i. absurd i;
     by_now = λ a i. absurd i;
     calls = λ p. refl;
-    events = omega arith;
   };
-  of_answers = record { given = λ m id i e. absurd i; once = λ id. omega arith; resets = λ p. refl };
+  of_answers = record { given = λ m id i e. absurd i; once = λ id. omega arith };
   of_refusals = record { arrived = λ m id i e. absurd i; unexecuted = λ m id i e. absurd i };
+  of_reopenings = record { within = λ x i. absurd i; stamped = λ p. (refl, omega arith) };
 }
 
 -- what a session answers itself answers no call and refuses none
@@ -52,17 +58,16 @@ told_ok o r c bytes ok = record {
     of_line = ok.of_arrivals.of_line;
     by_now = ok.of_arrivals.by_now;
     calls = ok.of_arrivals.calls;
-    events = ok.of_arrivals.events;
   };
   of_answers = record {
     given = λ m id i e. ⊎_elim (λ j. ok.of_answers.given m id j e) (λ j. absurd (answers_none m id j e)) (in_cases m r.appended (own_answer r.lines c bytes ∷ []) i);
     once = λ id. let old = ok.of_answers.once id in let more = count-append (is_answer_to id) r.appended (own_answer r.lines c bytes ∷ []) in omega (arith, old, more);
-    resets = ok.of_answers.resets;
   };
   of_refusals = record {
     arrived = λ m id i e. ⊎_elim (λ j. ok.of_refusals.arrived m id j e) (λ j. absurd (refuses_none m id j e)) (in_cases m r.appended (own_answer r.lines c bytes ∷ []) i);
     unexecuted = λ m id i e. ⊎_elim (λ j. ok.of_refusals.unexecuted m id j e) (λ j. absurd (refuses_none m id j e)) (in_cases m r.appended (own_answer r.lines c bytes ∷ []) i);
   };
+  of_reopenings = record { within = ok.of_reopenings.within; stamped = ok.of_reopenings.stamped };
 }
   where
     answers_none : (m : Appended) (id : CallId) → In m (own_answer r.lines c bytes ∷ []) → m.answers ≡ Some id → ⊥
@@ -80,13 +85,21 @@ asked_ok o skips r member request ok next = go (is_skipped skips request.id)
     a : Arrival
     a = arrival_at r member request
 
+    still : (b : Arrival) → In b r.arrivals → In b (r.arrivals ++ a ∷ [])
+    still b i = in_left b r.arrivals (a ∷ []) i
+
+    refusal_silent : (m : Appended) → In m (refusal r.lines request (pos want_of_memory) 0 ∷ []) → m.answers ≡ None
+    refusal_silent m (inl e) = ap (λ (n : Appended). n.answers) (sym e)
+    refusal_silent m (inr i) = absurd i
+
     go : (b : Bool) → RunOk o (cond b (arrived r a [] (refusal r.lines request (pos want_of_memory) 0 ∷ [])) (arrived r a (its_event a ∷ []) (happening o r a)))
     go true = record {
       members = ok.members;
       connections = ok.connections;
       of_arrivals = arrivals_with r ok.of_arrivals member request next [] (refusal r.lines request (pos want_of_memory) 0 ∷ []) (inl refl);
-      of_answers = skipped_answers o r ok a;
+      of_answers = answers_still o r ok (r.arrivals ++ a ∷ []) r.reopened still [] (refusal r.lines request (pos want_of_memory) 0 ∷ []) refusal_silent;
       of_refusals = skipped_refusals o r ok member request next;
+      of_reopenings = skipped_reopenings o r ok a (refusal r.lines request (pos want_of_memory) 0 ∷ []);
     }
     go false =
         let come = arrivals_with r ok.of_arrivals member request next (its_event a ∷ []) (happening o r a) (inr refl) in
@@ -94,9 +107,28 @@ asked_ok o skips r member request ok next = go (is_skipped skips request.id)
           members = ok.members;
           connections = ok.connections;
           of_arrivals = come;
-          of_answers = answers_after o r ok a refl come;
+          of_answers =
+              answers_after o r ok (r.arrivals ++ a ∷ []) r.reopened still request.partition (call_of a) (refused_by r.lines request (happened o r request.partition (call_of a)).outcome)
+              (refusals_answer_none r.lines request (happened o r request.partition (call_of a)).outcome) (released_by (before o r request.partition (call_of a)) (happened o r request.partition (call_of a)).world)
+              (part_itself (released_by (before o r request.partition (call_of a)) (happened o r request.partition (call_of a)).world)) come;
           of_refusals = refusals_after o r ok member request next;
+          of_reopenings = called_reopenings o r ok member request;
         }
+
+-- something else than a call
+pub occurred_ok : {State : Type 0} (o : Object Request State) (r : Run) (p : ℕ) (event : Event Request) → RunOk o r → p < partitions → asked_by event ≡ [] → RunOk o (occurred o r p event)
+occurred_ok o r p event ok within quiet =
+    let come = occurred_arrivals o r ok p event quiet in
+    let released = released_by (before o r p event) (happened o r p event).world in
+    record {
+      members = ok.members;
+      connections = ok.connections;
+      of_arrivals = come;
+      of_answers =
+          answers_after o r ok r.arrivals (occurred o r p event).reopened (λ b i. i) p event [] (λ m i. absurd i) (filter (is_heard r) released) (part_filter (is_heard r) released) come;
+      of_refusals = occurred_refusals o r ok p event quiet;
+      of_reopenings = occurred_reopenings o r ok p event quiet within;
+    }
 
 pub run_ok : {o : Object Request Partition} {r : Run} → IsRun o r → RunOk o r
 run_ok {o} (grid_begun members backups grid) = begun_ok o members backups grid
@@ -111,6 +143,7 @@ run_ok {o} (bytes_taken r connection bytes is there) =
     let new : Connection = with_bytes connection bytes in
     quiet o r r.moments (updated new r.connections) ok (apart_updated r.connections new ok.connections) (updated_grows r connection new there refl (no_fewer connection.bytes bytes))
 run_ok {o} (answer_told r c bytes is) = told_ok o r c bytes (run_ok is)
+run_ok {o} (event_occurred r p event is within quiet) = occurred_ok o r p event (run_ok is) within quiet
 run_ok {o} (call_asked skips r member request is next) = asked_ok o skips r member request (run_ok is) next
 
 -- A call that did not arrive was not answered.

@@ -4,7 +4,7 @@ use Rattle.std.specs.Option.{option_map}
 use Rattle.std.proofs.lemmas.Bool.{cases_eq}
 use Rattle.std.proofs.lemmas.List.{length-append}
 use Rattle.session_core.specs.Sessions.{session_after}
-use Rattle.partition_world.specs.declared.node.Released.{Released}
+use Rattle.primary_hold.specs.declared.released.Released.{Released}
 use Rattle.grid_base.specs.declared.names.CallId.{CallId}
 use Rattle.replay_run.specs.Runs.{Run, Connection, connection_of, messages_on, took_bytes, opened}
 use Rattle.replay_run.specs.Tables.{Table, Opened, most_connections, opened_at, silent, with_opened, with_change, heard, with_session, replied, with_reply, called, with_arrival, lines_answered, answered, with_answer}

@@ -10,7 +10,7 @@ use Rattle.grid_base.specs.Names.{is_same_call}
 use Rattle.grid_base.specs.declared.names.CallId.{CallId}
 use Rattle.session_core.specs.Sessions.{session_after}
 use Rattle.partition_protocol.proofs.Lists.{In}
-use Rattle.partition_world.specs.declared.node.Released.{Released}
+use Rattle.primary_hold.specs.declared.released.Released.{Released}
 use Rattle.replay_run.specs.declared.connections.CallLines.{CallLines}
 use Rattle.replay_run.specs.Runs.{Run, Connection, Arrival, Appended, is_connection, connection_of, with_bytes, took_bytes, own_answer, told, opened}
 use Rattle.replay_run.specs.Printing.{arrival_of, answer_of, is_answer_to, is_named}

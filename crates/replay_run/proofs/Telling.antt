@@ -23,6 +23,7 @@ module _ {V : Type 0} {T : V → Type 0} {form : FormOf V T} {settings : Setting
     moments = h.moments;
     clocks = h.clocks;
     table = told_table grid.connections r conn answer h.table;
+    reopened = h.reopened;
     worlds = λ p low. let w = h.worlds p low in record { world = w.world; there = w.there; is = record { stands = w.is.stands; setup = w.is.setup }; given = w.given };
   }
 

@@ -1,5 +1,5 @@
 -- The calls of a log and of a trail, and what is printed of each.
-use Rattle.std.proofs.Common.{◌≡◌, ℕ, ◌+◌, Bool, true, false, List, [], ◌∷◌, ◌++◌, map, reverse, Option, Some, None, refl, ap, sym, ◌∙◌, subst, ◌⊎◌, ⊎_elim, inl, inr}
+use Rattle.std.proofs.Common.{◌≡◌, ℕ, ◌+◌, Bool, true, false, List, [], ◌∷◌, ◌++◌, map, drop, reverse, Option, Some, None, refl, ap, sym, ◌∙◌, subst, ◌⊎◌, ⊎_elim, inl, inr}
 use Rattle.std.proofs.lemmas.Grind.{reverse_onto}
 use Rattle.std.specs.List.{find}
 use Rattle.std.specs.Option.{option_and_then}
@@ -10,7 +10,7 @@ use Rattle.partition_protocol.specs.Arrivals.{Asked, CallName, name, calls_in}
 use Rattle.partition_protocol.proofs.Lists.{In, in_cases, in_contains, contains_in, IsPart, cases}
 use Rattle.partition_world.specs.Answers.{id_of, is_call, executed_in, newest_call}
 use Rattle.replay_run.specs.Runs.{Run}
-use Rattle.replay_run.specs.Printing.{Printed, printed, printed_from}
+use Rattle.replay_run.specs.Printing.{PrintedCall, Call, printed, printed_from}
 use Rattle.replay_run.specs.Linearizability.{Before}
 use Rattle.replay_run.proofs.Places.{same_call}
 
@@ -91,28 +91,33 @@ newest_executed {C} id log x e = go (find (is_call id) (reverse log)) (λ y s. f
 
 -- what is printed of a trail
 
-pub record Prints (r : Run) (p : ℕ) (x : Executed Request) (e : Printed) : Type 0 where
+pub record Prints (r : Run) (p : ℕ) (x : Executed Request) (e : PrintedCall) : Type 0 where
   pub place : ℕ
   pub is : printed r p place x ≡ e
 
-pub printed_in : (r : Run) (p place : ℕ) (es : List (Entry Request)) (e : Printed) → In e (printed_from r p place es) → (x : Executed Request) × In x (executed es) × Prints r p x e
-printed_in r p place [] e i = absurd i
-printed_in r p place (Called x ∷ es) e (inl s) = (x, inl refl, record { place = place; is = s })
-printed_in r p place (Called x ∷ es) e (inr i) = let k = printed_in r p (place + 1) es e i in (k.0, inr k.1, k.2)
-printed_in r p place (Reset version ∷ es) e i = printed_in r p (place + 1) es e i
+pub printed_in : (r : Run) (p place : ℕ) (lines : List ℕ) (es : List (Entry Request)) (e : PrintedCall) → In (Call e) (printed_from r p place lines es)
+    → (x : Executed Request) × In x (executed es) × Prints r p x e
+printed_in r p place lines [] e i = absurd i
+printed_in r p place lines (Called x ∷ es) e (inl s) = (x, inl refl, record { place = place; is = cc })
+printed_in r p place lines (Called x ∷ es) e (inr i) = let k = printed_in r p (place + 1) lines es e i in (k.0, inr k.1, k.2)
+printed_in r p place lines (Reset version ∷ es) e (inl s) = absurd cc
+printed_in r p place lines (Reset version ∷ es) e (inr i) = printed_in r p (place + 1) (drop 1 lines) es e i
 
-pub in_printed : (r : Run) (p place : ℕ) (es : List (Entry Request)) (x : Executed Request) → In x (executed es) → (e : Printed) × In e (printed_from r p place es) × Prints r p x e
-in_printed r p place [] x i = absurd i
-in_printed r p place (Called y ∷ es) x (inl s) = (printed r p place y, inl refl, record { place = place; is = ap (printed r p place) (sym s) })
-in_printed r p place (Called y ∷ es) x (inr i) = let k = in_printed r p (place + 1) es x i in (k.0, inr k.1, k.2)
-in_printed r p place (Reset version ∷ es) x i = in_printed r p (place + 1) es x i
+pub in_printed : (r : Run) (p place : ℕ) (lines : List ℕ) (es : List (Entry Request)) (x : Executed Request) → In x (executed es)
+    → (e : PrintedCall) × In (Call e) (printed_from r p place lines es) × Prints r p x e
+in_printed r p place lines [] x i = absurd i
+in_printed r p place lines (Called y ∷ es) x (inl s) = (printed r p place y, inl refl, record { place = place; is = ap (printed r p place) (sym s) })
+in_printed r p place lines (Called y ∷ es) x (inr i) = let k = in_printed r p (place + 1) lines es x i in (k.0, inr k.1, k.2)
+in_printed r p place lines (Reset version ∷ es) x i = let k = in_printed r p (place + 1) (drop 1 lines) es x i in (k.0, inr k.1, k.2)
 
-pub printed_before : (r : Run) (p place : ℕ) (es : List (Entry Request)) (a b : Printed) → Before (printed_from r p place es) a b
+pub printed_before : (r : Run) (p place : ℕ) (lines : List ℕ) (es : List (Entry Request)) (a b : PrintedCall) → Before (printed_from r p place lines es) (Call a) (Call b)
     → (x : Executed Request) × ((y : Executed Request) × Before (executed es) x y × Prints r p x a × Prints r p y b)
-printed_before r p place [] a b h = absurd h
-printed_before r p place (Called x ∷ es) a b (inl h) =
-    let k = printed_in r p (place + 1) es b (in_contains b (printed_from r p (place + 1) es) h.1) in
-    (x, (k.0, inl (refl, contains_in k.0 (executed es) k.1), record { place = place; is = h.0 }, k.2))
-printed_before r p place (Called x ∷ es) a b (inr h) =
-    let k = printed_before r p (place + 1) es a b h in (k.0, (k.1.0, inr k.1.1, k.1.2, k.1.3))
-printed_before r p place (Reset version ∷ es) a b h = printed_before r p (place + 1) es a b h
+printed_before r p place lines [] a b h = absurd h
+printed_before r p place lines (Called x ∷ es) a b (inl h) =
+    let k = printed_in r p (place + 1) lines es b (in_contains (Call b) (printed_from r p (place + 1) lines es) h.1) in
+    let is : printed r p place x ≡ a = cc in
+    (x, (k.0, inl (refl, contains_in k.0 (executed es) k.1), record { place = place; is = is }, k.2))
+printed_before r p place lines (Called x ∷ es) a b (inr h) =
+    let k = printed_before r p (place + 1) lines es a b h in (k.0, (k.1.0, inr k.1.1, k.1.2, k.1.3))
+printed_before r p place lines (Reset version ∷ es) a b (inl h) = absurd cc
+printed_before r p place lines (Reset version ∷ es) a b (inr h) = printed_before r p (place + 1) (drop 1 lines) es a b h

@@ -5,12 +5,13 @@ use Rattle.partition_protocol.specs.World.{start}
 use Rattle.partition_protocol.specs.Events.{run}
 use Rattle.partition_protocol.proofs.Lists.{set_get_same, set_get_other}
 use Rattle.partition_world.specs.Answers.{released_at}
-use Rattle.partition_world.specs.Worlds.{Setup, run_of, waiting}
+use Rattle.table_service.specs.Services.{Setup}
+use Rattle.partition_world.specs.Worlds.{run_of, waiting}
 use Rattle.call_engine.specs.Calls.{Settings}
 use Rattle.call_engine.specs.Changes.{change_of}
 use Rattle.call_engine.specs.Objects.{partition_object}
 use Rattle.replay_run.specs.Runs.{Run, Arrival, call_of, events_at, world_at}
-use Rattle.replay_run.specs.Grids.{GridWorld, StandsForEvents, IsWorld, HasWorld}
+use Rattle.replay_run.specs.Grids.{GridWorld, grid_meaning, StandsForEvents, IsWorld, HasWorld}
 use Rattle.replay_run.specs.WorldCalls.{IsCalled, IsSkipped}
 use Rattle.replay_run.proofs.Arriving.{its_event, maybe_one, events_of_more}
 use Rattle.replay_run.proofs.GivingOut.{HasGivenOut}
@@ -24,7 +25,7 @@ same_events {settings = settings} w r next p is e members backups = record {
 }
 
 -- the protocol's world of a partition
-pub run_is : {V : Type 0} {T : V → Type 0} {settings : Settings} (w : GridWorld V T) (r : Run) (p : ℕ) → IsWorld settings w r p → run_of (partition_object settings) w (events_at p r.events) ≡ world_at (partition_object settings) r p
+pub run_is : {V : Type 0} {T : V → Type 0} {settings : Settings} (w : GridWorld V T) (r : Run) (p : ℕ) → IsWorld settings w r p → run_of (grid_meaning settings) w (events_at p r.events) ≡ world_at (partition_object settings) r p
 run_is {settings = settings} w r p is = ap (λ (s : Setup). run (partition_object settings) (start s.partition s.members s.backups) (events_at p r.events)) is.setup
 
 module _ {V : Type 0} {T : V → Type 0} {settings : Settings} (ws : List (GridWorld V T)) (r : Run) (a : Arrival) (new : GridWorld V T) (next : Run) (old : HasWorld settings ws r a.request.partition) (members : next.members ≡ r.members) (backups : next.backups ≡ r.backups) where
@@ -72,16 +73,16 @@ module _ {V : Type 0} {T : V → Type 0} {settings : Settings} (ws : List (GridW
     -- what the call released, where nothing waited
     pub released_here : waiting called a.member ≡ released_at (partition_object settings) (change_of settings) (world_at (partition_object settings) r a.request.partition) (call_of a) a.member
     released_here =
-        did.waiting a.member ∙ ap (λ ws. ws ++ released_at (partition_object settings) (change_of settings) (run_of (partition_object settings) old.world (events_at a.request.partition r.events)) (call_of a) a.member) (old.given a.member)
+        did.waiting a.member ∙ ap (λ ws. ws ++ released_at (partition_object settings) (change_of settings) (run_of (grid_meaning settings) old.world (events_at a.request.partition r.events)) (call_of a) a.member) (old.given a.member)
         ∙ ap (λ w. released_at (partition_object settings) (change_of settings) w (call_of a) a.member) (run_is old.world r a.request.partition old.is)
 
     others_wait_for_none : (other : ℕ) → other ≢ a.member → waiting called other ≡ []
     others_wait_for_none other apart =
         let not_there : (a.member == other) ≡ false = ne_eqb a.member other (λ e. apart (sym e)) in
-        did.waiting other ∙ ap (λ ws. ws ++ released_at (partition_object settings) (change_of settings) (run_of (partition_object settings) old.world (events_at a.request.partition r.events)) (call_of a) other) (old.given other)
+        did.waiting other ∙ ap (λ ws. ws ++ released_at (partition_object settings) (change_of settings) (run_of (grid_meaning settings) old.world (events_at a.request.partition r.events)) (call_of a) other) (old.given other)
         ∙ nothing_at other not_there
       where
-        nothing_at : (m : ℕ) → (a.member == m) ≡ false → released_at (partition_object settings) (change_of settings) (run_of (partition_object settings) old.world (events_at a.request.partition r.events)) (call_of a) m ≡ []
+        nothing_at : (m : ℕ) → (a.member == m) ≡ false → released_at (partition_object settings) (change_of settings) (run_of (grid_meaning settings) old.world (events_at a.request.partition r.events)) (call_of a) m ≡ []
         nothing_at m e = rw e refl
 
     pub called_worlds : (q : ℕ) → HasWorld settings ws r q → HasWorld settings (slice_set ws a.request.partition new) next q

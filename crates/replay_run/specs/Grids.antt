@@ -6,7 +6,10 @@ use Rattle.entry_processors.specs.Processors.{ProcessorForm}
 use Rattle.grid_base.specs.declared.names.CallId.{CallId}
 use Rattle.grid_base.specs.declared.calls.Request.{Request}
 use Rattle.partition_protocol.specs.Events.{Event}
+use Rattle.object_store.specs.Partitions.{Partition}
+use Rattle.object_store.specs.Spelling.{snapshot_bytes}
 use Rattle.partition_world.specs.declared.world.World.{World}
+use Rattle.partition_world.specs.Meanings.{Meaning}
 use Rattle.partition_world.specs.Worlds.{StandsFor, setup_of, waiting}
 use Rattle.replay_run.specs.declared.connections.CallLines.{CallLines}
 use Rattle.replay_run.specs.declared.grid.Grid.{Grid}
@@ -17,6 +20,8 @@ use Rattle.session_core.specs.Sessions.{session_after}
 use Rattle.call_engine.specs.declared.shelf.GridShelf.{GridShelf}
 use Rattle.call_engine.specs.declared.env.GridEnv.{GridEnv}
 use Rattle.call_engine.specs.Calls.{Settings}
+use Rattle.call_engine.specs.Changes.{change_of}
+use Rattle.call_engine.specs.Effects.{effect_of}
 use Rattle.call_engine.specs.Env.{settings_of}
 use Rattle.call_engine.specs.Limits.{RequestFits}
 use Rattle.call_engine.specs.Objects.{partition_object}
@@ -60,8 +65,18 @@ pub record IsCounting (table : Table) (r : Run) (conn number : ℕ) : Type 0 whe
 abbrev pub GridWorld : (V : Type 0) → (V → Type 0) → Type 0
 GridWorld V T = World GridShelf (GridEnv V T) Request
 
+-- what the shelves mean, by the settings
+abbrev pub grid_meaning : Settings → Meaning GridShelf Request Partition
+grid_meaning settings = record {
+  object = partition_object settings;
+  state = λ (shelf : GridShelf). shelf;
+  effect_of = effect_of settings;
+  change_of = change_of settings;
+  snapshot_of = snapshot_bytes;
+}
+
 abbrev pub StandsForEvents : {V : Type 0} {T : V → Type 0} → Settings → GridWorld V T → List (Event Request) → Type 0
-StandsForEvents settings world events = StandsFor (partition_object settings) RequestFits (λ (shelf : GridShelf). shelf) world events
+StandsForEvents settings world events = StandsFor (grid_meaning settings) RequestFits world events
 
 -- The world is that of a partition's events.
 pub record IsWorld {V : Type 0} {T : V → Type 0} (settings : Settings) (world : GridWorld V T) (r : Run) (p : ℕ) : Type 0 where
@@ -90,11 +105,16 @@ pub record Holds {V : Type 0} {T : V → Type 0} (form : FormOf V T) (settings :
   pub moments : grid.moments.items ≡ r.moments
   pub clocks : length r.moments ≡ r.members
   pub table : HasTable grid.connections r
+  pub reopened : grid.reopened.items ≡ r.reopened
   pub worlds : (p : ℕ) → p < partitions → HasWorld settings grid.worlds.items r p
 
 -- The lines brought no more bytes than so many lines can: each byte has two digits in its line.
 abbrev pub IsSmall : Run → Type 0
 IsSmall r = 2 * bytes_of r ≤ most_line_bytes * r.lines
+
+-- No partition has more events than there were calls, and 1,001 for each line.
+abbrev pub AreFew : Run → Type 0
+AreFew r = (p : ℕ) → length (events_at p r.events) ≤ length r.arrivals + 1001 * r.lines
 
 -- Each connection is to a member of the grid.
 abbrev pub AreReached : Run → Type 0
@@ -104,6 +124,7 @@ AreReached r = (c : ℕ) (k : Connection) → connection_of r c ≡ Some k → k
 pub record Stands {V : Type 0} {T : V → Type 0} (form : FormOf V T) (settings : Settings) (grid : Grid V T) (r : Run) : Type 0 where
   pub run : IsRun (partition_object settings) r
   pub small : IsSmall r
+  pub few : AreFew r
   pub holds : Holds form settings grid r
   pub settled : IsSettled grid.connections r
   pub reached : AreReached r

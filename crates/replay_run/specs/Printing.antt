@@ -13,7 +13,7 @@ use Rattle.grid_base.specs.declared.calls.GridCall.{GridCall}
 use Rattle.grid_base.specs.declared.calls.GridCall.TheVariants as call
 use Rattle.grid_base.specs.declared.calls.Request.{Request}
 use Rattle.partition_protocol.specs.Node.{Pair}
-use Rattle.partition_protocol.specs.History.{Executed, Entry, Called, Reset}
+use Rattle.partition_protocol.specs.History.{Executed, Entry, Called, Reset as Opened}
 use Rattle.partition_protocol.specs.World.{trail}
 use Rattle.partition_protocol.specs.Service.{numbers_below}
 use Rattle.call_engine.specs.Objects.{target_of}
@@ -21,15 +21,15 @@ use Rattle.object_store.specs.Partitions.{Partition}
 use Rattle.partition_world.specs.ContentsOf.{pair_at, contents_at}
 use Rattle.replay_run.specs.Dumps.{word, number, line_end, hex_word, number_or_dash, object_words, dumped_text}
 use Rattle.partition_world.specs.Answers.{id_of}
-use Rattle.replay_run.specs.Runs.{Run, Connection, Arrival, Appended, world_at, connection_of, fault_on}
+use Rattle.replay_run.specs.Runs.{Run, Connection, Arrival, Appended, reopened_at, world_at, connection_of, fault_on, is_open}
 use Rattle.script_lang.specs.declared.line.Line.{Line}
 use Rattle.script_lang.specs.declared.line.Line.TheVariants.{Grid, OpenConn, Arrive, Dump, Trail, End}
 use Rattle.frame_codec.specs.declared.malformed.Malformed.{Malformed}
 use Rattle.frame_codec.specs.declared.malformed.Why.{Why}
 use Rattle.frame_codec.specs.declared.malformed.Why.TheVariants.{Prefix, TooShort, TooLong, BadFragment, OpenFragments, ManyFrames, LongMessage, ShortStart, Spent}
 
--- an entry of a trail: its place there, its call, the lines at which the call arrived and was answered, and the reply
-pub record Printed : Type 0 where
+-- a call in a trail: its place there, the lines at which it arrived and was answered, and the reply
+pub record PrintedCall : Type 0 where
   pub partition : ℕ
   pub place : ℕ
   pub id : CallId
@@ -38,6 +38,17 @@ pub record Printed : Type 0 where
   pub now : ℕ
   pub request : Request
   pub reply : List ℕ
+
+-- a reopening in a trail, and the line of it
+pub record PrintedReset : Type 0 where
+  pub partition : ℕ
+  pub place : ℕ
+  pub line : ℕ
+
+-- an entry of a trail, as it is printed
+pub data Printed : Type 0 where
+  Call : PrintedCall → Printed
+  Reset : PrintedReset → Printed
 
 abbrev pub arrival_of : Run → CallId → Option Arrival
 arrival_of r id = find (λ (a : Arrival). is_same_call a.id id) r.arrivals
@@ -52,7 +63,7 @@ is_answer_to id m = is_named id m.answers
 abbrev pub answer_of : Run → CallId → Option Appended
 answer_of r id = find (is_answer_to id) r.appended
 
-abbrev pub printed : Run → ℕ → ℕ → Executed Request → Printed
+abbrev pub printed : Run → ℕ → ℕ → Executed Request → PrintedCall
 printed r p place x = record {
   partition = p;
   place = place;
@@ -64,17 +75,22 @@ printed r p place x = record {
   reply = x.reply;
 }
 
-abbrev pub printed_from : Run → ℕ → ℕ → List (Entry Request) → List Printed
-printed_from r p place [] = []
-printed_from r p place (Called x ∷ es) = printed r p place x ∷ printed_from r p (place + 1) es
-printed_from r p place (Reset version ∷ es) = printed_from r p (place + 1) es
+abbrev pub first_line : List ℕ → ℕ
+first_line [] = 0
+first_line (line ∷ lines) = line
+
+-- where the partition's reopenings that are still to come were at these lines
+abbrev pub printed_from : Run → ℕ → ℕ → List ℕ → List (Entry Request) → List Printed
+printed_from r p place lines [] = []
+printed_from r p place lines (Called x ∷ es) = Call (printed r p place x) ∷ printed_from r p (place + 1) lines es
+printed_from r p place lines (Opened version ∷ es) = Reset (record { partition = p; place = place; line = first_line lines }) ∷ printed_from r p (place + 1) (drop 1 lines) es
 
 abbrev pub partitions : ℕ
 partitions = 271
 
 -- the entries of a partition's trail, and of all trails in order of partition
 abbrev pub entries_of : {State : Type 0} → Object Request State → Run → ℕ → List Printed
-entries_of o r p = printed_from r p 0 (trail (world_at o r p))
+entries_of o r p = printed_from r p 0 (reopened_at p r.reopened) (trail (world_at o r p))
 
 abbrev pub all_entries : {State : Type 0} → Object Request State → Run → List Printed
 all_entries o r = flat_map (entries_of o r) (numbers_below partitions)
@@ -119,12 +135,13 @@ abbrev pub call_name : GridCall → List ℕ
 call_name (call.Map c) = map_call_name c
 call_name (call.Queue c) = queue_call_name c
 
--- `I entry P PLACE CONN NUMBER ARRIVED ANSWERED NOW OP NAME KEY REPLY`
+-- `I entry P PLACE CONN NUMBER ARRIVED ANSWERED NOW OP NAME KEY REPLY`, and of a reset `I entry P PLACE - - LINE - - reset - - -`
 abbrev pub entry_text : ℕ → Printed → List ℕ
-entry_text line e =
+entry_text line (Call e) =
     number line ++ codes "entry " ++ number e.partition ++ number e.place ++ number e.id.conn ++ number e.id.number
     ++ number e.arrived ++ number_or_dash e.answered ++ number e.now
     ++ word (call_name e.request.call) ++ object_words (target_of e.request) ++ hex_word e.reply ++ line_end
+entry_text line (Reset e) = number line ++ codes "entry " ++ number e.partition ++ number e.place ++ codes "- - " ++ number e.line ++ codes "- - reset - - -" ++ line_end
 
 -- what was appended at the last line
 abbrev pub new_messages : Run → Run → List Appended
@@ -150,11 +167,6 @@ close_text line c (Some fault) = number line ++ codes "close " ++ number c ++ nu
 abbrev pub nothing_text : ℕ → List ℕ
 nothing_text line = number line ++ codes "nothing" ++ line_end
 
--- whether bytes can arrive on a connection: it was opened and didn't close
-abbrev pub is_open : Option Connection → Bool
-is_open None = false
-is_open (Some connection) = not (is_some (fault_on connection))
-
 -- whether a line's condition is false
 abbrev pub does_nothing : Run → Line → Bool
 does_nothing before (Grid members backups capacity) = true
@@ -178,7 +190,7 @@ dump_text line pair = number line ++ codes "dump " ++ number pair.version ++ dec
 
 abbrev pub outcome_text : {State : Type 0} → Object Request State → Run → Line → List ℕ
 outcome_text o after (Dump p member) = dump_text after.lines (pair_at (world_at o after p) member)
-outcome_text o after (Trail p) = trail_text after.lines (length (entries_of o after p))
+outcome_text o after (Trail p) = trail_text after.lines (length (trail (world_at o after p)))
 outcome_text o after line = ok_text after.lines
 
 -- the fault of a connection, which closes it

@@ -1,5 +1,5 @@
 -- The run of a script: what its lines so far have made. The worlds of the partitions are not kept: each is the protocol's run of its events.
-use Rattle.std.specs.Prelude.{ℕ, ◌+◌, ◌==◌, Bool, true, if◌then◌else◌, ℤ, pos, List, [], ◌∷◌, ◌++◌, length, map, filter, drop, sum_by, replicate, slice_get, slice_set, Option, Some, None, is_some, unwrap_or}
+use Rattle.std.specs.Prelude.{ℕ, ◌+◌, ◌==◌, Bool, true, false, not, if◌then◌else◌, ℤ, pos, List, [], ◌∷◌, ◌++◌, length, map, filter, drop, sum_by, replicate, slice_get, slice_set, Option, Some, None, is_some, unwrap_or}
 use Rattle.std.specs.Int.{w32, cast_signed}
 use Rattle.std.specs.List.{list_any, find, filter_map}
 use Rattle.grid_base.specs.Objects.{Object}
@@ -13,7 +13,7 @@ use Rattle.partition_protocol.specs.Node.{Held}
 use Rattle.partition_protocol.specs.History.{Executed}
 use Rattle.partition_protocol.specs.Execution.{Reached, Executes, PartitionLost, WrongTarget, Migrating}
 use Rattle.partition_protocol.specs.World.{World, start}
-use Rattle.partition_protocol.specs.Events.{Event, Call, Outcome, Refused, happens, run}
+use Rattle.partition_protocol.specs.Events.{Event, Call, Reopen, Outcome, Refused, RowMadeAt, happens, run}
 use Rattle.partition_world.specs.Answers.{id_of, newest_call}
 use Rattle.grid_base.specs.Errors.{partition_lost, wrong_target, migrating, want_of_memory}
 use Rattle.fixed_fields.specs.Responses.{error_bytes}
@@ -50,6 +50,11 @@ pub record Appended : Type 0 where
   pub answers : Option CallId
   pub refuses : Option CallId
 
+-- a partition was reopened, at a line
+pub record Reopened : Type 0 where
+  pub partition : ℕ
+  pub line : ℕ
+
 pub record Run : Type 0 where
   pub members : ℕ
   pub backups : ℕ
@@ -59,10 +64,11 @@ pub record Run : Type 0 where
   pub events : List At  -- of all partitions, in order
   pub arrivals : List Arrival
   pub appended : List Appended
+  pub reopened : List Reopened
 
 -- after the first line
 abbrev pub begun : ℕ → ℕ → Run
-begun members backups = record { members = members; backups = backups; lines = 1; moments = replicate members 0; connections = []; events = []; arrivals = []; appended = [] }
+begun members backups = record { members = members; backups = backups; lines = 1; moments = replicate members 0; connections = []; events = []; arrivals = []; appended = []; reopened = [] }
 
 abbrev pub is_at : ℕ → At → Bool
 is_at p e = e.partition == p
@@ -86,6 +92,11 @@ messages_on connection = messages_of true connection.bytes
 
 abbrev pub fault_on : Connection → Option Malformed
 fault_on connection = fault_of true connection.bytes
+
+-- whether bytes can arrive on a connection, and answers go there: it was opened and didn't close
+abbrev pub is_open : Option Connection → Bool
+is_open None = false
+is_open (Some connection) = not (is_some (fault_on connection))
 
 -- what its messages give: an item each
 abbrev pub items_on : Connection → List Item
@@ -167,6 +178,29 @@ abbrev pub asked : {State : Type 0} → Object Request State → List CallId →
 asked o skips r a =
     if is_skipped skips a.id then arrived r a [] (refusal a.line a.request (pos want_of_memory) 0 ∷ [])
     else arrived r a (record { partition = a.request.partition; event = call_of a } ∷ []) (happening o r a)
+
+-- Something else than a call happens to a partition: it may release answers, of which those go out whose connections are open, and it may reopen the partition.
+
+abbrev pub is_heard : Run → Executed Request → Bool
+is_heard r x = is_open (connection_of r x.conn)
+
+abbrev pub reopening_by : ℕ → ℕ → Event Request → Outcome → List Reopened
+reopening_by p line Reopen (RowMadeAt version) = record { partition = p; line = line } ∷ []
+reopening_by p line event outcome = []
+
+abbrev pub occurred : {State : Type 0} → Object Request State → Run → ℕ → Event Request → Run
+occurred o r p event =
+    let before = world_at o r p in
+    let next = happens o before event in
+    record r {
+      events = r.events ++ record { partition = p; event = event } ∷ [];
+      appended = r.appended ++ map (answer_to r.lines) (filter (is_heard r) (released_by before next.world));
+      reopened = r.reopened ++ reopening_by p r.lines event next.outcome;
+    }
+
+-- the lines at which a partition was reopened, in order
+abbrev pub reopened_at : ℕ → List Reopened → List ℕ
+reopened_at p reopened = map (λ (x : Reopened). x.line) (filter (λ (x : Reopened). x.partition == p) reopened)
 
 -- an item of a connection, and several in a row
 

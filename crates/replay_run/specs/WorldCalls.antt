@@ -1,12 +1,12 @@
 -- What a call does to its partition's world, and the messages that it makes.
-use Rattle.std.specs.Prelude.{◌≡◌, ◌≢◌, ℕ, ◌+◌, ◌-◌, ◌<◌, ◌^◌, if◌then◌else◌, is_some, option_and_then, pos, List, length, [], ◌∷◌, ◌++◌, Option, Some, None, Contains}
+use Rattle.std.specs.Prelude.{◌≡◌, ◌≢◌, ℕ, ◌+◌, ◌-◌, ◌*◌, ◌<◌, ◌^◌, if◌then◌else◌, is_some, option_and_then, pos, List, length, [], ◌∷◌, ◌++◌, Option, Some, None, Contains}
 use Rattle.std.specs.List.{flat_map}
-use Rattle.grid_base.specs.Objects.{Object}
 use Rattle.grid_base.specs.declared.names.CallId.{CallId}
 use Rattle.grid_base.specs.declared.calls.Request.{Request}
 use Rattle.partition_protocol.specs.Events.{Event, happens}
-use Rattle.partition_world.specs.declared.node.Released.{Released}
+use Rattle.primary_hold.specs.declared.released.Released.{Released}
 use Rattle.partition_world.specs.declared.world.World.{World}
+use Rattle.partition_world.specs.Meanings.{Meaning}
 use Rattle.partition_world.specs.Answers.{released_at}
 use Rattle.partition_world.specs.Worlds.{StandsFor, run_of, setup_of, waiting}
 use Rattle.replay_run.specs.declared.grid.Refusal.{Refusal}
@@ -22,7 +22,7 @@ use Rattle.replay_run.specs.Runs.{Run, Connection, Arrival, Appended, connection
 use Rattle.replay_run.specs.Printing.{appended_text, new_messages}
 use Rattle.replay_run.specs.ScriptRuns.{IsRun, IsMidway}
 use Rattle.replay_run.specs.Tables.{Table, with_answer}
-use Rattle.replay_run.specs.Grids.{FormOf, GridWorld, StandsForEvents, IsCounting, Holds}
+use Rattle.replay_run.specs.Grids.{FormOf, GridWorld, grid_meaning, StandsForEvents, IsCounting, Holds}
 
 -- the call of a request that reaches a member at a line, at the member's moment
 abbrev pub arrival_to : ℕ → ℕ → ℕ → Request → Arrival
@@ -40,8 +40,8 @@ texts_of messages = flat_map appended_text messages
 pub record IsCalled {V : Type 0} {T : V → Type 0} (settings : Settings) (old new : GridWorld V T) (events : List (Event Request)) (a : Arrival) (added : List ℕ) : Type 0 where
   pub stands : StandsForEvents settings new (events ++ call_of a ∷ [])
   pub setup : setup_of new ≡ setup_of old
-  pub waiting : (member : ℕ) → waiting new member ≡ waiting old member ++ released_at (partition_object settings) (change_of settings) (run_of (partition_object settings) old events) (call_of a) member
-  pub text : added ≡ texts_of (refused_by a.line a.request (happens (partition_object settings) (run_of (partition_object settings) old events) (call_of a)).outcome)
+  pub waiting : (member : ℕ) → waiting new member ≡ waiting old member ++ released_at (partition_object settings) (change_of settings) (run_of (grid_meaning settings) old events) (call_of a) member
+  pub text : added ≡ texts_of (refused_by a.line a.request (happens (partition_object settings) (run_of (grid_meaning settings) old events) (call_of a)).outcome)
 
 -- The call found no memory, is no event and was answered so.
 pub record IsSkipped {V : Type 0} {T : V → Type 0} (settings : Settings) (old new : GridWorld V T) (events : List (Event Request)) (a : Arrival) (added : List ℕ) : Type 0 where
@@ -59,8 +59,8 @@ with_answers table line [] = table
 with_answers table line (answer ∷ answers) = with_answers (with_answer table answer.id line) line answers
 
 -- All answers that waited at a member were given out, which is no event in any environment.
-pub record GivesOut {S Env C State : Type 0} (object : Env → Object C State) (limits : C → Type 0) (state : S → State) (old new : World S Env C) (member : ℕ) : Type 0 where
-  pub stands : (env : Env) (events : List (Event C)) → StandsFor (object env) limits state old events → StandsFor (object env) limits state new events
+pub record GivesOut {S Env C State : Type 0} (meaning_in : Env → Meaning S C State) (limits : C → Type 0) (old new : World S Env C) (member : ℕ) : Type 0 where
+  pub stands : (env : Env) (events : List (Event C)) → StandsFor (meaning_in env) limits old events → StandsFor (meaning_in env) limits new events
   pub setup : setup_of new ≡ setup_of old
   pub given : waiting new member ≡ []
   pub others : (other : ℕ) → other ≢ member → waiting new other ≡ waiting old other
@@ -79,9 +79,9 @@ pub record HasTold {V : Type 0} {T : V → Type 0} (form : FormOf V T) (settings
   pub counting : IsCounting new.connections (told r conn answer) conn (number + 1)
   pub added : text ≡ written ++ texts_of (new_messages r (told r conn answer))
 
--- A call's number and the number of events, however many of the bytes' items are calls, are below the limits of four bytes.
+-- However many of the bytes' items are calls, no partition has more events than four bytes can count.
 abbrev pub HasRoom : Run → Connection → List ℕ → Type 0
-HasRoom r k bytes = length r.events + length (items_by k bytes) + 1 < 2 ^ 32 - 1
+HasRoom r k bytes = length r.arrivals + length (items_by k bytes) + 1001 * (r.lines + 1) + 1 < 2 ^ 32 - 1
 
 -- the member of a connection, where bytes can arrive on it
 abbrev pub member_if_open : Connection → Option ℕ

@@ -1,10 +1,11 @@
-ghost use Rattle.std.specs.Prelude.{◌≡◌, ◌++◌, OnOk};
+ghost use Rattle.std.specs.Prelude.{◌≡◌, ◌∷◌, ◌++◌, [], drop, OnOk};
+ghost use Rattle.partition_world.specs.RecordedEntries.{entry_of};
 ghost use Rattle.call_engine.specs.Objects.{target_of};
 ghost use Rattle.replay_run.specs.Dumps.{number, number_or_dash, word, object_words};
-ghost use Rattle.replay_run.specs.Printing.{map_call_name, queue_call_name, call_name, entry_text};
-ghost use Rattle.replay_run.specs.PrintedEntries.{arrived_in, answered_in, printed_as};
+ghost use Rattle.replay_run.specs.Printing.{Reset, first_line, map_call_name, queue_call_name, call_name, entry_text};
+ghost use Rattle.replay_run.specs.PrintedEntries.{arrived_in, answered_in, printed_as, resets_in};
 
-use crate::connections::CallLines;
+use crate::connections::{CallLines, Connections};
 use crate::print::{push_hex_word, push_number, push_optional, push_text, push_word};
 use grid_base::{Bytes, GridCall, MapCall, Memory, ObjectKey, PartitionId, QueueCall, Request};
 use partition_world::Entry;
@@ -105,25 +106,69 @@ pub(crate) struct EntryPlace {
     pub(crate) place: usize,
 }
 
-/// Appends an entry of a recorded history, with the lines at which its call arrived and was answered.
-pub(crate) fn push_entry(
-    alloc: Global,
-    out: &mut Vec<u8>,
-    at: EntryPlace,
-    executed: &Entry<Request>,
-    lines: Option<CallLines>,
-) -> Result<(), Memory>
-    ensures { OnOk result (out.new.items ≡ out.old.items ++ entry_text at.line (printed_as at.partition at.place executed.entry.now lines)) }
+/// How many resets an entry is.
+pub(crate) fn resets_of(entry: &Entry<Request>) -> usize
+    ensures { result ≡ resets_in (entry_of entry.now ∷ []) }
+{
+    match entry {
+        Entry::Call { .. } => 0,
+        Entry::Reset { .. } => 1,
+    }
+}
+
+/// The line of a reopening, where these are the lines of a partition's, and 0 past them.
+pub(crate) fn line_at(lines: &[u32], place: usize) -> u32
+    ensures { result ≡ first_line (drop place lines.now) }
+{
+    if place < lines.len() { lines[place] } else { 0 }
+}
+
+/// Appends a reset of a recorded history, which has the line of the reopening.
+fn push_reset(out: &mut Vec<u8>, at: EntryPlace, reopened: u32) -> Result<(), Memory>
+    ensures { OnOk result (out.new.items ≡ out.old.items ++ entry_text at.line (Reset (record { partition = at.partition; place = at.place; line = reopened }))) }
 {
     push_number(out, u64::from(at.line))?;
     push_text(out, b"entry ")?;
     push_number(out, u64::from(at.partition))?;
     push_number(out, at.place as u64)?;
-    push_number(out, u64::from(executed.id.conn))?;
-    push_number(out, u64::from(executed.id.number))?;
-    push_lines(out, lines)?;
-    push_number(out, executed.now)?;
-    push_call(alloc, out, &executed.call)?;
-    push_hex_word(alloc, out, executed.reply.as_slice())?;
+    push_text(out, b"- - ")?;
+    push_number(out, u64::from(reopened))?;
+    push_text(out, b"- - reset - - -")?;
     push_text(out, b"\n")
+}
+
+/// Appends an entry of a recorded history: a call with the lines at which it arrived and was answered, and a reset with
+/// the line of the reopening.
+pub(crate) fn push_entry(
+    alloc: Global,
+    out: &mut Vec<u8>,
+    at: EntryPlace,
+    reopened: u32,
+    entry: &Entry<Request>,
+    connections: &Connections,
+) -> Result<(), Memory>
+    ensures { OnOk result (out.new.items ≡ out.old.items ++ entry_text at.line (printed_as at.partition at.place reopened entry.now connections.now)) }
+{
+    match entry {
+        Entry::Call {
+            id,
+            now,
+            call,
+            reply,
+            ..
+        } => {
+            push_number(out, u64::from(at.line))?;
+            push_text(out, b"entry ")?;
+            push_number(out, u64::from(at.partition))?;
+            push_number(out, at.place as u64)?;
+            push_number(out, u64::from(id.conn))?;
+            push_number(out, u64::from(id.number))?;
+            push_lines(out, connections.lines_of(*id))?;
+            push_number(out, *now)?;
+            push_call(alloc, out, call)?;
+            push_hex_word(alloc, out, reply.as_slice())?;
+            push_text(out, b"\n")
+        }
+        Entry::Reset { .. } => push_reset(out, at, reopened),
+    }
 }

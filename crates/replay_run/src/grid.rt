@@ -1,31 +1,37 @@
-ghost use Rattle.std.specs.Prelude.{◌≡◌, ℕ, false, ◌+◌, ◌-◌, ◌<◌, ◌≤◌, ◌^◌, List, [], ◌++◌, ◌⊎◌, Some, map, IfOk, OnOk, length};
+ghost use Rattle.std.specs.Prelude.{◌≡◌, ℕ, false, ◌+◌, ◌-◌, ◌*◌, ◌<◌, ◌≤◌, ◌^◌, List, [], ◌∷◌, ◌++◌, ◌⊎◌, Some, map, IfOk, OnOk, length};
 ghost use Rattle.std.specs.List.{flat_map};
 ghost use Rattle.grid_base.specs.declared.calls.Request.{Request as Call};
 ghost use Rattle.partition_protocol.specs.Events.{Event as ProtocolEvent};
+ghost use Rattle.partition_protocol.specs.Arrivals.{NamedOnce, arrivals, name};
 ghost use Rattle.partition_protocol.specs.World.{trail};
 ghost use Rattle.grid_base.specs.Limits.{CallFits};
 ghost use Rattle.call_engine.specs.Calls.{Settings};
 ghost use Rattle.call_engine.specs.Env.{settings_of};
 ghost use Rattle.call_engine.specs.Objects.{partition_object};
 ghost use Rattle.partition_world.specs.Events.{happened_of};
+ghost use Rattle.partition_world.specs.Meanings.{meaning};
 ghost use Rattle.partition_world.specs.Worlds.{steps_of, waiting};
-ghost use Rattle.replay_run.specs.Runs.{Run, Connection as RunConnection, begun, refused_by};
+ghost use Rattle.partition_world.specs.RecordedEntries.{entry_of};
+ghost use Rattle.replay_run.specs.Runs.{Run, Connection as RunConnection, begun, call_of, refused_by, reopened_at, world_at};
 ghost use Rattle.replay_run.specs.Printing.{partitions, appended_text, entry_text, entries_of, all_entries, ok_text, nothing_text};
 ghost use Rattle.replay_run.specs.Tables.{with_answer};
 ghost use Rattle.replay_run.specs.ScriptRuns.{IsRun, IsNext};
-ghost use Rattle.replay_run.specs.Grids.{boxed, Stands, StandsForEvents, Holds, IsCounting, MayRun, HasRun};
+ghost use Rattle.replay_run.specs.Grids.{boxed, AreFew, Stands, StandsForEvents, Holds, IsCounting, MayRun, HasRun};
 ghost use Rattle.replay_run.specs.WorldCalls.{arrival_to, refusals, texts_of, message_of, with_answers, IsCalled, IsSkipped, GivesOut, HasAsked, HasTold, HasRoom, open_member_in, Brings, HasHandledSome};
 
 use crate::connections::Connections;
 use crate::dumps::{push_dump, push_dumped};
-use crate::entries::{EntryPlace, push_entry};
+use crate::entries::{EntryPlace, line_at, push_entry, resets_of};
 use crate::print::{push_appended, push_close, push_nothing, push_ok, push_trail};
+use crate::reopened::Reopened;
 use call_engine::{GridEnv, GridShelf};
 use client_codecs::write_error;
 use entry_processors::{Processor, Registry};
 use grid_base::errors::{MIGRATING, PARTITION_LOST, WANT_OF_MEMORY, WRONG_TARGET};
 use grid_base::{Bytes, MemberId, Memory, Moment, PARTITIONS, PartitionId, Request, Shelf};
-use partition_world::{CallOutcome, Contents, Event, Happened, Released, World};
+use partition_world::{CallOutcome, Event, Happened, Trail, World};
+use primary_hold::Released;
+use replica_node::Contents;
 use script_lang::Line;
 use session_core::Item;
 use std::alloc::Global;
@@ -49,8 +55,6 @@ fn refusal_of(happened: Happened) -> Option<Refusal>
     ensures { (line : ℕ) (request : Call) → refusals line request result ≡ refused_by line request (happened_of happened) }
 {
     match happened {
-        Happened::Nothing => None,
-        Happened::Called(CallOutcome::Held { .. } | CallOutcome::Released { .. }) => None,
         Happened::Called(CallOutcome::PartitionLost { version }) => Some(Refusal {
             code: PARTITION_LOST,
             version,
@@ -63,6 +67,7 @@ fn refusal_of(happened: Happened) -> Option<Refusal>
             code: MIGRATING,
             version,
         }),
+        _ => None,
     }
 }
 
@@ -110,8 +115,10 @@ fn call(
 ) -> Result<(), Memory>
     requires limits { CallFits request.call }
     requires room { steps_of world.old + 1 < 2 ^ 32 - 1 }
-    requires stands { (events : List (ProtocolEvent Call)) × StandsForEvents (settings_of (boxed form) env.now) world.old events }
+    requires stands { (events : List (ProtocolEvent Call)) × StandsForEvents (settings_of (boxed form) env.now) world.old events
+        × NamedOnce (map name (arrivals (events ++ call_of (arrival_to at.line at.member at.now request) ∷ []))) }
     ensures { (events : List (ProtocolEvent Call)) → StandsForEvents (settings_of (boxed form) env.now) world.old events
+        → NamedOnce (map name (arrivals (events ++ call_of (arrival_to at.line at.member at.now request) ∷ [])))
         → OnOk result ((text : List ℕ) × (out.new.items ≡ out.old.items ++ text)
         × (IsCalled (settings_of (boxed form) env.now) world.old world.new events (arrival_to at.line at.member at.now request) text ⊎ IsSkipped (settings_of (boxed form) env.now) world.old world.new events (arrival_to at.line at.member at.now request) text)) }
 {
@@ -160,7 +167,7 @@ fn give_out<S: Shelf>(
 ) -> Result<(), Memory>
     ensures text { OnOk result (out.new.items ≡ out.old.items ++ texts_of (map (message_of line) (waiting world.old member))) }
     ensures table { OnOk result (connections.new ≡ with_answers connections.old line (waiting world.old member)) }
-    ensures world { OnOk result (GivesOut S.object S.within_limits S.state world.old world.new member) }
+    ensures world { OnOk result (GivesOut (meaning S.object S.state S.effect_of S.change_of S.snapshot_of) S.within_limits world.old world.new member) }
 {
     while let Some(answer) = world.pop_released(member) {
         give(alloc, connections, line, answer, out)?;
@@ -176,12 +183,14 @@ pub struct Grid {
     lines: u32,
     moments: Vec<Moment>,
     connections: Connections,
+    /// In order.
+    reopened: Vec<Reopened>,
     worlds: Vec<World<GridShelf>>,
 }
 
 impl Grid {
     /// The grid after a script's first line, whose entries are processed by these processors, and whose queues have
-    /// this capacity. At this stage it has one member. Costs its partitions.
+    /// this capacity. Costs its partitions, and in each of them its members and the links between them.
     pub fn new(
         alloc: Global,
         members: u8,
@@ -189,8 +198,8 @@ impl Grid {
         capacity: u32,
         processors: Vec<Box<dyn Processor>>,
     ) -> Result<Grid, Memory>
-        requires members { members ≡ 1 }
-        requires backups { backups ≤ 6 }
+        requires some { 1 ≤ members }
+        requires most { members ≤ 8 }
         ensures { IfOk result (λ grid. Stands form (record { forms = map form processors.items; capacity = capacity }) grid (begun members backups)) }
     {
         let mut worlds = Vec::with_capacity(alloc, usize::from(PARTITIONS))?;
@@ -206,6 +215,7 @@ impl Grid {
             lines: 1,
             moments: vec![in alloc; 0; usize::from(members)]?,
             connections: Connections::new(alloc)?,
+            reopened: Vec::new(alloc),
             worlds,
         })
     }
@@ -341,7 +351,7 @@ impl Grid {
         items: Vec<Item>,
         out: &mut Vec<u8>,
     ) -> Result<(), Memory>
-        requires { (settings : Settings) × (r : Run) × (k : RunConnection) × (bytes : List ℕ) × Brings settings r k bytes items.items × HasHandledSome (boxed form) settings self.old r k bytes [] out.old.items out.old.items × (k.conn ≡ conn) × (k.member ≡ member) × HasRoom r k bytes }
+        requires { (settings : Settings) × (r : Run) × (k : RunConnection) × (bytes : List ℕ) × Brings settings r k bytes items.items × HasHandledSome (boxed form) settings self.old r k bytes [] out.old.items out.old.items × (k.conn ≡ conn) × (k.member ≡ member) × HasRoom r k bytes × AreFew r }
         ensures { (settings : Settings) (r : Run) (k : RunConnection) (bytes : List ℕ) → Brings settings r k bytes items.items → k.conn ≡ conn → k.member ≡ member
             → HasHandledSome (boxed form) settings self.old r k bytes [] out.old.items out.old.items
             → OnOk result (HasHandledSome (boxed form) settings self.new r k bytes items.items out.old.items out.new.items) }
@@ -381,7 +391,7 @@ impl Grid {
         requires limits { CallFits request.call }
         requires placed { request.partition < partitions }
         requires member { member < self.old.members }
-        requires stands { (settings : Settings) × (r : Run) × Holds (boxed form) settings self.old r × (length r.events + 1 < 2 ^ 32 - 1) }
+        requires stands { (settings : Settings) × (r : Run) × Holds (boxed form) settings self.old r × (length r.arrivals + 1001 * r.lines + 1 < 2 ^ 32 - 1) × IsRun (partition_object settings) r × IsNext r request × AreFew r }
         ensures { (settings : Settings) (r : Run) → IsRun (partition_object settings) r → Holds (boxed form) settings self.old r → IsNext r request → IsCounting self.old.connections r request.id.conn request.id.number
             → OnOk result (HasAsked (boxed form) settings self.new r member request out.old.items out.new.items) }
     {
@@ -445,8 +455,9 @@ impl Grid {
         ensures { (settings : Settings) (r : Run) → Stands (boxed form) settings self.old r → OnOk result (HasRun (boxed form) settings self.new r (Line.Trail partition) out.old.items out.new.items) }
     {
         self.lines = number;
-        push_trail(out, number, self.worlds[usize::from(partition)].trail_len())?;
-        self.push_history(alloc, partition, out)
+        let trail = self.worlds[usize::from(partition)].trail(alloc)?;
+        push_trail(out, number, trail.len())?;
+        self.push_entries(alloc, partition, &trail, out)
     }
 
     /// `end`: prints all recorded histories.
@@ -480,17 +491,49 @@ impl Grid {
         requires stands { (settings : Settings) × (r : Run) × Stands (boxed form) settings self.now r }
         ensures { (settings : Settings) (r : Run) → Stands (boxed form) settings self.now r → OnOk result (out.new.items ≡ out.old.items ++ flat_map (entry_text r.lines) (entries_of (partition_object settings) r partition)) }
     {
-        let world = &self.worlds[usize::from(partition)];
-        for place in 0..world.trail_len() {
-            let entry = world.trail_at(place);
+        let trail = self.worlds[usize::from(partition)].trail(alloc)?;
+        self.push_entries(alloc, partition, &trail, out)
+    }
+
+    /// Appends the entries of a partition's recorded history.
+    fn push_entries(
+        &self,
+        alloc: Global,
+        partition: PartitionId,
+        history: &Trail<'_, Request>,
+        out: &mut Vec<u8>,
+    ) -> Result<(), Memory>
+        ensures { (settings : Settings) (r : Run) → Stands (boxed form) settings self.now r → map entry_of history.now ≡ trail (world_at (partition_object settings) r partition)
+            → OnOk result (out.new.items ≡ out.old.items ++ flat_map (entry_text r.lines) (entries_of (partition_object settings) r partition)) }
+    {
+        let lines = self.reopened_lines(alloc, partition)?;
+        let mut resets = 0;
+        for place in 0..history.len() {
             let at = EntryPlace {
                 line: self.lines,
                 partition,
                 place,
             };
-            push_entry(alloc, out, at, entry, self.connections.lines_of(entry.id))?;
+            let entry = history.at(place);
+            let reopened = line_at(lines.as_slice(), resets);
+            push_entry(alloc, out, at, reopened, entry, &self.connections)?;
+            resets += resets_of(entry);
         }
         Ok(())
+    }
+
+    /// The lines at which a partition was reopened, in order.
+    fn reopened_lines(&self, alloc: Global, partition: PartitionId) -> Result<Vec<u32>, Memory>
+        ensures { IfOk result (λ lines. lines.items ≡ reopened_at partition self.now.reopened.items) }
+    {
+        let mut lines = Vec::new(alloc);
+        for place in 0..self.reopened.len() {
+            let reopened = self.reopened[place];
+            if reopened.partition == partition {
+                lines.push(reopened.line)?;
+            }
+        }
+        Ok(lines)
     }
 }
 

@@ -7,6 +7,7 @@ mod entries;
 mod grid;
 mod laws;
 mod print;
+mod reopened;
 
 pub use grid::Grid;
 pub use laws::every_run_is_linearizable;

@@ -1,31 +1,28 @@
 -- One member more has its node.
-use Rattle.std.proofs.Common.{◌≡◌, [], ◌∷◌, ◌++◌, map, All, ap, sym, ◌∙◌, subst, arith}
-use Rattle.std.proofs.lemmas.List.Elements.{All-append}
-use Rattle.partition_protocol.specs.Node.{Node as ProtocolNode, opening_node}
-use Rattle.partition_protocol.specs.Service.{numbers_below}
-use Rattle.partition_world.specs.declared.node.Node.{Node}
-use Rattle.partition_world.specs.Nodes.{protocol_node}
-use Rattle.partition_world.proofs.Agreement.{map_append}
-use Rattle.partition_world.proofs.Places.{all_one}
-use Rattle.partition_world.proofs.Starts.{opening_more}
+use Rattle.std.proofs.Common.{◌≡◌, ℕ, [], arith}
+use Rattle.partition_protocol.specs.Node.{opening_node}
+use Rattle.replica_node.specs.declared.node.Node.{Node}
+use Rattle.replica_node.specs.Nodes.{node_of, contents_of, waiting, held_answers, ring_of, ends_of, Ends}
+use Rattle.partition_world.proofs.Starts.{all_more, map_more}
 use Rattle.partition_world.proofs.world.opening_nodes.Goals as goal
 
 pub loop-member-preserved : goal.loop-member-preserved
 loop-member-preserved g c =
+    let S = g.S.Shelf in
     let before = c.loop-member.nodes.items in
-    let node = c.in_ok-opening.field-0 in
-    let row = c.args.row.now in
-    let kept = c.loop-member.invariant in
+    let after = c.push.new.self.items in
+    let k = c.loop-member.member in
+    let node = c.in_ok-new.field-0 in
+    let was = c.loop-member.invariant in
     let gains = c.in_ok-push.ensures.items in
+    let begins = c.in_ok-new.ensures in
+    let ends : ℕ → Ends = λ m. record { member = m; service = c.args.members } in
     record {
-      len = omega (arith, c.in_ok-push.ensures.len, kept.len);
-      nodes =
-          ap (map protocol_node) gains ∙ map_append protocol_node before (node ∷ []) ∙ ap (λ ns. ns ++ protocol_node node ∷ []) kept.nodes
-          ∙ ap (λ (n : ProtocolNode). map (opening_node row) (numbers_below c.loop-member.member) ++ n ∷ []) c.in_ok-opening.ensures.node ∙ sym (opening_more row c.loop-member.member);
-      empty =
-          let P : Node _ → Type 0 = λ node. g.S.Shelf.state node.shelf ≡ g.S.Shelf.empty_state in
-          subst (All P) (sym gains) (All-append P before (node ∷ []) kept.empty (all_one P node c.in_ok-opening.ensures.empty));
-      released =
-          let P : Node _ → Type 0 = λ node. node.replica.released.items ≡ [] in
-          subst (All P) (sym gains) (All-append P before (node ∷ []) kept.released (all_one P node c.in_ok-opening.ensures.released));
+      len = omega (arith, c.in_ok-push.ensures.len, was.len);
+      nodes = map_more node_of (opening_node c.args.row.now) before after node k gains was.nodes (begins.node c.requires);
+      empty = all_more (λ (node : Node _). S.state (contents_of node) ≡ S.empty_state) before after node gains was.empty begins.contents;
+      waiting = all_more (λ (node : Node _). waiting node ≡ []) before after node gains was.waiting begins.waiting;
+      held = all_more (λ (node : Node _). held_answers node ≡ []) before after node gains was.held begins.held;
+      ring = all_more (λ (node : Node _). ring_of node ≡ []) before after node gains was.ring begins.ring;
+      ends = map_more ends_of ends before after node k gains was.ends begins.ends;
     }

@@ -1,24 +1,57 @@
--- The nodes are those of the initial row, and the shelves are empty.
-use Rattle.std.proofs.Common.{◌≡◌, map, All, refl, ap, sym, ◌∙◌, subst}
-use Rattle.partition_table.specs.declared.row.Row.{Row}
-use Rattle.partition_protocol.specs.Node.{opening_node}
-use Rattle.partition_protocol.specs.Service.{numbers_below}
-use Rattle.partition_world.specs.declared.node.Node.{Node}
+-- The members' nodes are those of the initial row, and nothing has happened.
+use Rattle.std.proofs.Common.{refl}
 use Rattle.partition_world.specs.declared.world.World.{World}
-use Rattle.partition_world.proofs.Starts.{starts}
+use Rattle.partition_world.specs.Meanings.{meaning}
+use Rattle.partition_world.proofs.Starts.{IsNew, starts, none_waits}
 use Rattle.partition_world.proofs.world.World.new.Goals as goal
 
 pub returns-clause-stands : goal.returns-clause-stands
 returns-clause-stands g c env =
+    let S = g.S.Shelf in
     let world : World _ _ _ = record {
-      partition = c.args.partition;
-      backups = c.args.backups;
-      nodes = c.in_ok-opening_nodes.field-0;
-      trail = c.new.result;
+      members = c.args.members;
+      nodes = c.in_ok-nodes.nodes;
+      crashed = c.new-4.result;
+      service = c.in_ok-service.service;
+      links = c.in_ok-links.links;
+      recorder = c.in_ok-recorder.recorder;
       steps = 0;
     } in
-    let opened = c.in_ok-opening_nodes.ensures in
-    starts (g.S.Shelf.object env) g.S.Shelf.within_limits g.S.Shelf.state world c.args.members c.requires.members opened.len
-    (opened.nodes ∙ ap (λ (row : Row). map (opening_node row) (numbers_below c.args.members)) c.in_ok-row.ensures.row)
-    (subst (λ empty. All (λ (node : Node _). g.S.Shelf.state node.shelf ≡ empty) world.nodes.items) (sym (g.met.S.Shelf.begins_empty env)) opened.empty)
-    opened.released c.new.ensures refl
+    let opened = c.in_ok-nodes.ensures in
+    let k = meaning S.object S.state S.effect_of S.change_of S.snapshot_of env in
+    let is : IsNew k world c.args.partition c.args.members c.args.backups = record {
+      first = c.row.result.now;
+      standing = c.row-2.result.now;
+      nothing = S.empty_state;
+      setup = c.in_ok-service.ensures.setup;
+      number = refl;
+      size = opened.len;
+      nodes = opened.nodes;
+      begins = g.met.S.Shelf.begins_empty env;
+      empty = opened.empty;
+      waiting = opened.waiting;
+      held = opened.held;
+      ends = opened.ends;
+      crashed = c.new-4.ensures.items;
+      service = c.in_ok-service.ensures.service;
+      links_ends = c.in_ok-links.ensures.ends;
+      links = c.in_ok-links.ensures.lists;
+      first_row = c.row.ensures;
+      standing_row = c.row-2.ensures;
+      recorded = c.in_ok-recorder.ensures;
+      steps = refl;
+    } in
+    starts k S.within_limits world c.args.partition c.args.members c.args.backups is c.requires.some c.requires.most
+
+pub returns-clause-waiting : goal.returns-clause-waiting
+returns-clause-waiting g c m =
+    let world : World _ g.row.S-Env.Denot _ = record {
+      members = c.args.members;
+      nodes = c.in_ok-nodes.nodes;
+      crashed = c.new-4.result;
+      service = c.in_ok-service.service;
+      links = c.in_ok-links.links;
+      recorder = c.in_ok-recorder.recorder;
+      steps = 0;
+    } in
+    none_waits world c.in_ok-nodes.ensures.waiting m

@@ -37,6 +37,7 @@ handle_all-requires g c =
       its.numbered,
       its.to,
       room r its.connection c.args.bytes.now s.run its.itself s.small (few_lines c.args.self.now c.args.number line c.requires r s) c.requires.read.2,
+      s.few,
     )
 
 pub returns : goal.returns
@@ -49,5 +50,5 @@ returns g c = λ settings r s.
     let did = c.in_ok-handle_all.ensures settings r its.connection c.args.bytes.now begun.brings its.numbered its.to begun.none_handled in
     on_ok_weaker c.push_close.result
     (λ e. bytes_line r c.args.conn its.connection its.there c.args.bytes.now c.in-Some-2.fed.items.items begun.brings c.handle_all.new.self c.count.new.out.items c.handle_all.new.out.items did its.sound
-    c.in-Some-2.fed.closed c.args.number c.args.out.now.items c.push_close.new.out.items s.small s.reached c.requires.read.2 c.in_ok-count.ensures.text at_line begun.closed e)
+    c.in-Some-2.fed.closed c.args.number c.args.out.now.items c.push_close.new.out.items s.small s.few s.reached c.requires.read.2 c.in_ok-count.ensures.text at_line begun.closed e)
     c.push_close.ensures

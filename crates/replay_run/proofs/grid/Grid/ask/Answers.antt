@@ -3,7 +3,7 @@ use Rattle.partition_world.specs.Worlds.{waiting}
 use Rattle.replay_run.specs.Runs.{events_at}
 use Rattle.replay_run.specs.Tables.{Table}
 use Rattle.replay_run.specs.WorldCalls.{arrival_to, texts_of, message_of, with_answers}
-use Rattle.replay_run.proofs.Asking.{on_ok_all, world_within, world_there, world_is, world_room, did_by, stands_by, moment_within, moment_there}
+use Rattle.replay_run.proofs.Asking.{on_ok_all, world_within, world_there, world_is, world_room, did_by, stands_by, moment_within, moment_there, named_next}
 use Rattle.replay_run.proofs.GivingOut.{has_given_out}
 use Rattle.replay_run.proofs.GridCalls.{asked_grid}
 use Rattle.replay_run.proofs.grid.Grid.ask.Goals as goal
@@ -15,13 +15,15 @@ index_mut-world-requires g c =
 
 pub call-requires-clause-room : goal.call-requires-clause-room
 call-requires-clause-room g c =
-    world_room c.args.self.now c.requires.stands.1 c.requires.stands.2 c.args.request.partition c.from.result c.requires.placed c.from.ensures c.index_mut-world.result.now c.index_mut-world.ensures.value c.requires.stands.3
+    world_room c.args.self.now c.requires.stands.1 c.requires.stands.2 c.args.request.partition c.from.result c.requires.placed c.from.ensures c.index_mut-world.result.now c.index_mut-world.ensures.value c.requires.stands.3 c.requires.stands.6
 
 pub call-requires-clause-stands : goal.call-requires-clause-stands
 call-requires-clause-stands g c = (
   events_at c.args.request.partition c.requires.stands.1.events,
   stands_by _ c.args.self.now.env c.requires.stands.0 c.requires.stands.2.goes_by c.index_mut-world.result.now (events_at c.args.request.partition c.requires.stands.1.events)
       (world_is c.args.self.now c.requires.stands.1 c.requires.stands.2 c.args.request.partition c.from.result c.requires.placed c.from.ensures c.index_mut-world.result.now c.index_mut-world.ensures.value).stands,
+  named_next c.requires.stands.0 c.requires.stands.1 c.requires.stands.4 c.args.member c.args.self.now.lines c.index.result.now c.args.request c.requires.stands.5 c.requires.stands.2.lines
+      (moment_there c.args.self.now c.requires.stands.1 c.requires.stands.2 c.args.member c.from-2.result c.requires.member c.from-2.ensures c.index.result.now c.index.ensures),
 )
 
 pub index-requires : goal.index-requires
@@ -40,7 +42,8 @@ returns g c = λ settings r run h next count.
     let now = c.index.result.now in
     let events = events_at partition r.events in
     let did = did_by _ grid.env settings h.goes_by old c.call.new.world events (arrival_to line c.args.member now c.args.request) c.args.out.now.items c.call.new.out.items (c.in_ok-call.ensures events)
-    (world_is grid r h partition c.from.result c.requires.placed c.from.ensures old read).stands in
+    (world_is grid r h partition c.from.result c.requires.placed c.from.ensures old read).stands
+    (named_next settings r run c.args.member line now c.args.request next h.lines (moment_there grid r h c.args.member c.from-2.result c.requires.member c.from-2.ensures now c.index.ensures)) in
     on_ok_all c.give_out.result c.give_out.ensures.text c.give_out.ensures.table c.give_out.ensures.world
     (λ text table out. asked_grid grid r run h c.args.member c.args.request next count c.requires.placed _ old c.call.new.world c.give_out.new.world line now did.0 c.args.out.now.items c.give_out.new.out.items
     (world_there grid r h partition c.from.result c.requires.placed c.from.ensures old read)
@@ -52,6 +55,7 @@ returns g c = λ settings r run h next count.
       members = refl;
       moments = refl;
       table = table ∙ ap (λ (t : Table). with_answers t line answers) c.in_ok-arrive.ensures.ok;
+      reopened = refl;
       worlds = λ i. set grid.worlds.items (c.from.ensures i) c.give_out.new.world;
     })
     (has_given_out _ settings grid.env c.call.new.world c.give_out.new.world c.args.member h.goes_by out)

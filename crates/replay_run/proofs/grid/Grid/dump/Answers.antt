@@ -1,14 +1,16 @@
 use Rattle.std.proofs.Common.{◌≡◌, ◌<◌, ◌+◌, ◌∙◌, ◌++◌, append-nil, ap, sym, subst, refl, arith}
 use Rattle.std.proofs.lemmas.Result.{on_ok_weaker}
 use Rattle.script_lang.specs.declared.line.Line.TheVariants.{Dump}
-use Rattle.partition_world.specs.ContentsOf.{pair_at, contents_at, pair_of}
-use Rattle.partition_world.specs.Worlds.{Setup, run_of}
+use Rattle.replica_node.specs.Contents.{pair_of}
+use Rattle.partition_world.specs.ContentsOf.{pair_at, contents_at}
+use Rattle.table_service.specs.Services.{Setup}
+use Rattle.partition_world.specs.Worlds.{run_of}
 use Rattle.call_engine.specs.Calls.{Settings}
 use Rattle.call_engine.specs.Objects.{partition_object}
 use Rattle.replay_run.specs.Dumps.{dumped_text}
 use Rattle.replay_run.specs.Runs.{next_line, events_at, world_at}
 use Rattle.replay_run.specs.Printing.{partitions, dump_text}
-use Rattle.replay_run.specs.Grids.{StandsForEvents}
+use Rattle.replay_run.specs.Grids.{grid_meaning, StandsForEvents}
 use Rattle.replay_run.proofs.Asking.{world_within, world_is}
 use Rattle.replay_run.proofs.WorldRuns.{run_is}
 use Rattle.replay_run.proofs.GridLines.{counted, counted_stands, counted_line, next_number, both_texts}
@@ -25,7 +27,8 @@ contents-version-requires g c =
     let low : c.args.partition < partitions = omega (arith, c.requires.read.0) in
     let is = world_is c.args.self.now c.requires.run c.requires.stands.holds c.args.partition c.from.result low c.from.ensures c.index.result.now c.index.ensures in
     let members = ap (λ (x : Setup). x.members) is.setup in
-    omega (arith, c.requires.read.1, members)
+    let own = ap (λ (x : Setup). x.members) is.stands.agrees.setup in
+    omega (arith, c.requires.read.1, members, own, is.stands.agrees.size)
 
 pub returns : goal.returns
 returns g c = λ settings r s.
@@ -41,10 +44,10 @@ returns g c = λ settings r s.
     let events = events_at p r.events in
     let o = partition_object settings in
     let pair : pair_of c.contents-version.result ≡ pair_at (world_at o (next_line r) p) member =
-    subst (λ (x : Settings). StandsForEvents x world events → pair_of c.contents-version.result ≡ pair_at (run_of (partition_object x) world events) member) s.holds.goes_by (c.contents-version.ensures.pair grid.env events) is.stands
+    subst (λ (x : Settings). StandsForEvents x world events → pair_of c.contents-version.result ≡ pair_at (run_of (grid_meaning x) world events) member) s.holds.goes_by (c.contents-version.ensures.pair grid.env events) is.stands
     ∙ ap (λ w. pair_at w member) (run_is world (next_line r) p is) in
     let shown : c.contents-version.result.shelf.now ≡ contents_at o (world_at o (next_line r) p) member =
-    subst (λ (x : Settings). StandsForEvents x world events → c.contents-version.result.shelf.now ≡ contents_at (partition_object x) (run_of (partition_object x) world events) member) s.holds.goes_by (c.contents-version.ensures.state grid.env events) is.stands
+    subst (λ (x : Settings). StandsForEvents x world events → c.contents-version.result.shelf.now ≡ contents_at (partition_object x) (run_of (grid_meaning x) world events) member) s.holds.goes_by (c.contents-version.ensures.state grid.env events) is.stands
     ∙ ap (λ w. contents_at o w member) (run_is world (next_line r) p is) in
     let outcome = dump_text (r.lines + 1) (pair_at (world_at o (next_line r) p) member) in
     let dumped = dumped_text (r.lines + 1) (contents_at o (world_at o (next_line r) p) member) in

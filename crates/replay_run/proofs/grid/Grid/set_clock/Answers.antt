@@ -25,6 +25,7 @@ returns g c = λ settings r s.
       members = ap (λ (x : Grid _ _). x.members) made;
       moments = ap (λ (x : Grid _ _). x.moments.items) made ∙ (λ i. set grid.moments.items (c.from.ensures i) c.args.moment);
       connections = ap (λ (x : Grid _ _). x.connections) made;
+      reopened = ap (λ (x : Grid _ _). x.reopened.items) made;
       worlds = ap (λ (x : Grid _ _). x.worlds.items) made;
     })
     c.args.out.now.items c.count.new.out.items e)

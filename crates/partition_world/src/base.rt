@@ -1,0 +1,83 @@
+ghost use Rattle.std.specs.Prelude.{◌≡◌, nat_lt, if◌then◌else◌};
+ghost use Rattle.partition_protocol.specs.Node.{no_pair};
+ghost use Rattle.partition_protocol.specs.History.{begins_anew};
+
+use partition_table::Row;
+use std::marker::Model;
+
+/// A version, and a count of effects in it: the name of a state.
+#[derive(Clone, Copy)]
+pub(crate) struct Pair {
+    pub(crate) version: u32,
+    pub(crate) count: u32,
+}
+
+impl Model for Pair {
+    ghost use Rattle.partition_protocol.specs.Node.{Pair};
+
+    ghost Value = { Pair };
+
+    ghost view = { λ p. record { version = p.version; count = p.count } };
+
+    ghost inverse = { λ p. record { version = p.version; count = p.count } };
+}
+
+/// The pair with which the primary of a version began it, and the reset of that version's row.
+#[derive(Clone, Copy)]
+pub(crate) struct Base {
+    pub(crate) version: u32,
+    pub(crate) reset: u32,
+    pub(crate) base_version: u32,
+    pub(crate) base_count: u32,
+}
+
+impl Model for Base {
+    ghost use Rattle.partition_protocol.specs.History.{Base};
+
+    ghost Value = { Base };
+
+    ghost view = { λ b. record { version = b.version; reset = b.reset; pair = record { version = b.base_version; count = b.base_count } } };
+
+    ghost inverse = { λ b. record { version = b.version; reset = b.reset; base_version = b.pair.version; base_count = b.pair.count } };
+}
+
+impl Base {
+    /// With what the primary of a row begins its version, which had contents of that version and count: with none where
+    /// the row was reopened since.
+    pub(crate) fn begun(row: &Row, version: u32, count: u32) -> Base
+        ensures { result ≡ record {
+          version = row.now.version;
+          reset = row.now.reset;
+          pair = if nat_lt version row.now.reset then no_pair else record { version = version; count = count };
+        } }
+    {
+        let (base_version, base_count) = if version < row.reset {
+            (0, 0)
+        } else {
+            (version, count)
+        };
+        Base {
+            version: row.version,
+            reset: row.reset,
+            base_version,
+            base_count,
+        }
+    }
+
+    /// The pair with which its version began.
+    pub(crate) fn pair(self) -> Pair
+        ensures { result ≡ self.pair }
+    {
+        Pair {
+            version: self.base_version,
+            count: self.base_count,
+        }
+    }
+
+    /// Whether its version began with no contents, since a reopening.
+    pub(crate) fn begins_anew(self) -> bool
+        ensures { result ≡ begins_anew self }
+    {
+        self.reset != 0 && self.base_version == 0 && self.base_count == 0
+    }
+}

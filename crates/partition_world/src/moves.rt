@@ -1,0 +1,145 @@
+ghost use Rattle.std.specs.Prelude.{◌≡◌, List, IfOk, OnErr};
+ghost use Rattle.partition_protocol.specs.Events.{Event as ProtocolEvent, BeginMove, BeginJoin, BeginHandover, Advance, Reopen};
+ghost use Rattle.partition_world.specs.Meanings.{meaning};
+ghost use Rattle.partition_world.specs.Worlds.{Comes, HasRun, IsKept, KeepsSetup, leading_pair};
+
+use crate::event::Happened;
+use crate::in_flight::MOST_TOLD;
+use crate::world::World;
+use grid_base::{MemberId, Memory, Shelf};
+use member_wire::Outbox;
+use replica_node::Contents;
+use std::alloc::{AllocError, Global};
+use table_service::{Advanced, MoveRefused, ReopenRefused};
+
+impl<S: Shelf> World<S> {
+    /// A member is to take another's place in the row.
+    pub(crate) fn begin_move(
+        &mut self,
+        alloc: Global,
+        from: MemberId,
+        to: MemberId,
+    ) -> Result<Happened, Memory>
+        requires { (env : S.Env) × (events : List (ProtocolEvent S.Call)) × Comes (meaning S.object S.state S.effect_of S.change_of S.snapshot_of env) S.within_limits self.old events (BeginMove from to) }
+        ensures ok { (env : S.Env) (events : List (ProtocolEvent S.Call)) → let k = meaning S.object S.state S.effect_of S.change_of S.snapshot_of env in
+            Comes k S.within_limits self.old events (BeginMove from to) → IfOk result (HasRun k self.old self.new events (BeginMove from to)) }
+        ensures err { (env : S.Env) (events : List (ProtocolEvent S.Call)) → let k = meaning S.object S.state S.effect_of S.change_of S.snapshot_of env in
+            Comes k S.within_limits self.old events (BeginMove from to) → OnErr result (IsKept k self.old self.new events) }
+        ensures keeps { KeepsSetup self.old self.new }
+    {
+        self.links.reserve(self.members, MOST_TOLD)?;
+        let mut out = Outbox::new(alloc);
+        match self.service.begin_move(alloc, from, to, &mut out) {
+            Ok(version) => {
+                self.stand(out);
+                Ok(Happened::RowMade { version })
+            }
+            Err(refused) => match refused {
+                MoveRefused::Memory => Err(AllocError),
+                _ => Ok(Happened::MoveRefused(refused)),
+            },
+        }
+    }
+
+    /// A member is to join the row.
+    pub(crate) fn begin_join(&mut self, alloc: Global, to: MemberId) -> Result<Happened, Memory>
+        requires { (env : S.Env) × (events : List (ProtocolEvent S.Call)) × Comes (meaning S.object S.state S.effect_of S.change_of S.snapshot_of env) S.within_limits self.old events (BeginJoin to) }
+        ensures ok { (env : S.Env) (events : List (ProtocolEvent S.Call)) → let k = meaning S.object S.state S.effect_of S.change_of S.snapshot_of env in
+            Comes k S.within_limits self.old events (BeginJoin to) → IfOk result (HasRun k self.old self.new events (BeginJoin to)) }
+        ensures err { (env : S.Env) (events : List (ProtocolEvent S.Call)) → let k = meaning S.object S.state S.effect_of S.change_of S.snapshot_of env in
+            Comes k S.within_limits self.old events (BeginJoin to) → OnErr result (IsKept k self.old self.new events) }
+        ensures keeps { KeepsSetup self.old self.new }
+    {
+        self.links.reserve(self.members, MOST_TOLD)?;
+        let mut out = Outbox::new(alloc);
+        match self.service.begin_join(alloc, to, &mut out) {
+            Ok(version) => {
+                self.stand(out);
+                Ok(Happened::RowMade { version })
+            }
+            Err(refused) => match refused {
+                MoveRefused::Memory => Err(AllocError),
+                _ => Ok(Happened::MoveRefused(refused)),
+            },
+        }
+    }
+
+    /// A backup is to lead in place of the primary, which leaves the row. Takes no memory.
+    pub(crate) fn begin_handover(&mut self, from: MemberId, to: MemberId) -> Happened
+        requires { (env : S.Env) × (events : List (ProtocolEvent S.Call)) × Comes (meaning S.object S.state S.effect_of S.change_of S.snapshot_of env) S.within_limits self.old events (BeginHandover from to) }
+        ensures ok { (env : S.Env) (events : List (ProtocolEvent S.Call)) → let k = meaning S.object S.state S.effect_of S.change_of S.snapshot_of env in
+            Comes k S.within_limits self.old events (BeginHandover from to) → HasRun k self.old self.new events (BeginHandover from to) result }
+        ensures keeps { KeepsSetup self.old self.new }
+    {
+        match self.service.begin_handover(from, to) {
+            Ok(()) => {
+                self.recorder.stand(self.service.row());
+                Happened::Done
+            }
+            Err(refused) => Happened::MoveRefused(refused),
+        }
+    }
+
+    /// The move under way takes its next step.
+    pub(crate) fn advance(&mut self, alloc: Global) -> Result<Happened, Memory>
+        requires { (env : S.Env) × (events : List (ProtocolEvent S.Call)) × Comes (meaning S.object S.state S.effect_of S.change_of S.snapshot_of env) S.within_limits self.old events Advance }
+        ensures ok { (env : S.Env) (events : List (ProtocolEvent S.Call)) → let k = meaning S.object S.state S.effect_of S.change_of S.snapshot_of env in
+            Comes k S.within_limits self.old events Advance → IfOk result (HasRun k self.old self.new events Advance) }
+        ensures err { (env : S.Env) (events : List (ProtocolEvent S.Call)) → let k = meaning S.object S.state S.effect_of S.change_of S.snapshot_of env in
+            Comes k S.within_limits self.old events Advance → OnErr result (IsKept k self.old self.new events) }
+        ensures keeps { KeepsSetup self.old self.new }
+    {
+        self.links.reserve(self.members, MOST_TOLD)?;
+        let mut out = Outbox::new(alloc);
+        match self.service.advance(alloc, &mut out)? {
+            Advanced::Nothing => Ok(Happened::Nothing),
+            Advanced::Freezing => {
+                self.stand(out);
+                Ok(Happened::Done)
+            }
+            Advanced::Row { version } => {
+                self.stand(out);
+                Ok(Happened::RowMade { version })
+            }
+        }
+    }
+
+    /// The loss of a lost partition is accepted, and it goes on empty.
+    pub(crate) fn reopen(&mut self, alloc: Global) -> Result<Happened, Memory>
+        requires { (env : S.Env) × (events : List (ProtocolEvent S.Call)) × Comes (meaning S.object S.state S.effect_of S.change_of S.snapshot_of env) S.within_limits self.old events Reopen }
+        ensures ok { (env : S.Env) (events : List (ProtocolEvent S.Call)) → let k = meaning S.object S.state S.effect_of S.change_of S.snapshot_of env in
+            Comes k S.within_limits self.old events Reopen → IfOk result (HasRun k self.old self.new events Reopen) }
+        ensures err { (env : S.Env) (events : List (ProtocolEvent S.Call)) → let k = meaning S.object S.state S.effect_of S.change_of S.snapshot_of env in
+            Comes k S.within_limits self.old events Reopen → OnErr result (IsKept k self.old self.new events) }
+        ensures keeps { KeepsSetup self.old self.new }
+    {
+        if !self.service.row().lost {
+            return Ok(Happened::ReopenRefused(ReopenRefused::NotLost));
+        }
+        self.links.reserve(self.members, MOST_TOLD)?;
+        let leader = self.leading_pair();
+        let places = self.recorder.reopening_places(alloc, leader)?;
+        let mut out = Outbox::new(alloc);
+        match self.service.reopen(alloc, &mut out) {
+            Ok(version) => {
+                self.recorder.reopen(version, places);
+                self.stand(out);
+                Ok(Happened::RowMade { version })
+            }
+            Err(refused) => match refused {
+                ReopenRefused::Memory => Err(AllocError),
+                _ => Ok(Happened::ReopenRefused(refused)),
+            },
+        }
+    }
+
+    /// The version and the count of the contents of the standing row's first member, if there is one.
+    pub(crate) fn leading_pair(&self) -> Option<(u32, u32)>
+        ensures { result ≡ leading_pair self.now }
+    {
+        let leader = self.recorder.leader()?;
+        let node = self.nodes.get(usize::from(leader))?;
+        let Contents { version, count, .. } = node.contents();
+        Some((version, count))
+    }
+}

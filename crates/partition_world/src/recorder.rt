@@ -1,0 +1,269 @@
+ghost use Rattle.std.specs.Prelude.{◌≡◌, ℕ, ◌+◌, ◌++◌, ◌∷◌, [], length, map, reverse, if◌then◌else◌, IfSome, IfOk, OnOk};
+ghost use Rattle.std.specs.List.{find};
+ghost use Rattle.std.specs.Option.{option_copied};
+ghost use Rattle.partition_table.specs.Rows.{first_of};
+ghost use Rattle.partition_protocol.specs.Node.{no_pair};
+ghost use Rattle.partition_protocol.specs.History.{Reset as HasReset, entries_in, opening_at, history};
+ghost use Rattle.partition_protocol.specs.Recorded.{Recorded};
+ghost use Rattle.partition_world.specs.Places.{at_places, AreBelow};
+ghost use Rattle.partition_world.specs.Openings.{AreWithin, has_reset};
+ghost use Rattle.partition_world.specs.Chains.{told, begun_with};
+ghost use Rattle.partition_world.specs.RecordedEntries.{entry_of};
+
+use crate::base::{Base, Pair};
+use crate::chain::Chain;
+use crate::entry::Entry;
+use crate::history::Trail;
+use crate::opening::Opening;
+use grid_base::{MemberId, Memory};
+use partition_table::Row;
+use std::alloc::Global;
+
+/// What is recorded of a partition, so that its histories can be told. No member looks at it.
+#[derive(Drop)]
+pub(crate) struct Recorder<C> {
+    /// The calls that were executed and the reopenings, in order.
+    log: Vec<Entry<C>>,
+    /// The oldest first.
+    bases: Vec<Base>,
+    /// The oldest first.
+    openings: Vec<Opening>,
+    /// The first member of the newest row that isn't lost.
+    leader: Option<MemberId>,
+    /// The reset of that row.
+    reset: u32,
+    ghost within: { AreWithin (length log.items) openings.items },
+}
+
+impl<C> Recorder<C> {
+    ghost use Rattle.partition_world.specs.Recorders.{Records, HasEntryRoom, HasBaseRoom, HasReopeningRoom, HasRoom, log_of, bases_of, openings_of, leader_pair, trail_by};
+
+    /// Nothing has happened since this row, which is the first one of the partition.
+    pub(crate) fn new(alloc: Global, row: &Row) -> Result<Self, Memory>
+        ensures { IfOk result (λ recorder. Records recorder (record {
+          standing = row.now;
+          log = [];
+          bases = record { version = 1; reset = 0; pair = no_pair } ∷ [];
+          openings = [];
+        })) }
+    {
+        let mut bases = Vec::new(alloc);
+        bases.push(Base {
+            version: 1,
+            reset: 0,
+            base_version: 0,
+            base_count: 0,
+        })?;
+        Ok(Recorder {
+            log: Vec::new(alloc),
+            bases,
+            openings: Vec::new(alloc),
+            leader: row.primary(),
+            reset: row.reset,
+        })
+    }
+
+    /// The first member of the newest row that isn't lost. Takes no memory.
+    pub(crate) fn leader(&self) -> Option<MemberId>
+        ensures first { (r : Recorded C) → Records self.now r → result ≡ first_of r.standing.members }
+        ensures leader { result ≡ self.now.leader }
+    {
+        self.leader
+    }
+
+    /// Room for one entry more and one base more.
+    pub(crate) fn reserve(&mut self) -> Result<(), Memory>
+        ensures records { (r : Recorded C) → Records self.old r → Records self.new r }
+        ensures room { OnOk result (HasRoom self.new) }
+    {
+        self.log.reserve(1)?;
+        self.bases.reserve(1)
+    }
+
+    /// An entry comes last in the log. Takes no memory.
+    pub(crate) fn record(&mut self, entry: Entry<C>)
+        requires { HasEntryRoom self.old }
+        ensures records { (r : Recorded C) → Records self.old r → Records self.new (record r { log = r.log ++ entry_of entry ∷ [] }) }
+        ensures room { HasBaseRoom self.old → HasBaseRoom self.new }
+    {
+        self.log.push_reserved(entry);
+    }
+
+    /// The primary of a version has begun it, if it has. Takes no memory.
+    pub(crate) fn begin_if(&mut self, begins: bool, base: Base)
+        requires { HasBaseRoom self.old }
+        ensures { (r : Recorded C) → Records self.old r → Records self.new (record r { bases = if begins then base ∷ r.bases else r.bases }) }
+    {
+        if begins {
+            self.bases.push_reserved(base);
+        }
+    }
+
+    /// The partition stands by that row from now on, unless it is lost. Takes no memory.
+    pub(crate) fn stand(&mut self, row: &Row)
+        ensures records { (r : Recorded C) → Records self.old r → Records self.new (record r { standing = if row.now.lost then r.standing else row.now }) }
+        ensures room { HasRoom self.old → HasRoom self.new }
+    {
+        if !row.lost {
+            self.leader = row.primary();
+            self.reset = row.reset;
+        }
+    }
+
+    /// Where the entries of the history at a reopening stand in the log, its reset last, where `leader` is the version and
+    /// the count of the contents of the standing row's first member. Makes room for the reopening, and costs what the trail
+    /// does.
+    pub(crate) fn reopening_places(
+        &mut self,
+        alloc: Global,
+        leader: Option<(u32, u32)>,
+    ) -> Result<Vec<usize>, Memory>
+        ensures records { (r : Recorded C) → Records self.old r → Records self.new r }
+        ensures places { (r : Recorded C) → Records self.old r → IfOk result (λ places. (version : ℕ) →
+            at_places (r.log ++ HasReset version ∷ []) places.items ≡ trail_by r (leader_pair leader) ++ HasReset version ∷ []) }
+        ensures within { IfOk result (λ places. AreBelow (length self.new.log.items + 1) places.items) }
+        ensures room { OnOk result (HasReopeningRoom self.new) }
+    {
+        let mut places = self.places(alloc, leader)?;
+        places.push(self.log.len())?;
+        self.log.reserve(1)?;
+        self.openings.reserve(1)?;
+        Ok(places)
+    }
+
+    /// The partition is reopened by the row of that version, with the history at these places of the log that has the reset
+    /// last. Takes no memory.
+    pub(crate) fn reopen(&mut self, version: u32, places: Vec<usize>)
+        requires room { HasReopeningRoom self.old }
+        requires within { AreBelow (length self.old.log.items + 1) places.items }
+        ensures { (r : Recorded C) → Records self.old r → Records self.new (record r {
+          log = r.log ++ HasReset version ∷ [];
+          openings = record { reset = version; entries = at_places (r.log ++ HasReset version ∷ []) places.items } ∷ r.openings;
+        }) }
+    {
+        self.log.push_reserved(Entry::Reset { version });
+        self.openings.push_reserved(Opening {
+            reset: version,
+            places,
+        });
+    }
+
+    /// The history by which the partition stands, where `leader` is the version and the count of the
+    /// contents of the standing row's first member, if there is one. Costs a pass over the bases and
+    /// one over the log for each version in which the history goes on, and memory for the places of
+    /// its entries.
+    pub(crate) fn trail(
+        &self,
+        alloc: Global,
+        leader: Option<(u32, u32)>,
+    ) -> Result<Trail<'_, C>, Memory>
+        ensures { (r : Recorded C) → Records self.now r → IfOk result (λ trail. map entry_of trail ≡ trail_by r (leader_pair leader)) }
+    {
+        let places = self.places(alloc, leader)?;
+        Ok(Trail {
+            log: self.log.as_slice(),
+            places,
+        })
+    }
+
+    /// Where the entries of the trail stand in the log.
+    fn places(&self, alloc: Global, leader: Option<(u32, u32)>) -> Result<Vec<usize>, Memory>
+        ensures places { (r : Recorded C) → Records self.now r → IfOk result (λ places. at_places (log_of self.now) places.items ≡ trail_by r (leader_pair leader)) }
+        ensures within { IfOk result (λ places. AreBelow (length self.now.log.items) places.items) }
+    {
+        match leader {
+            None => Ok(Vec::new(alloc)),
+            Some((version, _)) if version < self.reset => self.opening_places(alloc, self.reset),
+            Some((version, count)) => self.history_places(alloc, Pair { version, count }),
+        }
+    }
+
+    /// Where the entries of the history at the reopening with that reset stand in the log.
+    fn opening_places(&self, alloc: Global, reset: u32) -> Result<Vec<usize>, Memory>
+        ensures places { IfOk result (λ places. at_places (log_of self.now) places.items ≡ opening_at reset (openings_of self.now)) }
+        ensures within { IfOk result (λ places. AreBelow (length self.now.log.items) places.items) }
+    {
+        match self.opening(reset) {
+            None => Ok(Vec::new(alloc)),
+            Some(opening) => Vec::from_slice(alloc, &opening.places),
+        }
+    }
+
+    /// The newest opening with that reset.
+    fn opening(&self, reset: u32) -> Option<&Opening>
+        ensures found { option_copied result ≡ find (has_reset reset) (reverse self.now.openings.items) }
+        ensures within { IfSome result (λ opening. AreBelow (length self.now.log.items) opening.now.places.items) }
+    {
+        self.openings
+            .iter()
+            .rev()
+            .find(|opening| opening.reset == reset)
+    }
+
+    /// Where the entries of the history that the pair names stand in the log.
+    fn history_places(&self, alloc: Global, pair: Pair) -> Result<Vec<usize>, Memory>
+        ensures places { IfOk result (λ places. at_places (log_of self.now) places.items ≡ history (openings_of self.now) (log_of self.now) (bases_of self.now) pair) }
+        ensures within { IfOk result (λ places. AreBelow (length self.now.log.items) places.items) }
+    {
+        let chain = self.chain(alloc, pair)?;
+        self.told_places(alloc, chain)
+    }
+
+    /// The pairs by which the history that this one names goes on, in a pass over the bases.
+    fn chain(&self, alloc: Global, leader: Pair) -> Result<Chain, Memory>
+        ensures { IfOk result (λ chain. told (openings_of self.now) (log_of self.now) chain ≡ history (openings_of self.now) (log_of self.now) (bases_of self.now) leader) }
+    {
+        let mut pairs = Vec::new(alloc);
+        let mut pair = leader;
+        for older in (0..self.bases.len()).rev() {
+            let base = self.bases[older];
+            if base.version == pair.version {
+                pairs.push(pair)?;
+                if base.begins_anew() {
+                    let anew = Some(base.reset);
+                    return Ok(Chain { pairs, anew });
+                }
+                pair = base.pair();
+            }
+        }
+        Ok(Chain { pairs, anew: None })
+    }
+
+    /// Where the entries of the history that the chain tells stand in the log.
+    fn told_places(&self, alloc: Global, chain: Chain) -> Result<Vec<usize>, Memory>
+        ensures places { IfOk result (λ places. at_places (log_of self.now) places.items ≡ told (openings_of self.now) (log_of self.now) chain) }
+        ensures within { IfOk result (λ places. AreBelow (length self.now.log.items) places.items) }
+    {
+        let Chain { mut pairs, anew } = chain;
+        let mut places = self.begun_places(alloc, anew)?;
+        while let Some(pair) = pairs.pop() {
+            self.append_places(pair, &mut places)?;
+        }
+        Ok(places)
+    }
+
+    /// Where the entries of a history with which a version began anew stand in the log, if it did.
+    fn begun_places(&self, alloc: Global, anew: Option<u32>) -> Result<Vec<usize>, Memory>
+        ensures places { IfOk result (λ places. at_places (log_of self.now) places.items ≡ begun_with (openings_of self.now) anew) }
+        ensures within { IfOk result (λ places. AreBelow (length self.now.log.items) places.items) }
+    {
+        match anew {
+            None => Ok(Vec::new(alloc)),
+            Some(reset) => self.opening_places(alloc, reset),
+        }
+    }
+
+    /// Appends where the entries that the pair counts stand, in a pass over the log.
+    fn append_places(&self, pair: Pair, places: &mut Vec<usize>) -> Result<(), Memory>
+        requires { AreBelow (length self.now.log.items) places.old.items }
+        ensures places { OnOk result (at_places (log_of self.now) places.new.items ≡ at_places (log_of self.now) places.old.items ++ entries_in pair (log_of self.now)) }
+        ensures within { AreBelow (length self.now.log.items) places.new.items }
+    {
+        for (place, entry) in self.log.iter().enumerate() {
+            if entry.is_in(pair) {
+                places.push(place)?;
+            }
+        }
+        Ok(())
+    }
+}
