@@ -6,7 +6,7 @@ use Rattle.grid_base.specs.Objects.{Object}
 use Rattle.grid_base.specs.declared.calls.Request.{Request}
 use Rattle.object_store.specs.Partitions.{Partition}
 use Rattle.replay_run.specs.Runs.{Run, Connection, Arrival, connection_of, fault_on, after_line, bytes_arrived, next_line, took_bytes, handled, handled_all, asked, arrival_at, is_skipped, items_by}
-use Rattle.replay_run.specs.ScriptRuns.{IsRun, grid_begun, line_counted, clock_was_set, connection_opened, bytes_taken, answer_told, call_asked}
+use Rattle.replay_run.specs.ScriptRuns.{IsRun, grid_begun, line_counted, clock_was_set, connection_opened, bytes_taken, answer_told, event_occurred, call_asked}
 use Rattle.session_core.specs.declared.item.Item.{Item}
 use Rattle.session_core.specs.declared.item.Item.TheVariants.{Call as Asks, Reply}
 use Rattle.script_lang.specs.declared.line.Line.{Line}
@@ -54,4 +54,5 @@ has_members _ (clock_was_set r member moment is) = has_members r is
 has_members _ (connection_opened r c member is none) = has_members r is
 has_members _ (bytes_taken r connection bytes is there) = has_members r is
 has_members _ (answer_told r c bytes is) = has_members r is
+has_members _ (event_occurred r p event is inside unasked) = has_members r is
 has_members {o = o} _ (call_asked skips r member request is next) = subst (λ n. 1 ≤ n) (sym (members_asked o skips r (arrival_at r member request))) (has_members r is)
