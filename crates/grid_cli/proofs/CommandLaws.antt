@@ -1,11 +1,11 @@
 -- What a replay writes tells histories: a transcript that ends at the line `end` closes with those of its run.
-use Rattle.std.proofs.Common.{◌≡◌, ℕ, zero, suc, ◌+◌, ◌≤◌, Bool, true, false, if◌then◌else◌, List, [], ◌∷◌, ◌++◌, length, take, drop, Option, Some, None, Result, Ok, Err, refl, ap, sym, ◌∙◌, subst, arith, ◌⊎◌, inl, inr, ⊎_elim, append-nil, append_assoc}
+use Rattle.std.proofs.Common.{◌≡◌, ℕ, zero, suc, ◌+◌, ◌≤◌, Bool, true, false, List, [], ◌∷◌, ◌++◌, length, take, drop, Option, Some, None, Result, Ok, Err, refl, ap, sym, ◌∙◌, subst, arith, ◌⊎◌, inl, inr, ⊎_elim, append-nil, append_assoc}
 use Rattle.std.specs.List.{flat_map}
 use Rattle.grid_base.specs.declared.names.CallId.{CallId}
 use Rattle.script_lang.specs.Lines.{line_of, is_end, IsWithin}
 use Rattle.script_lang.proofs.Ranges.{IsWithin-words_of}
 use Rattle.script_lang.specs.declared.line.Line.{Line}
-use Rattle.script_lang.specs.declared.line.Line.TheVariants.{Grid, OpenConn, Arrive, Clock, Dump, Trail, Comment, End}
+use Rattle.script_lang.specs.declared.line.Line.TheVariants.{Grid, End}
 use Rattle.script_lang.specs.declared.refusal.LineWhy.{LineWhy}
 use Rattle.script_lang.specs.declared.refusal.LineWhy.TheVariants.{NoGrid}
 use Rattle.grid_base.specs.Objects.{Object}
@@ -18,11 +18,12 @@ use Rattle.replay_run.specs.Runs.{Run, begun, next_line, after_line, after_lines
 use Rattle.replay_run.specs.Printing.{ok_text, line_text, appended_text, entry_text, all_entries}
 use Rattle.replay_run.specs.Linearizability.{IsLinearizable}
 use Rattle.grid_cli.specs.Scripts.{lines_of, limit_of}
-use Rattle.grid_cli.specs.Transcripts.{Transcript, settings, Ending, Ended, Refused, TooLong, first_line, later_lines, after_first, following, refused}
+use Rattle.grid_cli.specs.Transcripts.{Transcript, settings, Ending, Ended, Refused, TooLong, first_line, later_lines, after_first, following, refused, too_long}
 use Rattle.grid_cli.specs.Progress.{run_of, run_after, begun_by, capacity_by, capacity_of}
 use Rattle.grid_cli.specs.Statuses.{whole, Writes, WritesText}
 use Rattle.grid_cli.specs.Commands.{ClosesWith, PrintsHistories, settings_in}
 use Rattle.grid_cli.specs.declared.status.LimitWhat.{LimitWhat}
+use Rattle.grid_cli.specs.declared.status.LimitWhat.TheVariants.{InFlight}
 use Rattle.grid_cli.specs.declared.status.Status.{Status}
 use Rattle.grid_cli.specs.declared.status.Status.TheVariants.{Done, Usage}
 use Rattle.grid_cli.proofs.Progress.{continued, later_line, run_line}
@@ -46,25 +47,20 @@ nothing_new (x ∷ xs) = nothing_new xs
 abbrev histories : Settings → Run → List ℕ
 histories s r = flat_map (entry_text r.lines) (all_entries (partition_object s) r)
 
-closing_text : (s : Settings) (r : Run) → line_text (partition_object s) r End (next_line r) ≡ ok_text (next_line r).lines ++ histories s (next_line r)
+closing_text : (s : Settings) (r : Run) → line_text s r End (next_line r) ≡ ok_text (next_line r).lines ++ histories s (next_line r)
 closing_text s r =
     let next : Run = next_line r in
-    ap (λ messages. ok_text next.lines ++ flat_map appended_text messages ++ [] ++ [] ++ histories s next) (nothing_new r.appended)
-    ∙ ap (λ text. text ++ histories s next) (append-nil ((ok_text next.lines ++ []) ++ []) ∙ append-nil (ok_text next.lines ++ []) ∙ append-nil (ok_text next.lines))
+    ap (λ messages. ok_text next.lines ++ flat_map appended_text messages ++ [] ++ [] ++ [] ++ histories s next) (nothing_new r.appended)
+    ∙ ap (λ text. text ++ histories s next)
+    (append-nil (((ok_text next.lines ++ []) ++ []) ++ []) ∙ append-nil ((ok_text next.lines ++ []) ++ []) ∙ append-nil (ok_text next.lines ++ []) ∙ append-nil (ok_text next.lines))
 
 end_is : (line : Line) → is_end line ≡ true → line ≡ End
 end_is End e = refl
-end_is (Grid members backups capacity) e = absurd (cc e)
-end_is (OpenConn conn member) e = absurd (cc e)
-end_is (Arrive conn bytes) e = absurd (cc e)
-end_is (Clock member moment) e = absurd (cc e)
-end_is (Dump partition member) e = absurd (cc e)
-end_is (Trail partition) e = absurd (cc e)
-end_is Comment e = absurd (cc e)
+end_is line e = absurd (cc e)
 
 last_closes : (s : Settings) (skips : List CallId) (r : Run) (line : Line) → line ≡ End
-    → ClosesWith s (after_line (partition_object s) skips r line) (line_text (partition_object s) r line (after_line (partition_object s) skips r line))
-last_closes s skips r line is = subst (λ l. ClosesWith s (after_line (partition_object s) skips r l) (line_text (partition_object s) r l (after_line (partition_object s) skips r l))) (sym is) ([], closing_text s r)
+    → ClosesWith s (after_line (partition_object s) skips r line) (line_text s r line (after_line (partition_object s) skips r line))
+last_closes s skips r line is = subst (λ l. ClosesWith s (after_line (partition_object s) skips r l) (line_text s r l (after_line (partition_object s) skips r l))) (sym is) ([], closing_text s r)
 
 -- a text before one that closes
 closes_after : (s : Settings) (r : Run) (before text : List ℕ) → ClosesWith s r text → ClosesWith s r (before ++ text)
@@ -79,45 +75,51 @@ closes_after s r before text closes = (
 abbrev Closes : Settings → List CallId → Run → List (List ℕ) → Transcript → Type 0
 Closes s skips r texts t = (lines : ℕ) × ClosesWith s (run_after (partition_object s) skips r (take lines texts)) t.text
 
-later_close : (s : Settings) (skips : List CallId) (limit : Option LimitWhat) (r : Run) (texts : List (List ℕ)) → ended_in (later_lines (partition_object s) skips limit r texts) ≡ true
-    → Closes s skips r texts (later_lines (partition_object s) skips limit r texts)
+later_close : (s : Settings) (skips : List CallId) (limit : Option LimitWhat) (r : Run) (texts : List (List ℕ)) → ended_in (later_lines s skips limit r texts) ≡ true
+    → Closes s skips r texts (later_lines s skips limit r texts)
 later_close s skips (Some what) r [] e = absurd (cc e)
 later_close s skips None r [] e = absurd (cc e)
 later_close s skips limit r (text ∷ texts) e = by_line (λ next. later_close s skips limit next texts) (line_of false r.members text) refl
   where
     Rest : Type 0
-    Rest = (next : Run) → ended_in (later_lines (partition_object s) skips limit next texts) ≡ true → Closes s skips next texts (later_lines (partition_object s) skips limit next texts)
+    Rest = (next : Run) → ended_in (later_lines s skips limit next texts) ≡ true → Closes s skips next texts (later_lines s skips limit next texts)
 
-    by_end : Rest → (line : Line) → line_of false r.members text ≡ Ok line → (b : Bool) → is_end line ≡ b
-        → ended_in (later_lines (partition_object s) skips limit r (text ∷ texts)) ≡ true → Closes s skips r (text ∷ texts) (later_lines (partition_object s) skips limit r (text ∷ texts))
-    by_end go line read true ends e =
-        let next : Run = after_line (partition_object s) skips r line in
-        let shown : later_lines (partition_object s) skips limit r (text ∷ texts) ≡ (record { text = line_text (partition_object s) r line next; ending = Ended }) =
-        later_line (partition_object s) skips limit r text texts line read
-        ∙ ap (λ b. if b then (record { text = line_text (partition_object s) r line next; ending = Ended }) else following (line_text (partition_object s) r line next) (later_lines (partition_object s) skips limit next texts)) ends in (
-          1,
-          subst (λ x. ClosesWith s x (later_lines (partition_object s) skips limit r (text ∷ texts)).text) (sym (run_line (partition_object s) skips r text [] line read))
-              (subst (λ (t : Transcript). ClosesWith s next t.text) (sym shown) (last_closes s skips r line (end_is line ends))),
-        )
-    by_end go line read false ends e =
-        let next : Run = after_line (partition_object s) skips r line in
-        let shown : later_lines (partition_object s) skips limit r (text ∷ texts) ≡ following (line_text (partition_object s) r line next) (later_lines (partition_object s) skips limit next texts) =
-        later_line (partition_object s) skips limit r text texts line read
-        ∙ ap (λ b. if b then (record { text = line_text (partition_object s) r line next; ending = Ended }) else following (line_text (partition_object s) r line next) (later_lines (partition_object s) skips limit next texts)) ends in
-        let rest = go next (sym (ap ended_in shown) ∙ e) in (
-          suc rest.0,
-          subst (λ x. ClosesWith s x (later_lines (partition_object s) skips limit r (text ∷ texts)).text) (sym (run_line (partition_object s) skips r text (take rest.0 texts) line read))
-              (subst (λ (t : Transcript). ClosesWith s (run_after (partition_object s) skips next (take rest.0 texts)) t.text) (sym shown)
-              (closes_after s (run_after (partition_object s) skips next (take rest.0 texts)) (line_text (partition_object s) r line next) _ rest.1)),
-        )
-
-    by_line : Rest → (x : Result Line LineWhy) → line_of false r.members text ≡ x → Closes s skips r (text ∷ texts) (later_lines (partition_object s) skips limit r (text ∷ texts))
-    by_line go (Err why) read =
-        let shown : later_lines (partition_object s) skips limit r (text ∷ texts) ≡ refused (r.lines + 1) why =
-        ap (λ (x : Result Line LineWhy). elim x [ Err why ↦ refused (r.lines + 1) why | Ok l ↦ continued (partition_object s) skips limit texts r l (after_line (partition_object s) skips r l) ]) read in
+    -- A run that is given up doesn't end.
+    by_full : (line : Line) → line_of false r.members text ≡ Ok line → (after_line (partition_object s) skips r line).full ≡ true → Closes s skips r (text ∷ texts) (later_lines s skips limit r (text ∷ texts))
+    by_full line read full =
+        let shown : later_lines s skips limit r (text ∷ texts) ≡ too_long (r.lines + 1) InFlight = later_line s skips limit r text texts line read ∙ rw full refl in
         let clash : false ≡ true = sym (ap ended_in shown) ∙ e in
         absurd (cc clash)
-    by_line go (Ok line) read = by_end go line read (is_end line) refl e
+
+    by_end : Rest → (line : Line) → line_of false r.members text ≡ Ok line → (after_line (partition_object s) skips r line).full ≡ false → (b : Bool) → is_end line ≡ b → Closes s skips r (text ∷ texts) (later_lines s skips limit r (text ∷ texts))
+    by_end go line read lasts true ends =
+        let next : Run = after_line (partition_object s) skips r line in
+        let shown : later_lines s skips limit r (text ∷ texts) ≡ (record { text = line_text s r line next; ending = Ended }) = later_line s skips limit r text texts line read ∙ rw (lasts, ends) refl in (
+          1,
+          subst (λ x. ClosesWith s x (later_lines s skips limit r (text ∷ texts)).text) (sym (run_line (partition_object s) skips r text [] line read))
+              (subst (λ (t : Transcript). ClosesWith s next t.text) (sym shown) (last_closes s skips r line (end_is line ends))),
+        )
+    by_end go line read lasts false ends =
+        let next : Run = after_line (partition_object s) skips r line in
+        let shown : later_lines s skips limit r (text ∷ texts) ≡ following (line_text s r line next) (later_lines s skips limit next texts) = later_line s skips limit r text texts line read ∙ rw (lasts, ends) refl in
+        let rest = go next (sym (ap ended_in shown) ∙ e) in (
+          suc rest.0,
+          subst (λ x. ClosesWith s x (later_lines s skips limit r (text ∷ texts)).text) (sym (run_line (partition_object s) skips r text (take rest.0 texts) line read))
+              (subst (λ (t : Transcript). ClosesWith s (run_after (partition_object s) skips next (take rest.0 texts)) t.text) (sym shown)
+              (closes_after s (run_after (partition_object s) skips next (take rest.0 texts)) (line_text s r line next) _ rest.1)),
+        )
+
+    by_fullness : Rest → (line : Line) → line_of false r.members text ≡ Ok line → (b : Bool) → (after_line (partition_object s) skips r line).full ≡ b → Closes s skips r (text ∷ texts) (later_lines s skips limit r (text ∷ texts))
+    by_fullness go line read true full = by_full line read full
+    by_fullness go line read false lasts = by_end go line read lasts (is_end line) refl
+
+    by_line : Rest → (x : Result Line LineWhy) → line_of false r.members text ≡ x → Closes s skips r (text ∷ texts) (later_lines s skips limit r (text ∷ texts))
+    by_line go (Err why) read =
+        let shown : later_lines s skips limit r (text ∷ texts) ≡ refused (r.lines + 1) why =
+        ap (λ (x : Result Line LineWhy). elim x [ Err why ↦ refused (r.lines + 1) why | Ok l ↦ continued s skips limit texts r l (after_line (partition_object s) skips r l) ]) read in
+        let clash : false ≡ true = sym (ap ended_in shown) ∙ e in
+        absurd (cc clash)
+    by_line go (Ok line) read = by_fullness go line read (after_line (partition_object s) skips r line).full refl
 
 -- A whole script that ended closes with histories.
 abbrev ClosesAll : List ProcessorForm → List CallId → List (List ℕ) → Transcript → Type 0
@@ -142,7 +144,7 @@ lines_close forms skips limit (text ∷ texts) e = by_line (line_of true 0 text)
     of_grid : (members backups capacity : ℕ) → line_of true 0 text ≡ Ok (Grid members backups capacity) → ClosesAll forms skips (text ∷ texts) (first_line forms skips limit (text ∷ texts))
     of_grid members backups capacity read =
         let s : Settings = settings forms capacity in
-        let t : Transcript = later_lines (partition_object s) skips limit (begun members backups) texts in
+        let t : Transcript = later_lines s skips limit (begun members backups) texts in
         let shown : first_line forms skips limit (text ∷ texts) ≡ following (ok_text 1) t = shown_as _ read in
         let rest = later_close s skips limit (begun members backups) texts (sym (ap ended_in shown) ∙ e) in
         let last : Run = run_after (partition_object s) skips (begun members backups) (take rest.0 texts) in (
@@ -154,13 +156,7 @@ lines_close forms skips limit (text ∷ texts) e = by_line (line_of true 0 text)
     by_line : (x : Result Line LineWhy) → line_of true 0 text ≡ x → ClosesAll forms skips (text ∷ texts) (first_line forms skips limit (text ∷ texts))
     by_line (Err why) read = is_refused why (shown_as _ read)
     by_line (Ok (Grid members backups capacity)) read = of_grid members backups capacity read
-    by_line (Ok (OpenConn conn member)) read = is_refused NoGrid (shown_as _ read)
-    by_line (Ok (Arrive conn bytes)) read = is_refused NoGrid (shown_as _ read)
-    by_line (Ok (Clock member moment)) read = is_refused NoGrid (shown_as _ read)
-    by_line (Ok (Dump partition member)) read = is_refused NoGrid (shown_as _ read)
-    by_line (Ok (Trail partition)) read = is_refused NoGrid (shown_as _ read)
-    by_line (Ok Comment) read = is_refused NoGrid (shown_as _ read)
-    by_line (Ok End) read = is_refused NoGrid (shown_as _ read)
+    by_line (Ok line) read = is_refused NoGrid (shown_as _ read)
 
 -- every run of a script's lines
 
@@ -213,13 +209,7 @@ run_is_linearizable forms skips (first ∷ texts) =
         let within = first_within first _ read in
         subst Linearizes (sym read) (runs_linearize (settings forms capacity) members backups skips texts (omega (arith, within)))
     by_line (Err why) read = one_member _ read refl
-    by_line (Ok (OpenConn conn member)) read = one_member _ read refl
-    by_line (Ok (Arrive conn bytes)) read = one_member _ read refl
-    by_line (Ok (Clock member moment)) read = one_member _ read refl
-    by_line (Ok (Dump partition member)) read = one_member _ read refl
-    by_line (Ok (Trail partition)) read = one_member _ read refl
-    by_line (Ok Comment) read = one_member _ read refl
-    by_line (Ok End) read = one_member _ read refl
+    by_line (Ok line) read = one_member _ read refl
 
 -- however many of the lines run
 first_linearize : (forms : List ProcessorForm) (skips : List CallId) (texts : List (List ℕ)) (lines : ℕ) → IsLinearizable (settings forms (capacity_of texts)) (run_of forms skips (take lines texts))

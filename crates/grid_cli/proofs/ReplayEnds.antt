@@ -33,5 +33,5 @@ stopped_at_last forms Usage skips done text written h = absurd h
 stopped_at_last forms (ScriptRefused line why) skips done text written h = h None []
 stopped_at_last forms ReadFault skips done text written h = absurd h
 stopped_at_last forms WriteFault skips done text written h = h None []
-stopped_at_last forms (Limit what) skips done text written h = absurd h
+stopped_at_last forms (Limit what) skips done text written h = h None []
 stopped_at_last forms Memory skips done text written h = h None []

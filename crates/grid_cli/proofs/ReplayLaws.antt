@@ -11,7 +11,7 @@ use Rattle.script_lang.specs.Pieces.{IsOnePiece}
 use Rattle.entry_processors.specs.Processors.{ProcessorForm}
 use Rattle.replay_run.specs.Grids.{FormOf}
 use Rattle.grid_cli.specs.Scripts.{Cut, stops, cut_pieces, cut, lines_of, limit_of, limit_in, behind}
-use Rattle.grid_cli.specs.Transcripts.{Transcript, Ended, Refused, first_line, transcript}
+use Rattle.grid_cli.specs.Transcripts.{Transcript, Ended, Refused, TooLong, first_line, transcript}
 use Rattle.grid_cli.specs.Statuses.{whole, Writes}
 use Rattle.grid_cli.specs.Transcribing.{Follows, HasRoomFor, Continues, StopsAs, Concludes}
 use Rattle.grid_cli.specs.Replays.{IsWithin, HasRead, StopsWithin, Takes, StopsIn, ended_line}
@@ -54,7 +54,7 @@ module _ (forms : List ProcessorForm) (skips : List CallId) (done : List (List �
   line_writes (ScriptRefused line why) h = goes_so (λ t. t ≡ whole written (Refused line why)) h
   line_writes ReadFault h = absurd h
   line_writes WriteFault h = goes_so (λ t. IsFrontOf written t.text) h
-  line_writes (Limit what) h = absurd h
+  line_writes (Limit what) h = goes_so (λ t. (line : ℕ) × (t ≡ whole written (TooLong line what))) h
   line_writes Memory h = goes_so (λ t. IsFrontOf written t.text) h
 
 pub stops_at_line : {forms : List ProcessorForm} (status : Status) (skips : List CallId) (done : List (List ℕ)) (text written read : List ℕ) → IsWithin read → whole_lines read ≡ done ++ text ∷ []

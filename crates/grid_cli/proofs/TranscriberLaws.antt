@@ -18,20 +18,21 @@ use Rattle.call_engine.specs.Calls.{Settings}
 use Rattle.call_engine.specs.Objects.{partition_object}
 use Rattle.replay_run.specs.Runs.{Run, begun, after_line}
 use Rattle.replay_run.specs.Printing.{ok_text}
-use Rattle.replay_run.specs.Grids.{FormOf, Stands, HasRun as RanLine}
+use Rattle.replay_run.specs.Grids.{FormOf, Stands, IsGivenUp, HasRun as RanLine}
 use Rattle.replay_run.specs.declared.grid.Grid.{Grid}
 use Rattle.grid_cli.specs.Transcripts.{Transcript, settings, Ending, Ended, Refused, TooLong, first_line, later_lines, following, stopped, refused, refused_text, limit_text}
 use Rattle.grid_cli.specs.Statuses.{whole}
 use Rattle.grid_cli.specs.Progress.{IsAt}
 use Rattle.grid_cli.specs.Transcribing.{HasRun, HasRunNone, Follows, RanAs, Continues}
 use Rattle.grid_cli.specs.declared.status.LimitWhat.{LimitWhat}
+use Rattle.grid_cli.specs.declared.status.LimitWhat.TheVariants.{InFlight}
 use Rattle.grid_cli.specs.declared.transcriber.Stage.{Stage}
 use Rattle.grid_cli.specs.declared.transcriber.Stage.TheVariants.{Waiting, Running}
 use Rattle.grid_cli.specs.declared.transcriber.Ran.{Ran}
-use Rattle.grid_cli.specs.declared.transcriber.Ran.TheVariants.{Goes, Ended as IsEnded, Refused as IsRefused}
+use Rattle.grid_cli.specs.declared.transcriber.Ran.TheVariants.{Goes, Ended as IsEnded, Refused as IsRefused, GivenUp}
 use Rattle.replay_run.proofs.Fresh.{calls_are_new}
 use Rattle.grid_cli.proofs.Members.{members_stay}
-use Rattle.grid_cli.proofs.Progress.{at_first, at_next, at_end, at_refused, at_stop}
+use Rattle.grid_cli.proofs.Progress.{at_first, at_next, at_end, at_given_up, at_refused, at_stop}
 
 -- a line that was read, and then ran
 module _ {V : Type 0} {T : V → Type 0} {form : FormOf V T} {forms : List ProcessorForm} (old new : Grid V T) (skips : List CallId) (done : List (List ℕ)) (written text added : List ℕ) (follows : HasRun form forms old skips done written)
@@ -50,7 +51,7 @@ module _ {V : Type 0} {T : V → Type 0} {form : FormOf V T} {forms : List Proce
           stands = ran.stands;
           few = subst (λ n. n ≤ 8) (sym (members_stay o ran.skips r line)) follows.few;
           at = subst (λ t. IsAt forms follows.capacity next (ran.skips ++ skips) (done ++ text ∷ []) (written ++ t)) (sym ran.added)
-              (at_next forms follows.capacity r skips done written text follows.at line read ran.skips ran.of_line next refl (λ b id i j. calls_are_new r follows.stands.run b i id line j) going);
+              (at_next forms follows.capacity r skips done written text follows.at line read ran.skips ran.of_line next refl (λ b id i j. calls_are_new r follows.stands.run b i id line j) ran.stands.holds.goes_on going);
         },
       )
 
@@ -60,9 +61,24 @@ module _ {V : Type 0} {T : V → Type 0} {form : FormOf V T} {forms : List Proce
       let next : Run = after_line o ran.skips r line in (
         ran.skips,
         λ limit texts.
-            at_end forms follows.capacity r skips done written text follows.at line read ran.skips ran.of_line next refl (λ b id i j. calls_are_new r follows.stands.run b i id line j) ending limit texts
+            at_end forms follows.capacity r skips done written text follows.at line read ran.skips ran.of_line next refl (λ b id i j. calls_are_new r follows.stands.run b i id line j) ran.stands.holds.goes_on ending limit texts
             ∙ ap (λ t. whole (written ++ t) Ended) (sym ran.added),
       )
+
+-- a line that was read, and at which the run is given up
+pub line_given_up : {V : Type 0} {T : V → Type 0} {form : FormOf V T} {forms : List ProcessorForm} (old : Grid V T) (new : Stage V T) (skips : List CallId) (done : List (List ℕ)) (written text added : List ℕ) (number : ℕ) (follows : HasRun form forms old skips done written)
+    (line : Line) → line_of false follows.run.members text ≡ Ok line → IsGivenUp (settings forms follows.capacity) follows.run line → number ≡ follows.run.lines + 1 → added ≡ limit_text number InFlight
+    → RanAs form forms GivenUp new skips done text written added
+line_given_up {forms = forms} old new skips done written text added number follows line read given counted shown = (
+  given.skips,
+  λ limit texts. (
+    number,
+    at_given_up forms follows.capacity follows.run skips done written text follows.at line read given.skips given.of_line (after_line (partition_object (settings forms follows.capacity)) given.skips follows.run line) refl
+        (λ b id i j. calls_are_new follows.run follows.stands.run b i id line j) given.full limit texts
+        ∙ ap (λ n. whole (written ++ limit_text n InFlight) (TooLong n InFlight)) (sym counted)
+        ∙ ap (λ t. whole (written ++ t) (TooLong number InFlight)) (sym shown),
+  ),
+)
 
 -- a line that ran where no text was left before
 pub from_nothing : {V : Type 0} {T : V → Type 0} {form : FormOf V T} {s : Settings} {new : Grid V T} {r : Run} {line : Line} {had added : List ℕ} → had ≡ [] → RanLine form s new r line had added → RanLine form s new r line [] added
@@ -140,7 +156,7 @@ begins_transcript form forms (Waiting processors) skips done written follows lim
     t : Transcript
     t = first_line forms skips limit (done ++ texts)
 begins_transcript form forms (Running grid) skips done written follows limit texts =
-    front_of_following written (later_lines (partition_object (settings forms follows.capacity)) skips limit follows.run texts) _ (follows.at.goes_on skips (λ a c. refl) limit texts)
+    front_of_following written (later_lines (settings forms follows.capacity) skips limit follows.run texts) _ (follows.at.goes_on skips (λ a c. refl) limit texts)
 
 pub stops_at_once : {V : Type 0} {T : V → Type 0} (form : FormOf V T) (forms : List ProcessorForm) (stage : Stage V T) (skips : List CallId) (done : List (List ℕ)) (written text : List ℕ) → Follows form forms stage skips done written
     → Continues forms skips done text (λ t. IsFrontOf (written ++ []) t.text)
@@ -159,6 +175,7 @@ stops_in_text form forms Goes stage skips done written text added n h = (
 )
 stops_in_text form forms IsEnded stage skips done written text added n h = (h.0, λ limit texts. front_taken written added _ n (front_of_whole (written ++ added) Ended _ (h.1 limit texts)))
 stops_in_text form forms (IsRefused line why) stage skips done written text added n h = ([], λ limit texts. front_taken written added _ n (front_of_whole (written ++ added) (Refused line why) _ (h limit texts)))
+stops_in_text form forms GivenUp stage skips done written text added n h = (h.0, λ limit texts. let t = h.1 limit texts in front_taken written added _ n (front_of_whole (written ++ added) (TooLong t.0 InFlight) _ t.1))
 
 -- where the lines stop
 

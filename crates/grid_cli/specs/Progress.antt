@@ -41,7 +41,7 @@ run_of forms skips (first ∷ texts) = let line = line_of true 0 first in run_af
 -- After these lines the run is this and this was written, whatever lines follow, and whichever of their calls find no memory.
 pub record IsAt (forms : List ProcessorForm) (capacity : ℕ) (r : Run) (skips : List CallId) (done : List (List ℕ)) (written : List ℕ) : Type 0 where
   pub goes_on : (s : List CallId) → AgreeOn r.arrivals s skips → (limit : Option LimitWhat) (texts : List (List ℕ))
-      → first_line forms s limit (done ++ texts) ≡ following written (later_lines (partition_object (settings forms capacity)) s limit r texts)
+      → first_line forms s limit (done ++ texts) ≡ following written (later_lines (settings forms capacity) s limit r texts)
   pub runs : (s : List CallId) → AgreeOn r.arrivals s skips → (texts : List (List ℕ)) → run_of forms s (done ++ texts) ≡ run_after (partition_object (settings forms capacity)) s r texts
   pub keeps : (texts : List (List ℕ)) → capacity_of (done ++ texts) ≡ capacity
   -- the skips are calls that arrived

@@ -12,7 +12,7 @@ use Rattle.grid_cli.specs.declared.transcriber.Begun.TheVariants.{Made, Refused 
 use Rattle.grid_cli.specs.declared.transcriber.Stage.{Stage}
 use Rattle.grid_cli.specs.declared.transcriber.Stage.TheVariants.{Waiting, Running}
 use Rattle.grid_cli.specs.declared.transcriber.Ran.{Ran}
-use Rattle.grid_cli.specs.declared.transcriber.Ran.TheVariants.{Goes, Ended as IsEnded, Refused as IsRefused}
+use Rattle.grid_cli.specs.declared.transcriber.Ran.TheVariants.{Goes, Ended as IsEnded, Refused as IsRefused, GivenUp}
 use Rattle.entry_processors.specs.Processors.{ProcessorForm}
 use Rattle.replay_run.specs.Runs.{Run, begun}
 use Rattle.replay_run.specs.Printing.{ok_text}
@@ -23,6 +23,7 @@ use Rattle.grid_cli.specs.Statuses.{whole}
 use Rattle.replay_run.specs.Grids.{FormOf, Stands}
 use Rattle.script_lang.specs.Limits.{most_lines, most_line_bytes}
 use Rattle.grid_cli.specs.declared.status.LimitWhat.{LimitWhat}
+use Rattle.grid_cli.specs.declared.status.LimitWhat.TheVariants.{InFlight}
 use Rattle.grid_cli.specs.Progress.{IsAt}
 
 -- The code has run these lines, and their text is this.
@@ -65,6 +66,7 @@ abbrev pub RanAs : {V : Type 0} {T : V → Type 0} → FormOf V T → List Proce
 RanAs form forms Goes stage skips done text written added = (more : List CallId) × Follows form forms stage (more ++ skips) (done ++ text ∷ []) (written ++ added)
 RanAs form forms IsEnded stage skips done text written added = (more : List CallId) × Continues forms (more ++ skips) done text (λ t. t ≡ whole (written ++ added) Ended)
 RanAs form forms (IsRefused line why) stage skips done text written added = Continues forms skips done text (λ t. t ≡ whole (written ++ added) (Refused line why))
+RanAs form forms GivenUp stage skips done text written added = (more : List CallId) × Continues forms (more ++ skips) done text (λ t. (line : ℕ) × (t ≡ whole (written ++ added) (TooLong line InFlight)))
 
 -- with which status the run stops at a line, where this was written
 abbrev pub StopsAs : List ProcessorForm → Status → List CallId → List (List ℕ) → List ℕ → List ℕ → Type 0
@@ -74,7 +76,7 @@ StopsAs forms WriteFault skips done text written = Continues forms skips done te
 StopsAs forms Memory skips done text written = Continues forms skips done text (λ t. IsFrontOf written t.text)
 StopsAs forms Usage skips done text written = ⊥
 StopsAs forms ReadFault skips done text written = ⊥
-StopsAs forms (Limit what) skips done text written = ⊥
+StopsAs forms (Limit what) skips done text written = Continues forms skips done text (λ t. (line : ℕ) × (t ≡ whole written (TooLong line what)))
 
 -- The status with which a run ends whose lines are these and no more, where this was written; the script may have gone past a limit behind them.
 abbrev pub Concludes : List ProcessorForm → Option LimitWhat → Status → List CallId → List (List ℕ) → List ℕ → Type 0

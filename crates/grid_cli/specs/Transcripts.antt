@@ -1,10 +1,7 @@
 -- The transcript of a script: the text of its lines one after another, and how it ends.
 use Rattle.std.specs.Prelude.{ℕ, ◌+◌, true, false, if◌then◌else◌, List, [], ◌∷◌, ◌++◌, Option, Some, None, Ok, Err, codes}
-use Rattle.grid_base.specs.Objects.{Object}
 use Rattle.grid_base.specs.declared.names.CallId.{CallId}
-use Rattle.grid_base.specs.declared.calls.Request.{Request}
 use Rattle.entry_processors.specs.Processors.{ProcessorForm}
-use Rattle.object_store.specs.Partitions.{Partition}
 use Rattle.call_engine.specs.Calls.{Settings}
 use Rattle.call_engine.specs.Objects.{partition_object}
 use Rattle.script_lang.specs.Lines.{line_of, is_end, why_text}
@@ -17,9 +14,9 @@ use Rattle.replay_run.specs.Dumps.{number, line_end}
 use Rattle.replay_run.specs.Printing.{ok_text, line_text}
 use Rattle.grid_cli.specs.Scripts.{lines_of, limit_of}
 use Rattle.grid_cli.specs.declared.status.LimitWhat.{LimitWhat}
-use Rattle.grid_cli.specs.declared.status.LimitWhat.TheVariants.{Bytes, Lines, Line as OneLine}
+use Rattle.grid_cli.specs.declared.status.LimitWhat.TheVariants.{Bytes, Lines, Line as OneLine, InFlight}
 
--- how a transcript ends: at the line `end`, at a line that is refused, or at a byte past a limit
+-- how a transcript ends: at the line `end`, at a line that is refused, or at one that goes past a limit
 pub data Ending : Type 0 where
   Ended : Ending
   Refused : (line : ℕ) (why : LineWhy) → Ending
@@ -37,6 +34,7 @@ abbrev pub limit_word : LimitWhat → List ℕ
 limit_word Bytes = codes "bytes"
 limit_word Lines = codes "lines"
 limit_word OneLine = codes "line"
+limit_word InFlight = codes "inflight"
 
 -- `limit I WHAT`
 abbrev pub limit_text : ℕ → LimitWhat → List ℕ
@@ -45,24 +43,28 @@ limit_text line what = codes "limit " ++ number line ++ limit_word what ++ line_
 abbrev pub refused : ℕ → LineWhy → Transcript
 refused line why = record { text = refused_text line why; ending = Refused line why }
 
+abbrev pub too_long : ℕ → LimitWhat → Transcript
+too_long line what = record { text = limit_text line what; ending = TooLong line what }
+
 -- after the last line, with the number of lines: the script went past a limit in the next one, or stopped without `end`
 abbrev pub stopped : Option LimitWhat → ℕ → Transcript
-stopped (Some what) lines = record { text = limit_text (lines + 1) what; ending = TooLong (lines + 1) what }
+stopped (Some what) lines = too_long (lines + 1) what
 stopped None lines = refused lines NoEnd
 
 abbrev pub following : List ℕ → Transcript → Transcript
 following text rest = record { text = text ++ rest.text; ending = rest.ending }
 
--- The lines after the first. One that isn't in the grammar runs in no part. Nothing after `end` is looked at.
-abbrev pub later_lines : Object Request Partition → List CallId → Option LimitWhat → Run → List (List ℕ) → Transcript
-later_lines o skips limit r [] = stopped limit r.lines
-later_lines o skips limit r (text ∷ texts) =
+-- The lines after the first. One that isn't in the grammar runs in no part. Of one at which the run is given up nothing is printed. Nothing after `end` is looked at.
+abbrev pub later_lines : Settings → List CallId → Option LimitWhat → Run → List (List ℕ) → Transcript
+later_lines s skips limit r [] = stopped limit r.lines
+later_lines s skips limit r (text ∷ texts) =
     elim (line_of false r.members text) [
       | Err why ↦ refused (r.lines + 1) why
       | Ok line ↦
-          let next = after_line o skips r line in
-          if is_end line then (record { text = line_text o r line next; ending = Ended })
-          else following (line_text o r line next) (later_lines o skips limit next texts)
+          let next = after_line (partition_object s) skips r line in
+          if next.full then too_long (r.lines + 1) InFlight
+          else if is_end line then (record { text = line_text s r line next; ending = Ended })
+          else following (line_text s r line next) (later_lines s skips limit next texts)
     ]
 
 -- what objects go by in a grid of these processors, whose first line gave its queues this capacity
@@ -72,7 +74,7 @@ settings forms capacity = record { forms = forms; capacity = capacity }
 -- The first line makes the grid.
 abbrev pub after_first : List ProcessorForm → List CallId → Option LimitWhat → List (List ℕ) → Line → Transcript
 after_first forms skips limit texts (Grid members backups capacity) =
-    following (ok_text 1) (later_lines (partition_object (settings forms capacity)) skips limit (begun members backups) texts)
+    following (ok_text 1) (later_lines (settings forms capacity) skips limit (begun members backups) texts)
 after_first forms skips limit texts line = refused 1 NoGrid
 
 abbrev pub first_line : List ProcessorForm → List CallId → Option LimitWhat → List (List ℕ) → Transcript

@@ -15,6 +15,7 @@ fn limit_word(what: LimitWhat) -> &'static str
         LimitWhat::Bytes => "bytes",
         LimitWhat::Lines => "lines",
         LimitWhat::Line => "line",
+        LimitWhat::InFlight => "inflight",
     }
 }
 

@@ -12,6 +12,8 @@ pub enum LimitWhat {
     Lines,
     /// The bytes of a line.
     Line,
+    /// The messages in flight on a link of a partition.
+    InFlight,
 }
 
 /// How a command ended.

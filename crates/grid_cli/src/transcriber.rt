@@ -1,20 +1,21 @@
-ghost use Rattle.std.specs.Prelude.{◌≡◌, ◌<◌, ◌≤◌, ◌++◌, ◌∷◌, [], List, ℕ, length, map, OnOk, IfOk, IfErr, IsErrOf, Option, Some, None};
+ghost use Rattle.std.specs.Prelude.{◌≡◌, ◌<◌, ◌≤◌, ◌++◌, ◌∷◌, [], List, ℕ, length, map, OnOk, IfOk, IfErr, IsErrOf, Option, Some, None, false, Ok as Okay};
 ghost use Rattle.std.specs.Io.KnownBytes.{append_known};
 ghost use Rattle.grid_base.specs.declared.names.CallId.{CallId};
 ghost use Rattle.grid_edge.specs.Faults.{Rose};
 ghost use Rattle.entry_processors.specs.Processors.{ProcessorForm};
 ghost use Rattle.script_lang.specs.Limits.{most_lines, most_line_bytes};
 ghost use Rattle.replay_run.specs.Runs.{Run};
-ghost use Rattle.replay_run.specs.Grids.{Stands};
+ghost use Rattle.script_lang.specs.Lines.{line_of};
+ghost use Rattle.replay_run.specs.Grids.{Stands, MayRun};
 ghost use Rattle.grid_cli.specs.Transcripts.{settings};
-ghost use Rattle.grid_cli.specs.Transcribing.{Follows, HasRoomFor, IsBegunBy, RanAs, StopsAs, Concludes};
+ghost use Rattle.grid_cli.specs.Transcribing.{HasRun, Follows, HasRoomFor, IsBegunBy, RanAs, StopsAs, Concludes};
 
 use crate::print::{push_limit, push_refused};
 use crate::status::{LimitWhat, Status};
 use entry_processors::Processor;
 use grid_base::Memory;
 use grid_edge::{Sink, write_all};
-use replay_run::Grid;
+use replay_run::{Grid, RunEnd};
 use script_lang::{Line, LineRefused, LineWhy, read_line};
 use std::alloc::{AllocError, Global};
 use std::mem;
@@ -31,6 +32,8 @@ pub(crate) enum Ran {
     Ended,
     /// It isn't in the grammar, and ran in no part.
     Refused(u32, LineWhy),
+    /// An event of it met a partition with too many messages in flight.
+    GivenUp,
 }
 
 /// Whether a script has a grid yet.
@@ -129,8 +132,35 @@ impl Transcriber {
         }
     }
 
+    /// Runs a line of the grammar, and goes on with its grid. Where the run is given up, none of the line's own text is left.
+    fn run_line(
+        &mut self,
+        alloc: Global,
+        mut grid: Grid,
+        number: u32,
+        line: &Line,
+    ) -> Result<Ran, Memory>
+        requires empty { self.old.text.items ≡ [] }
+        requires may { MayRun form grid number line.now }
+        ensures { (forms : List ProcessorForm) (skips : List CallId) (done : List (List ℕ)) (written : List ℕ) (follows : HasRun form forms grid skips done written) (text : List ℕ)
+            → line_of false follows.run.members text ≡ Okay line.now → IfOk result (λ ran. RanAs form forms ran self.new.stage skips done text written self.new.text.items) }
+    {
+        match grid.run_line(alloc, number, line, &mut self.text) {
+            Ok(()) => {
+                self.stage = Stage::Running(grid);
+                Ok(if line.is_end() { Ran::Ended } else { Ran::Goes })
+            }
+            Err(RunEnd::InFlight) => {
+                self.text.clear();
+                push_limit(&mut self.text, number, LimitWhat::InFlight)?;
+                Ok(Ran::GivenUp)
+            }
+            Err(RunEnd::Memory) => Err(AllocError),
+        }
+    }
+
     /// Runs a line after the first, and goes on with its grid.
-    fn go_on(&mut self, alloc: Global, mut grid: Grid, text: &[u8]) -> Result<Ran, Memory>
+    fn go_on(&mut self, alloc: Global, grid: Grid, text: &[u8]) -> Result<Ran, Memory>
         requires empty { self.old.text.items ≡ [] }
         requires room { length text.now ≤ most_line_bytes }
         requires stands { (forms : List ProcessorForm) × (capacity : ℕ) × (r : Run) × Stands form (settings forms capacity) grid r × (r.lines < most_lines) × (r.members ≤ 8) }
@@ -139,11 +169,7 @@ impl Transcriber {
     {
         let number = grid.lines() + 1;
         match read_line(alloc, text, false, grid.members()) {
-            Ok(line) => {
-                grid.run_line(alloc, number, &line, &mut self.text)?;
-                self.stage = Stage::Running(grid);
-                Ok(if line.is_end() { Ran::Ended } else { Ran::Goes })
-            }
+            Ok(line) => self.run_line(alloc, grid, number, &line),
             Err(LineRefused::Why(why)) => {
                 push_refused(&mut self.text, number, why)?;
                 Ok(Ran::Refused(number, why))
@@ -180,6 +206,9 @@ impl Transcriber {
             Ran::Goes => Ok(()),
             Ran::Ended => Err(Status::Done),
             Ran::Refused(line, why) => Err(Status::ScriptRefused { line, why }),
+            Ran::GivenUp => Err(Status::Limit {
+                what: LimitWhat::InFlight,
+            }),
         }
     }
 

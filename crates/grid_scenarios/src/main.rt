@@ -16,8 +16,8 @@ use grid_cli::{Status, replay_command};
 use grid_edge::{MemorySink, MemorySource};
 use long_scripts::{LONG_SCRIPTS, LongScript};
 use scenarios::{
-    DUMPS, EXPIRY, LOCKS, MAX_IDLE, OBJECT_CALLS, OUTSIDE, PROCESSORS, QUEUES, RANDOM, SCRIPTS,
-    SESSIONS, STREAMS,
+    BACKUPS, DUMPS, EXPIRY, LOCKS, MAX_IDLE, MOVES, OBJECT_CALLS, OUTSIDE, PROCESSORS, PROMOTIONS,
+    QUEUES, RANDOM, REOPENINGS, REPLICATION, SCRIPTS, SESSIONS, STREAMS,
 };
 use std::alloc::Global;
 use std::process::ExitCode;
@@ -280,7 +280,12 @@ fn run_scenarios(rt: &HostRuntime) -> io::Result<ExitCode> {
         &PROCESSORS[..],
         &DUMPS[..],
         &OBJECT_CALLS[..],
+        &BACKUPS[..],
+        &PROMOTIONS[..],
+        &MOVES[..],
+        &REOPENINGS[..],
         &OUTSIDE[..],
+        &REPLICATION[..],
         &RANDOM[..],
     ] {
         held &= all_hold(rt, scenarios)?;

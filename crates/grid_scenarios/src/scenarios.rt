@@ -301,6 +301,176 @@ pub(crate) const OBJECT_CALLS: [(&str, u8); 9] = [
     ("a_cart_a_stock_and_orders", 0),
 ];
 
+/// Members and backups under one row: what an answer waits for, and how lost effects come again.
+pub(crate) const BACKUPS: [(&str, u8); 27] = [
+    // The effect of a put goes to the backup, its acknowledgement comes back, and only then the put is answered.
+    ("a_put_waits_for_its_backup", 0),
+    // An effect that was lost: its primary sends it again, the backup applies it, and the put is answered.
+    ("a_lost_effect_is_sent_again", 0),
+    // An acknowledgement that was lost: the effect sent again is there already, and is acknowledged again.
+    ("a_lost_acknowledgement_is_sent_again", 0),
+    // Of two effects the first is lost: the second one finds a gap and changes nothing.
+    ("an_effect_after_a_missing_one_is_left", 0),
+    // The second effect comes first and is left; after both are sent again, each is applied in its place.
+    ("effects_arrive_in_another_order", 0),
+    // Calls at a backup and at a member outside the row are refused with 8, and neither sends anything again.
+    ("only_the_primary_serves", 0),
+    // A repeated effect is applied once and acknowledged each time; the first acknowledgement releases the answer.
+    ("a_message_comes_twice", 0),
+    // A get that saw a put which the backup lacks waits with it; one that saw what the backup has is answered at once.
+    ("a_read_waits_for_what_it_saw", 0),
+    // One acknowledgement gives the answers of all that it counts, the oldest first, on two connections.
+    ("held_answers_are_given_in_order", 0),
+    // Eight members and six backups: a put is answered at the sixth acknowledgement.
+    ("each_backup_has_to_acknowledge", 0),
+    // Of two members each partition has one backup, whatever the number in the first line.
+    ("backups_up_to_the_members", 0),
+    // Of one member no partition has a backup: a put is answered at once, and nothing is in flight.
+    ("one_member_has_no_backup", 0),
+    // Sets, drops, pushes, pops and clears travel as effects, and so do locks; both members have the same.
+    ("each_effect_reaches_the_backup", 0),
+    // A primary keeps its last 64 effects: so many that were lost are sent again one by one.
+    ("sixty_four_effects_are_sent_again", 0),
+    // Of 65 that were lost the first is no longer kept: all is sent whole, in one message.
+    ("sixty_five_effects_are_sent_whole", 0),
+    // A get at the moment of the put is answered at once; a later one moves the idle end and waits for the backup.
+    ("a_read_that_moves_an_idle_end_waits", 0),
+    // A get that takes an expired value away waits for the backup; the next primary, whose clock is behind, has none.
+    ("a_get_of_an_expired_value_waits", 0),
+    // A call has the moment of the member at which it arrived; a member has one clock for all partitions.
+    ("each_member_has_its_clock", 0),
+    // A held put's connection closes: its acknowledgement releases nothing that is written, and the history has no line
+    // of it.
+    ("an_answer_to_a_closed_connection", 0),
+    // Of two answers that one acknowledgement releases, the one of the connection that closed is left out.
+    ("an_answer_behind_a_closed_connection", 0),
+    // No message is at the place, on the link or between these ends: nothing is delivered, lost or repeated.
+    ("places_that_are_not_there", 0),
+    // The lines of several members with their least numbers and with their greatest.
+    ("lines_of_members_at_their_ends", 0),
+    // A flow delivers the first message of the first link by its ends, and stops where nothing is in flight.
+    ("flows_take_the_first_link_first", 0),
+    // A flow of all takes each partition in order, and in each one up to so many messages.
+    ("a_flow_of_all_partitions", 0),
+    // A cart, a stock and orders have their partitions on three members; the stock goes on after a crash.
+    ("a_cart_a_stock_and_orders_of_three_members", 0),
+    // A partition with a link of 65,400 messages takes no event but a loss; with one of fewer it goes on.
+    ("limit_inflight", 5),
+    // A crash is an event of each partition: a full link of one stops it, also where the member has crashed before.
+    ("limit_inflight_at_a_crash", 5),
+];
+
+/// Crashes, and the rows that follow them: who leads, what is kept, and how backups catch up.
+pub(crate) const PROMOTIONS: [(&str, u8); 15] = [
+    // A primary crashes with its put in flight: the promoted backup has no put, and the effect that comes late is
+    // other.
+    ("a_put_that_no_backup_has_is_gone", 0),
+    // A put that the backup has and whose answer was lost stands in the history, without a line of its answer.
+    ("a_put_that_its_backup_has_is_kept", 0),
+    // A put waits for a backup that crashes: in the next row the other backup's new acknowledgement answers it, a late
+    // one doesn't.
+    ("a_backup_is_lost_while_a_put_is_held", 0),
+    // A primary that stays sends a backup that it heard a bridge from the row before, and no contents.
+    ("a_bridge_in_flight", 0),
+    // One backup has two puts and the other none, which is promoted: the first one installs the empty contents.
+    ("a_backup_ahead_of_the_next_primary_goes_back", 0),
+    // A primary that stays sends a backup from which it took no acknowledgement all that it has, here nothing.
+    ("a_backup_that_was_never_heard", 0),
+    // Whole contents of an earlier row come to a member that leads a later one: they are other.
+    ("late_contents_are_left", 0),
+    // A put waits for the one backup, which crashes: the row without it answers the put as the primary adopts it.
+    ("the_only_backup_is_lost", 0),
+    // The only replica crashes: another member refuses with 8 until it hears of the lost row, and then with 7.
+    ("a_lost_partition_answers_with_its_version", 0),
+    // A member crashes once, and is detected once and only after it has crashed.
+    ("crashes_and_detections_that_do_nothing", 0),
+    // A crashed member is dumped as it was and its clock is set, but no connection opens or has bytes there, and it
+    // sends nothing.
+    ("lines_of_a_crashed_member", 0),
+    // A promoted primary with a backup holds a read until the backup has acknowledged in the new row.
+    ("a_read_waits_after_a_row_change", 0),
+    // Effects and acknowledgements of the row before are other and stale; an older row that comes late is stale.
+    ("late_messages_of_an_earlier_row", 0),
+    // Of three replicas two crash, and what was answered is at the last one; with it the partition is lost.
+    ("the_members_crash_one_by_one", 0),
+    // A backup that lacks effects of two rows gets them around a bridge; the bridge alone finds a gap, and a second one
+    // nothing to do.
+    ("effects_and_a_bridge_catch_up", 0),
+];
+
+/// Moves, joins and handovers of a partition, also where members are lost on the way.
+pub(crate) const MOVES: [(&str, u8); 23] = [
+    // A move of the primary: it is frozen with a put held, which is answered; then the target leads and has it.
+    ("a_move_with_a_held_put", 0),
+    // The target crashes while the primary is frozen: the next row thaws the primary, and the held put is answered.
+    ("the_target_is_lost_at_a_freeze", 0),
+    // The frozen primary crashes before anybody has its put: the put is gone, and the backup leads with the target
+    // behind it.
+    ("the_source_is_lost_with_its_put", 0),
+    // The frozen primary crashes after the backup applied its put, which stands once.
+    ("the_source_is_lost_and_its_put_kept", 0),
+    // Source and target crash while the source is frozen: two rows are made, and the backup is left alone.
+    ("source_and_target_are_lost_at_a_freeze", 0),
+    // The one member of a row crashes before its target joined: the row is lost, and no move begins.
+    ("the_only_replica_is_lost_in_a_move", 0),
+    // An eligible backup takes the lead, and no contents are sent; the old primary has left.
+    ("a_handover", 0),
+    // After a handover with contents the old primary joins again, and is eligible.
+    ("a_handover_and_a_join_back", 0),
+    // A handover to a member outside the row, and one while a move is under way.
+    ("handovers_that_are_refused", 0),
+    // Moves, joins, handovers and reopenings are refused with the first cause that holds: each word, in its order.
+    ("each_refusal_of_a_row_change", 0),
+    // Without a move, before its target has joined, while its source freezes, and after its end an advance does
+    // nothing.
+    ("advances_that_do_nothing", 0),
+    // The source of a move is a backup: it leaves the row as soon as the target has joined, and nobody is frozen.
+    ("a_backup_is_moved", 0),
+    // Members join one after the other, each with all contents in one message, and are eligible once the service has
+    // heard it.
+    ("members_join_a_row", 0),
+    // Each message of a move is lost once, and sent again by the service or the primary.
+    ("lost_messages_of_a_move_are_sent_again", 0),
+    // A freeze, a frozen and a joined that come again after their row are stale.
+    ("late_messages_of_a_move", 0),
+    // A member that the service has not heard of as joined does not lead: with the others lost, so is the partition.
+    ("a_joiner_is_not_promoted", 0),
+    // A move to a member that has crashed begins where nobody told the service, and ends as it is told.
+    ("the_target_is_lost_before_it_joined", 0),
+    // A backup outside the move crashes while the primary is frozen: the primary executes again, and is frozen once
+    // more.
+    ("a_new_row_thaws_the_source", 0),
+    // A backup outside the move crashes after the source was drained: the move goes back, and its steps come again.
+    ("a_drained_move_begins_again", 0),
+    // The source of a move crashes first: the backup leads, the target stays in the row, and the move has ended.
+    ("the_source_is_lost_before_its_target_joined", 0),
+    // An effect that a joiner gets before any contents is other; after contents that have it, it is there already.
+    ("an_effect_before_the_contents", 0),
+    // Two members joined and the service heard of neither: the primary tells it again, of the first in the row first.
+    ("joiners_are_told_in_the_order_of_the_row", 0),
+    // One acknowledgement tells of a joiner and empties what a frozen primary held: it says joined, and then frozen.
+    ("a_joiner_acknowledges_at_a_freeze", 0),
+];
+
+/// Lost partitions that are opened again without what they had.
+pub(crate) const REOPENINGS: [(&str, u8); 7] = [
+    // The one replica is lost with an answered put: the partition is opened again empty, and its history has the reset.
+    ("a_lost_partition_is_reopened", 0),
+    // Every member is detected: no partition is reopened.
+    ("nobody_is_left_to_reopen", 0),
+    // The reopened row's members are the undetected ones from the partition's own on; the first alone is eligible, and
+    // the others join.
+    ("a_reopened_row_has_backups", 0),
+    // A member that had the contents and was not heard of leads after the reopening, and begins with none of them.
+    ("a_reopening_drops_what_a_member_kept", 0),
+    // A member with old contents hears of no reopening but of a later row: it drops them all the same.
+    ("a_member_that_missed_the_reopening", 0),
+    // The first member of the reopened row crashes before it heard of it: the next reopening adds a second reset.
+    ("a_partition_is_reopened_twice", 0),
+    // After a reopening a member joins, the partition moves, and its rows keep the reset.
+    ("a_reopened_partition_moves_on", 0),
+];
+
 /// Scripts and transcripts of an outside program.
 pub(crate) const OUTSIDE: [(&str, u8); 30] = [
     ("first_path_04", 0),
@@ -333,6 +503,40 @@ pub(crate) const OUTSIDE: [(&str, u8); 30] = [
     ("objects_22", 0),
     ("objects_23", 0),
     ("objects_24", 0),
+];
+
+/// Scripts and transcripts of an outside program, of several members that crash, move and are reopened.
+pub(crate) const REPLICATION: [(&str, u8); 30] = [
+    ("replication_01", 0),
+    ("replication_02", 0),
+    ("replication_03", 0),
+    ("replication_04", 0),
+    ("replication_05", 0),
+    ("replication_06", 0),
+    ("replication_07", 0),
+    ("replication_08", 0),
+    ("replication_09", 0),
+    ("replication_10", 0),
+    ("replication_11", 0),
+    ("replication_12", 0),
+    ("replication_13", 0),
+    ("replication_14", 0),
+    ("replication_15", 0),
+    ("replication_16", 0),
+    ("replication_17", 0),
+    ("replication_18", 0),
+    ("replication_19", 0),
+    ("replication_20", 0),
+    ("replication_21", 0),
+    ("replication_22", 0),
+    ("replication_23", 0),
+    ("replication_24", 0),
+    ("replication_25", 0),
+    ("replication_26", 0),
+    ("replication_27", 0),
+    ("replication_28", 0),
+    ("replication_29", 0),
+    ("replication_30", 0),
 ];
 
 /// Random scripts, cut anywhere: of sessions, and from the ninth on of maps, locks, queues and processors.

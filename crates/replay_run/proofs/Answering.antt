@@ -28,7 +28,8 @@ use Rattle.replay_run.proofs.Counts.{count, count-append, count_none, count_in, 
 use Rattle.replay_run.proofs.Releases.{one, times_in, answers, answers-append, released_once}
 use Rattle.replay_run.proofs.Trails.{executed, executed_name, newest_executed}
 use Rattle.replay_run.proofs.RunFacts.{id_name, arrival_name, ArrivalsOk, AnswersOk, IsGiven, IsGivenIn, given_executed, RunOk, named, origin, one_partition}
-use Rattle.replay_run.proofs.Arriving.{events_at-append, events_with_one, maybe_one}
+use Rattle.replay_run.proofs.EventRuns.{events_at-append}
+use Rattle.replay_run.proofs.Arriving.{events_with_one, maybe_one}
 use Rattle.replay_run.proofs.Answers.{named_answer}
 
 -- what an event releases

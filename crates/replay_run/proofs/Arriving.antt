@@ -10,12 +10,13 @@ use Rattle.grid_base.specs.declared.calls.Request.{Request}
 use Rattle.partition_protocol.specs.Events.{Event}
 use Rattle.partition_protocol.specs.Arrivals.{CallName, asked_by, arrivals}
 use Rattle.partition_protocol.proofs.Lists.{In, in_cases, contains_in, IsPart, part_longer, part_both, cases}
-use Rattle.replay_run.specs.Runs.{Run, Arrival, Appended, Connection, At, is_at, events_at, world_at, reopened_at, is_connection, connection_of, messages_on, updated, arrival_at, call_of, arrived}
+use Rattle.replay_run.specs.Runs.{Run, Arrival, Appended, Reopened, Connection, At, is_at, events_at, world_at, reopened_at, is_connection, connection_of, messages_on, updated, arrival_at, call_of, arrived}
 use Rattle.replay_run.specs.ScriptRuns.{IsPlaced, IsNext}
 use Rattle.replay_run.proofs.Parts.{in_mapped, before_last, named_more}
 use Rattle.replay_run.proofs.Places.{same_number}
 use Rattle.replay_run.proofs.Trails.{find_some}
 use Rattle.replay_run.proofs.Stamps.{stamped_later}
+use Rattle.replay_run.proofs.EventRuns.{events_at-append}
 use Rattle.replay_run.proofs.RunFacts.{asked_of, arrival_name, is_of, ArrivalsOk, AreApart, RunOk}
 
 -- connections
@@ -108,15 +109,25 @@ quiet o r moments ks ok apart grows = record {
   of_answers = record { given = ok.of_answers.given; once = ok.of_answers.once };
   of_refusals = record { arrived = ok.of_refusals.arrived; unexecuted = ok.of_refusals.unexecuted };
   of_reopenings = record {
-    within = ok.of_reopenings.within;
     stamped = λ p. stamped_later r.arrivals r.arrivals 0 r.lines (r.lines + 1) (reopened_at p r.reopened) (world_at o r p).recorded.log (λ a i. i) (omega arith) (ok.of_reopenings.stamped p);
   };
 }
 
--- events
+-- What is appended, reopened or given up leaves what holds of arrivals, and so do events that bring no other calls.
+pub arrivals_stay : (r : Run) (events : List At) (appended : List Appended) (reopened : List Reopened) (full : Bool) → ArrivalsOk r → ((p : ℕ) → IsPart (arrivals (events_at p events)) (map asked_of (filter (is_of p) r.arrivals)))
+    → ArrivalsOk (record r { events = events; appended = appended; reopened = reopened; full = full })
+arrivals_stay r events appended reopened full ok calls = record {
+  placed = ok.placed;
+  once = ok.once;
+  counted = ok.counted;
+  in_order = ok.in_order;
+  rising = ok.rising;
+  of_line = ok.of_line;
+  by_now = ok.by_now;
+  calls = calls;
+}
 
-pub events_at-append : (p : ℕ) (es fs : List At) → events_at p (es ++ fs) ≡ events_at p es ++ events_at p fs
-events_at-append p es fs = ap (map (λ (e : At). e.event)) (filter-append (is_at p) es fs) ∙ map-append (λ (e : At). e.event) (filter (is_at p) es) (filter (is_at p) fs)
+-- events
 
 pub arrivals-append : {C : Type 0} (es fs : List (Event C)) → arrivals (es ++ fs) ≡ arrivals es ++ arrivals fs
 arrivals-append [] fs = refl

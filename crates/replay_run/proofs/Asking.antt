@@ -1,13 +1,13 @@
 -- The world of a call's partition, where the code reads it.
-use Rattle.std.proofs.Common.{◌≡◌, ℕ, ◌+◌, ◌-◌, ◌*◌, ◌≤◌, ◌<◌, ◌^◌, true, List, [], ◌∷◌, length, get_or, map, Result, Ok, Err, Some, slice_get, refl, ap, sym, subst, ◌∙◌, ◌++◌, ◌⊎◌, arith}
-use Rattle.std.specs.Result.{OnOk}
+use Rattle.std.proofs.Common.{◌≡◌, ℕ, ◌+◌, ◌-◌, ◌*◌, ◌<◌, ◌^◌, Bool, true, List, [], ◌∷◌, length, get_or, map, Result, Err, Some, slice_get, refl, ap, sym, subst, ◌∙◌, ◌++◌, ◌⊎◌, arith}
+use Rattle.std.specs.Result.{IsErrAnd}
 use Rattle.std.specs.Prelude.{Option, unwrap_or}
 use Rattle.std.proofs.lemmas.Bool.{eq-eqb}
 use Rattle.std.proofs.lemmas.Option.{slice_get_within, slice_get-get_or}
 use Rattle.grid_base.specs.Objects.{Object}
 use Rattle.grid_base.specs.declared.calls.Request.{Request}
 use Rattle.partition_protocol.specs.Events.{Event}
-use Rattle.partition_protocol.specs.World.{trail}
+use Rattle.partition_protocol.specs.World.{World, trail}
 use Rattle.partition_protocol.specs.Arrivals.{NamedOnce, arrivals, name}
 use Rattle.call_engine.specs.declared.env.GridEnv.{GridEnv}
 use Rattle.call_engine.specs.Calls.{Settings}
@@ -17,12 +17,14 @@ use Rattle.call_engine.specs.Objects.{partition_object}
 use Rattle.object_store.specs.Partitions.{Partition}
 use Rattle.partition_world.specs.declared.entry.Entry.{Entry}
 use Rattle.partition_world.specs.RecordedEntries.{entry_of}
-use Rattle.partition_world.specs.Worlds.{steps_of, run_of, Comes}
+use Rattle.partition_world.specs.Worlds.{steps_of, setup_of, run_of, Comes}
 use Rattle.partition_world.proofs.Places.{read_there}
 use Rattle.replay_run.specs.declared.grid.Grid.{Grid}
-use Rattle.replay_run.specs.Runs.{Run, Arrival, events_at, moment_of, world_at, call_of, arrival_at, arrived, happening}
-use Rattle.replay_run.specs.Printing.{partitions}
-use Rattle.replay_run.specs.Grids.{FormOf, GridWorld, grid_meaning, StandsForEvents, IsWorld, Holds, Stands, AreFew}
+use Rattle.replay_run.specs.declared.links.Link.{Link}
+use Rattle.table_service.specs.Services.{Setup}
+use Rattle.replay_run.specs.Runs.{Run, Arrival, events_at, moment_of, world_at, call_of, arrival_at, arrived, happening, is_full, links_of, partitions}
+use Rattle.replay_run.specs.Shelves.{grid_meaning}
+use Rattle.replay_run.specs.Grids.{FormOf, GridWorld, StandsForEvents, IsWorld, Holds, Stands, AreFew}
 use Rattle.replay_run.specs.ScriptRuns.{IsRun, IsNext, call_asked}
 use Rattle.replay_run.specs.WorldCalls.{IsCalled, IsSkipped, arrival_to}
 use Rattle.replay_run.proofs.Arriving.{its_event, maybe_one, events_of_more}
@@ -31,10 +33,9 @@ use Rattle.replay_run.proofs.RunsOfLines.{run_ok}
 use Rattle.replay_run.proofs.HistoryTexts.{indexed_world}
 use Rattle.replay_run.proofs.WorldRuns.{run_is}
 
--- what follows of three facts on a result
-pub on_ok_all : {T E P Q R S : Type 0} (r : Result T E) → OnOk r P → OnOk r Q → OnOk r R → (P → Q → R → S) → OnOk r S
-on_ok_all (Ok x) p q r f = f p q r
-on_ok_all (Err e) p q r f = tt
+-- a failure that is handed on
+pub handed_on : {T E : Type 0} (r : Result T E) (e why : E) → IsErrAnd r (λ y. y ≡ e) → r ≡ Err why → e ≡ why
+handed_on r e why ensured is = sym (subst (λ x. IsErrAnd x (λ y. y ≡ e)) is ensured)
 
 -- what a call did, in an environment that makes these settings
 abbrev pub Did : {V : Type 0} {T : V → Type 0} → Settings → GridWorld V T → GridWorld V T → List (Event Request) → Arrival → List ℕ → List ℕ → Type 0
@@ -112,11 +113,27 @@ call_comes settings world events a stands room fits once = record {
   may = record { room = (let steps = stands.steps in omega (arith, room, steps)); within = fits; once = once };
 }
 
--- the history that a partition's world tells
+-- What the code tells of a partition's world is so in the run.
+pub told_of : {X V : Type 0} {T : V → Type 0} {settings : Settings} (form : FormOf V T) (grid : Grid V T) (r : Run) → Holds form settings grid r → (p i : ℕ) → p < partitions → i ≡ p → (world : GridWorld V T) → world ≡ get_or grid.worlds.items i world
+    → (tells : World Request → X) (told : X) → ((events : List (Event Request)) → StandsForEvents (settings_of form grid.env) world events → told ≡ tells (run_of (grid_meaning (settings_of form grid.env)) world events))
+    → told ≡ tells (world_at (partition_object settings) r p)
+told_of form grid r h p i low same world read tells told by =
+    let is = world_is grid r h p i low same world read in
+    subst (λ x. StandsForEvents x world (events_at p r.events) → told ≡ tells (run_of (grid_meaning x) world (events_at p r.events))) h.goes_by (by (events_at p r.events)) is.stands
+    ∙ ap tells (run_is world r p is)
+
+-- the history that it tells
 pub told_history : {V : Type 0} {T : V → Type 0} {settings : Settings} (form : FormOf V T) (grid : Grid V T) (r : Run) → Stands form settings grid r → (p i : ℕ) → p < partitions → i ≡ p → (world : GridWorld V T) → world ≡ get_or grid.worlds.items i world
     → (entries : List (Entry Request)) → ((events : List (Event Request)) → StandsForEvents (settings_of form grid.env) world events → map entry_of entries ≡ trail (run_of (grid_meaning (settings_of form grid.env)) world events))
     → map entry_of entries ≡ trail (world_at (partition_object settings) r p)
-told_history {settings = settings} form grid r s p i low same world read entries told =
-    let is = world_is grid r s.holds p i low same world read in
-    subst (λ x. StandsForEvents x world (events_at p r.events) → map entry_of entries ≡ trail (run_of (grid_meaning x) world (events_at p r.events))) s.holds.goes_by (told (events_at p r.events)) is.stands
-    ∙ ap trail (run_is world r p is)
+told_history form grid r s p i low same world read entries = told_of form grid r s.holds p i low same world read trail (map entry_of entries)
+
+-- whether it is full
+pub told_full : {V : Type 0} {T : V → Type 0} {settings : Settings} (form : FormOf V T) (grid : Grid V T) (r : Run) → Holds form settings grid r → (p i : ℕ) → p < partitions → i ≡ p → (world : GridWorld V T) → world ≡ get_or grid.worlds.items i world
+    → (links : List Link) → links ≡ grid.links.items → (full : Bool)
+    → ((events : List (Event Request)) → StandsForEvents (settings_of form grid.env) world events → links ≡ links_of (setup_of world).members → full ≡ is_full (run_of (grid_meaning (settings_of form grid.env)) world events))
+    → full ≡ is_full (world_at (partition_object settings) r p)
+told_full form grid r h p i low same world read links links_are full by =
+    let is = world_is grid r h p i low same world read in
+    let its : links ≡ links_of (setup_of world).members = links_are ∙ h.links ∙ ap (λ (x : Setup). links_of x.members) (sym is.setup) in
+    told_of form grid r h p i low same world read is_full full (λ events stands. by events stands its)

@@ -8,8 +8,7 @@ use Rattle.call_engine.specs.Calls.{Settings}
 use Rattle.call_engine.specs.Env.{settings_of}
 use Rattle.partition_world.specs.Worlds.{waiting}
 use Rattle.replay_run.specs.declared.grid.Grid.{Grid}
-use Rattle.replay_run.specs.Runs.{Run, begun}
-use Rattle.replay_run.specs.Printing.{partitions}
+use Rattle.replay_run.specs.Runs.{Run, begun, partitions, links_of}
 use Rattle.replay_run.specs.Tables.{most_connections, unopened, no_connections, opened_at}
 use Rattle.replay_run.specs.ScriptRuns.{grid_begun}
 use Rattle.replay_run.specs.Grids.{FormOf, GridWorld, IsWorld, Matches, HasTable, IsSettled, HasWorld, Stands}
@@ -48,17 +47,19 @@ begun_table members backups = record {
 begun_settled : (members backups : ℕ) → IsSettled no_connections (begun members backups)
 begun_settled members backups c o k at there = absurd cc
 
-pub begun_stands : {V : Type 0} {T : V → Type 0} {form : FormOf V T} (grid : Grid V T) (env : GridEnv V T) (members backups : ℕ) → 1 ≤ members → grid.env ≡ env → grid.lines ≡ 1 → grid.members ≡ members → grid.moments.items ≡ replicate members 0
+pub begun_stands : {V : Type 0} {T : V → Type 0} {form : FormOf V T} (grid : Grid V T) (env : GridEnv V T) (members backups : ℕ) → 1 ≤ members → grid.env ≡ env → grid.lines ≡ 1 → grid.members ≡ members → grid.links.items ≡ links_of members → grid.moments.items ≡ replicate members 0
     → grid.connections ≡ no_connections → grid.reopened.items ≡ [] → ((p : ℕ) → p < partitions → HasWorld (settings_of form env) grid.worlds.items (begun members backups) p)
     → Stands form (settings_of form env) grid (begun members backups)
-begun_stands {form = form} grid env members backups some same lines own moments table none worlds = record {
+begun_stands {form = form} grid env members backups some same lines own links moments table none worlds = record {
   run = grid_begun members backups some;
   small = omega arith;
   few = λ p. omega arith;
   holds = record {
     goes_by = ap (settings_of form) same;
+    goes_on = refl;
     lines = lines;
     members = own;
+    links = links;
     moments = moments;
     clocks = length-replicate members 0;
     table = subst (λ t. HasTable t (begun members backups)) (sym table) (begun_table members backups);

@@ -1,13 +1,15 @@
 -- A run has no more calls than messages, and far fewer messages than bytes; a partition has few events; and what a line adds to those.
-use Rattle.std.proofs.Common.{◌≡◌, ◌≢◌, ℕ, ◌+◌, ◌*◌, ◌≤◌, ◌<◌, ◌^◌, ◌-◌, ◌==◌, Bool, true, false, cond, List, [], ◌∷◌, ◌++◌, map, filter, length, Option, Some, None, pos, refl, ap, sym, ◌∙◌, subst, ⊎_elim, inl, inr, arith, length-append}
+use Rattle.std.proofs.Common.{◌≡◌, ◌≢◌, ℕ, ◌+◌, ◌*◌, ◌≤◌, ◌<◌, ◌^◌, ◌-◌, ◌==◌, Bool, true, false, cond, List, [], ◌∷◌, length, Option, Some, None, pos, refl, ap, sym, ◌∙◌, subst, ⊎_elim, inl, inr, arith, length-append}
 use Rattle.std.proofs.lemmas.List.Sums.{sum_by-cons, sum_by-append}
 use Rattle.std.specs.List.{find, sum_by}
-use Rattle.std.specs.Prelude.{is_some}
 use Rattle.grid_base.specs.Errors.{want_of_memory}
 use Rattle.grid_base.specs.Objects.{Object}
 use Rattle.grid_base.specs.declared.calls.Request.{Request}
 use Rattle.grid_base.specs.declared.names.CallId.{CallId}
 use Rattle.object_store.specs.Partitions.{Partition}
+use Rattle.partition_protocol.specs.Events.{Event}
+use Rattle.partition_protocol.specs.Events as event
+use Rattle.partition_protocol.specs.Service.{numbers_below}
 use Rattle.partition_protocol.proofs.Lists.{In, contains_in, cases, on_if}
 use Rattle.partition_protocol.proofs.RowFacts.{false_or_not}
 use Rattle.session_core.specs.declared.item.Item.{Item}
@@ -15,8 +17,8 @@ use Rattle.session_core.specs.declared.item.Item.TheVariants.{Call as Asks, Repl
 use Rattle.script_lang.specs.Limits.{most_lines, most_line_bytes}
 use Rattle.script_lang.specs.Lines.{IsWithin}
 use Rattle.script_lang.specs.declared.line.Line.{Line}
-use Rattle.script_lang.specs.declared.line.Line.TheVariants.{Grid, OpenConn, Arrive, Clock, Dump, Trail, Comment, End}
-use Rattle.replay_run.specs.Runs.{Run, At, Connection, Arrival, is_at, events_at, clock_set, is_connection, connection_of, messages_on, bytes_of, updated, with_bytes, took_bytes, opened, next_line, fault_on, items_by, told, refusal, arrival_at, happening, arrived, is_skipped, asked, bytes_arrived, after_line, handled_all}
+use Rattle.script_lang.specs.declared.line.Line.TheVariants.{OpenConn, Arrive, Clock, Flow, FlowAll, Crash, Detect}
+use Rattle.replay_run.specs.Runs.{Run, At, Connection, Arrival, partitions, events_at, world_at, clock_set, is_connection, connection_of, messages_on, bytes_of, updated, takes_bytes, can_open, is_full, with_bytes, took_bytes, opened, next_line, items_by, told, refusal, arrival_at, happening, arrived, is_skipped, given_up, asked, asks, takes, takes_in, flowed, flowed_in, bytes_arrived, event_by, after_event, after_line, handled_all}
 use Rattle.replay_run.specs.Linearizability.{Before}
 use Rattle.replay_run.specs.ScriptRuns.{IsRun}
 use Rattle.replay_run.specs.Grids.{IsSmall, AreFew}
@@ -27,10 +29,11 @@ use Rattle.replay_run.proofs.Items.{items_room}
 use Rattle.replay_run.proofs.Places.{same_number}
 use Rattle.replay_run.proofs.Trails.{find_some}
 use Rattle.replay_run.proofs.RunFacts.{AreApart, RunOk}
-use Rattle.replay_run.proofs.Arriving.{same_test, its_event, events_at-append}
+use Rattle.replay_run.proofs.EventRuns.{Kept, kept_refl, takes_kept, takes_in_kept, flowed_kept, flowed_in_kept, events_more, takes_few, takes_in_few, flowed_few, flowed_in_few}
+use Rattle.replay_run.proofs.Arriving.{same_test, its_event}
 use Rattle.replay_run.proofs.RunsOfLines.{run_ok}
-use Rattle.replay_run.proofs.Lines.{connection_there, handled_all_come}
-use Rattle.replay_run.proofs.SkipLaws.{line_counts}
+use Rattle.replay_run.proofs.Lines.{connection_there, asks_come, handled_all_come}
+use Rattle.replay_run.proofs.SkipLaws.{event_kept, line_counts}
 
 -- sums
 
@@ -218,21 +221,6 @@ opened_no_more r c member =
 pub handled_no_more : (o : Object Request Partition) (skips : List CallId) (r : Run) (k : Connection) (items : List Item) → bytes_of (handled_all o skips r k items) ≡ bytes_of r
 handled_no_more o skips r k items = ap (sum_by bytes_at) (handled_all_come o skips r k items).connections
 
--- A partition has no more events than there are.
-pub few_events : (p : ℕ) (es : List At) → length (events_at p es) ≤ length es
-few_events p [] = omega arith
-few_events p (e ∷ es) = go (is_at p e) (few_events p es)
-  where
-    go : (b : Bool) → length (events_at p es) ≤ length es → length (map (λ (x : At). x.event) (cond b (e ∷ filter (is_at p) es) (filter (is_at p) es))) ≤ length (e ∷ es)
-    go true h = omega (arith, h)
-    go false h = omega (arith, h)
-
-pub events_more : (p : ℕ) (es fs : List At) → length (events_at p (es ++ fs)) ≤ length (events_at p es) + length fs
-events_more p es fs =
-    let whole = ap length (events_at-append p es fs) ∙ length-append (events_at p es) (events_at p fs) in
-    let few = few_events p fs in
-    omega (arith, whole, few)
-
 -- what items add: one call at most for each, and no more events than calls
 
 module _ (o : Object Request Partition) (skips : List CallId) where
@@ -244,24 +232,26 @@ module _ (o : Object Request Partition) (skips : List CallId) where
       go true = let f = few p in let more = events_more p r.events [] in let come = length-append r.arrivals (a ∷ []) in omega (arith, f, more, come)
       go false = let f = few p in let more = events_more p r.events (its_event a ∷ []) in let come = length-append r.arrivals (a ∷ []) in omega (arith, f, more, come)
 
+  asks_few : (r : Run) (a : Arrival) → AreFew r → AreFew (asks o skips r a)
+  asks_few r a few = on_if AreFew (is_full (world_at o r a.request.partition)) (given_up (arrived r a [] [])) (asked o skips r a) unasked (asked_few r a few)
+    where
+      unasked : AreFew (given_up (arrived r a [] []))
+      unasked p = let f = few p in let more = events_more p r.events [] in let come = length-append r.arrivals (a ∷ []) in omega (arith, f, more, come)
+
   pub handled_few : (r : Run) (k : Connection) (items : List Item) → AreFew r → AreFew (handled_all o skips r k items)
   handled_few r k [] few = few
   handled_few r k (Reply bytes ∷ items) few = handled_few (told r k.conn bytes) k items few
-  handled_few r k (Asks request ∷ items) few = handled_few (asked o skips r (arrival_at r k.member request)) k items (asked_few r (arrival_at r k.member request) few)
+  handled_few r k (Asks request ∷ items) few = handled_few (asks o skips r (arrival_at r k.member request)) k items (asks_few r (arrival_at r k.member request) few)
 
-  asked_arrivals : (r : Run) (a : Arrival) → length (asked o skips r a).arrivals ≤ length r.arrivals + 1
-  asked_arrivals r a = go (is_skipped skips a.id)
-    where
-      go : (b : Bool) → length (cond b (arrived r a [] (refusal a.line a.request (pos want_of_memory) 0 ∷ [])) (arrived r a (its_event a ∷ []) (happening o r a))).arrivals ≤ length r.arrivals + 1
-      go true = let more = length-append r.arrivals (a ∷ []) in omega (arith, more)
-      go false = let more = length-append r.arrivals (a ∷ []) in omega (arith, more)
+  asks_arrivals : (r : Run) (a : Arrival) → length (asks o skips r a).arrivals ≤ length r.arrivals + 1
+  asks_arrivals r a = let whole = ap length (asks_come o skips r a).arrivals in let more = length-append r.arrivals (a ∷ []) in omega (arith, whole, more)
 
   pub handled_arrivals : (r : Run) (k : Connection) (items : List Item) → length (handled_all o skips r k items).arrivals ≤ length r.arrivals + length items
   handled_arrivals r k [] = omega arith
   handled_arrivals r k (Reply bytes ∷ items) = let rest = handled_arrivals (told r k.conn bytes) k items in omega (arith, rest)
   handled_arrivals r k (Asks request ∷ items) =
-      let one = asked_arrivals r (arrival_at r k.member request) in
-      let rest = handled_arrivals (asked o skips r (arrival_at r k.member request)) k items in
+      let one = asks_arrivals r (arrival_at r k.member request) in
+      let rest = handled_arrivals (asks o skips r (arrival_at r k.member request)) k items in
       omega (arith, one, rest)
 
   -- lines
@@ -279,22 +269,49 @@ module _ (o : Object Request Partition) (skips : List CallId) where
   clock_few r member moment few p = let f = few p in omega (arith, f)
 
   bytes_few : (r : Run) (k : Connection) (bytes : List ℕ) → AreFew r → AreFew (bytes_arrived o skips r k bytes)
-  bytes_few r k bytes few = on_if AreFew (is_some (fault_on k)) (next_line r) (handled_all o skips (took_bytes r k bytes) k (items_by k bytes)) (next_few r few) (handled_few (took_bytes r k bytes) k (items_by k bytes) (took_few r k bytes few))
+  bytes_few r k bytes few = on_if AreFew (takes_bytes o r k) (handled_all o skips (took_bytes r k bytes) k (items_by k bytes)) (next_line r) (handled_few (took_bytes r k bytes) k (items_by k bytes) (took_few r k bytes few)) (next_few r few)
 
   found_few : (r : Run) (bytes : List ℕ) (found : Option Connection) → AreFew r → AreFew (elim found [ None ↦ next_line r | Some k ↦ bytes_arrived o skips r k bytes ])
   found_few r bytes None few = next_few r few
   found_few r bytes (Some k) few = bytes_few r k bytes few
 
-  -- A line adds 1,001 events of a partition at most beside those of its calls.
-  pub stays_few : (r : Run) (line : Line) → AreFew r → AreFew (after_line o skips r line)
-  stays_few r (Grid members backups capacity) few = next_few r few
-  stays_few r (OpenConn c member) few = on_if AreFew (is_some (connection_of r c)) (next_line r) (opened r c member) (next_few r few) (opened_few r c member few)
-  stays_few r (Arrive c bytes) few = found_few r bytes (connection_of r c) few
-  stays_few r (Clock member moment) few = clock_few r member moment few
-  stays_few r (Dump partition member) few = next_few r few
-  stays_few r (Trail partition) few = next_few r few
-  stays_few r Comment few = next_few r few
-  stays_few r End few = next_few r few
+-- what lines of events add: 1,001 events of a partition at most
+
+module _ {State : Type 0} (o : Object Request State) (r : Run) (few : AreFew r) where
+  kept_few : (next : Run) (most : ℕ) → most ≤ 1001 → Kept (next_line r) next → ((p : ℕ) → length (events_at p next.events) ≤ length (events_at p r.events) + most) → AreFew next
+  kept_few next most size kept more p =
+      let f = few p in
+      let m = more p in
+      let come = ap length kept.arrivals in
+      let lines = kept.lines in
+      omega (arith, size, f, m, come, lines)
+
+  pub event_line_few : (e : Option At) → AreFew (after_event o (next_line r) e)
+  event_line_few None = kept_few (next_line r) 0 (omega arith) (kept_refl (next_line r)) (λ p. omega arith)
+  event_line_few (Some e) = kept_few (takes o (next_line r) e.partition e.event) 1 (omega arith) (takes_kept o (next_line r) e.partition e.event) (takes_few o (next_line r) e.partition e.event)
+
+  pub flow_few : (p most : ℕ) → most ≤ 1000 → AreFew (flowed o (next_line r) p most)
+  flow_few p most size = kept_few (flowed o (next_line r) p most) most (omega (arith, size)) (flowed_kept o (next_line r) p most) (flowed_few o (next_line r) p most)
+
+  pub flow_all_few : (most : ℕ) → most ≤ 1000 → AreFew (flowed_in o (next_line r) most (numbers_below partitions))
+  flow_all_few most size =
+      kept_few (flowed_in o (next_line r) most (numbers_below partitions)) most (omega (arith, size)) (flowed_in_kept o (next_line r) most (numbers_below partitions))
+      (flowed_in_few o (next_line r) most partitions)
+
+  pub in_all_few : (event : Event Request) → AreFew (takes_in o (next_line r) event (numbers_below partitions))
+  in_all_few event =
+      kept_few (takes_in o (next_line r) event (numbers_below partitions)) 1 (omega arith) (takes_in_kept o (next_line r) event (numbers_below partitions)) (takes_in_few o (next_line r) event partitions)
+
+-- A line within its limits adds 1,001 events of a partition at most beside those of its calls.
+pub stays_few : (o : Object Request Partition) (skips : List CallId) (r : Run) (members size : ℕ) (line : Line) → IsWithin members size line → AreFew r → AreFew (after_line o skips r line)
+stays_few o skips r members size (OpenConn c member) within few = on_if AreFew (can_open o r c member) (opened r c member) (next_line r) (opened_few o skips r c member few) (next_few o skips r few)
+stays_few o skips r members size (Arrive c bytes) within few = found_few o skips r bytes (connection_of r c) few
+stays_few o skips r members size (Clock member moment) within few = clock_few o skips r member moment few
+stays_few o skips r members size (Flow partition most) within few = flow_few o r few partition most within.2
+stays_few o skips r members size (FlowAll most) within few = flow_all_few o r few most within.1
+stays_few o skips r members size (Crash member) within few = in_all_few o r few (event.Crash member)
+stays_few o skips r members size (Detect member) within few = in_all_few o r few (event.Detect member)
+stays_few o skips r members size line within few = event_line_few o r few (event_by line)
 
 -- the bytes of a line
 abbrev pub length_of : Line → ℕ
@@ -305,29 +322,32 @@ module _ {o : Object Request Partition} (skips : List CallId) (r : Run) (is : Is
   bytes_more : (c : ℕ) (bytes : List ℕ) (found : Option Connection) → connection_of r c ≡ found
       → bytes_of (elim found [ None ↦ next_line r | Some k ↦ bytes_arrived o skips r k bytes ]) ≤ bytes_of r + length bytes
   bytes_more c bytes None there = omega arith
-  bytes_more c bytes (Some k) there = go (is_some (fault_on k))
+  bytes_more c bytes (Some k) there = go (takes_bytes o r k)
     where
-      go : (closed : Bool) → bytes_of (cond closed (next_line r) (handled_all o skips (took_bytes r k bytes) k (items_by k bytes))) ≤ bytes_of r + length bytes
-      go true = omega arith
-      go false =
+      go : (takes : Bool) → bytes_of (cond takes (handled_all o skips (took_bytes r k bytes) k (items_by k bytes)) (next_line r)) ≤ bytes_of r + length bytes
+      go true =
           let all = handled_no_more o skips (took_bytes r k bytes) k (items_by k bytes) in
           let more = bytes_taken_more r k bytes is (connection_there r c k there) in
           omega (arith, all, more)
+      go false = omega arith
 
-  open_more : (c member : ℕ) (there : Bool) → bytes_of (cond there (next_line r) (opened r c member)) ≤ bytes_of r + 0
-  open_more c member true = omega arith
-  open_more c member false = let same = opened_no_more r c member in omega (arith, same)
+  open_more : (c member : ℕ) (opens : Bool) → bytes_of (cond opens (opened r c member) (next_line r)) ≤ bytes_of r + 0
+  open_more c member true = let same = opened_no_more r c member in omega (arith, same)
+  open_more c member false = omega arith
+
+  kept_no_more : (next : Run) → Kept (next_line r) next → bytes_of next ≤ bytes_of r + 0
+  kept_no_more next kept = let same = ap (sum_by bytes_at) kept.connections in omega (arith, same)
 
   -- A line adds no more than its bytes.
   pub line_adds : (line : Line) → bytes_of (after_line o skips r line) ≤ bytes_of r + length_of line
-  line_adds (Grid members backups capacity) = omega arith
-  line_adds (OpenConn c member) = open_more c member (is_some (connection_of r c))
+  line_adds (OpenConn c member) = open_more c member (can_open o r c member)
   line_adds (Arrive c bytes) = bytes_more c bytes (connection_of r c) refl
   line_adds (Clock member moment) = omega arith
-  line_adds (Dump partition member) = omega arith
-  line_adds (Trail partition) = omega arith
-  line_adds Comment = omega arith
-  line_adds End = omega arith
+  line_adds (Flow partition most) = kept_no_more (flowed o (next_line r) partition most) (flowed_kept o (next_line r) partition most)
+  line_adds (FlowAll most) = kept_no_more (flowed_in o (next_line r) most (numbers_below partitions)) (flowed_in_kept o (next_line r) most (numbers_below partitions))
+  line_adds (Crash member) = kept_no_more (takes_in o (next_line r) (event.Crash member) (numbers_below partitions)) (takes_in_kept o (next_line r) (event.Crash member) (numbers_below partitions))
+  line_adds (Detect member) = kept_no_more (takes_in o (next_line r) (event.Detect member) (numbers_below partitions)) (takes_in_kept o (next_line r) (event.Detect member) (numbers_below partitions))
+  line_adds line = kept_no_more (after_event o (next_line r) (event_by line)) (event_kept o (next_line r) (event_by line))
 
   -- and so many lines have no more bytes than their texts have room for
   pub stays_small : (line : Line) → IsSmall r → 2 * length_of line ≤ most_line_bytes → IsSmall (after_line o skips r line)
@@ -336,13 +356,14 @@ module _ {o : Object Request Partition} (skips : List CallId) (r : Run) (is : Is
       let lines = (line_counts o skips r line).lines in
       omega (arith, small, size, adds, lines)
 
+-- lines that leave the connections as they are
+pub kept_small : (r next : Run) → Kept (next_line r) next → IsSmall r → IsSmall next
+kept_small r next kept small =
+    let same = ap (sum_by bytes_at) kept.connections in
+    let lines = kept.lines in
+    omega (arith, small, same, lines)
+
 -- a line within the limit of bytes
 pub line_within : (members size : ℕ) (line : Line) → IsWithin members size line → 2 * length_of line ≤ size
-line_within members size (Grid n backups capacity) h = omega arith
-line_within members size (OpenConn conn member) h = omega arith
 line_within members size (Arrive conn bytes) h = h.2
-line_within members size (Clock member moment) h = omega arith
-line_within members size (Dump partition member) h = omega arith
-line_within members size (Trail partition) h = omega arith
-line_within members size Comment h = omega arith
-line_within members size End h = omega arith
+line_within members size line h = omega arith

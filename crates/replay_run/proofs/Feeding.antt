@@ -13,15 +13,15 @@ use Rattle.replay_run.proofs.LineFacts.{slot, slot_stands, fed_session, they_bri
 
 -- The connection took its bytes, which bring these items, and none of them was handled.
 pub record HasBegun {V : Type 0} {T : V → Type 0} (form : FormOf V T) (settings : Settings) (new : Grid V T) (r : Run) (conn member : ℕ) (bytes : List ℕ) (fed : FedSession) (text : List ℕ) : Type 0 where
-  pub open_there : IsOpen r conn member
+  pub open_there : IsOpen settings r conn member
   pub brings : Brings settings r open_there.connection bytes fed.items.items
   pub none_handled : HasHandledSome form settings new r open_there.connection bytes [] text text
   pub closed : fed.closed ≡ fault_on (with_bytes open_there.connection bytes)
 
-module _ {V : Type 0} {T : V → Type 0} {form : FormOf V T} {settings : Settings} (grid : Grid V T) (r : Run) (s : Stands form settings grid r) (conn member : ℕ) (is : open_member_in r conn ≡ Some member) (bytes : List ℕ) (gave : Option FedSession)
+module _ {V : Type 0} {T : V → Type 0} {form : FormOf V T} {settings : Settings} (grid : Grid V T) (r : Run) (s : Stands form settings grid r) (conn member : ℕ) (is : open_member_in settings r conn ≡ Some member) (bytes : List ℕ) (gave : Option FedSession)
     (gives : (o : Opened) (text : List ℕ) → opened_at grid.connections conn ≡ Some o → StandsFor o.session text → Gives gave o.session.conn o.session.member text bytes) where
-  abbrev its : IsOpen r conn member
-  its = is_open r conn member is
+  abbrev its : IsOpen settings r conn member
+  its = is_open settings r conn member is
 
   abbrev opened_slot : (o : Opened) × (opened_at grid.connections conn ≡ Some o) × IsConnection o its.connection
   opened_slot = slot grid r s conn its.connection its.there

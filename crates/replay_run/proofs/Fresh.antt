@@ -1,6 +1,5 @@
 -- The calls that a line brings have names of their own.
 use Rattle.std.proofs.Common.{◌≡◌, ◌≢◌, ℕ, ◌+◌, ◌≤◌, Bool, true, false, cond, List, [], ◌∷◌, Option, Some, None, refl, ap, sym, ◌∙◌, inl, inr, arith}
-use Rattle.std.specs.Prelude.{is_some}
 use Rattle.grid_base.specs.Objects.{Object}
 use Rattle.grid_base.specs.declared.calls.Request.{Request}
 use Rattle.grid_base.specs.declared.names.CallId.{CallId}
@@ -9,8 +8,8 @@ use Rattle.partition_protocol.proofs.Lists.{In, contains_in}
 use Rattle.session_core.specs.declared.item.Item.{Item}
 use Rattle.session_core.specs.declared.item.Item.TheVariants.{Call as Asks, Reply}
 use Rattle.script_lang.specs.declared.line.Line.{Line}
-use Rattle.script_lang.specs.declared.line.Line.TheVariants.{Grid, OpenConn, Arrive, Clock, Dump, Trail, Comment, End}
-use Rattle.replay_run.specs.Runs.{Run, Connection, Arrival, connection_of, fault_on, items_by}
+use Rattle.script_lang.specs.declared.line.Line.TheVariants.{Arrive}
+use Rattle.replay_run.specs.Runs.{Run, Connection, Arrival, connection_of, takes_bytes, items_by}
 use Rattle.replay_run.specs.ScriptRuns.{IsRun, calls_in}
 use Rattle.replay_run.specs.Skips.{items_at, calls_at}
 use Rattle.replay_run.proofs.Items.{AreNumbered, items_room}
@@ -33,20 +32,14 @@ module _ {o : Object Request Partition} (r : Run) (is : IsRun o r) (b : Arrival)
       let number = ap (λ (c : CallId). c.number) same in
       omega (arith, at.1, below, number)
 
-  of_open : (k : Connection) (bytes : List ℕ) → connection_of r k.conn ≡ Some k → (closed : Bool) → In id (calls_in (cond closed [] (items_by k bytes))) → b.id ≢ id
-  of_open k bytes there true j = absurd j
-  of_open k bytes there false j = of_items k bytes there j
+  of_open : (k : Connection) (bytes : List ℕ) → connection_of r k.conn ≡ Some k → (takes : Bool) → In id (calls_in (cond takes (items_by k bytes) [])) → b.id ≢ id
+  of_open k bytes there true j = of_items k bytes there j
+  of_open k bytes there false j = absurd j
 
-  of_connection : (c : ℕ) (bytes : List ℕ) (found : Option Connection) → connection_of r c ≡ found → In id (calls_in (items_at found bytes)) → b.id ≢ id
+  of_connection : (c : ℕ) (bytes : List ℕ) (found : Option Connection) → connection_of r c ≡ found → In id (calls_in (items_at o r found bytes)) → b.id ≢ id
   of_connection c bytes None there j = absurd j
-  of_connection c bytes (Some k) there j = of_open k bytes (connection_there r c k there) (is_some (fault_on k)) j
+  of_connection c bytes (Some k) there j = of_open k bytes (connection_there r c k there) (takes_bytes o r k) j
 
-  pub calls_are_new : (line : Line) → In id (calls_at r line) → b.id ≢ id
-  calls_are_new (Grid members backups capacity) j = absurd j
-  calls_are_new (OpenConn c member) j = absurd j
+  pub calls_are_new : (line : Line) → In id (calls_at o r line) → b.id ≢ id
   calls_are_new (Arrive c bytes) j = of_connection c bytes (connection_of r c) refl j
-  calls_are_new (Clock member moment) j = absurd j
-  calls_are_new (Dump partition member) j = absurd j
-  calls_are_new (Trail partition) j = absurd j
-  calls_are_new Comment j = absurd j
-  calls_are_new End j = absurd j
+  calls_are_new line j = absurd j

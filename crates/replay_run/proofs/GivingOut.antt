@@ -1,5 +1,5 @@
 -- A world that gives out the answers which wait at a member, one after another.
-use Rattle.std.proofs.Common.{◌≡◌, ◌≢◌, ℕ, List, [], ◌∷◌, ◌++◌, map, refl, ap, sym, subst, ◌∙◌, append_assoc}
+use Rattle.std.proofs.Common.{◌≡◌, ◌≢◌, ℕ, Bool, true, false, cond, Option, List, [], ◌∷◌, ◌++◌, map, refl, ap, sym, subst, ◌∙◌, append_assoc}
 use Rattle.grid_base.specs.declared.calls.Request.{Request}
 use Rattle.partition_protocol.specs.Events.{Event}
 use Rattle.primary_hold.specs.declared.released.Released.{Released}
@@ -11,9 +11,11 @@ use Rattle.call_engine.specs.Calls.{Settings}
 use Rattle.call_engine.specs.Env.{settings_of}
 use Rattle.call_engine.specs.Limits.{RequestFits}
 use Rattle.replay_run.specs.Printing.{appended_text}
+use Rattle.replay_run.specs.Runs.{Run}
 use Rattle.replay_run.specs.Tables.{Table, with_answer}
-use Rattle.replay_run.specs.Grids.{FormOf, GridWorld, grid_meaning, StandsForEvents}
-use Rattle.replay_run.specs.WorldCalls.{texts_of, message_of, with_answers, GivesOut}
+use Rattle.replay_run.specs.Shelves.{grid_meaning}
+use Rattle.replay_run.specs.Grids.{FormOf, GridWorld, StandsForEvents}
+use Rattle.replay_run.specs.WorldCalls.{texts_of, message_of, with_answers, goes_out, going_out, GivesOut}
 
 -- Some of the answers were given out.
 pub record GaveOut {S Env C State : Type 0} (meaning_in : Env → Meaning S C State) (limits : C → Type 0) (old new : World S Env C) (member : ℕ) : Type 0 where
@@ -21,13 +23,33 @@ pub record GaveOut {S Env C State : Type 0} (meaning_in : Env → Meaning S C St
   pub setup : setup_of new ≡ setup_of old
   pub others : (other : ℕ) → other ≢ member → waiting new other ≡ waiting old other
 
-pub more_text : (line : ℕ) (out : List ℕ) (answer : Released) (answers rest : List Released) → answers ≡ answer ∷ rest
-    → (out ++ appended_text (message_of line answer)) ++ texts_of (map (message_of line) rest) ≡ out ++ texts_of (map (message_of line) answers)
-more_text line out answer answers rest e =
-    append_assoc out (appended_text (message_of line answer)) (texts_of (map (message_of line) rest)) ∙ ap (λ (xs : List Released). out ++ texts_of (map (message_of line) xs)) (sym e)
+-- what the answers that wait still are to the text and to the table: of the first one, as it goes out or doesn't, and of the others
 
-pub more_table : (line : ℕ) (table : Table) (answer : Released) (answers rest : List Released) → answers ≡ answer ∷ rest → with_answers (with_answer table answer.id line) line rest ≡ with_answers table line answers
-more_table line table answer answers rest e = ap (with_answers table line) (sym e)
+module _ (r : Run) (own : Option ℕ) (line : ℕ) where
+  -- the text of those that go out
+  abbrev pub text_out : List Released → List ℕ
+  text_out answers = texts_of (map (message_of line) (going_out r own answers))
+
+  -- the table once they went out
+  abbrev pub table_out : Table → List Released → Table
+  table_out table answers = with_answers table line (going_out r own answers)
+
+  module _ (answer : Released) (answers rest : List Released) (first : answers ≡ answer ∷ rest) where
+    out_first : (goes : Bool) → goes_out r own answer ≡ goes → going_out r own answers ≡ cond goes (answer ∷ going_out r own rest) (going_out r own rest)
+    out_first goes e = ap (going_out r own) first ∙ ap (λ b. cond b (answer ∷ going_out r own rest) (going_out r own rest)) e
+
+    pub more_text : (out : List ℕ) → goes_out r own answer ≡ true → (out ++ appended_text (message_of line answer)) ++ text_out rest ≡ out ++ text_out answers
+    more_text out goes =
+        append_assoc out (appended_text (message_of line answer)) (text_out rest) ∙ ap (λ (xs : List Released). out ++ texts_of (map (message_of line) xs)) (sym (out_first true goes))
+
+    pub more_table : (table : Table) → goes_out r own answer ≡ true → table_out (with_answer table answer.id line) rest ≡ table_out table answers
+    more_table table goes = ap (with_answers table line) (sym (out_first true goes))
+
+    pub same_text : (out : List ℕ) → goes_out r own answer ≡ false → out ++ text_out rest ≡ out ++ text_out answers
+    same_text out stays = ap (λ (xs : List Released). out ++ texts_of (map (message_of line) xs)) (sym (out_first false stays))
+
+    pub same_table : (table : Table) → goes_out r own answer ≡ false → table_out table rest ≡ table_out table answers
+    same_table table stays = ap (with_answers table line) (sym (out_first false stays))
 
 module _ {S Env C State : Type 0} {meaning_in : Env → Meaning S C State} {limits : C → Type 0} where
   pub gave_none : (world : World S Env C) (member : ℕ) → GaveOut meaning_in limits world world member

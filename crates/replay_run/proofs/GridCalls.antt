@@ -1,5 +1,5 @@
 -- The grid after a call, which its partition's world ran or which found no memory.
-use Rattle.std.proofs.Common.{◌≡◌, ℕ, ◌+◌, ◌<◌, true, cond, List, [], ◌∷◌, ◌++◌, length, map, drop, pos, Some, None, slice_get, slice_set, refl, ap, sym, ◌∙◌, subst, ◌⊎◌, ⊎_elim, inl, inr, append-nil, append_assoc}
+use Rattle.std.proofs.Common.{◌≡◌, ℕ, ◌+◌, ◌<◌, true, false, cond, List, [], ◌∷◌, ◌++◌, length, map, filter, drop, pos, Some, None, slice_get, slice_set, refl, ap, sym, ◌∙◌, subst, ◌⊎◌, ⊎_elim, inl, inr, append-nil, append_assoc}
 use Rattle.std.specs.List.{Contains}
 use Rattle.std.proofs.lemmas.Bool.{eq-eqb}
 use Rattle.grid_base.specs.Names.{is_same_call}
@@ -17,12 +17,12 @@ use Rattle.call_engine.specs.Changes.{change_of}
 use Rattle.call_engine.specs.Objects.{partition_object}
 use Rattle.call_engine.specs.Env.{settings_of}
 use Rattle.grid_base.specs.Errors.{want_of_memory}
-use Rattle.replay_run.specs.Runs.{Run, Arrival, Appended, connection_of, events_at, moment_of, arrival_at, call_of, world_at, happening, refused_by, refusal, answer_to, released_by, asked, arrived, is_skipped}
-use Rattle.replay_run.specs.Printing.{partitions, new_messages}
+use Rattle.replay_run.specs.Runs.{Run, Arrival, Appended, connection_of, events_at, moment_of, arrival_at, call_of, world_at, happening, is_full, is_heard_by, refused_by, refusal, answer_to, released_by, asked, arrived, is_skipped, partitions}
+use Rattle.replay_run.specs.Printing.{new_messages}
 use Rattle.replay_run.specs.ScriptRuns.{IsRun, IsNext}
 use Rattle.replay_run.specs.Tables.{Table, Opened, opened_at, with_arrival}
 use Rattle.replay_run.specs.Grids.{FormOf, GridWorld, IsConnection, HasTable, IsCounting, HasWorld, Holds}
-use Rattle.replay_run.specs.WorldCalls.{arrival_to, message_of, with_answers, texts_of, IsCalled, IsSkipped, HasAsked}
+use Rattle.replay_run.specs.WorldCalls.{arrival_to, message_of, with_answers, going_out, texts_of, IsCalled, IsSkipped, HasAsked}
 use Rattle.replay_run.proofs.Arriving.{its_event}
 use Rattle.replay_run.proofs.GivingOut.{HasGivenOut}
 use Rattle.replay_run.proofs.Answering.{refusals_answer_none}
@@ -33,7 +33,7 @@ use Rattle.replay_run.proofs.TableRuns.{found_opened, arrived_table, refusals_ta
 use Rattle.replay_run.proofs.TableCounts.{counting_called, counting_answers}
 use Rattle.replay_run.proofs.WorldRuns.{run_is, released_here, called_worlds, nothing_waits, skipped_worlds}
 
--- the text of a call: what answered it at once, and the answers that were given out
+-- the text of a call: what answered it at once, and the answers that went out
 abbrev pub call_text : List ℕ → ℕ → List ℕ → List Released → List ℕ
 call_text written line added answers = (written ++ added) ++ texts_of (map (message_of line) answers)
 
@@ -42,6 +42,7 @@ pub record IsAfter {V : Type 0} {T : V → Type 0} (grid new : Grid V T) (line p
   pub env : new.env ≡ grid.env
   pub lines : new.lines ≡ line
   pub members : new.members ≡ grid.members
+  pub links : new.links.items ≡ grid.links.items
   pub moments : new.moments.items ≡ grid.moments.items
   pub table : new.connections ≡ with_answers (with_arrival grid.connections conn line) line answers
   pub reopened : new.reopened.items ≡ grid.reopened.items
@@ -49,9 +50,10 @@ pub record IsAfter {V : Type 0} {T : V → Type 0} (grid new : Grid V T) (line p
 
 module _ {V : Type 0} {T : V → Type 0} {form : FormOf V T} {settings : Settings} (grid : Grid V T) (r : Run) (run : IsRun (partition_object settings) r) (h : Holds form settings grid r) (member : ℕ) (request : Request) (next : IsNext r request) (count : IsCounting grid.connections r request.id.conn request.id.number) (low : request.partition < partitions)
     (new : Grid V T) (called world : GridWorld V T) (added written text : List ℕ)
-    (after : IsAfter grid new r.lines request.partition request.id.conn world (waiting called member))
+    (after : IsAfter grid new r.lines request.partition request.id.conn world (going_out r (Some request.id.conn) (waiting called member)))
     (out : HasGivenOut settings called world member)
-    (wrote : text ≡ call_text written r.lines added (waiting called member)) where
+    (wrote : text ≡ call_text written r.lines added (going_out r (Some request.id.conn) (waiting called member)))
+    (goes : is_full (world_at (partition_object settings) r request.partition) ≡ false) where
   abbrev old : HasWorld settings grid.worlds.items r request.partition
   old = h.worlds request.partition low
 
@@ -60,6 +62,10 @@ module _ {V : Type 0} {T : V → Type 0} {form : FormOf V T} {settings : Setting
 
   abbrev before : World Request
   before = world_at (partition_object settings) r request.partition
+
+  -- the answers that go out
+  abbrev outgoing : List Released
+  outgoing = going_out r (Some request.id.conn) (waiting called member)
 
   slot : (o : Opened) × (opened_at grid.connections request.id.conn ≡ Some o) × IsConnection o next.connection
   slot = found_opened grid.connections r h.table request.id.conn next.connection (ap (connection_of r) next.on ∙ next.may.there)
@@ -80,7 +86,7 @@ module _ {V : Type 0} {T : V → Type 0} {form : FormOf V T} {settings : Setting
   counting_now : IsCounting new.connections r request.id.conn (request.id.number + 1)
   counting_now =
       subst (λ t. IsCounting t r request.id.conn (request.id.number + 1)) (sym after.table)
-      (counting_answers r.lines (waiting called member) called_one r request.id.conn (request.id.number + 1)
+      (counting_answers r.lines outgoing called_one r request.id.conn (request.id.number + 1)
       (counting_called grid.connections r request.id.conn request.id.number r.lines count))
 
   -- the call was run
@@ -92,7 +98,7 @@ module _ {V : Type 0} {T : V → Type 0} {form : FormOf V T} {settings : Setting
     refused = refused_by r.lines request (happens (partition_object settings) before (call_of a)).outcome
 
     abbrev given : List Appended
-    given = map (answer_to r.lines) (released_by before then_world)
+    given = map (answer_to r.lines) (filter (is_heard_by r request.id.conn) (released_by before then_world))
 
     abbrev called_run : Run
     called_run = arrived r a (its_event a ∷ []) (happening (partition_object settings) r a)
@@ -102,22 +108,26 @@ module _ {V : Type 0} {T : V → Type 0} {form : FormOf V T} {settings : Setting
         released_here grid.worlds.items r a world called_run old refl refl called added did out refl
         ∙ ap (λ b. cond b (answers_by (partition_object settings) (change_of settings) before then_world) []) (eq-eqb member member refl)
 
-    messages_are : map (message_of r.lines) (waiting called member) ≡ map (answer_to r.lines) (released_by before then_world)
-    messages_are = ap (map (message_of r.lines)) released_is ∙ answers_given settings r.lines then_world (drop (length before.released) then_world.released)
+    messages_are : map (message_of r.lines) outgoing ≡ map (answer_to r.lines) (filter (is_heard_by r request.id.conn) (released_by before then_world))
+    messages_are =
+        ap (λ (answers : List Released). map (message_of r.lines) (going_out r (Some request.id.conn) answers)) released_is
+        ∙ answers_given settings r (Some request.id.conn) r.lines then_world (drop (length before.released) then_world.released)
 
     called_table : HasTable new.connections called_run
     called_table =
         let first = refusals_table refused called_one counted (refusals_answer_none r.lines request (happens (partition_object settings) before (call_of a)).outcome) counted_table in
-        let all = answers_table r.lines (waiting called member) called_one (record counted { appended = r.appended ++ refused }) first in
-        let same = append_assoc r.appended refused (map (message_of r.lines) (waiting called member)) ∙ ap (λ (ms : List Appended). r.appended ++ (refused ++ ms)) messages_are in
-        let whole = subst (λ (ms : List Appended). HasTable (with_answers called_one r.lines (waiting called member)) (record counted { appended = ms })) same all in
+        let all = answers_table r.lines outgoing called_one (record counted { appended = r.appended ++ refused }) first in
+        let same = append_assoc r.appended refused (map (message_of r.lines) outgoing) ∙ ap (λ (ms : List Appended). r.appended ++ (refused ++ ms)) messages_are in
+        let whole = subst (λ (ms : List Appended). HasTable (with_answers called_one r.lines outgoing) (record counted { appended = ms })) same all in
         subst (λ t. HasTable t called_run) (sym after.table) (record { size = whole.size; connections = whole.connections; calls = whole.calls })
 
     called_holds : Holds form settings new called_run
     called_holds = record {
       goes_by = ap (settings_of form) after.env ∙ h.goes_by;
+      goes_on = h.goes_on;
       lines = after.lines;
       members = after.members ∙ h.members;
+      links = after.links ∙ h.links;
       moments = after.moments ∙ h.moments;
       clocks = h.clocks;
       table = called_table;
@@ -141,6 +151,7 @@ module _ {V : Type 0} {T : V → Type 0} {form : FormOf V T} {settings : Setting
       holds = called_holds;
       counting = record { here = counting_now.here; others = counting_now.others };
       added = called_text;
+      goes = goes;
     }
 
   -- the call found no memory
@@ -157,8 +168,8 @@ module _ {V : Type 0} {T : V → Type 0} {form : FormOf V T} {settings : Setting
     asked_is : asked (partition_object settings) (request.id ∷ []) r a ≡ skipped_run
     asked_is = ap (λ b. cond b skipped_run (arrived r a (its_event a ∷ []) (happening (partition_object settings) r a))) skip_it
 
-    waits : waiting called member ≡ []
-    waits = nothing_waits grid.worlds.items r a world skipped_run old refl refl called added did out (append-nil r.events) member
+    none_go : outgoing ≡ []
+    none_go = ap (going_out r (Some request.id.conn)) (nothing_waits grid.worlds.items r a world skipped_run old refl refl called added did out (append-nil r.events) member)
 
     excuse_answers_none : (m : Appended) → In m excuse → m.answers ≡ None
     excuse_answers_none m (inl e) = ap (λ (n : Appended). n.answers) (sym e)
@@ -167,14 +178,16 @@ module _ {V : Type 0} {T : V → Type 0} {form : FormOf V T} {settings : Setting
     skipped_table : HasTable new.connections skipped_run
     skipped_table =
         let whole = refusals_table excuse called_one counted excuse_answers_none counted_table in
-        subst (λ t. HasTable t skipped_run) (sym (after.table ∙ ap (with_answers called_one r.lines) waits))
+        subst (λ t. HasTable t skipped_run) (sym (after.table ∙ ap (with_answers called_one r.lines) none_go))
         (record { size = whole.size; connections = whole.connections; calls = whole.calls })
 
     skipped_holds : Holds form settings new skipped_run
     skipped_holds = record {
       goes_by = ap (settings_of form) after.env ∙ h.goes_by;
+      goes_on = h.goes_on;
       lines = after.lines;
       members = after.members ∙ h.members;
+      links = after.links ∙ h.links;
       moments = after.moments ∙ h.moments;
       clocks = h.clocks;
       table = skipped_table;
@@ -185,7 +198,7 @@ module _ {V : Type 0} {T : V → Type 0} {form : FormOf V T} {settings : Setting
 
     skipped_text : text ≡ written ++ texts_of (new_messages r skipped_run)
     skipped_text =
-        wrote ∙ (λ i. (written ++ did.text i) ++ texts_of (map (message_of r.lines) (waits i)))
+        wrote ∙ (λ i. (written ++ did.text i) ++ texts_of (map (message_of r.lines) (none_go i)))
         ∙ append-nil (written ++ texts_of excuse)
         ∙ ap (λ ms. written ++ texts_of ms) (sym (new_with r skipped_run excuse refl))
 
@@ -202,37 +215,38 @@ module _ {V : Type 0} {T : V → Type 0} {form : FormOf V T} {settings : Setting
       holds = subst (Holds form settings new) (sym asked_is) skipped_holds;
       counting = subst (λ x. IsCounting new.connections x request.id.conn (request.id.number + 1)) (sym asked_is) skipped_counting;
       added = skipped_text ∙ ap (λ (n : Run). written ++ texts_of (new_messages r n)) (sym asked_is);
+      goes = goes;
     }
 
 -- A call that reached its world, which then gave out all that waited.
 pub asked_grid : {V : Type 0} {T : V → Type 0} {form : FormOf V T} {settings : Settings} (grid : Grid V T) (r : Run) (run : IsRun (partition_object settings) r) (h : Holds form settings grid r) (member : ℕ) (request : Request) → IsNext r request → IsCounting grid.connections r request.id.conn request.id.number → (low : request.partition < partitions)
     → (new : Grid V T) (old called world : GridWorld V T) (line now : ℕ) (added written text : List ℕ) → slice_get grid.worlds.items request.partition ≡ Some old → line ≡ r.lines → now ≡ moment_of r member
-    → IsAfter grid new line request.partition request.id.conn world (waiting called member) → HasGivenOut settings called world member
+    → IsAfter grid new line request.partition request.id.conn world (going_out r (Some request.id.conn) (waiting called member)) → HasGivenOut settings called world member
     → IsCalled settings old called (events_at request.partition r.events) (arrival_to line member now request) added ⊎ IsSkipped settings old called (events_at request.partition r.events) (arrival_to line member now request) added
-    → text ≡ call_text written line added (waiting called member) → HasAsked form settings new r member request written text
-asked_grid {form = form} {settings = settings} grid r run h member request next count low new old called world line now added written text there at_line at_moment after out did wrote = ⊎_elim ran skipped did
+    → text ≡ call_text written line added (going_out r (Some request.id.conn) (waiting called member)) → is_full (world_at (partition_object settings) r request.partition) ≡ false → HasAsked form settings new r member request written text
+asked_grid {form = form} {settings = settings} grid r run h member request next count low new old called world line now added written text there at_line at_moment after out did wrote goes = ⊎_elim ran skipped did
   where
     same_world : old ≡ (h.worlds request.partition low).world
     same_world =
         let both : Some old ≡ Some (h.worlds request.partition low).world = sym there ∙ (h.worlds request.partition low).there in
         cc
 
-    after_it : IsAfter grid new r.lines request.partition request.id.conn world (waiting called member)
-    after_it = subst (λ l. IsAfter grid new l request.partition request.id.conn world (waiting called member)) at_line after
+    after_it : IsAfter grid new r.lines request.partition request.id.conn world (going_out r (Some request.id.conn) (waiting called member))
+    after_it = subst (λ l. IsAfter grid new l request.partition request.id.conn world (going_out r (Some request.id.conn) (waiting called member))) at_line after
 
-    wrote_it : text ≡ call_text written r.lines added (waiting called member)
-    wrote_it = wrote ∙ (λ i. call_text written (at_line i) added (waiting called member))
+    wrote_it : text ≡ call_text written r.lines added (going_out r (Some request.id.conn) (waiting called member))
+    wrote_it = wrote ∙ (λ i. call_text written (at_line i) added (going_out r (Some request.id.conn) (waiting called member)))
 
     ran : IsCalled settings old called (events_at request.partition r.events) (arrival_to line member now request) added → HasAsked form settings new r member request written text
     ran d =
-        call_ran grid r run h member request next count low new called world added written text after_it out wrote_it
+        call_ran grid r run h member request next count low new called world added written text after_it out wrote_it goes
         (subst (λ w. IsCalled settings w called (events_at request.partition r.events) (arrival_at r member request) added) same_world
         (subst (λ m. IsCalled settings old called (events_at request.partition r.events) (arrival_to r.lines member m request) added) at_moment
         (subst (λ l. IsCalled settings old called (events_at request.partition r.events) (arrival_to l member now request) added) at_line d)))
 
     skipped : IsSkipped settings old called (events_at request.partition r.events) (arrival_to line member now request) added → HasAsked form settings new r member request written text
     skipped d =
-        call_skipped grid r run h member request next count low new called world added written text after_it out wrote_it
+        call_skipped grid r run h member request next count low new called world added written text after_it out wrote_it goes
         (subst (λ w. IsSkipped settings w called (events_at request.partition r.events) (arrival_at r member request) added) same_world
         (subst (λ m. IsSkipped settings old called (events_at request.partition r.events) (arrival_to r.lines member m request) added) at_moment
         (subst (λ l. IsSkipped settings old called (events_at request.partition r.events) (arrival_to l member now request) added) at_line d)))

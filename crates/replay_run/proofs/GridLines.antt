@@ -1,6 +1,6 @@
 -- The grid after each line: it stands for the run after the line, and the line's text was added.
-use Rattle.std.proofs.Common.{◌≡◌, ℕ, ◌+◌, ◌*◌, ◌<◌, ◌≤◌, true, false, cond, List, [], ◌++◌, length, slice_get, slice_set, Option, Some, None, refl, ap, sym, ◌∙◌, subst, ⊎_elim, append-nil, append_assoc, arith}
-use Rattle.std.specs.Option.{is_some, option_and_then}
+use Rattle.std.proofs.Common.{◌≡◌, ℕ, ◌+◌, ◌*◌, ◌<◌, ◌≤◌, Bool, true, false, not, cond, List, [], ◌++◌, length, slice_get, slice_set, Option, Some, None, refl, ap, sym, ◌∙◌, subst, ⊎_elim, append-nil, append_assoc, arith}
+use Rattle.std.specs.Option.{option_and_then}
 use Rattle.std.specs.List.{find}
 use Rattle.std.proofs.lemmas.Bool.{cases_eq}
 use Rattle.std.proofs.lemmas.List.{length-set}
@@ -15,8 +15,8 @@ use Rattle.replay_run.specs.declared.grid.Grid.{Grid}
 use Rattle.call_engine.specs.Calls.{Settings}
 use Rattle.call_engine.specs.Env.{settings_of}
 use Rattle.call_engine.specs.Objects.{partition_object}
-use Rattle.replay_run.specs.Runs.{Run, Connection, is_connection, connection_of, fault_on, messages_on, with_bytes, took_bytes, opened, next_line, clock_set, after_line}
-use Rattle.replay_run.specs.Printing.{ok_text, nothing_text, close_text, outcome_text, does_nothing, line_close, line_dump, line_text, new_messages}
+use Rattle.replay_run.specs.Runs.{Run, Connection, is_connection, connection_of, fault_on, messages_on, with_bytes, took_bytes, opened, next_line, clock_set, can_open, takes_bytes, after_line}
+use Rattle.replay_run.specs.Printing.{ok_text, nothing_text, close_text, outcome_text, does_nothing, line_close, line_dump, line_links, line_text, new_messages}
 use Rattle.replay_run.specs.Skips.{AreOfLine}
 use Rattle.replay_run.specs.ScriptRuns.{line_counted, clock_was_set, connection_opened}
 use Rattle.replay_run.specs.Tables.{Table, most_connections, opened_at, with_opened, with_session}
@@ -43,8 +43,10 @@ pub counted_holds : {V : Type 0} {T : V → Type 0} {form : FormOf V T} {setting
     → Holds form settings (with_table grid number t) (record r { lines = r.lines + 1; connections = ks })
 counted_holds grid r number t ks h at_line table = record {
   goes_by = h.goes_by;
+  goes_on = h.goes_on;
   lines = at_line;
   members = h.members;
+  links = h.links;
   moments = h.moments;
   clocks = h.clocks;
   table = table;
@@ -89,8 +91,12 @@ pub both_texts : (written outcome entries mid text : List ℕ) → mid ≡ writt
 both_texts written outcome entries mid text began is = is ∙ ap (λ xs. xs ++ entries) began ∙ append_assoc written outcome entries
 
 -- a line that brings no call skips none
-no_skips : (r : Run) (line : Line) → AreOfLine r line []
-no_skips r line id there = absurd (in_contains id [] there)
+no_skips : (settings : Settings) (r : Run) (line : Line) → AreOfLine (partition_object settings) r line []
+no_skips settings r line id there = absurd (in_contains id [] there)
+
+-- an outcome that nothing follows
+alone : (xs : List ℕ) → xs ++ [] ++ [] ++ [] ≡ xs
+alone xs = append-nil (xs ++ [] ++ []) ∙ append-nil (xs ++ []) ∙ append-nil xs
 
 -- a line that is only counted
 module _ {V : Type 0} {T : V → Type 0} {form : FormOf V T} {settings : Settings} (grid new : Grid V T) (r : Run) (number : ℕ) (line : Line) (s : Stands form settings grid r) (at_line : number ≡ r.lines + 1) (after : after_line (partition_object settings) [] r line ≡ next_line r)
@@ -99,38 +105,40 @@ module _ {V : Type 0} {T : V → Type 0} {form : FormOf V T} {settings : Setting
   stands_after = subst (λ g. Stands form settings g (after_line (partition_object settings) [] r line)) (sym made) (subst (Stands form settings (counted grid number)) (sym after) (counted_stands grid r number s at_line))
 
   -- Its condition is false.
-  pub passed_line : does_nothing r line ≡ true → text ≡ written ++ nothing_text number → HasRun form settings new r line written text
+  pub passed_line : does_nothing (partition_object settings) r line ≡ true → text ≡ written ++ nothing_text number → HasRun form settings new r line written text
   passed_line idle is = record {
     skips = [];
-    of_line = no_skips r line;
+    of_line = no_skips settings r line;
     stands = stands_after;
     added = is ∙ ap (λ n. written ++ nothing_text n) at_line
-        ∙ ap (λ xs. written ++ xs) (sym (text_nothing (partition_object settings) r (after_line (partition_object settings) [] r line) line idle ∙ ap (λ (x : Run). nothing_text x.lines) after));
+        ∙ ap (λ xs. written ++ xs) (sym (text_nothing settings r (after_line (partition_object settings) [] r line) line idle ∙ ap (λ (x : Run). nothing_text x.lines) after));
   }
 
-  -- It prints its outcome and its entries.
-  pub counted_line : does_nothing r line ≡ false → line_close (next_line r) line ≡ [] → text ≡ written ++ (outcome_text (partition_object settings) (next_line r) line ++ line_dump (partition_object settings) (next_line r) line ++ entries_text (partition_object settings) r (next_line r) line)
+  -- It prints its outcome, and what it dumps, the messages in flight and the entries.
+  pub counted_line : does_nothing (partition_object settings) r line ≡ false → line_close (next_line r) line ≡ []
+      → text ≡ written ++ (outcome_text settings r line (next_line r) ++ line_dump (partition_object settings) (next_line r) line ++ line_links settings (next_line r) line ++ entries_text settings r (next_line r) line)
       → HasRun form settings new r line written text
   counted_line goes open_still is = record {
     skips = [];
-    of_line = no_skips r line;
+    of_line = no_skips settings r line;
     stands = stands_after;
-    added = is ∙ ap (λ xs. written ++ xs) (sym (ap (λ (x : Run). line_text (partition_object settings) r line x) after ∙ text_without (partition_object settings) r (next_line r) line goes refl open_still));
+    added = is ∙ ap (λ xs. written ++ xs) (sym (ap (λ (x : Run). line_text settings r line x) after ∙ text_without settings r (next_line r) line goes refl open_still));
   }
 
 -- `open`
 
--- of a connection that was opened before
-pub reopened_line : {V : Type 0} {T : V → Type 0} {form : FormOf V T} {settings : Settings} (grid new : Grid V T) (r : Run) (number c member : ℕ) (k : Connection) (written text : List ℕ) → Stands form settings grid r → number ≡ r.lines + 1 → connection_of r c ≡ Some k
+-- of a connection that was opened before, or to a member that crashed
+pub unopened : {V : Type 0} {T : V → Type 0} {form : FormOf V T} {settings : Settings} (grid new : Grid V T) (r : Run) (number c member : ℕ) (written text : List ℕ) → Stands form settings grid r → number ≡ r.lines + 1 → can_open (partition_object settings) r c member ≡ false
     → new ≡ counted grid number → text ≡ written ++ nothing_text number → HasRun form settings new r (OpenConn c member) written text
-reopened_line grid new r number c member k written text s at_line there made is =
-    passed_line grid new r number (OpenConn c member) s at_line (ap (λ (o : Option Connection). cond (is_some o) (next_line r) (opened r c member)) there) made written text (ap is_some there) is
+unopened grid new r number c member written text s at_line cannot made is =
+    passed_line grid new r number (OpenConn c member) s at_line (ap (λ b. cond b (opened r c member) (next_line r)) cannot) made written text (ap not cannot) is
 
-pub opened_line : {V : Type 0} {T : V → Type 0} {form : FormOf V T} {settings : Settings} (grid new : Grid V T) (r : Run) (number c member : ℕ) (written text : List ℕ) → Stands form settings grid r → number ≡ r.lines + 1 → c < most_connections → member < r.members → opened_at grid.connections c ≡ None
+pub opened_line : {V : Type 0} {T : V → Type 0} {form : FormOf V T} {settings : Settings} (grid new : Grid V T) (r : Run) (number c member : ℕ) (written text : List ℕ) → Stands form settings grid r → number ≡ r.lines + 1 → c < most_connections → member < r.members
+    → opened_at grid.connections c ≡ None → can_open (partition_object settings) r c member ≡ true
     → new ≡ with_table grid number (with_opened grid.connections c member) → text ≡ written ++ ok_text number → HasRun form settings new r (OpenConn c member) written text
-opened_line {form = form} {settings = settings} grid new r number c member written text s at_line within there closed made is = record {
+opened_line {form = form} {settings = settings} grid new r number c member written text s at_line within there closed can made is = record {
   skips = [];
-  of_line = no_skips r (OpenConn c member);
+  of_line = no_skips settings r (OpenConn c member);
   stands = subst (λ g. Stands form settings g (after_line (partition_object settings) [] r (OpenConn c member))) (sym made) (subst (Stands form settings (with_table grid number (with_opened grid.connections c member))) (sym after) stands_opened);
   added = is ∙ ap (λ n. written ++ ok_text n) at_line ∙ ap (λ xs. written ++ xs) (sym its_text);
 }
@@ -139,7 +147,7 @@ opened_line {form = form} {settings = settings} grid new r number c member writt
     free = none_opened grid.connections r s.holds.table c closed
 
     after : after_line (partition_object settings) [] r (OpenConn c member) ≡ opened r c member
-    after = ap (λ (o : Option Connection). cond (is_some o) (next_line r) (opened r c member)) free
+    after = ap (λ b. cond b (opened r c member) (next_line r)) can
 
     stands_opened : Stands form settings (with_table grid number (with_opened grid.connections c member)) (opened r c member)
     stands_opened = record {
@@ -151,11 +159,11 @@ opened_line {form = form} {settings = settings} grid new r number c member writt
       reached = opened_reached r c member s.reached there;
     }
 
-    its_text : line_text (partition_object settings) r (OpenConn c member) (after_line (partition_object settings) [] r (OpenConn c member)) ≡ ok_text (r.lines + 1)
+    its_text : line_text settings r (OpenConn c member) (after_line (partition_object settings) [] r (OpenConn c member)) ≡ ok_text (r.lines + 1)
     its_text =
-        ap (λ (x : Run). line_text (partition_object settings) r (OpenConn c member) x) after
-        ∙ text_without (partition_object settings) r (opened r c member) (OpenConn c member) (ap is_some free) refl refl
-        ∙ append-nil (ok_text (r.lines + 1) ++ []) ∙ append-nil (ok_text (r.lines + 1))
+        ap (λ (x : Run). line_text settings r (OpenConn c member) x) after
+        ∙ text_without settings r (opened r c member) (OpenConn c member) (ap not can) refl refl
+        ∙ alone (ok_text (r.lines + 1))
 
 -- `clock`
 
@@ -164,6 +172,7 @@ pub record HasClock {V : Type 0} {T : V → Type 0} (grid new : Grid V T) (numbe
   pub env : new.env ≡ grid.env
   pub lines : new.lines ≡ number
   pub members : new.members ≡ grid.members
+  pub links : new.links.items ≡ grid.links.items
   pub moments : new.moments.items ≡ slice_set grid.moments.items member moment
   pub connections : new.connections ≡ grid.connections
   pub reopened : new.reopened.items ≡ grid.reopened.items
@@ -179,8 +188,10 @@ module _ {V : Type 0} {T : V → Type 0} {form : FormOf V T} {settings : Setting
   clocked_holds : Holds form settings new clocked
   clocked_holds = record {
     goes_by = ap (settings_of form) set.env ∙ s.holds.goes_by;
+    goes_on = s.holds.goes_on;
     lines = set.lines ∙ at_line;
     members = set.members ∙ s.holds.members;
+    links = set.links ∙ s.holds.links;
     moments = set.moments ∙ ap (λ ms. slice_set ms member moment) s.holds.moments;
     clocks = length-set r.moments member moment ∙ s.holds.clocks;
     table = subst (λ t. HasTable t clocked) (sym set.connections) clocked_table;
@@ -193,7 +204,7 @@ module _ {V : Type 0} {T : V → Type 0} {form : FormOf V T} {settings : Setting
   pub clock_line : (written text : List ℕ) → text ≡ written ++ ok_text number → HasRun form settings new r (Clock member moment) written text
   clock_line written text is = record {
     skips = [];
-    of_line = no_skips r (Clock member moment);
+    of_line = no_skips settings r (Clock member moment);
     stands = record {
       run = clock_was_set r member moment s.run;
       small = let small : IsSmall r = s.small in omega (arith, small);
@@ -203,58 +214,58 @@ module _ {V : Type 0} {T : V → Type 0} {form : FormOf V T} {settings : Setting
       reached = s.reached;
     };
     added = is ∙ ap (λ n. written ++ ok_text n) at_line
-        ∙ ap (λ xs. written ++ xs) (sym (text_without (partition_object settings) r clocked (Clock member moment) refl refl refl ∙ append-nil (ok_text (r.lines + 1) ++ []) ∙ append-nil (ok_text (r.lines + 1))));
+        ∙ ap (λ xs. written ++ xs) (sym (text_without settings r clocked (Clock member moment) refl refl refl ∙ alone (ok_text (r.lines + 1))));
   }
 
 -- bytes where none can arrive
 
 pub record IsIdle (settings : Settings) (r : Run) (line : Line) : Type 0 where
   pub after : after_line (partition_object settings) [] r line ≡ next_line r
-  pub nothing : does_nothing r line ≡ true
+  pub nothing : does_nothing (partition_object settings) r line ≡ true
 
-pub not_open : (settings : Settings) (r : Run) (c : ℕ) (bytes : List ℕ) → open_member_in r c ≡ None → IsIdle settings r (Arrive c bytes)
+pub not_open : (settings : Settings) (r : Run) (c : ℕ) (bytes : List ℕ) → open_member_in settings r c ≡ None → IsIdle settings r (Arrive c bytes)
 not_open settings r c bytes none = go (connection_of r c) refl none
   where
-    closed : (k : Connection) → connection_of r c ≡ Some k → (fault : Option Malformed) → fault_on k ≡ fault → cond (is_some fault) None (Some k.member) ≡ None → IsIdle settings r (Arrive c bytes)
-    closed k there (Some fault) shown e = record { after = closed_line (partition_object settings) r c bytes k there [] fault shown; nothing = closed_does_nothing r c bytes k there fault shown }
-    closed k there None shown e = absurd cc
+    closed : (k : Connection) → connection_of r c ≡ Some k → (takes : Bool) → takes_bytes (partition_object settings) r k ≡ takes → cond takes (Some k.member) None ≡ None → IsIdle settings r (Arrive c bytes)
+    closed k there false shown e = record { after = closed_line (partition_object settings) r c bytes k there [] shown; nothing = closed_does_nothing (partition_object settings) r c bytes k there shown }
+    closed k there true shown e = absurd cc
 
-    go : (found : Option Connection) → connection_of r c ≡ found → option_and_then member_if_open found ≡ None → IsIdle settings r (Arrive c bytes)
-    go None there e = record { after = unopened_line (partition_object settings) r c bytes [] there; nothing = unopened_does_nothing r c bytes there }
-    go (Some k) there e = closed k there (fault_on k) refl e
+    go : (found : Option Connection) → connection_of r c ≡ found → option_and_then (member_if_open settings r) found ≡ None → IsIdle settings r (Arrive c bytes)
+    go None there e = record { after = unopened_line (partition_object settings) r c bytes [] there; nothing = unopened_does_nothing (partition_object settings) r c bytes there }
+    go (Some k) there e = closed k there (takes_bytes (partition_object settings) r k) refl e
 
-pub idle_line : {V : Type 0} {T : V → Type 0} {form : FormOf V T} {settings : Settings} (grid new : Grid V T) (r : Run) (number c : ℕ) (bytes written text : List ℕ) → Stands form settings grid r → number ≡ r.lines + 1 → open_member_in r c ≡ None
+pub idle_line : {V : Type 0} {T : V → Type 0} {form : FormOf V T} {settings : Settings} (grid new : Grid V T) (r : Run) (number c : ℕ) (bytes written text : List ℕ) → Stands form settings grid r → number ≡ r.lines + 1 → open_member_in settings r c ≡ None
     → new ≡ counted grid number → text ≡ written ++ nothing_text number → HasRun form settings new r (Arrive c bytes) written text
 idle_line {settings = settings} grid new r number c bytes written text s at_line none made is =
     let idle = not_open settings r c bytes none in
     passed_line grid new r number (Arrive c bytes) s at_line idle.after made written text idle.nothing is
 
--- bytes on an open connection
+-- bytes on an open connection, to a member that lives
 
-pub record IsOpen (r : Run) (c member : ℕ) : Type 0 where
+pub record IsOpen (settings : Settings) (r : Run) (c member : ℕ) : Type 0 where
   pub connection : Connection
   pub there : connection_of r c ≡ Some connection
   pub itself : connection_of r connection.conn ≡ Some connection
   pub numbered : connection.conn ≡ c
   pub to : connection.member ≡ member
-  pub sound : fault_on connection ≡ None
+  pub takes : takes_bytes (partition_object settings) r connection ≡ true
 
 pub its_number : (r : Run) (c : ℕ) (k : Connection) → connection_of r c ≡ Some k → k.conn ≡ c
 its_number r c k there = same_number k.conn c (find_some (is_connection c) r.connections k there).1
 
-pub is_open : (r : Run) (c member : ℕ) → open_member_in r c ≡ Some member → IsOpen r c member
-is_open r c member open_to = go (connection_of r c) refl open_to
+pub is_open : (settings : Settings) (r : Run) (c member : ℕ) → open_member_in settings r c ≡ Some member → IsOpen settings r c member
+is_open settings r c member open_to = go (connection_of r c) refl open_to
   where
-    sound : (k : Connection) → connection_of r c ≡ Some k → (fault : Option Malformed) → fault_on k ≡ fault → cond (is_some fault) None (Some k.member) ≡ Some member → IsOpen r c member
-    sound k there (Some fault) shown e = absurd cc
-    sound k there None shown e =
+    taking : (k : Connection) → connection_of r c ≡ Some k → (takes : Bool) → takes_bytes (partition_object settings) r k ≡ takes → cond takes (Some k.member) None ≡ Some member → IsOpen settings r c member
+    taking k there false shown e = absurd cc
+    taking k there true shown e =
         let to : k.member ≡ member = cc in
         let at = its_number r c k there in
-        record { connection = k; there = there; itself = ap (connection_of r) at ∙ there; numbered = at; to = to; sound = shown }
+        record { connection = k; there = there; itself = ap (connection_of r) at ∙ there; numbered = at; to = to; takes = shown }
 
-    go : (found : Option Connection) → connection_of r c ≡ found → option_and_then member_if_open found ≡ Some member → IsOpen r c member
+    go : (found : Option Connection) → connection_of r c ≡ found → option_and_then (member_if_open settings r) found ≡ Some member → IsOpen settings r c member
     go None there e = absurd cc
-    go (Some k) there e = sound k there (fault_on k) refl e
+    go (Some k) there e = taking k there (takes_bytes (partition_object settings) r k) refl e
 
 -- The line is counted and the connection has its bytes.
 pub begun_some : {V : Type 0} {T : V → Type 0} {form : FormOf V T} {settings : Settings} (grid new : Grid V T) (r : Run) (s : Stands form settings grid r) (number c : ℕ) (k : Connection) → number ≡ r.lines + 1 → connection_of r c ≡ Some k → connection_of r k.conn ≡ Some k → (bytes text : List ℕ)
@@ -304,21 +315,21 @@ module _ {V : Type 0} {T : V → Type 0} {form : FormOf V T} {settings : Setting
       let came = midway_come r brings.run k brings.there bytes items did.skips did.now did.midway in
       λ d j found. subst (λ n. j.member < n) (sym came.members) (taken_reached r k bytes reached brings.reached d j (ap (λ ks. find (is_connection d) ks) (sym came.connections) ∙ found))
 
-  module _ (sound : fault_on k ≡ None) where
+  module _ (takes : takes_bytes (partition_object settings) r k ≡ true) where
     after : after_line (partition_object settings) did.skips r (Arrive c bytes) ≡ did.now
-    after = ended_line (partition_object settings) r c bytes k there items did.skips did.now sound brings.come did.midway
+    after = ended_line (partition_object settings) r c bytes k there takes items did.skips did.now brings.come did.midway
 
     abbrev its_parts : List ℕ
     its_parts = (ok_text (r.lines + 1) ++ texts_of (new_messages r did.now)) ++ close_text (r.lines + 1) c (fault_on (with_bytes k bytes))
 
-    its_text : line_text (partition_object settings) r (Arrive c bytes) did.now ≡ (ok_text (r.lines + 1) ++ texts_of (new_messages r did.now)) ++ close_text (r.lines + 1) c (fault_on (with_bytes k bytes))
-    its_text = rw (open_does_something r c bytes k there sound, now_there, now_lines) (append-nil (its_parts ++ []) ∙ append-nil its_parts)
+    its_text : line_text settings r (Arrive c bytes) did.now ≡ (ok_text (r.lines + 1) ++ texts_of (new_messages r did.now)) ++ close_text (r.lines + 1) c (fault_on (with_bytes k bytes))
+    its_text = rw (open_does_something (partition_object settings) r c bytes k there takes, now_there, now_lines) (alone its_parts)
 
     pub bytes_line : (fault : Option Malformed) (number : ℕ) (written text : List ℕ) → IsSmall r → AreFew r → AreReached r → 2 * length bytes ≤ most_line_bytes → start ≡ written ++ ok_text number → number ≡ r.lines + 1
         → fault ≡ fault_on (with_bytes k bytes) → text ≡ mid ++ close_text number c fault → HasRun form settings new r (Arrive c bytes) written text
     bytes_line fault number written text small few reached size began at_line shown is = record {
       skips = did.skips;
-      of_line = ended_skips (partition_object settings) r c bytes k there items did.skips did.now sound brings.come did.midway;
+      of_line = ended_skips (partition_object settings) r c bytes k there takes items did.skips did.now brings.come did.midway;
       stands = subst (Stands form settings new) (sym after) (record {
         run = did.midway.run;
         small = subst IsSmall after (stays_small did.skips r brings.run (Arrive c bytes) small size);
@@ -328,7 +339,7 @@ module _ {V : Type 0} {T : V → Type 0} {form : FormOf V T} {settings : Setting
         reached = still_reached reached;
       });
       added = is ∙ (λ i. whole i ++ close_text (at_line i) c (shown i)) ∙ grouped
-          ∙ ap (λ xs. written ++ xs) (sym (ap (λ (x : Run). line_text (partition_object settings) r (Arrive c bytes) x) after ∙ its_text));
+          ∙ ap (λ xs. written ++ xs) (sym (ap (λ (x : Run). line_text settings r (Arrive c bytes) x) after ∙ its_text));
     }
       where
         whole : mid ≡ (written ++ ok_text (r.lines + 1)) ++ texts_of (new_messages r did.now)

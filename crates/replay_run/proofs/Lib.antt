@@ -1,4 +1,5 @@
 pub mod Parts
+pub mod EventRuns
 pub mod Counts
 pub mod Releases
 pub mod Places
@@ -40,3 +41,8 @@ pub mod LineFacts
 pub mod Reaching
 pub mod Feeding
 pub mod DumpTexts
+pub mod LinkTexts
+pub mod GridEvents
+pub mod Flowing
+pub mod EventLines
+pub mod LineCases

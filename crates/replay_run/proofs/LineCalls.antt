@@ -1,5 +1,5 @@
 -- The items of a line of bytes on the grid, one after the other.
-use Rattle.std.proofs.Common.{◌≡◌, ℕ, ◌+◌, ◌<◌, ◌^◌, ◌-◌, ◌*◌, List, [], ◌∷◌, ◌++◌, length, get_or, map, take, drop, Option, Some, None, inl, refl, ap, sym, ◌∙◌, subst, append_assoc, arith, length-append}
+use Rattle.std.proofs.Common.{◌≡◌, ℕ, ◌+◌, ◌<◌, ◌^◌, ◌-◌, ◌*◌, true, List, [], ◌∷◌, ◌++◌, length, get_or, map, take, drop, Option, Some, None, inl, refl, ap, sym, ◌∙◌, subst, append_assoc, arith, length-append}
 use Rattle.std.proofs.lemmas.List.{take-append-drop, drop_more}
 use Rattle.std.specs.Iterator.{Yields}
 use Rattle.std.proofs.lemmas.Iterator.Adapters.{YieldsList-from_vec}
@@ -12,17 +12,17 @@ use Rattle.grid_base.specs.declared.calls.Request.{Request}
 use Rattle.replay_run.specs.declared.grid.Grid.{Grid}
 use Rattle.call_engine.specs.Calls.{Settings}
 use Rattle.call_engine.specs.Objects.{partition_object}
-use Rattle.replay_run.specs.Runs.{Run, Connection, Arrival, messages_on, arrival_at, asked, told}
-use Rattle.replay_run.specs.Printing.{partitions, new_messages}
+use Rattle.replay_run.specs.Runs.{Run, Connection, Arrival, messages_on, arrival_at, asked, is_full, told, world_at, partitions}
+use Rattle.replay_run.specs.Printing.{new_messages}
 use Rattle.replay_run.specs.ScriptRuns.{IsRun, IsNext}
 use Rattle.grid_base.specs.Limits.{CallFits}
 use Rattle.session_core.specs.declared.item.Item.{Item}
 use Rattle.session_core.specs.declared.item.Item.TheVariants.{Call as Asks, Reply}
 use Rattle.replay_run.specs.Grids.{FormOf, IsCounting, Holds, AreFew}
-use Rattle.replay_run.specs.WorldCalls.{texts_of, HasAsked, HasTold, HasRoom, Brings, HasHandledSome}
+use Rattle.replay_run.specs.WorldCalls.{texts_of, HasAsked, HasTold, HasRoom, Brings, HasHandledSome, IsGivenUpMidway}
 use Rattle.replay_run.proofs.Lines.{HasCome, asked_come, told_come}
 use Rattle.replay_run.proofs.LineTexts.{new_with, texts_more}
-use Rattle.replay_run.proofs.Midway.{midway_come, midway_arrivals, midway_few, its_name, next_midway, asked_midway, told_midway}
+use Rattle.replay_run.proofs.Midway.{midway_come, midway_arrivals, midway_few, its_name, next_midway, asked_midway, full_midway, own_midway, told_midway}
 
 map_same : {X : Type 0} (xs : List X) → map (λ (x : X). x) xs ≡ xs
 map_same [] = refl
@@ -66,6 +66,9 @@ module _ {V : Type 0} {T : V → Type 0} {form : FormOf V T} {settings : Setting
       ∙ ap (λ xs. written ++ xs) (sym (texts_more r so_far.now next has.appended.0 before.appended grown))
 
 -- the same of other items, and of the connection by its number or its member
+
+pub given_up_as : {settings : Settings} {r : Run} {k : Connection} {bytes : List ℕ} {items others : List Item} → items ≡ others → IsGivenUpMidway settings r k bytes others → IsGivenUpMidway settings r k bytes items
+given_up_as {settings = settings} {r = r} {k = k} {bytes = bytes} same = subst (IsGivenUpMidway settings r k bytes) (sym same)
 
 pub handled_as : {V : Type 0} {T : V → Type 0} {form : FormOf V T} {settings : Settings} {grid : Grid V T} {r : Run} {k : Connection} {bytes : List ℕ} {done others : List Item} {written text : List ℕ} → done ≡ others
     → HasHandledSome form settings grid r k bytes others written text → HasHandledSome form settings grid r k bytes done written text
@@ -139,6 +142,14 @@ module _ {V : Type 0} {T : V → Type 0} {form : FormOf V T} {settings : Setting
   pub next_count : IsCounting grid.connections so_far.now q.id.conn q.id.number
   next_count = subst (λ (id : CallId). IsCounting grid.connections so_far.now id.conn id.number) (sym name) so_far.counting
 
+  -- Its partition takes none.
+  pub asked_full : is_full (world_at (partition_object settings) so_far.now q.partition) ≡ true → IsGivenUpMidway settings r k bytes (done ++ Asks q ∷ rest)
+  asked_full full = record {
+    skips = so_far.skips;
+    own = own_midway r brings.run k brings.there bytes done q rest brings.come so_far.skips so_far.now so_far.midway;
+    full = full_midway r brings.run k brings.there bytes done q rest brings.come so_far.skips so_far.now so_far.midway full;
+  }
+
   module _ (new : Grid V T) (text : List ℕ) (did : HasAsked form settings new so_far.now k.member q mid text) where
     abbrev now : Run
     now = asked (partition_object settings) did.skips so_far.now (arrival_at so_far.now k.member q)
@@ -152,7 +163,7 @@ module _ {V : Type 0} {T : V → Type 0} {form : FormOf V T} {settings : Setting
     asked_one_more = record {
       skips = did.skips ++ so_far.skips;
       now = now;
-      midway = asked_midway r brings.run k brings.there bytes done q rest brings.come so_far.skips so_far.now so_far.midway did.skips did.its_own;
+      midway = asked_midway r brings.run k brings.there bytes done q rest brings.come so_far.skips so_far.now so_far.midway did.skips did.its_own did.goes;
       holds = did.holds;
       counting = count_more;
       added = text_more grid r k bytes done (Asks q) rest brings written mid so_far now (arrival_at so_far.now k.member q ∷ []) text

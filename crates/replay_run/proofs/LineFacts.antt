@@ -1,25 +1,43 @@
 -- What the code reads of a connection, and the items that its bytes bring.
-use Rattle.std.proofs.Common.{◌≡◌, ℕ, true, List, ◌++◌, length, drop, Option, Some, None, refl, ap, sym, ◌∙◌, subst}
+use Rattle.std.proofs.Common.{◌≡◌, ℕ, Bool, true, false, not, ◌&&◌, List, ◌++◌, length, drop, Option, Some, None, refl, ap, sym, ◌∙◌, subst}
 use Rattle.std.specs.Option.{is_some}
 use Rattle.std.proofs.lemmas.List.{drop_at}
+use Rattle.grid_base.specs.Objects.{Object}
+use Rattle.grid_base.specs.declared.calls.Request.{Request}
+use Rattle.object_store.specs.Partitions.{Partition}
 use Rattle.call_engine.specs.Calls.{Settings}
 use Rattle.partition_protocol.proofs.Lists.{In, in_contains}
 use Rattle.session_core.specs.Sessions.{SessionState, session_after, StandsFor}
 use Rattle.session_core.specs.declared.item.Item.TheVariants.{Call as Asks}
 use Rattle.session_core.specs.declared.session.FedSession.{FedSession}
 use Rattle.replay_run.specs.declared.grid.Grid.{Grid}
-use Rattle.replay_run.specs.Runs.{Run, Connection, connection_of, fault_on, items_on, items_by, with_bytes}
+use Rattle.replay_run.specs.Runs.{Run, Connection, can_open, connection_of, fault_on, items_on, items_by, lives, with_bytes}
 use Rattle.replay_run.specs.Tables.{Table, Opened, opened_at, with_session, FeedGives}
-use Rattle.replay_run.specs.Grids.{FormOf, IsConnection, Stands}
+use Rattle.replay_run.specs.Grids.{FormOf, IsConnection, HasTable, Stands}
 use Rattle.replay_run.specs.WorldCalls.{Brings}
 use Rattle.replay_run.proofs.Items.{calls_fit}
 use Rattle.replay_run.proofs.Lines.{connection_there}
-use Rattle.replay_run.proofs.TableRuns.{found_opened}
+use Rattle.replay_run.proofs.TableRuns.{found_opened, found_connection, none_opened}
 
 -- a connection that is there
 pub its_opened : {X : Type 0} (o : Option X) → is_some o ≡ true → (x : X) × (o ≡ Some x)
 its_opened None e = absurd cc
 its_opened (Some x) e = (x, refl)
+
+-- whether a connection can be opened, where the code looks at its table
+module _ (o : Object Request Partition) (t : Table) (r : Run) (h : HasTable t r) (c member : ℕ) where
+  abbrev can_after : Option Connection → Bool
+  can_after found = not (is_some found) && lives o r member
+
+  -- one that was opened before can't
+  pub cannot_twice : is_some (opened_at t c) ≡ true → can_open o r c member ≡ false
+  cannot_twice some =
+      let opened = its_opened (opened_at t c) some in
+      ap can_after (found_connection t r h c opened.0 opened.1).1
+
+  -- another one can, to a member that lives
+  pub can_once : opened_at t c ≡ None → can_open o r c member ≡ lives o r member
+  can_once closed = ap can_after (none_opened t r h c closed)
 
 -- a session stands for the bytes of its connection
 stands_at : (session : SessionState) (conn member : ℕ) (text : List ℕ) → session ≡ session_after conn member text → StandsFor session text

@@ -1,6 +1,7 @@
 -- What is printed for an object fits the run: it is the history of that object, used by one thread.
-use Rattle.std.proofs.Common.{◌≡◌, ◌≢◌, ℕ, ◌≤◌, ◌<◌, true, List, [], length, Some, Contains, ap, sym, ◌∙◌, subst, ◌⊎◌, ⊎_elim, arith}
-use Rattle.std.specs.Prelude.{option_map}
+use Rattle.std.proofs.Common.{◌≡◌, ◌≢◌, ℕ, ◌≤◌, ◌<◌, true, List, [], length, Some, Contains, ap, sym, ◌∙◌, subst, arith}
+use Rattle.std.proofs.lemmas.Bool.Decides.{nat_tests}
+use Rattle.std.specs.Prelude.{nat_lt, option_map}
 use Rattle.grid_base.specs.Objects.{Object}
 use Rattle.grid_base.specs.declared.names.CallId.{CallId}
 use Rattle.grid_base.specs.declared.calls.Request.{Request}
@@ -11,46 +12,43 @@ use Rattle.partition_protocol.specs.Claims.{is_reset}
 use Rattle.partition_protocol.proofs.Lists.{In, in_contains, contains_in}
 use Rattle.partition_protocol.proofs.Faithful.{part_in}
 use Rattle.partition_world.specs.Answers.{id_of}
-use Rattle.script_lang.specs.declared.line.Line.TheVariants.{Grid, OpenConn, Arrive, Clock, Dump, Trail, Comment, End}
+use Rattle.script_lang.specs.declared.line.Line.TheVariants.{Trail, End}
 use Rattle.call_engine.specs.Calls.{Settings}
 use Rattle.call_engine.specs.Objects.{one_object, partition_object}
 use Rattle.object_store.specs.Partitions.{Partition, nothing_stored}
 use Rattle.object_store.specs.Records.{nothing_of}
 use Rattle.object_store.proofs.PartitionLaws.{record_at-nothing}
-use Rattle.replay_run.specs.Runs.{Run, begun, Arrival, Appended, reopened_at, world_at, after_lines}
-use Rattle.replay_run.specs.Printing.{PrintedCall, PrintedReset, Printed, Call, Reset, partitions, entries_of, all_entries, printed_from, arrival_of, is_answer_to, answer_of}
+use Rattle.replay_run.specs.Runs.{Run, begun, Arrival, Appended, reopened_at, world_at, after_lines, partitions}
+use Rattle.replay_run.specs.Printing.{PrintedCall, PrintedReset, Printed, Call, Reset, entries_of, all_entries, printed_from, arrival_of, is_answer_to, answer_of}
 use Rattle.replay_run.specs.Linearizability.{GridObject, is_on, is_of, history_of, Before, IsLegal, reset_lines, IsOf, Fits, IsLinearizable, EveryRunIsLinearizable}
 use Rattle.replay_run.proofs.Parts.{subsequence_part, before_first, before_second, part_filter, before_part, named_apart, in_filter, in_filtered}
 use Rattle.replay_run.specs.ScriptRuns.{home, grid_begun}
 use Rattle.replay_run.proofs.Places.{same_number}
 use Rattle.replay_run.proofs.Trails.{executed, asked, executed_name, Prints, printed_in, in_printed, printed_before}
-use Rattle.replay_run.proofs.Stamps.{AreStamped, stamped_part, stamped_none, line_of, NeverFalls, falls_filtered, stands_first, printed_falls, printed_resets, history_resets}
+use Rattle.replay_run.proofs.Stamps.{AreStamped, stamped_part, line_of, NeverFalls, falls_filtered, stands_first, printed_falls, printed_resets, history_resets}
 use Rattle.replay_run.proofs.RunFacts.{RunOk, asked_of, arrival_name, id_name, safe, log_once, origin, origins, arrival_found, IsGivenIn, given_executed, asked_as}
 use Rattle.replay_run.proofs.RunsOfLines.{run_ok}
 use Rattle.replay_run.proofs.Lines.{lines_run}
-use Rattle.replay_run.proofs.Locality.{on_partition, legal_on, history_elsewhere, history_past, history_at}
+use Rattle.replay_run.proofs.Locality.{on_partition, legal_on, history_elsewhere, history_at}
 use Rattle.replay_run.proofs.Counts.{count_before, count_filter}
-use Rattle.replay_run.proofs.Reopenings.{none_reopened}
 use Rattle.replay_run.proofs.Answers.{trail_part, answer_named, given_at, printed_answer, answer_stands, answer_found, arrived_before}
 
 pub answered_once : {State : Type 0} (o : Object Request State) (r : Run) → RunOk o r → (m n : Appended) (id : CallId) → Before r.appended m n → m.answers ≡ Some id → n.answers ≢ Some id
 answered_once o r ok m n id before first second =
     count_before (is_answer_to id) r.appended m n (ok.of_answers.once id) before (answer_named id m first) (answer_named id n second)
 
-le_or_less : (a b : ℕ) → (a ≤ b) ⊎ (b < a)
-le_or_less a b = grind arith
+less : (a b : ℕ) → nat_lt a b ≡ true → a < b
+less a b e = grind (arith, nat_tests, e)
 
 module _ (settings : Settings) (r : Run) (ok : RunOk (partition_object settings) r) where
   abbrev pub o : Object Request Partition
   o = partition_object settings
 
-  -- Each call of a partition's trail is on an object of the partition, which is one of the grid's.
-  pub at_home : (p : ℕ) (x : Executed Request) → In x (executed (trail (world_at o r p))) → (home x.call ≡ p) × (p < partitions)
+  -- Each call of a partition's trail is on an object of the partition.
+  pub at_home : (p : ℕ) (x : Executed Request) → In x (executed (trail (world_at o r p))) → home x.call ≡ p
   at_home p x i =
       let from = origin o r ok.members ok.of_arrivals p x (part_in (executed (trail (world_at o r p))) (executed (world_at o r p).recorded.log) x (trail_part o r ok p) i) in
-      let placed = ok.of_arrivals.placed from.0 from.1 in
-      let there = same_number from.0.request.partition p from.2 in
-      (ap (λ (k : Asked Request). home k.call) (sym from.3) ∙ placed.own ∙ there, subst (λ n. n < partitions) there placed.within)
+      ap (λ (k : Asked Request). home k.call) (sym from.3) ∙ (ok.of_arrivals.placed from.0 from.1).own ∙ same_number from.0.request.partition p from.2
 
   module _ (object : GridObject) where
     abbrev pub p : ℕ
@@ -125,7 +123,7 @@ module _ (settings : Settings) (r : Run) (ok : RunOk (partition_object settings)
 
     pub legal : IsLegal (one_object settings object.name) (nothing_of object.name) h
     legal =
-        legal_on settings r object 0 lines nothing_stored (nothing_of object.name) (trail w) (λ x i. (at_home p x i).0) (record_at-nothing object.name)
+        legal_on settings r object 0 lines nothing_stored (nothing_of object.name) (trail w) (at_home p) (record_at-nothing object.name)
         (safe o r ok.members ok.of_arrivals p).0.legal
 
     pub arrived : (e : PrintedCall) → Contains h (Call e) → (is_on object e.request ≡ true) × ((a : Arrival) × Contains r.arrivals a × IsOf a e)
@@ -244,37 +242,18 @@ module _ (settings : Settings) (r : Run) (ok : RunOk (partition_object settings)
 
     elsewhere : (q : ℕ) → p ≢ q → history_of object (entries_of o r q) ≡ []
     elsewhere q other =
-        history_elsewhere r q 0 (reopened_at q r.reopened) object (trail (world_at o r q)) (λ e. other (sym e)) (λ x i e. other (sym e ∙ (at_home q x i).0))
+        history_elsewhere r q 0 (reopened_at q r.reopened) object (trail (world_at o r q)) (λ e. other (sym e)) (λ x i e. other (sym e ∙ at_home q x i))
 
-    -- No entry is of a partition that the grid doesn't have.
-    nowhere : partitions ≤ p → h ≡ []
-    nowhere past =
-        let none = none_reopened partitions p r.reopened ok.of_reopenings.within past in
-        let empty = stamped_none r.arrivals 0 r.lines (trail w) (λ x i. let within = (at_home p x i).1 in absurd (omega (arith, past, within)))
-        (subst (λ ls. AreStamped r.arrivals 0 r.lines ls (trail w)) none trail_stamped) in
-        ap (λ es. history_of object (printed_from r p 0 lines es)) empty
-
-    in_all : history_of object (all_entries o r) ≡ h
-    in_all =
-        ⊎_elim (λ past. history_past object (entries_of o r) elsewhere partitions past ∙ sym (nowhere past))
-        (λ within. history_at object (entries_of o r) elsewhere partitions within)
-        (le_or_less partitions p)
-
-    -- and in all histories
-    pub all_fit : Fits (one_object settings object.name) object r (history_of object (all_entries o r))
-    all_fit = subst (λ es. Fits (one_object settings object.name) object r es) (sym in_all) fits
+    -- and in all histories of the grid's partitions, where it is one of them
+    pub all_fit : p < partitions → Fits (one_object settings object.name) object r (history_of object (all_entries o r))
+    all_fit within = subst (λ es. Fits (one_object settings object.name) object r es) (sym (history_at object (entries_of o r) elsewhere partitions within)) fits
 
 -- So one thread that used one object could have seen each history that a line prints.
 pub linear : (settings : Settings) (r : Run) → RunOk (partition_object settings) r → IsLinearizable settings r
-linear settings r ok (Trail p) object shown =
-    subst (λ q. Fits (one_object settings object.name) object r (history_of object (entries_of (partition_object settings) r q))) (same_number object.partition p shown) (fits settings r ok object)
-linear settings r ok End object shown = all_fit settings r ok object
-linear settings r ok (Grid members backups capacity) object shown = absurd cc
-linear settings r ok (OpenConn c member) object shown = absurd cc
-linear settings r ok (Arrive c bytes) object shown = absurd cc
-linear settings r ok (Clock member moment) object shown = absurd cc
-linear settings r ok (Dump partition member) object shown = absurd cc
-linear settings r ok Comment object shown = absurd cc
+linear settings r ok (Trail partition) object shown =
+    subst (λ q. Fits (one_object settings object.name) object r (history_of object (entries_of (partition_object settings) r q))) (same_number object.partition partition shown) (fits settings r ok object)
+linear settings r ok End object shown = all_fit settings r ok object (less object.partition partitions shown)
+linear settings r ok line object shown = absurd cc
 
 pub every_run_is_linearizable : EveryRunIsLinearizable
 every_run_is_linearizable settings members backups skips lines grid =

@@ -1,5 +1,5 @@
 -- Each line of a script makes a run of a run, and so does a list of lines.
-use Rattle.std.proofs.Common.{◌≡◌, ℕ, ◌+◌, ◌≤◌, ◌<◌, Bool, true, false, cond, List, [], ◌∷◌, ◌++◌, length, Option, Some, None, Contains, pos, refl, ap, sym, ◌∙◌, subst, ⊎_elim, inl, inr, ◌⊎◌, arith, length-append, append_assoc, append-nil, slice_get, unwrap_or}
+use Rattle.std.proofs.Common.{◌≡◌, ℕ, ◌+◌, ◌≤◌, ◌<◌, Bool, true, false, not, ◌&&◌, cond, List, [], ◌∷◌, ◌++◌, length, Option, Some, None, Contains, pos, refl, ap, sym, ◌∙◌, subst, ⊎_elim, inl, inr, ◌⊎◌, arith, length-append, append_assoc, append-nil, slice_get, unwrap_or}
 use Rattle.std.specs.List.{find, filter_map}
 use Rattle.std.specs.Option.{is_some}
 use Rattle.grid_base.specs.Errors.{want_of_memory}
@@ -7,15 +7,18 @@ use Rattle.grid_base.specs.Objects.{Object}
 use Rattle.grid_base.specs.declared.names.CallId.{CallId}
 use Rattle.grid_base.specs.declared.calls.Request.{Request}
 use Rattle.partition_protocol.specs.Sequences.{IsFrontOf}
-use Rattle.partition_protocol.proofs.Lists.{In, in_cases, in_contains, contains_in}
+use Rattle.partition_protocol.specs.Arrivals.{asked_by}
+use Rattle.partition_protocol.specs.Events as event
+use Rattle.partition_protocol.specs.Service.{numbers_below}
+use Rattle.partition_protocol.proofs.Lists.{In, in_cases, in_contains, contains_in, on_if}
 use Rattle.partition_protocol.proofs.Extends.{front_trans, same}
 use Rattle.session_core.specs.declared.item.Item.{Item}
 use Rattle.session_core.specs.declared.item.Item.TheVariants.{Call as Asks, Reply}
 use Rattle.script_lang.specs.declared.line.Line.{Line}
-use Rattle.script_lang.specs.declared.line.Line.TheVariants.{Grid, OpenConn, Arrive, Clock, Dump, Trail, Comment, End}
+use Rattle.script_lang.specs.declared.line.Line.TheVariants.{OpenConn, Arrive, Clock, Deliver, Lose, Repeat, Flow, FlowAll, Resend, Crash, Detect, Move, Join, Handover, Advance, Reopen}
 use Rattle.object_store.specs.Partitions.{Partition}
-use Rattle.replay_run.specs.Runs.{Run, Connection, Arrival, At, Appended, is_connection, connection_of, fault_on, messages_on, with_bytes, took_bytes, moment_of, items_by, own_answer, told, refusal, arrival_at, happening, arrived, is_skipped, asked, handled_all, opened, next_line, bytes_arrived, after_line, after_lines}
-use Rattle.replay_run.specs.ScriptRuns.{IsPlaced, MayAsk, IsNext, IsRun, line_counted, clock_was_set, connection_opened, bytes_taken, answer_told, call_asked}
+use Rattle.replay_run.specs.Runs.{Run, Connection, Arrival, At, Appended, partitions, is_connection, connection_of, messages_on, world_at, lives, takes_bytes, is_full, with_bytes, took_bytes, moment_of, items_by, own_answer, told, refusal, arrival_at, happening, arrived, is_skipped, given_up, asked, asks, handled_all, opened, next_line, bytes_arrived, event_by, after_event, after_line, after_lines}
+use Rattle.replay_run.specs.ScriptRuns.{IsPlaced, MayAsk, IsNext, IsRun, line_counted, clock_was_set, connection_opened, bytes_taken, answer_told, call_arrived, run_given_up, call_asked}
 use Rattle.replay_run.specs.WorldCalls.{arrival_to}
 use Rattle.replay_run.proofs.Items.{AreNumbered, numbered_front, items_room}
 use Rattle.replay_run.proofs.Places.{same_number}
@@ -23,6 +26,7 @@ use Rattle.replay_run.proofs.Trails.{find_some}
 use Rattle.replay_run.proofs.RunFacts.{RunOk}
 use Rattle.replay_run.proofs.Arriving.{same_test, in_place, updated_found, its_event}
 use Rattle.replay_run.proofs.RunsOfLines.{run_ok}
+use Rattle.replay_run.proofs.EventRuns.{takes_run, takes_in_run, flowed_run, flowed_in_run}
 
 -- a connection that is found has the number that was looked for
 pub connection_there : (r : Run) (c : ℕ) (k : Connection) → connection_of r c ≡ Some k → connection_of r k.conn ≡ Some k
@@ -61,6 +65,12 @@ asked_come o skips r a = go (is_skipped skips a.id)
     go true = is [] (refusal a.line a.request (pos want_of_memory) 0 ∷ [])
     go false = is (its_event a ∷ []) (happening o r a)
 
+-- also where the run is given up
+pub asks_come : {State : Type 0} (o : Object Request State) (skips : List CallId) (r : Run) (a : Arrival) → HasCome r (a ∷ []) (asks o skips r a)
+asks_come o skips r a =
+    on_if (HasCome r (a ∷ [])) (is_full (world_at o r a.request.partition)) (given_up (arrived r a [] [])) (asked o skips r a)
+    (record { members = refl; backups = refl; lines = refl; moments = refl; connections = refl; arrivals = refl; appended = ([], refl) }) (asked_come o skips r a)
+
 pub told_come : (r : Run) (c : ℕ) (bytes : List ℕ) → HasCome r [] (told r c bytes)
 told_come r c bytes = record { members = refl; backups = refl; lines = refl; moments = refl; connections = refl; arrivals = sym (append-nil r.arrivals); appended = (own_answer r.lines c bytes ∷ [], refl) }
 
@@ -80,17 +90,17 @@ handled_all_come o skips r k (Reply bytes ∷ items) =
     come_both r mid (handled_all o skips mid k items) [] (all_arriving r.lines k.member (moment_of r k.member) items) (told_come r k.conn bytes) (handled_all_come o skips mid k items)
 handled_all_come o skips r k (Asks request ∷ items) =
     let a = arrival_at r k.member request in
-    let one = asked_come o skips r a in
-    let mid = asked o skips r a in
+    let one = asks_come o skips r a in
+    let mid = asks o skips r a in
     let more = handled_all_come o skips mid k items in
     come_both r mid (handled_all o skips mid k items) (a ∷ []) (all_arriving r.lines k.member (moment_of r k.member) items) one
     (subst (λ line. HasCome mid (all_arriving line k.member (moment_of r k.member) items) (handled_all o skips mid k items)) one.lines
     (subst (λ moments. HasCome mid (all_arriving mid.lines k.member (unwrap_or (slice_get moments k.member) 0) items) (handled_all o skips mid k items)) one.moments more))
 
 -- after a call the next message's may be asked
-pub may_ask_more : {State : Type 0} (o : Object Request State) (skips : List CallId) (r : Run) (k : Connection) (number member : ℕ) (request : Request)
-    → MayAsk r k number → request.id ≡ record { conn = k.conn; number = number } → MayAsk (asked o skips r (arrival_at r member request)) k (number + 1)
-may_ask_more o skips r k number member request may named = record {
+may_ask_come : (r next : Run) (k : Connection) (number member : ℕ) (request : Request)
+    → MayAsk r k number → request.id ≡ record { conn = k.conn; number = number } → HasCome r (arrival_at r member request ∷ []) next → MayAsk next k (number + 1)
+may_ask_come r next k number member request may named come = record {
   there = ap (λ ks. find (is_connection k.conn) ks) come.connections ∙ may.there;
   after = λ b c s. ⊎_elim (λ i. let l = may.after b (contains_in b r.arrivals i) s in omega (arith, l)) (last_number b) (earlier b c);
   of_line = λ b c s. ⊎_elim (λ i. may.of_line b (contains_in b r.arrivals i) (s ∙ come.lines)) (last_conn b) (earlier b c);
@@ -99,11 +109,8 @@ may_ask_more o skips r k number member request may named = record {
     a : Arrival
     a = arrival_at r member request
 
-    come : HasCome r (a ∷ []) (asked o skips r a)
-    come = asked_come o skips r a
-
-    earlier : (b : Arrival) → Contains (asked o skips r a).arrivals b → In b r.arrivals ⊎ In b (a ∷ [])
-    earlier b c = in_cases b r.arrivals (a ∷ []) (subst (λ xs. In b xs) come.arrivals (in_contains b (asked o skips r a).arrivals c))
+    earlier : (b : Arrival) → Contains next.arrivals b → In b r.arrivals ⊎ In b (a ∷ [])
+    earlier b c = in_cases b r.arrivals (a ∷ []) (subst (λ xs. In b xs) come.arrivals (in_contains b next.arrivals c))
 
     last_number : (b : Arrival) → In b (a ∷ []) → b.id.number < number + 1
     last_number b (inl e) = let n = ap (λ (c : Arrival). c.id.number) (sym e) ∙ ap (λ (c : CallId). c.number) named in omega (arith, n)
@@ -112,6 +119,13 @@ may_ask_more o skips r k number member request may named = record {
     last_conn : (b : Arrival) → In b (a ∷ []) → b.id.conn ≡ k.conn
     last_conn b (inl e) = ap (λ (c : Arrival). c.id.conn) (sym e) ∙ ap (λ (c : CallId). c.conn) named
     last_conn b (inr i) = absurd i
+
+module _ {State : Type 0} (o : Object Request State) (skips : List CallId) (r : Run) (k : Connection) (number member : ℕ) (request : Request) where
+  pub may_ask_more : MayAsk r k number → request.id ≡ record { conn = k.conn; number = number } → MayAsk (asked o skips r (arrival_at r member request)) k (number + 1)
+  may_ask_more may named = may_ask_come r (asked o skips r (arrival_at r member request)) k number member request may named (asked_come o skips r (arrival_at r member request))
+
+  pub may_ask_then : MayAsk r k number → request.id ≡ record { conn = k.conn; number = number } → MayAsk (asks o skips r (arrival_at r member request)) k (number + 1)
+  may_ask_then may named = may_ask_come r (asks o skips r (arrival_at r member request)) k number member request may named (asks_come o skips r (arrival_at r member request))
 
 -- and so after a message that its session answered itself
 pub may_ask_after : (r : Run) (k : Connection) (number c : ℕ) (bytes : List ℕ) → MayAsk r k number → MayAsk (told r c bytes) k (number + 1)
@@ -131,6 +145,12 @@ is_next r k number request may complete named placed = record {
   placed = placed;
 }
 
+pub asks_run : {o : Object Request Partition} (skips : List CallId) (r : Run) (member : ℕ) (request : Request) → IsRun o r → IsNext r request → IsRun o (asks o skips r (arrival_at r member request))
+asks_run {o} skips r member request is next =
+    let a = arrival_at r member request in
+    on_if (IsRun o) (is_full (world_at o r request.partition)) (given_up (arrived r a [] [])) (asked o skips r a)
+    (run_given_up (arrived r a [] []) (call_arrived r member request is next)) (call_asked skips r member request is next)
+
 -- All items of the messages that are complete may be handled one after the other.
 pub handled_all_run : {o : Object Request Partition} (skips : List CallId) (r : Run) (k : Connection) (bytes : List ℕ) (number : ℕ) (items : List Item) → IsRun o r → MayAsk r (with_bytes k bytes) number → AreNumbered k.conn number items
     → number + length items ≤ length (messages_on (with_bytes k bytes)) → IsRun o (handled_all o skips r k items)
@@ -142,9 +162,9 @@ handled_all_run skips r k bytes number (Reply answer ∷ items) is may numbered 
     numbered.1 (omega (arith, room))
 handled_all_run {o} skips r k bytes number (Asks request ∷ items) is may numbered room =
     let next = is_next r (with_bytes k bytes) number request may (omega (arith, room)) numbered.0.0 numbered.0.1 in
-    handled_all_run skips (asked o skips r (arrival_at r k.member request)) k bytes (number + 1) items
-    (call_asked skips r k.member request is next)
-    (may_ask_more o skips r (with_bytes k bytes) number k.member request may numbered.0.0)
+    handled_all_run skips (asks o skips r (arrival_at r k.member request)) k bytes (number + 1) items
+    (asks_run skips r k.member request is next)
+    (may_ask_then o skips r (with_bytes k bytes) number k.member request may numbered.0.0)
     numbered.1 (omega (arith, room))
 
 -- bytes
@@ -188,31 +208,50 @@ part_run skips r k bytes items more is there e =
 
 -- lines
 
+-- An event that is a line is no call.
+abbrev IsNoCall : Option At → Type 0
+IsNoCall None = Unit {0}
+IsNoCall (Some e) = asked_by e.event ≡ []
+
+pub events_are_no_calls : (line : Line) → IsNoCall (event_by line)
+events_are_no_calls (Deliver partition from to place) = refl
+events_are_no_calls (Lose partition from to place) = refl
+events_are_no_calls (Repeat partition from to place) = refl
+events_are_no_calls (Resend partition end) = refl
+events_are_no_calls (Move partition from to) = refl
+events_are_no_calls (Join partition to) = refl
+events_are_no_calls (Handover partition from to) = refl
+events_are_no_calls (Advance partition) = refl
+events_are_no_calls (Reopen partition) = refl
+events_are_no_calls line = tt
+
 module _ {o : Object Request Partition} (skips : List CallId) (r : Run) (is : IsRun o r) where
   arrived_run : (k : Connection) (bytes : List ℕ) → connection_of r k.conn ≡ Some k → IsRun o (bytes_arrived o skips r k bytes)
-  arrived_run k bytes there = go (is_some (fault_on k))
-    where
-      go : (closed : Bool) → IsRun o (cond closed (next_line r) (handled_all o skips (took_bytes r k bytes) k (items_by k bytes)))
-      go true = line_counted r is
-      go false = part_run skips r k bytes (items_by k bytes) [] is there (sym (append-nil (items_by k bytes)))
+  arrived_run k bytes there =
+      on_if (IsRun o) (takes_bytes o r k) (handled_all o skips (took_bytes r k bytes) k (items_by k bytes)) (next_line r)
+      (part_run skips r k bytes (items_by k bytes) [] is there (sym (append-nil (items_by k bytes)))) (line_counted r is)
 
   bytes_run : (c : ℕ) (bytes : List ℕ) (found : Option Connection) → connection_of r c ≡ found → IsRun o (elim found [ None ↦ next_line r | Some k ↦ bytes_arrived o skips r k bytes ])
   bytes_run c bytes None there = line_counted r is
   bytes_run c bytes (Some k) there = arrived_run k bytes (connection_there r c k there)
 
-  opened_run : (c member : ℕ) (found : Option Connection) → connection_of r c ≡ found → IsRun o (cond (is_some found) (next_line r) (opened r c member))
+  opened_run : (c member : ℕ) (found : Option Connection) → connection_of r c ≡ found → IsRun o (cond (not (is_some found) && lives o r member) (opened r c member) (next_line r))
   opened_run c member (Some k) there = line_counted r is
-  opened_run c member None there = connection_opened r c member is there
+  opened_run c member None there = on_if (IsRun o) (lives o r member) (opened r c member) (next_line r) (connection_opened r c member is there) (line_counted r is)
+
+  event_run : (e : Option At) → IsNoCall e → IsRun o (after_event o (next_line r) e)
+  event_run None quiet = line_counted r is
+  event_run (Some e) quiet = takes_run (next_line r) e.partition e.event (line_counted r is) quiet
 
   pub line_run : (line : Line) → IsRun o (after_line o skips r line)
-  line_run (Grid members backups capacity) = line_counted r is
   line_run (OpenConn c member) = opened_run c member (connection_of r c) refl
   line_run (Arrive c bytes) = bytes_run c bytes (connection_of r c) refl
   line_run (Clock member moment) = clock_was_set r member moment is
-  line_run (Dump partition member) = line_counted r is
-  line_run (Trail partition) = line_counted r is
-  line_run Comment = line_counted r is
-  line_run End = line_counted r is
+  line_run (Flow partition most) = flowed_run (next_line r) partition most (line_counted r is)
+  line_run (FlowAll most) = flowed_in_run (next_line r) most (numbers_below partitions) (line_counted r is)
+  line_run (Crash member) = takes_in_run (next_line r) (event.Crash member) (numbers_below partitions) (line_counted r is) refl
+  line_run (Detect member) = takes_in_run (next_line r) (event.Detect member) (numbers_below partitions) (line_counted r is) refl
+  line_run line = event_run (event_by line) (events_are_no_calls line)
 
 pub lines_run : {o : Object Request Partition} (skips : List CallId) (r : Run) (lines : List Line) → IsRun o r → IsRun o (after_lines o skips r lines)
 lines_run skips r [] is = is

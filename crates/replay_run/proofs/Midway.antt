@@ -1,23 +1,25 @@
 -- A line of bytes, item by item: how it begins, how each item is handled, and that it ends in the run after the line.
-use Rattle.std.proofs.Common.{◌≡◌, ◌≢◌, ℕ, ◌+◌, ◌≤◌, ◌<◌, true, false, cond, ◌||◌, List, [], ◌∷◌, ◌++◌, length, Option, Some, None, Contains, refl, ap, sym, ◌∙◌, subst, ⊎_elim, inl, inr, arith, length-append, append-nil}
-use Rattle.std.specs.Prelude.{is_some}
+use Rattle.std.proofs.Common.{◌≡◌, ◌≢◌, ℕ, ◌+◌, ◌≤◌, ◌<◌, Bool, true, false, not, cond, ◌||◌, List, [], ◌∷◌, ◌++◌, length, Option, Some, None, Contains, refl, ap, sym, ◌∙◌, subst, ⊎_elim, inl, inr, arith, length-append, append-nil}
 use Rattle.grid_base.specs.Objects.{Object}
 use Rattle.grid_base.specs.declared.names.CallId.{CallId}
 use Rattle.grid_base.specs.declared.calls.Request.{Request}
-use Rattle.frame_codec.specs.declared.malformed.Malformed.{Malformed}
 use Rattle.partition_protocol.proofs.Lists.{In, in_cases, in_left, in_right, in_contains, contains_in}
 use Rattle.session_core.specs.declared.item.Item.{Item}
 use Rattle.session_core.specs.declared.item.Item.TheVariants.{Call as Asks, Reply}
 use Rattle.script_lang.specs.declared.line.Line.TheVariants.{Arrive}
 use Rattle.object_store.specs.Partitions.{Partition}
-use Rattle.replay_run.specs.Runs.{Run, Connection, connection_of, fault_on, messages_on, bytes_of, moment_of, with_bytes, took_bytes, items_by, arrival_at, is_skipped, told, asked, handled_all, next_line, after_line}
+use Rattle.replay_run.specs.Runs.{Run, Connection, connection_of, world_at, takes_bytes, is_full, messages_on, bytes_of, moment_of, with_bytes, took_bytes, items_by, arrival_at, is_skipped, told, asked, asks, handled_all, next_line, after_line}
 use Rattle.replay_run.specs.Printing.{does_nothing}
-use Rattle.replay_run.specs.Skips.{AreOfLine, calls_at}
+use Rattle.replay_run.specs.Skips.{AreOfLine, items_at, calls_at}
 use Rattle.replay_run.specs.ScriptRuns.{MayAsk, IsNext, IsRun, IsMidway, answer_told, call_asked, calls_in}
+use Rattle.call_engine.specs.Calls.{Settings}
+use Rattle.call_engine.specs.Objects.{partition_object}
+use Rattle.replay_run.proofs.EventRuns.{handled_all_full, asks_here, asks_nothing}
 use Rattle.replay_run.proofs.Items.{IsNumbered, AreNumbered, numbered_at, items_room}
 use Rattle.replay_run.proofs.Lines.{HasCome, all_arriving, handled_all_come, may_ask_more, may_ask_after, is_next, has_taken}
-use Rattle.replay_run.proofs.SkipLaws.{Alike, skipped_by_either, not_skipped, unless_same, asked_alike, handled_all_alike, handled_all-append, on_bytes}
-use Rattle.replay_run.specs.Grids.{AreFew}
+use Rattle.replay_run.proofs.SkipLaws.{Alike, skipped_by_either, not_skipped, unless_same, asks_alike, handled_all_alike, handled_all-append, on_bytes}
+use Rattle.replay_run.specs.Grids.{AreFew, IsGivenUp}
+use Rattle.replay_run.specs.WorldCalls.{IsGivenUpMidway}
 use Rattle.replay_run.proofs.Bounds.{bytes_taken_more, handled_no_more, handled_arrivals, handled_few, took_few}
 
 -- numbers
@@ -107,7 +109,20 @@ module _ {o : Object Request Partition} (r : Run) (is : IsRun o r) (k : Connecti
         let at = ap (λ (c : CallId). c.number) (e ∙ its_name) in
         omega (arith, below, at)
 
-    module _ (own : List CallId) (its : (id : CallId) → Contains own id → q.id ≡ id) where
+    -- Its partition is full, so the run is given up, whatever comes after it.
+
+    pub full_midway : is_full (world_at o now q.partition) ≡ true → (handled_all o skips (took_bytes r k bytes) k (done ++ Asks q ∷ rest)).full ≡ true
+    full_midway full =
+        ap (λ (x : Run). x.full) (handled_all-append o skips (took_bytes r k bytes) k done (Asks q ∷ rest))
+        ∙ subst (λ (x : Run). (handled_all o skips x k (Asks q ∷ rest)).full ≡ true) m.is
+        (handled_all_full o skips (asks o skips now (arrival_at now k.member q)) k rest (asks_nothing o skips now (arrival_at now k.member q) full))
+
+    pub own_midway : (id : CallId) → Contains skips id → Contains (calls_in (done ++ Asks q ∷ rest)) id
+    own_midway id c =
+        subst (λ ids. Contains ids id) (sym (calls_in-append done (Asks q ∷ rest)))
+        (contains_in id (calls_in done ++ calls_in (Asks q ∷ rest)) (in_left id (calls_in done) (calls_in (Asks q ∷ rest)) (in_contains id (calls_in done) (m.own id c))))
+
+    module _ (own : List CallId) (its : (id : CallId) → Contains own id → q.id ≡ id) (free : is_full (world_at o now q.partition) ≡ false) where
       before_alike : Alike (own ++ skips) skips (calls_in done)
       before_alike id i =
           skipped_by_either own skips id
@@ -131,8 +146,9 @@ module _ {o : Object Request Partition} (r : Run) (is : IsRun o r) (k : Connecti
       run_more : asked o own now (arrival_at now k.member q) ≡ handled_all o (own ++ skips) (took_bytes r k bytes) k (done ++ Asks q ∷ [])
       run_more =
           let taken = took_bytes r k bytes in
-          asked_alike o own (own ++ skips) now (arrival_at now k.member q) its_alike
-          ∙ ap (λ x. asked o (own ++ skips) x (arrival_at x k.member q)) (m.is ∙ sym (handled_all_alike o (own ++ skips) skips taken k done before_alike))
+          sym (asks_here o own now (arrival_at now k.member q) free)
+          ∙ asks_alike o own (own ++ skips) now (arrival_at now k.member q) its_alike
+          ∙ ap (λ x. asks o (own ++ skips) x (arrival_at x k.member q)) (m.is ∙ sym (handled_all_alike o (own ++ skips) skips taken k done before_alike))
           ∙ sym (handled_all-append o (own ++ skips) taken k done (Asks q ∷ []))
 
       -- It found no memory, or has its event.
@@ -147,39 +163,59 @@ module _ {o : Object Request Partition} (r : Run) (is : IsRun o r) (k : Connecti
 
 -- lines of bytes
 
-module _ (r : Run) (c : ℕ) (bytes : List ℕ) where
-  pub unopened_does_nothing : connection_of r c ≡ None → does_nothing r (Arrive c bytes) ≡ true
-  unopened_does_nothing none = rw none refl
-
-  module _ (k : Connection) (there : connection_of r c ≡ Some k) where
-    pub closed_does_nothing : (fault : Malformed) → fault_on k ≡ Some fault → does_nothing r (Arrive c bytes) ≡ true
-    closed_does_nothing fault closed = rw (there, closed) refl
-
-    pub open_does_something : fault_on k ≡ None → does_nothing r (Arrive c bytes) ≡ false
-    open_does_something sound = rw (there, sound) refl
-
 module _ (o : Object Request Partition) (r : Run) (c : ℕ) (bytes : List ℕ) where
+  does_nothing_on : Option Connection → Bool
+  does_nothing_on found = elim found [ None ↦ true | Some k ↦ not (takes_bytes o r k) ]
+
+  pub unopened_does_nothing : connection_of r c ≡ None → does_nothing o r (Arrive c bytes) ≡ true
+  unfolding does_nothing_on
+  unopened_does_nothing none = ap does_nothing_on none
+
   pub unopened_line : (skips : List CallId) → connection_of r c ≡ None → after_line o skips r (Arrive c bytes) ≡ next_line r
   unopened_line skips none = ap (on_bytes o skips r bytes) none
 
   module _ (k : Connection) (there : connection_of r c ≡ Some k) where
-    on_sound : (skips : List CallId) (fault : Option Malformed) → fault_on k ≡ fault
-        → after_line o skips r (Arrive c bytes) ≡ cond (is_some fault) (next_line r) (handled_all o skips (took_bytes r k bytes) k (items_by k bytes))
-    on_sound skips fault same =
+    pub closed_does_nothing : takes_bytes o r k ≡ false → does_nothing o r (Arrive c bytes) ≡ true
+    unfolding does_nothing_on
+    closed_does_nothing closed = ap does_nothing_on there ∙ ap not closed
+
+    pub open_does_something : takes_bytes o r k ≡ true → does_nothing o r (Arrive c bytes) ≡ false
+    unfolding does_nothing_on
+    open_does_something takes = ap does_nothing_on there ∙ ap not takes
+
+    on_takes : (skips : List CallId) (takes : Bool) → takes_bytes o r k ≡ takes
+        → after_line o skips r (Arrive c bytes) ≡ cond takes (handled_all o skips (took_bytes r k bytes) k (items_by k bytes)) (next_line r)
+    on_takes skips takes same =
         ap (on_bytes o skips r bytes) there
-        ∙ ap (λ (f : Option Malformed). cond (is_some f) (next_line r) (handled_all o skips (took_bytes r k bytes) k (items_by k bytes))) same
+        ∙ ap (λ b. cond b (handled_all o skips (took_bytes r k bytes) k (items_by k bytes)) (next_line r)) same
 
-    pub closed_line : (skips : List CallId) (fault : Malformed) → fault_on k ≡ Some fault → after_line o skips r (Arrive c bytes) ≡ next_line r
-    closed_line skips fault closed = on_sound skips (Some fault) closed
+    pub closed_line : (skips : List CallId) → takes_bytes o r k ≡ false → after_line o skips r (Arrive c bytes) ≡ next_line r
+    closed_line skips closed = on_takes skips false closed
 
-    -- All items were handled.
-    pub ended_line : (done : List Item) (skips : List CallId) (now : Run) → fault_on k ≡ None → items_by k bytes ≡ done → IsMidway o r k bytes done skips now
-        → after_line o skips r (Arrive c bytes) ≡ now
-    ended_line done skips now sound come m = on_sound skips None sound ∙ ap (handled_all o skips (took_bytes r k bytes) k) come ∙ sym m.is
+    module _ (takes : takes_bytes o r k ≡ true) where
+      pub taken_line : (skips : List CallId) → after_line o skips r (Arrive c bytes) ≡ handled_all o skips (took_bytes r k bytes) k (items_by k bytes)
+      taken_line skips = on_takes skips true takes
 
-    pub ended_skips : (done : List Item) (skips : List CallId) (now : Run) → fault_on k ≡ None → items_by k bytes ≡ done → IsMidway o r k bytes done skips now
-        → AreOfLine r (Arrive c bytes) skips
-    ended_skips done skips now sound come m id i = subst (λ ids. Contains ids id) (sym calls) (m.own id i)
-      where
-        calls : calls_at r (Arrive c bytes) ≡ calls_in done
-        calls = rw (there, sound, come) refl
+      pub taken_calls : calls_at o r (Arrive c bytes) ≡ calls_in (items_by k bytes)
+      taken_calls =
+          ap (λ found. calls_in (items_at o r found bytes)) there
+          ∙ ap (λ b. calls_in (cond b (items_by k bytes) [])) takes
+
+      -- All items were handled.
+      module _ (done : List Item) (skips : List CallId) (now : Run) (come : items_by k bytes ≡ done) (m : IsMidway o r k bytes done skips now) where
+        pub ended_line : after_line o skips r (Arrive c bytes) ≡ now
+        ended_line = taken_line skips ∙ ap (handled_all o skips (took_bytes r k bytes) k) come ∙ sym m.is
+
+        pub ended_skips : AreOfLine o r (Arrive c bytes) skips
+        ended_skips id i = subst (λ ids. Contains ids id) (sym (taken_calls ∙ ap calls_in come)) (m.own id i)
+
+-- The run is given up.
+pub given_up_line : (settings : Settings) (r : Run) (c : ℕ) (bytes : List ℕ) (k : Connection) → connection_of r c ≡ Some k → takes_bytes (partition_object settings) r k ≡ true
+    → IsGivenUpMidway settings r k bytes (items_by k bytes) → IsGivenUp settings r (Arrive c bytes)
+given_up_line settings r c bytes k there takes up =
+    let o = partition_object settings in
+    record {
+      skips = up.skips;
+      of_line = λ id i. subst (λ ids. Contains ids id) (sym (taken_calls o r c bytes k there takes)) (up.own id i);
+      full = ap (λ (x : Run). x.full) (taken_line o r c bytes k there takes up.skips) ∙ up.full;
+    }

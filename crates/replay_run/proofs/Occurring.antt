@@ -1,5 +1,5 @@
 -- Something else than a call keeps what holds of arrivals, refusals and reopenings: it logs nothing, or the reset of a reopening.
-use Rattle.std.proofs.Common.{◌≡◌, ℕ, ◌+◌, ◌<◌, Bool, true, false, ◌==◌, List, [], ◌∷◌, ◌++◌, map, filter, Option, Some, None, refl, ap, sym, ◌∙◌, subst, ◌⊎◌, ⊎_elim, inl, inr, arith, append-nil}
+use Rattle.std.proofs.Common.{◌≡◌, ℕ, ◌+◌, Bool, true, false, ◌==◌, List, [], ◌∷◌, ◌++◌, map, filter, Option, Some, None, refl, ap, sym, ◌∙◌, subst, ◌⊎◌, ⊎_elim, inl, inr, arith, append-nil}
 use Rattle.std.proofs.lemmas.List.{map-append}
 use Rattle.std.proofs.lemmas.List.Elements.{filter-append}
 use Rattle.grid_base.specs.Objects.{Object}
@@ -14,50 +14,58 @@ use Rattle.partition_protocol.proofs.EventCases.{EventCases, every_event}
 use Rattle.partition_protocol.proofs.Lists.{In, in_cases, IsPart, cases}
 use Rattle.partition_protocol.proofs.RowFacts.{number_same}
 use Rattle.replay_run.specs.Runs.{Run, Appended, Reopened, is_at, events_at, world_at, answer_to, released_by, is_heard, reopening_by, occurred, reopened_at}
-use Rattle.replay_run.specs.Printing.{partitions}
+use Rattle.replay_run.specs.WorldCalls.{taker_of}
 use Rattle.replay_run.proofs.Parts.{in_mapped}
 use Rattle.replay_run.proofs.Places.{same_number}
 use Rattle.replay_run.proofs.Trails.{executed, executed-append}
 use Rattle.replay_run.proofs.Stamps.{AreStamped, stamped_reset}
 use Rattle.replay_run.proofs.RunFacts.{asked_of, is_of, ArrivalsOk, RefusalsOk, ReopeningsOk, RunOk}
-use Rattle.replay_run.proofs.Arriving.{arrivals-append, events_with_one, maybe_one}
+use Rattle.replay_run.proofs.Arriving.{arrivals_stay, arrivals-append, events_with_one, maybe_one}
 use Rattle.replay_run.proofs.Answering.{its, before, happened, world_with, world_here, world_elsewhere}
 
--- the log
+-- what an event leaves as it was
 
 abbrev pub is_reopening : Event Request → Bool
 is_reopening Reopen = true
 is_reopening event = false
 
--- an event that is no call and no reopening
+-- If it is no call: the log, unless it is a reopening, and the released answers, unless it takes a message.
 abbrev Keeps : World Request → Event Request → World Request → Type 0
-Keeps w event after = asked_by event ≡ [] → is_reopening event ≡ false → after.recorded.log ≡ w.recorded.log
+Keeps w event after = asked_by event ≡ [] → (is_reopening event ≡ false → after.recorded.log ≡ w.recorded.log) × (taker_of event ≡ None → after.released ≡ w.released)
 
 keeps_cases : {State : Type 0} (o : Object Request State) (w : World Request) → EventCases o w (Keeps w)
 keeps_cases o w = record {
-  stays = λ e q a b. refl;
-  loses = λ f t i q at a b. refl;
-  drops = λ f t i q at d a b. refl;
-  repeats = λ f t i q at a b. refl;
-  tells_again = λ a b. refl;
-  sends_again = λ m n at l k a b. refl;
-  crashes = λ m l a b. refl;
-  detects = λ m l c d i a b. refl;
-  notes = λ m l c d i a b. refl;
-  begins = λ e s t j i q a b. refl;
-  hands_over = λ f t h a b. refl;
-  freezes = λ f t m k a b. refl;
-  leaves = λ f t m k a b. refl;
-  hands = λ f t m a b. refl;
-  reopens = λ k a b. absurd cc;
-  joins = λ f t i q v m at k e a b. refl;
-  drains = λ f t i q v at k e a b. refl;
-  delivers = λ f t i q n at there l a b. refl;
-  calls = λ m c n k now node at l lost p f a b. absurd cc;
+  stays = λ e q a. (λ b. refl, λ b. refl);
+  loses = λ f t i q at a. (λ b. refl, λ b. refl);
+  drops = λ f t i q at d a. (λ b. refl, λ b. refl);
+  repeats = λ f t i q at a. (λ b. refl, λ b. refl);
+  tells_again = λ a. (λ b. refl, λ b. refl);
+  sends_again = λ m n at l k a. (λ b. refl, λ b. refl);
+  crashes = λ m l a. (λ b. refl, λ b. refl);
+  detects = λ m l c d i a. (λ b. refl, λ b. refl);
+  notes = λ m l c d i a. (λ b. refl, λ b. refl);
+  begins = λ e s t j i q a. (λ b. refl, λ b. refl);
+  hands_over = λ f t h a. (λ b. refl, λ b. refl);
+  freezes = λ f t m k a. (λ b. refl, λ b. refl);
+  leaves = λ f t m k a. (λ b. refl, λ b. refl);
+  hands = λ f t m a. (λ b. refl, λ b. refl);
+  reopens = λ k a. (λ b. absurd cc, λ b. refl);
+  joins = λ f t i q v m at k e a. (λ b. refl, λ b. absurd cc);
+  drains = λ f t i q v at k e a. (λ b. refl, λ b. absurd cc);
+  delivers = λ f t i q n at there l a. (λ b. refl, λ b. absurd cc);
+  calls = λ m c n k now node at l lost p f a. absurd cc;
 }
 
-keeps_log : {State : Type 0} (o : Object Request State) (w : World Request) (event : Event Request) → Keeps w event (happens o w event).world
-keeps_log o w event = every_event o w (Keeps w) (keeps_cases o w) event
+keeps : {State : Type 0} (o : Object Request State) (w : World Request) (event : Event Request) → Keeps w event (happens o w event).world
+keeps o w event = every_event o w (Keeps w) (keeps_cases o w) event
+
+keeps_log : {State : Type 0} (o : Object Request State) (w : World Request) (event : Event Request) → asked_by event ≡ [] → is_reopening event ≡ false → (happens o w event).world.recorded.log ≡ w.recorded.log
+keeps_log o w event quiet = (keeps o w event quiet).0
+
+pub keeps_released : {State : Type 0} (o : Object Request State) (w : World Request) (event : Event Request) → asked_by event ≡ [] → taker_of event ≡ None → (happens o w event).world.released ≡ w.released
+keeps_released o w event quiet = (keeps o w event quiet).1
+
+-- the log
 
 -- the reset of a reopening at a line
 pub record IsReset (p line : ℕ) (event : Event Request) (log : List (Entry Request)) (h : Happened Request) : Type 0 where
@@ -120,16 +128,9 @@ module _ {State : Type 0} (o : Object Request State) (r : Run) (ok : RunOk o r) 
         ∙ ap (λ ks. arrivals (events_at q r.events) ++ ks) (asked_by_maybe (is_at q (its o r p event)) event quiet) ∙ append-nil (arrivals (events_at q r.events))
 
     pub occurred_arrivals : ArrivalsOk (occurred o r p event)
-    occurred_arrivals = record {
-      placed = ok.of_arrivals.placed;
-      once = ok.of_arrivals.once;
-      counted = ok.of_arrivals.counted;
-      in_order = ok.of_arrivals.in_order;
-      rising = ok.of_arrivals.rising;
-      of_line = ok.of_arrivals.of_line;
-      by_now = ok.of_arrivals.by_now;
-      calls = λ q. subst (λ ks. IsPart ks (map asked_of (filter (is_of q) r.arrivals))) (sym (same_calls q)) (ok.of_arrivals.calls q);
-    }
+    occurred_arrivals =
+        let next = occurred o r p event in
+        arrivals_stay r next.events next.appended next.reopened next.full ok.of_arrivals (λ q. subst (λ ks. IsPart ks (map asked_of (filter (is_of q) r.arrivals))) (sym (same_calls q)) (ok.of_arrivals.calls q))
 
     -- refusals
 
@@ -210,18 +211,5 @@ module _ {State : Type 0} (o : Object Request State) (r : Run) (ok : RunOk o r) 
             subst (λ (w : World Request). IsStampedIn q (r.reopened ++ new) w.recorded.log) (sym (world_elsewhere o r p event q e))
             (subst (λ ls. AreStamped r.arrivals 0 r.lines ls (world_at o r q).recorded.log) (sym (reopened_elsewhere q e)) (ok.of_reopenings.stamped q))
 
-    pub occurred_reopenings : p < partitions → ReopeningsOk o (occurred o r p event)
-    occurred_reopenings within = record {
-      within = λ x i. ⊎_elim (λ j. ok.of_reopenings.within x j) (λ j. new_within x j) (in_cases x r.reopened new i);
-      stamped = stamped_after;
-    }
-      where
-        own : (x : Reopened) (xs : List Reopened) → xs ≡ record { partition = p; line = r.lines } ∷ [] → In x xs → x.partition < partitions
-        own x xs e i = at (subst (λ ys. In x ys) e i)
-          where
-            at : In x (record { partition = p; line = r.lines } ∷ []) → x.partition < partitions
-            at (inl s) = subst (λ n. n < partitions) (ap (λ (y : Reopened). y.partition) s) within
-            at (inr j) = absurd j
-
-        new_within : (x : Reopened) → In x new → x.partition < partitions
-        new_within x i = ⊎_elim (λ k. absurd (subst (λ ys. In x ys) k.1 i)) (λ k. own x new k.reopens i) logs
+    pub occurred_reopenings : ReopeningsOk o (occurred o r p event)
+    occurred_reopenings = record { stamped = stamped_after }

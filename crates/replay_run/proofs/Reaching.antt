@@ -1,9 +1,11 @@
 -- Each connection is to a member of the grid, also after another was opened and after bytes came.
 use Rattle.std.proofs.Common.{◌≡◌, ℕ, ◌<◌, ◌==◌, Bool, true, false, cond, List, [], ◌∷◌, Option, Some, None, sym, ap, ◌∙◌, subst, refl}
+use Rattle.std.specs.List.{find}
 use Rattle.std.specs.Option.{option_map, option_or}
 use Rattle.std.proofs.lemmas.List.Folds.{find-append}
 use Rattle.replay_run.specs.Runs.{Run, Connection, is_connection, connection_of, opened, took_bytes, with_bytes}
 use Rattle.replay_run.specs.Grids.{AreReached}
+use Rattle.replay_run.proofs.EventRuns.{Kept}
 use Rattle.replay_run.proofs.Arriving.{in_place, in_place_number, find_map}
 
 pub opened_reached : (r : Run) (c member : ℕ) → AreReached r → member < r.members → AreReached (opened r c member)
@@ -31,3 +33,8 @@ taken_reached r k bytes reached within d x found =
     go : (old : Option Connection) → connection_of r d ≡ old → option_map (in_place new) old ≡ Some x → x.member < r.members
     go (Some j) there e = let same : in_place new j ≡ x = cc in subst (λ (y : Connection). y.member < r.members) same (member_within (j.conn == new.conn) j (reached d j there))
     go None there e = absurd cc
+
+-- what events leave
+pub kept_reached : (r next : Run) → Kept r next → AreReached r → AreReached next
+kept_reached r next kept reached c k found =
+    subst (λ n. k.member < n) (sym kept.members) (reached c k (ap (λ ks. find (is_connection c) ks) (sym kept.connections) ∙ found))

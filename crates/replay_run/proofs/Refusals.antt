@@ -1,5 +1,5 @@
 -- A call that was refused is executed in no partition, then or later.
-use Rattle.std.proofs.Common.{pos, ◌≡◌, ◌≢◌, ℕ, true, List, [], ◌∷◌, ◌++◌, map, Option, Some, None, slice_get, refl, ap, sym, ◌∙◌, subst, ◌⊎◌, ⊎_elim, inl, inr, append-nil}
+use Rattle.std.proofs.Common.{pos, ◌≡◌, ◌≢◌, ℕ, true, List, [], ◌∷◌, ◌++◌, map, filter, Option, Some, None, slice_get, refl, ap, sym, ◌∙◌, subst, ◌⊎◌, ⊎_elim, inl, inr, append-nil}
 use Rattle.grid_base.specs.Objects.{Object}
 use Rattle.grid_base.specs.declared.names.CallId.{CallId}
 use Rattle.grid_base.specs.declared.calls.Request.{Request}
@@ -11,7 +11,7 @@ use Rattle.partition_protocol.specs.World.{World, start, is_live, map_or, pair_s
 use Rattle.partition_protocol.specs.Events.{Happened, entry_of, Outcome, HeldAt, ReleasedAt, nothing, if_executes, calling, executes, happens, run}
 use Rattle.partition_protocol.specs.Arrivals.{name}
 use Rattle.partition_protocol.proofs.Lists.{In, in_left, in_right, in_cases, cases, on_if}
-use Rattle.replay_run.specs.Runs.{Run, Arrival, Appended, At, world_at, events_at, arrival_at, answer_to, refusal, refused_by, released_by, call_of, happening, arrived}
+use Rattle.replay_run.specs.Runs.{Run, Arrival, Appended, At, world_at, events_at, arrival_at, answer_to, refusal, refused_by, released_by, is_heard_by, call_of, happening, arrived}
 use Rattle.grid_base.specs.Errors.{want_of_memory}
 use Rattle.replay_run.proofs.Parts.{in_mapped}
 use Rattle.replay_run.specs.ScriptRuns.{IsNext}
@@ -93,23 +93,28 @@ module _ {State : Type 0} (o : Object Request State) (r : Run) (ok : RunOk o r) 
           let from = ok.of_refusals.arrived m id i e in
           λ t. fresh r ok.of_arrivals member request is_next from.0 from.1 (ap id_name from.2 ∙ sym t ∙ s)
 
-  -- the call found no memory
+  -- The call makes no event.
+
+  as_before : (appended : List Appended) (p : ℕ) (x : Executed Request) → In x (executed (world_at o (arrived r a [] appended) p).recorded.log) → In x (executed (world_at o r p).recorded.log)
+  as_before appended p x i = subst (λ es. In x (executed (run o (start p r.members r.backups) (events_at p es)).recorded.log)) (append-nil r.events) i
+
+  pub unasked_refusals : RefusalsOk o (arrived r a [] [])
+  unasked_refusals = refused_more [] [] (λ p x i. inl (as_before [] p x i)) (λ m id i e. absurd i)
+
+  -- It found no memory.
 
   abbrev skipped : Run
   skipped = arrived r a [] (refusal a.line request (pos want_of_memory) 0 ∷ [])
 
   pub skipped_refusals : RefusalsOk o skipped
-  skipped_refusals = refused_more [] (refusal a.line request (pos want_of_memory) 0 ∷ []) (λ p x i. inl (as_before p x i)) refused
+  skipped_refusals = refused_more [] (refusal a.line request (pos want_of_memory) 0 ∷ []) (λ p x i. inl (as_before (refusal a.line request (pos want_of_memory) 0 ∷ []) p x i)) refused
     where
-      as_before : (p : ℕ) (x : Executed Request) → In x (executed (world_at o skipped p).recorded.log) → In x (executed (world_at o r p).recorded.log)
-      as_before p x i = subst (λ es. In x (executed (run o (start p r.members r.backups) (events_at p es)).recorded.log)) (append-nil r.events) i
-
       refused : (m : Appended) (id : CallId) → In m (refusal a.line request (pos want_of_memory) 0 ∷ []) → m.refuses ≡ Some id
           → (id ≡ a.id) × ((p : ℕ) (x : Executed Request) → In x (executed (world_at o skipped p).recorded.log) → executed_name x ≢ arrival_name a)
       refused m id (inl s) e =
           let whose : Some request.id ≡ Some id = ap (λ (n : Appended). n.refuses) s ∙ e in
           let its : id ≡ request.id = cc in
-          (its, λ p x i. not_yet p x (as_before p x i))
+          (its, λ p x i. not_yet p x (as_before (refusal a.line request (pos want_of_memory) 0 ∷ []) p x i))
       refused m id (inr i) e = absurd i
 
   -- the call has its event
@@ -153,9 +158,12 @@ module _ {State : Type 0} (o : Object Request State) (r : Run) (ok : RunOk o r) 
   pub refusals_after : RefusalsOk o after
   refusals_after = refused_more (its_event a ∷ []) (happening o r a) (λ q x i. ⊎_elim (λ j. inl j) (λ j. inr j.0) (executed_after q x i)) refused
     where
-      given : (m : Appended) (id : CallId) → In m (map (answer_to a.line) (released_by (world_at o r p) (happens o (world_at o r p) (call_of a)).world)) → m.refuses ≡ Some id → ⊥
+      heard : List (Executed Request)
+      heard = filter (is_heard_by r a.id.conn) (released_by (world_at o r p) (happens o (world_at o r p) (call_of a)).world)
+
+      given : (m : Appended) (id : CallId) → In m (map (answer_to a.line) heard) → m.refuses ≡ Some id → ⊥
       given m id i e =
-          let made = in_mapped (answer_to a.line) (released_by (world_at o r p) (happens o (world_at o r p) (call_of a)).world) m i in
+          let made = in_mapped (answer_to a.line) heard m i in
           let clash : None ≡ Some id = ap (λ (n : Appended). n.refuses) made.2 ∙ e in cc
 
       refused_here : (m : Appended) (id : CallId) → m.refuses ≡ Some id → In m (refused_by a.line request (happens o (world_at o r p) (call_of a)).outcome)
@@ -169,4 +177,4 @@ module _ {State : Type 0} (o : Object Request State) (r : Run) (ok : RunOk o r) 
           → (id ≡ a.id) × ((q : ℕ) (x : Executed Request) → In x (executed (world_at o after q).recorded.log) → executed_name x ≢ arrival_name a)
       refused m id i e =
           ⊎_elim (refused_here m id e) (λ j. absurd (given m id j e))
-          (in_cases m (refused_by a.line request (happens o (world_at o r p) (call_of a)).outcome) (map (answer_to a.line) (released_by (world_at o r p) (happens o (world_at o r p) (call_of a)).world)) i)
+          (in_cases m (refused_by a.line request (happens o (world_at o r p) (call_of a)).outcome) (map (answer_to a.line) heard) i)

@@ -1,13 +1,12 @@
 -- A call is logged at the line of its arrival, and reopens nothing.
-use Rattle.std.proofs.Common.{◌≡◌, ℕ, ◌≤◌, ◌<◌, true, List, [], ◌∷◌, ◌++◌, refl, ap, sym, subst, ⊎_elim, inl, inr, arith, append-nil}
+use Rattle.std.proofs.Common.{◌≡◌, ℕ, true, List, [], ◌∷◌, ◌++◌, refl, ap, sym, subst, ⊎_elim, inl, arith, append-nil}
 use Rattle.grid_base.specs.Objects.{Object}
 use Rattle.grid_base.specs.declared.calls.Request.{Request}
 use Rattle.partition_protocol.specs.History.{Entry}
 use Rattle.partition_protocol.specs.World.{World, start}
 use Rattle.partition_protocol.specs.Events.{run}
-use Rattle.partition_protocol.proofs.Lists.{In, in_left, in_right, cases}
-use Rattle.partition_protocol.proofs.RowFacts.{number_other}
-use Rattle.replay_run.specs.Runs.{Run, Arrival, Appended, Reopened, reopened_at, world_at, events_at, arrival_at, call_of, happening, arrived}
+use Rattle.partition_protocol.proofs.Lists.{in_left, in_right, cases}
+use Rattle.replay_run.specs.Runs.{Run, Arrival, Appended, reopened_at, world_at, events_at, arrival_at, call_of, happening, arrived}
 use Rattle.replay_run.proofs.Places.{same_number}
 use Rattle.replay_run.proofs.Stamps.{AreStamped, stamped_later, stamped_call}
 use Rattle.replay_run.proofs.RunFacts.{is_of, ReopeningsOk, RunOk}
@@ -16,23 +15,15 @@ use Rattle.replay_run.proofs.Answers.{id_of_name}
 use Rattle.replay_run.proofs.Answering.{before, happened, world_with, world_here, world_elsewhere}
 use Rattle.replay_run.proofs.Refusals.{IsLogged, call_log}
 
--- A partition that the grid doesn't have was never reopened.
-pub none_reopened : (n p : ℕ) (xs : List Reopened) → ((x : Reopened) → In x xs → x.partition < n) → n ≤ p → reopened_at p xs ≡ []
-none_reopened n p [] f l = refl
-none_reopened n p (x ∷ xs) f l =
-    let below = f x (inl refl) in
-    rw (number_other x.partition p (omega (arith, below, l))) (none_reopened n p xs (λ y i. f y (inr i)) l)
-
 module _ {State : Type 0} (o : Object Request State) (r : Run) (ok : RunOk o r) (a : Arrival) where
   -- with one arrival more
   pub stamped_still : (p : ℕ) → AreStamped (r.arrivals ++ a ∷ []) 0 r.lines (reopened_at p r.reopened) (world_at o r p).recorded.log
   stamped_still p =
       stamped_later r.arrivals (r.arrivals ++ a ∷ []) 0 r.lines r.lines (reopened_at p r.reopened) (world_at o r p).recorded.log (λ b i. in_left b r.arrivals (a ∷ []) i) (omega arith) (ok.of_reopenings.stamped p)
 
-  -- a call that found no memory
+  -- a call that makes no event
   pub skipped_reopenings : (appended : List Appended) → ReopeningsOk o (arrived r a [] appended)
   skipped_reopenings appended = record {
-    within = ok.of_reopenings.within;
     stamped = λ p.
         subst (λ es. AreStamped (r.arrivals ++ a ∷ []) 0 r.lines (reopened_at p r.reopened) (run o (start p r.members r.backups) (events_at p es)).recorded.log)
         (sym (append-nil r.events)) (stamped_still p);
@@ -69,4 +60,4 @@ module _ {State : Type 0} (o : Object Request State) (r : Run) (ok : RunOk o r) 
           (subst (λ (w : World Request). IsStampedIn p w.recorded.log) (sym (world_here o r p (call_of a))) stamped_here)
 
   pub called_reopenings : ReopeningsOk o (arrived r a (its_event a ∷ []) (happening o r a))
-  called_reopenings = record { within = ok.of_reopenings.within; stamped = stamped_after }
+  called_reopenings = record { stamped = stamped_after }

@@ -16,9 +16,9 @@ use Rattle.partition_protocol.proofs.RowFacts.{false_or_not}
 use Rattle.partition_protocol.proofs.Faithful.{part_in, part_map, part_once}
 use Rattle.partition_protocol.proofs.Theorem.{every_run_is_safe}
 use Rattle.partition_world.specs.Answers.{id_of}
-use Rattle.replay_run.specs.Runs.{Run, Arrival, Appended, Reopened, Connection, reopened_at, world_at, events_at, connection_of, messages_on}
+use Rattle.replay_run.specs.Runs.{Run, Arrival, Appended, Connection, reopened_at, world_at, events_at, connection_of, messages_on}
 use Rattle.replay_run.specs.ScriptRuns.{IsPlaced}
-use Rattle.replay_run.specs.Printing.{partitions, arrival_of, is_answer_to}
+use Rattle.replay_run.specs.Printing.{arrival_of, is_answer_to}
 use Rattle.replay_run.specs.Linearizability.{Before}
 use Rattle.replay_run.proofs.Parts.{in_map, before_map, subsequence_part, part_filter, part_trans, before_part, before_mapped, in_mapped, in_filtered, named_same}
 use Rattle.replay_run.proofs.Counts.{count}
@@ -91,8 +91,6 @@ pub record RefusalsOk {State : Type 0} (o : Object Request State) (r : Run) : Ty
 -- reopenings
 
 pub record ReopeningsOk {State : Type 0} (o : Object Request State) (r : Run) : Type 0 where
-  -- each is of a partition of the grid
-  pub within : (x : Reopened) → In x r.reopened → x.partition < partitions
   -- the log's calls were logged as they arrived, and its resets at the reopenings
   pub stamped : (p : ℕ) → AreStamped r.arrivals 0 r.lines (reopened_at p r.reopened) (world_at o r p).recorded.log
 

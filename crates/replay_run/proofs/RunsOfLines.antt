@@ -1,5 +1,5 @@
 -- What holds of every run that lines can make.
-use Rattle.std.proofs.Common.{pos, ◌≡◌, ℕ, ◌≤◌, ◌<◌, Bool, true, false, cond, List, [], ◌∷◌, ◌++◌, filter, slice_set, Option, Some, None, refl, ap, sym, ◌∙◌, ⊎_elim, inl, inr, arith}
+use Rattle.std.proofs.Common.{pos, ◌≡◌, ℕ, ◌≤◌, Bool, true, false, cond, List, [], ◌∷◌, ◌++◌, filter, slice_set, Option, Some, None, refl, ap, sym, ◌∙◌, ⊎_elim, inl, inr, arith}
 use Rattle.grid_base.specs.Objects.{Object}
 use Rattle.grid_base.specs.declared.names.CallId.{CallId}
 use Rattle.grid_base.specs.declared.calls.Request.{Request}
@@ -7,19 +7,18 @@ use Rattle.object_store.specs.Partitions.{Partition}
 use Rattle.partition_protocol.specs.Arrivals.{asked_by}
 use Rattle.partition_protocol.specs.Events.{Event}
 use Rattle.partition_protocol.proofs.Lists.{In, in_left, in_cases}
-use Rattle.partition_protocol.proofs.Faithful.{part_itself}
 use Rattle.grid_base.specs.Errors.{want_of_memory}
-use Rattle.replay_run.specs.Runs.{Run, Connection, Arrival, Appended, begun, updated, with_bytes, own_answer, told, refusal, refused_by, released_by, call_of, arrival_at, happening, arrived, is_skipped, is_heard, occurred, asked}
-use Rattle.replay_run.specs.Printing.{partitions, arrival_of, answer_of, is_answer_to}
-use Rattle.replay_run.specs.ScriptRuns.{IsNext, IsRun, grid_begun, line_counted, clock_was_set, connection_opened, bytes_taken, answer_told, event_occurred, call_asked}
+use Rattle.replay_run.specs.Runs.{Run, Connection, Arrival, Appended, begun, updated, with_bytes, own_answer, told, refusal, refused_by, released_by, call_of, arrival_at, happening, arrived, is_skipped, is_heard, is_heard_by, given_up, occurred, asked}
+use Rattle.replay_run.specs.Printing.{arrival_of, answer_of, is_answer_to}
+use Rattle.replay_run.specs.ScriptRuns.{IsNext, IsRun, grid_begun, line_counted, clock_was_set, connection_opened, bytes_taken, answer_told, event_occurred, call_arrived, run_given_up, call_asked}
 use Rattle.replay_run.proofs.Hearing.{no_fewer}
 use Rattle.replay_run.proofs.Parts.{part_filter}
 use Rattle.replay_run.proofs.Counts.{count-append}
 use Rattle.replay_run.proofs.Trails.{find_some}
-use Rattle.replay_run.proofs.RunFacts.{RunOk, arrival_found}
-use Rattle.replay_run.proofs.Arriving.{apart_opened, apart_updated, opened_grows, updated_grows, quiet, arrivals_with, its_event}
+use Rattle.replay_run.proofs.RunFacts.{RefusalsOk, RunOk, arrival_found}
+use Rattle.replay_run.proofs.Arriving.{apart_opened, apart_updated, opened_grows, updated_grows, quiet, arrivals_stay, arrivals_with, its_event}
 use Rattle.replay_run.proofs.Answering.{before, happened, refusals_answer_none, answers_still, answers_after}
-use Rattle.replay_run.proofs.Refusals.{skipped_refusals, refusals_after}
+use Rattle.replay_run.proofs.Refusals.{unasked_refusals, skipped_refusals, refusals_after}
 use Rattle.replay_run.proofs.Reopenings.{skipped_reopenings, called_reopenings}
 use Rattle.replay_run.proofs.Occurring.{occurred_arrivals, occurred_refusals, occurred_reopenings}
 use Rattle.replay_run.proofs.Answers.{id_of_name, named_answer}
@@ -41,7 +40,7 @@ begun_ok o members backups grid = record {
   };
   of_answers = record { given = λ m id i e. absurd i; once = λ id. omega arith };
   of_refusals = record { arrived = λ m id i e. absurd i; unexecuted = λ m id i e. absurd i };
-  of_reopenings = record { within = λ x i. absurd i; stamped = λ p. (refl, omega arith) };
+  of_reopenings = record { stamped = λ p. (refl, omega arith) };
 }
 
 -- what a session answers itself answers no call and refuses none
@@ -49,16 +48,7 @@ pub told_ok : {State : Type 0} (o : Object Request State) (r : Run) (c : ℕ) (b
 told_ok o r c bytes ok = record {
   members = ok.members;
   connections = ok.connections;
-  of_arrivals = record {
-    placed = ok.of_arrivals.placed;
-    once = ok.of_arrivals.once;
-    counted = ok.of_arrivals.counted;
-    in_order = ok.of_arrivals.in_order;
-    rising = ok.of_arrivals.rising;
-    of_line = ok.of_arrivals.of_line;
-    by_now = ok.of_arrivals.by_now;
-    calls = ok.of_arrivals.calls;
-  };
+  of_arrivals = arrivals_stay r r.events (told r c bytes).appended r.reopened r.full ok.of_arrivals ok.of_arrivals.calls;
   of_answers = record {
     given = λ m id i e. ⊎_elim (λ j. ok.of_answers.given m id j e) (λ j. absurd (answers_none m id j e)) (in_cases m r.appended (own_answer r.lines c bytes ∷ []) i);
     once = λ id. let old = ok.of_answers.once id in let more = count-append (is_answer_to id) r.appended (own_answer r.lines c bytes ∷ []) in omega (arith, old, more);
@@ -67,7 +57,7 @@ told_ok o r c bytes ok = record {
     arrived = λ m id i e. ⊎_elim (λ j. ok.of_refusals.arrived m id j e) (λ j. absurd (refuses_none m id j e)) (in_cases m r.appended (own_answer r.lines c bytes ∷ []) i);
     unexecuted = λ m id i e. ⊎_elim (λ j. ok.of_refusals.unexecuted m id j e) (λ j. absurd (refuses_none m id j e)) (in_cases m r.appended (own_answer r.lines c bytes ∷ []) i);
   };
-  of_reopenings = record { within = ok.of_reopenings.within; stamped = ok.of_reopenings.stamped };
+  of_reopenings = record { stamped = ok.of_reopenings.stamped };
 }
   where
     answers_none : (m : Appended) (id : CallId) → In m (own_answer r.lines c bytes ∷ []) → m.answers ≡ Some id → ⊥
@@ -77,6 +67,35 @@ told_ok o r c bytes ok = record {
     refuses_none : (m : Appended) (id : CallId) → In m (own_answer r.lines c bytes ∷ []) → m.refuses ≡ Some id → ⊥
     refuses_none m id (inl s) e = let clash : None ≡ Some id = ap (λ (n : Appended). n.refuses) s ∙ e in cc
     refuses_none m id (inr i) e = i
+
+-- a run that is given up
+pub given_up_ok : {State : Type 0} (o : Object Request State) (r : Run) → RunOk o r → RunOk o (given_up r)
+given_up_ok o r ok = record {
+  members = ok.members;
+  connections = ok.connections;
+  of_arrivals = arrivals_stay r r.events r.appended r.reopened true ok.of_arrivals ok.of_arrivals.calls;
+  of_answers = record { given = ok.of_answers.given; once = ok.of_answers.once };
+  of_refusals = record { arrived = ok.of_refusals.arrived; unexecuted = ok.of_refusals.unexecuted };
+  of_reopenings = record { stamped = ok.of_reopenings.stamped };
+}
+
+-- a call that makes no event, and these messages, which answer nothing
+eventless_ok : {State : Type 0} (o : Object Request State) (r : Run) (member : ℕ) (request : Request) (appended : List Appended) → RunOk o r → IsNext r request
+    → ((m : Appended) → In m appended → m.answers ≡ None) → RefusalsOk o (arrived r (arrival_at r member request) [] appended) → RunOk o (arrived r (arrival_at r member request) [] appended)
+eventless_ok o r member request appended ok next silent refusals =
+    let a = arrival_at r member request in
+    record {
+      members = ok.members;
+      connections = ok.connections;
+      of_arrivals = arrivals_with r ok.of_arrivals member request next [] appended (inl refl);
+      of_answers = answers_still o r ok (r.arrivals ++ a ∷ []) r.reopened (λ b i. in_left b r.arrivals (a ∷ []) i) [] appended silent;
+      of_refusals = refusals;
+      of_reopenings = skipped_reopenings o r ok a appended;
+    }
+
+-- a call of a run that is given up
+pub unasked_ok : {State : Type 0} (o : Object Request State) (r : Run) (member : ℕ) (request : Request) → RunOk o r → IsNext r request → RunOk o (arrived r (arrival_at r member request) [] [])
+unasked_ok o r member request ok next = eventless_ok o r member request [] ok next (λ m i. absurd i) (unasked_refusals o r ok member request next)
 
 -- a call, with an event or none
 pub asked_ok : {State : Type 0} (o : Object Request State) (skips : List CallId) (r : Run) (member : ℕ) (request : Request) → RunOk o r → IsNext r request → RunOk o (asked o skips r (arrival_at r member request))
@@ -93,31 +112,24 @@ asked_ok o skips r member request ok next = go (is_skipped skips request.id)
     refusal_silent m (inr i) = absurd i
 
     go : (b : Bool) → RunOk o (cond b (arrived r a [] (refusal r.lines request (pos want_of_memory) 0 ∷ [])) (arrived r a (its_event a ∷ []) (happening o r a)))
-    go true = record {
-      members = ok.members;
-      connections = ok.connections;
-      of_arrivals = arrivals_with r ok.of_arrivals member request next [] (refusal r.lines request (pos want_of_memory) 0 ∷ []) (inl refl);
-      of_answers = answers_still o r ok (r.arrivals ++ a ∷ []) r.reopened still [] (refusal r.lines request (pos want_of_memory) 0 ∷ []) refusal_silent;
-      of_refusals = skipped_refusals o r ok member request next;
-      of_reopenings = skipped_reopenings o r ok a (refusal r.lines request (pos want_of_memory) 0 ∷ []);
-    }
+    go true = eventless_ok o r member request (refusal r.lines request (pos want_of_memory) 0 ∷ []) ok next refusal_silent (skipped_refusals o r ok member request next)
     go false =
         let come = arrivals_with r ok.of_arrivals member request next (its_event a ∷ []) (happening o r a) (inr refl) in
+        let released = released_by (before o r request.partition (call_of a)) (happened o r request.partition (call_of a)).world in
         record {
           members = ok.members;
           connections = ok.connections;
           of_arrivals = come;
           of_answers =
               answers_after o r ok (r.arrivals ++ a ∷ []) r.reopened still request.partition (call_of a) (refused_by r.lines request (happened o r request.partition (call_of a)).outcome)
-              (refusals_answer_none r.lines request (happened o r request.partition (call_of a)).outcome) (released_by (before o r request.partition (call_of a)) (happened o r request.partition (call_of a)).world)
-              (part_itself (released_by (before o r request.partition (call_of a)) (happened o r request.partition (call_of a)).world)) come;
+              (refusals_answer_none r.lines request (happened o r request.partition (call_of a)).outcome) (filter (is_heard_by r request.id.conn) released) (part_filter (is_heard_by r request.id.conn) released) come;
           of_refusals = refusals_after o r ok member request next;
           of_reopenings = called_reopenings o r ok member request;
         }
 
 -- something else than a call
-pub occurred_ok : {State : Type 0} (o : Object Request State) (r : Run) (p : ℕ) (event : Event Request) → RunOk o r → p < partitions → asked_by event ≡ [] → RunOk o (occurred o r p event)
-occurred_ok o r p event ok within quiet =
+pub occurred_ok : {State : Type 0} (o : Object Request State) (r : Run) (p : ℕ) (event : Event Request) → RunOk o r → asked_by event ≡ [] → RunOk o (occurred o r p event)
+occurred_ok o r p event ok quiet =
     let come = occurred_arrivals o r ok p event quiet in
     let released = released_by (before o r p event) (happened o r p event).world in
     record {
@@ -127,7 +139,7 @@ occurred_ok o r p event ok within quiet =
       of_answers =
           answers_after o r ok r.arrivals (occurred o r p event).reopened (λ b i. i) p event [] (λ m i. absurd i) (filter (is_heard r) released) (part_filter (is_heard r) released) come;
       of_refusals = occurred_refusals o r ok p event quiet;
-      of_reopenings = occurred_reopenings o r ok p event quiet within;
+      of_reopenings = occurred_reopenings o r ok p event quiet;
     }
 
 pub run_ok : {o : Object Request Partition} {r : Run} → IsRun o r → RunOk o r
@@ -143,7 +155,9 @@ run_ok {o} (bytes_taken r connection bytes is there) =
     let new : Connection = with_bytes connection bytes in
     quiet o r r.moments (updated new r.connections) ok (apart_updated r.connections new ok.connections) (updated_grows r connection new there refl (no_fewer connection.bytes bytes))
 run_ok {o} (answer_told r c bytes is) = told_ok o r c bytes (run_ok is)
-run_ok {o} (event_occurred r p event is within quiet) = occurred_ok o r p event (run_ok is) within quiet
+run_ok {o} (event_occurred r p event is quiet) = occurred_ok o r p event (run_ok is) quiet
+run_ok {o} (call_arrived r member request is next) = unasked_ok o r member request (run_ok is) next
+run_ok {o} (run_given_up r is) = given_up_ok o r (run_ok is)
 run_ok {o} (call_asked skips r member request is next) = asked_ok o skips r member request (run_ok is) next
 
 -- A call that did not arrive was not answered.

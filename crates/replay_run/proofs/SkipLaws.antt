@@ -1,21 +1,23 @@
 -- A line asks of the skips only which of its own calls are among them, and adds its own calls to the arrivals.
 use Rattle.std.proofs.Common.{◌≡◌, ◌≢◌, ℕ, ◌+◌, Bool, true, false, ◌||◌, cond, List, [], ◌∷◌, ◌++◌, map, Option, Some, None, refl, ap, sym, ◌∙◌, inl, inr, append-nil, arith}
-use Rattle.std.specs.Prelude.{is_some}
 use Rattle.grid_base.specs.Objects.{Object}
 use Rattle.grid_base.specs.declared.names.CallId.{CallId}
 use Rattle.grid_base.specs.declared.calls.Request.{Request}
 use Rattle.grid_base.specs.Names.{is_same_call}
+use Rattle.partition_protocol.specs.Events as event
+use Rattle.partition_protocol.specs.Service.{numbers_below}
 use Rattle.partition_protocol.proofs.Lists.{In}
 use Rattle.partition_protocol.proofs.RowFacts.{false_or_not}
 use Rattle.session_core.specs.declared.item.Item.{Item}
 use Rattle.session_core.specs.declared.item.Item.TheVariants.{Call as Asks, Reply}
 use Rattle.script_lang.specs.declared.line.Line.{Line}
-use Rattle.script_lang.specs.declared.line.Line.TheVariants.{Grid, OpenConn, Arrive, Clock, Dump, Trail, Comment, End}
+use Rattle.script_lang.specs.declared.line.Line.TheVariants.{OpenConn, Arrive, Clock, Flow, FlowAll, Crash, Detect}
 use Rattle.object_store.specs.Partitions.{Partition}
-use Rattle.replay_run.specs.Runs.{Run, Connection, Arrival, connection_of, fault_on, items_by, moment_of, took_bytes, next_line, clock_set, after_line, bytes_arrived, told, asked, handled, handled_all, arrival_at, is_skipped, opened}
+use Rattle.replay_run.specs.Runs.{Run, At, Connection, Arrival, partitions, connection_of, world_at, takes_bytes, is_full, items_by, moment_of, took_bytes, next_line, clock_set, can_open, event_by, after_event, after_line, bytes_arrived, told, arrived, given_up, asked, asks, takes_in, flowed, flowed_in, handled, handled_all, arrival_at, is_skipped, opened}
 use Rattle.replay_run.specs.ScriptRuns.{calls_in}
 use Rattle.replay_run.specs.Skips.{items_at, calls_at}
 use Rattle.replay_run.proofs.Places.{same_call}
+use Rattle.replay_run.proofs.EventRuns.{Kept, kept_refl, takes_kept, takes_in_kept, flowed_kept, flowed_in_kept}
 use Rattle.replay_run.proofs.Lines.{all_arriving, handled_all_come}
 
 -- who is skipped
@@ -46,13 +48,16 @@ asked_alike o s k r a e = same_choice (is_skipped s a.id) (is_skipped k a.id) _ 
     same_choice : (b d : Bool) (x y : Run) → b ≡ d → cond b x y ≡ cond d x y
     same_choice b d x y h = ap (λ t. cond t x y) h
 
+pub asks_alike : {State : Type 0} (o : Object Request State) (s k : List CallId) (r : Run) (a : Arrival) → is_skipped s a.id ≡ is_skipped k a.id → asks o s r a ≡ asks o k r a
+asks_alike o s k r a e = ap (λ next. cond (is_full (world_at o r a.request.partition)) (given_up (arrived r a [] [])) next) (asked_alike o s k r a e)
+
 pub handled_all_alike : {State : Type 0} (o : Object Request State) (s k : List CallId) (r : Run) (c : Connection) (items : List Item) → Alike s k (calls_in items)
     → handled_all o s r c items ≡ handled_all o k r c items
 handled_all_alike o s k r c [] h = refl
 handled_all_alike o s k r c (Reply bytes ∷ items) h = handled_all_alike o s k (told r c.conn bytes) c items h
 handled_all_alike o s k r c (Asks request ∷ items) h =
-    ap (λ next. handled_all o s next c items) (asked_alike o s k r (arrival_at r c.member request) (h request.id (inl refl)))
-    ∙ handled_all_alike o s k (asked o k r (arrival_at r c.member request)) c items (λ id i. h id (inr i))
+    ap (λ next. handled_all o s next c items) (asks_alike o s k r (arrival_at r c.member request) (h request.id (inl refl)))
+    ∙ handled_all_alike o s k (asks o k r (arrival_at r c.member request)) c items (λ id i. h id (inr i))
 
 -- the items of a front, and then the others
 pub handled_all-append : {State : Type 0} (o : Object Request State) (skips : List CallId) (r : Run) (c : Connection) (first then : List Item)
@@ -62,29 +67,23 @@ handled_all-append o skips r c (item ∷ items) then = handled_all-append o skip
 
 -- lines
 
-on_open : (o : Object Request Partition) (s k : List CallId) (r : Run) (bytes : List ℕ) (c : Connection) (closed : Bool) → Alike s k (calls_in (cond closed [] (items_by c bytes)))
-    → cond closed (next_line r) (handled_all o s (took_bytes r c bytes) c (items_by c bytes))
-    ≡ cond closed (next_line r) (handled_all o k (took_bytes r c bytes) c (items_by c bytes))
-on_open o s k r bytes c true h = refl
-on_open o s k r bytes c false h = handled_all_alike o s k (took_bytes r c bytes) c (items_by c bytes) h
+on_open : (o : Object Request Partition) (s k : List CallId) (r : Run) (bytes : List ℕ) (c : Connection) (takes : Bool) → Alike s k (calls_in (cond takes (items_by c bytes) []))
+    → cond takes (handled_all o s (took_bytes r c bytes) c (items_by c bytes)) (next_line r)
+    ≡ cond takes (handled_all o k (took_bytes r c bytes) c (items_by c bytes)) (next_line r)
+on_open o s k r bytes c true h = handled_all_alike o s k (took_bytes r c bytes) c (items_by c bytes) h
+on_open o s k r bytes c false h = refl
 
 -- the run after bytes on a connection, which may not have been opened
 abbrev pub on_bytes : Object Request Partition → List CallId → Run → List ℕ → Option Connection → Run
 on_bytes o skips r bytes found = elim found [ None ↦ next_line r | Some c ↦ bytes_arrived o skips r c bytes ]
 
-on_connection : (o : Object Request Partition) (s k : List CallId) (r : Run) (bytes : List ℕ) (found : Option Connection) → Alike s k (calls_in (items_at found bytes)) → on_bytes o s r bytes found ≡ on_bytes o k r bytes found
+on_connection : (o : Object Request Partition) (s k : List CallId) (r : Run) (bytes : List ℕ) (found : Option Connection) → Alike s k (calls_in (items_at o r found bytes)) → on_bytes o s r bytes found ≡ on_bytes o k r bytes found
 on_connection o s k r bytes None h = refl
-on_connection o s k r bytes (Some c) h = on_open o s k r bytes c (is_some (fault_on c)) h
+on_connection o s k r bytes (Some c) h = on_open o s k r bytes c (takes_bytes o r c) h
 
-pub skips_alike : (o : Object Request Partition) (s k : List CallId) (r : Run) (line : Line) → Alike s k (calls_at r line) → after_line o s r line ≡ after_line o k r line
-skips_alike o s k r (Grid members backups capacity) h = refl
-skips_alike o s k r (OpenConn c member) h = refl
+pub skips_alike : (o : Object Request Partition) (s k : List CallId) (r : Run) (line : Line) → Alike s k (calls_at o r line) → after_line o s r line ≡ after_line o k r line
 skips_alike o s k r (Arrive c bytes) h = on_connection o s k r bytes (connection_of r c) h
-skips_alike o s k r (Clock member moment) h = refl
-skips_alike o s k r (Dump partition member) h = refl
-skips_alike o s k r (Trail partition) h = refl
-skips_alike o s k r Comment h = refl
-skips_alike o s k r End h = refl
+skips_alike o s k r line h = refl
 
 -- what a line does to the lines and the arrivals
 pub record Counts (r next : Run) (calls : List CallId) : Type 0 where
@@ -96,10 +95,12 @@ pub record Counts (r next : Run) (calls : List CallId) : Type 0 where
 quiet : (r next : Run) → next.lines ≡ r.lines + 1 → next.arrivals ≡ r.arrivals → Counts r next []
 quiet r next lines arrivals = record { lines = lines; come = []; arrivals = arrivals ∙ sym (append-nil r.arrivals); names = refl }
 
-open_counts : (o : Object Request Partition) (k : List CallId) (r : Run) (bytes : List ℕ) (c : Connection) (closed : Bool)
-    → Counts r (cond closed (next_line r) (handled_all o k (took_bytes r c bytes) c (items_by c bytes))) (calls_in (cond closed [] (items_by c bytes)))
-open_counts o k r bytes c true = quiet r (next_line r) refl refl
-open_counts o k r bytes c false =
+kept_counts : (r next : Run) → Kept (next_line r) next → Counts r next []
+kept_counts r next kept = quiet r next kept.lines kept.arrivals
+
+open_counts : (o : Object Request Partition) (k : List CallId) (r : Run) (bytes : List ℕ) (c : Connection) (takes : Bool)
+    → Counts r (cond takes (handled_all o k (took_bytes r c bytes) c (items_by c bytes)) (next_line r)) (calls_in (cond takes (items_by c bytes) []))
+open_counts o k r bytes c true =
     let come = handled_all_come o k (took_bytes r c bytes) c (items_by c bytes) in
     record {
       lines = come.lines;
@@ -107,21 +108,27 @@ open_counts o k r bytes c false =
       arrivals = come.arrivals;
       names = names_arriving (r.lines + 1) c.member (moment_of r c.member) (items_by c bytes);
     }
+open_counts o k r bytes c false = quiet r (next_line r) refl refl
 
-connection_counts : (o : Object Request Partition) (k : List CallId) (r : Run) (bytes : List ℕ) (found : Option Connection) → Counts r (on_bytes o k r bytes found) (calls_in (items_at found bytes))
+connection_counts : (o : Object Request Partition) (k : List CallId) (r : Run) (bytes : List ℕ) (found : Option Connection) → Counts r (on_bytes o k r bytes found) (calls_in (items_at o r found bytes))
 connection_counts o k r bytes None = quiet r (next_line r) refl refl
-connection_counts o k r bytes (Some c) = open_counts o k r bytes c (is_some (fault_on c))
+connection_counts o k r bytes (Some c) = open_counts o k r bytes c (takes_bytes o r c)
 
-opened_counts : (r : Run) (c member : ℕ) (there : Bool) → Counts r (cond there (next_line r) (opened r c member)) []
-opened_counts r c member true = quiet r (next_line r) refl refl
-opened_counts r c member false = quiet r (opened r c member) refl refl
+opened_counts : (r : Run) (c member : ℕ) (opens : Bool) → Counts r (cond opens (opened r c member) (next_line r)) []
+opened_counts r c member true = quiet r (opened r c member) refl refl
+opened_counts r c member false = quiet r (next_line r) refl refl
 
-pub line_counts : (o : Object Request Partition) (k : List CallId) (r : Run) (line : Line) → Counts r (after_line o k r line) (calls_at r line)
-line_counts o k r (Grid members backups capacity) = quiet r (next_line r) refl refl
-line_counts o k r (OpenConn c member) = opened_counts r c member (is_some (connection_of r c))
+-- an event, if the line is one
+pub event_kept : {State : Type 0} (o : Object Request State) (r : Run) (e : Option At) → Kept r (after_event o r e)
+event_kept o r None = kept_refl r
+event_kept o r (Some e) = takes_kept o r e.partition e.event
+
+pub line_counts : (o : Object Request Partition) (k : List CallId) (r : Run) (line : Line) → Counts r (after_line o k r line) (calls_at o r line)
+line_counts o k r (OpenConn c member) = opened_counts r c member (can_open o r c member)
 line_counts o k r (Arrive c bytes) = connection_counts o k r bytes (connection_of r c)
 line_counts o k r (Clock member moment) = quiet r (clock_set r member moment) refl refl
-line_counts o k r (Dump partition member) = quiet r (next_line r) refl refl
-line_counts o k r (Trail partition) = quiet r (next_line r) refl refl
-line_counts o k r Comment = quiet r (next_line r) refl refl
-line_counts o k r End = quiet r (next_line r) refl refl
+line_counts o k r (Flow partition most) = kept_counts r (flowed o (next_line r) partition most) (flowed_kept o (next_line r) partition most)
+line_counts o k r (FlowAll most) = kept_counts r (flowed_in o (next_line r) most (numbers_below partitions)) (flowed_in_kept o (next_line r) most (numbers_below partitions))
+line_counts o k r (Crash member) = kept_counts r (takes_in o (next_line r) (event.Crash member) (numbers_below partitions)) (takes_in_kept o (next_line r) (event.Crash member) (numbers_below partitions))
+line_counts o k r (Detect member) = kept_counts r (takes_in o (next_line r) (event.Detect member) (numbers_below partitions)) (takes_in_kept o (next_line r) (event.Detect member) (numbers_below partitions))
+line_counts o k r line = kept_counts r (after_event o (next_line r) (event_by line)) (event_kept o (next_line r) (event_by line))

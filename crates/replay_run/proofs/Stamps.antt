@@ -11,7 +11,6 @@ use Rattle.replay_run.specs.Runs.{Run, Arrival}
 use Rattle.replay_run.specs.Printing.{Printed, Call, Reset as Reopening, printed, first_line, printed_from, arrival_of}
 use Rattle.replay_run.specs.Linearizability.{GridObject, is_on, history_of, Before, reset_lines}
 use Rattle.replay_run.proofs.Counts.{count, count_part}
-use Rattle.replay_run.proofs.Trails.{executed}
 
 -- The entries were logged from one line to another: each call as it arrived, and the resets at these lines.
 abbrev pub AreStamped : List Arrival → ℕ → ℕ → List ℕ → List (Entry Request) → Type 0
@@ -68,12 +67,6 @@ stamped_part come since now (line ∷ lines) es (Reset version ∷ fs) (inr (zs,
     let both = ap (count is_reset) q in
     let resets : count is_reset zs ≡ count is_reset fs = omega (arith, both, s) in
     subst (λ ks. AreStamped come since now (line ∷ lines) ks) (sym q) (l, stamped_part come line now lines zs fs p resets h)
-
--- where nothing was reopened or called, nothing was logged
-pub stamped_none : (come : List Arrival) (since now : ℕ) (es : List (Entry Request)) → ((x : Executed Request) → In x (executed es) → ⊥) → AreStamped come since now [] es → es ≡ []
-stamped_none come since now [] f h = refl
-stamped_none come since now (Called x ∷ es) f h = absurd (f x (inl refl))
-stamped_none come since now (Reset version ∷ es) f h = absurd h
 
 -- what is printed
 

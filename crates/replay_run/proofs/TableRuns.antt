@@ -15,7 +15,7 @@ use Rattle.replay_run.specs.declared.connections.CallLines.{CallLines}
 use Rattle.replay_run.specs.Runs.{Run, Connection, Arrival, Appended, is_connection, connection_of, with_bytes, took_bytes, own_answer, told, opened}
 use Rattle.replay_run.specs.Printing.{arrival_of, answer_of, is_answer_to, is_named}
 use Rattle.replay_run.specs.Tables.{Table, Opened, most_connections, opened_at, lines_of, silent, present, with_opened, with_change, heard, with_session, replied, with_reply, called, with_arrival, or_line, lines_answered, answered, with_answer}
-use Rattle.replay_run.specs.Grids.{IsConnection, Matches, HasTable, lines_in}
+use Rattle.replay_run.specs.Grids.{IsConnection, Matches, HasConnections, HasTable, lines_in}
 use Rattle.replay_run.specs.WorldCalls.{message_of, with_answers}
 use Rattle.replay_run.proofs.Arriving.{find_map, same_test, in_place, in_place_number}
 use Rattle.replay_run.proofs.Places.{same_call, same_call_refl, same_number}
@@ -65,13 +65,20 @@ abbrev with_lines : Option Appended → Arrival → CallLines
 with_lines answer a = record { arrived = a.line; answered = option_map (λ (m : Appended). m.line) answer }
 
 -- a change that keeps each connection
-changed_connections : (t : Table) (r : Run) → HasTable t r → (c : ℕ) (change : Opened → Opened) → ((o : Opened) (k : Connection) → IsConnection o k → IsConnection (change o) k)
-    → (d : ℕ) → Matches (opened_at (with_change t c change) d) (connection_of r d)
-changed_connections t r h c change kept d = ⊎_elim here (λ apart. matches_at (opened_unchanged t c d change apart) refl (h.connections d)) (cases_eq d c)
+changed_connections : (t : Table) (r : Run) → HasConnections t r → (c : ℕ) (change : Opened → Opened) → ((o : Opened) (k : Connection) → IsConnection o k → IsConnection (change o) k) → HasConnections (with_change t c change) r
+changed_connections t r has c change kept d = ⊎_elim here (λ apart. matches_at (opened_unchanged t c d change apart) refl (has d)) (cases_eq d c)
   where
     here : d ≡ c → Matches (opened_at (with_change t c change) d) (connection_of r d)
     here e = subst (λ n. Matches (opened_at (with_change t c change) n) (connection_of r n)) (sym e)
-        (matches_at (opened_changed t c change) refl (matches_kept change kept (opened_at t c) (connection_of r c) (h.connections c)))
+        (matches_at (opened_changed t c change) refl (matches_kept change kept (opened_at t c) (connection_of r c) (has c)))
+
+-- A call that arrives and an answer that is given out change no connection.
+
+pub connections_called : (t : Table) (r : Run) (c line : ℕ) → HasConnections t r → HasConnections (with_arrival t c line) r
+connections_called t r c line has = changed_connections t r has c (called line) (λ o k m. m)
+
+pub connections_answered : (t : Table) (r : Run) (id : CallId) (line : ℕ) → HasConnections t r → HasConnections (with_answer t id line) r
+connections_answered t r id line has = changed_connections t r has id.conn (answered id.number line) (λ o k m. m)
 
 -- a connection is opened
 
@@ -206,7 +213,7 @@ module _ (t : Table) (r : Run) (h : HasTable t r) (c : ℕ) (o : Opened) (there 
   pub arrived_table : HasTable (with_arrival t c a.line) (record r { arrivals = r.arrivals ++ a ∷ [] })
   arrived_table = record {
     size = length-changed_at (option_map (called a.line)) t c ∙ h.size;
-    connections = changed_connections t r h c (called a.line) (λ x k m. m);
+    connections = changed_connections t r h.connections c (called a.line) (λ x k m. m);
     calls = arrival_calls;
   }
 
@@ -258,7 +265,7 @@ module _ (t : Table) (r : Run) (m : Appended) (h : HasTable t r) (id : CallId) (
   pub answered_table : HasTable (with_answer t id m.line) (record r { appended = r.appended ++ m ∷ [] })
   answered_table = record {
     size = length-changed_at (option_map (answered id.number m.line)) t id.conn ∙ h.size;
-    connections = changed_connections t r h id.conn (answered id.number m.line) (λ x k m. m);
+    connections = changed_connections t r h.connections id.conn (answered id.number m.line) (λ x k m. m);
     calls = answer_calls;
   }
 
@@ -275,7 +282,7 @@ replied_lines o n = ⊎_elim here (λ apart. ap present (got_before o.calls None
 replied_table : (t : Table) (r : Run) → HasTable t r → (c : ℕ) → HasTable (with_reply t c) r
 replied_table t r h c = record {
   size = length-changed_at (option_map replied) t c ∙ h.size;
-  connections = changed_connections t r h c replied (λ x k m. m);
+  connections = changed_connections t r h.connections c replied (λ x k m. m);
   calls = λ id. lines_elsewhere t c replied id (λ e x s. replied_lines x id.number) ∙ h.calls id;
 }
 

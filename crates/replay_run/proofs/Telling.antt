@@ -18,8 +18,10 @@ module _ {V : Type 0} {T : V → Type 0} {form : FormOf V T} {settings : Setting
   told_holds : Holds form settings replied_grid (told r conn answer)
   told_holds = record {
     goes_by = h.goes_by;
+    goes_on = h.goes_on;
     lines = h.lines;
     members = h.members;
+    links = h.links;
     moments = h.moments;
     clocks = h.clocks;
     table = told_table grid.connections r conn answer h.table;

@@ -11,7 +11,8 @@ use Rattle.call_engine.specs.Calls.{Settings}
 use Rattle.call_engine.specs.Changes.{change_of}
 use Rattle.call_engine.specs.Objects.{partition_object}
 use Rattle.replay_run.specs.Runs.{Run, Arrival, call_of, events_at, world_at}
-use Rattle.replay_run.specs.Grids.{GridWorld, grid_meaning, StandsForEvents, IsWorld, HasWorld}
+use Rattle.replay_run.specs.Shelves.{grid_meaning}
+use Rattle.replay_run.specs.Grids.{GridWorld, StandsForEvents, IsWorld, HasWorld}
 use Rattle.replay_run.specs.WorldCalls.{IsCalled, IsSkipped}
 use Rattle.replay_run.proofs.Arriving.{its_event, maybe_one, events_of_more}
 use Rattle.replay_run.proofs.GivingOut.{HasGivenOut}

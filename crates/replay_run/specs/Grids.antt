@@ -1,15 +1,12 @@
 -- The grid of the code stands for a run: its worlds for the events of their partitions, its table for the connections and the calls.
-use Rattle.std.specs.Prelude.{◌≡◌, ◌≢◌, ℕ, ◌+◌, ◌*◌, ◌<◌, ◌≤◌, List, [], ◌++◌, length, Option, Some, None, option_map, slice_get}
+use Rattle.std.specs.Prelude.{◌≡◌, ◌≢◌, ℕ, ◌+◌, ◌*◌, ◌<◌, ◌≤◌, true, false, List, [], ◌++◌, length, Option, Some, None, option_map, slice_get}
 use Rattle.std.specs.declared.alloc.Global.{Global}
 use Rattle.std.specs.declared.dyn_box.DynBox.{DynBox}
 use Rattle.entry_processors.specs.Processors.{ProcessorForm}
 use Rattle.grid_base.specs.declared.names.CallId.{CallId}
 use Rattle.grid_base.specs.declared.calls.Request.{Request}
 use Rattle.partition_protocol.specs.Events.{Event}
-use Rattle.object_store.specs.Partitions.{Partition}
-use Rattle.object_store.specs.Spelling.{snapshot_bytes}
 use Rattle.partition_world.specs.declared.world.World.{World}
-use Rattle.partition_world.specs.Meanings.{Meaning}
 use Rattle.partition_world.specs.Worlds.{StandsFor, setup_of, waiting}
 use Rattle.replay_run.specs.declared.connections.CallLines.{CallLines}
 use Rattle.replay_run.specs.declared.grid.Grid.{Grid}
@@ -20,13 +17,12 @@ use Rattle.session_core.specs.Sessions.{session_after}
 use Rattle.call_engine.specs.declared.shelf.GridShelf.{GridShelf}
 use Rattle.call_engine.specs.declared.env.GridEnv.{GridEnv}
 use Rattle.call_engine.specs.Calls.{Settings}
-use Rattle.call_engine.specs.Changes.{change_of}
-use Rattle.call_engine.specs.Effects.{effect_of}
 use Rattle.call_engine.specs.Env.{settings_of}
 use Rattle.call_engine.specs.Limits.{RequestFits}
 use Rattle.call_engine.specs.Objects.{partition_object}
-use Rattle.replay_run.specs.Runs.{Run, Connection, Arrival, Appended, connection_of, messages_on, bytes_of, events_at, after_line}
-use Rattle.replay_run.specs.Printing.{partitions, arrival_of, answer_of, line_text}
+use Rattle.replay_run.specs.Runs.{Run, Connection, Arrival, Appended, partitions, connection_of, messages_on, bytes_of, events_at, links_of, after_line}
+use Rattle.replay_run.specs.Shelves.{grid_meaning}
+use Rattle.replay_run.specs.Printing.{arrival_of, answer_of, line_text}
 use Rattle.replay_run.specs.ScriptRuns.{IsRun}
 use Rattle.replay_run.specs.Skips.{AreOfLine}
 use Rattle.replay_run.specs.Tables.{Table, Opened, most_connections, opened_at, lines_of}
@@ -42,13 +38,17 @@ Matches None None = Unit {0}
 Matches (Some opened) (Some k) = IsConnection opened k
 Matches _ _ = ⊥
 
+-- It has the connections of the run.
+abbrev pub HasConnections : Table → Run → Type 0
+HasConnections table r = (c : ℕ) → Matches (opened_at table c) (connection_of r c)
+
 -- the lines of a call, where it arrived
 abbrev pub lines_in : Run → CallId → Option CallLines
 lines_in r id = option_map (λ (a : Arrival). record { arrived = a.line; answered = option_map (λ (m : Appended). m.line) (answer_of r id) }) (arrival_of r id)
 
 pub record HasTable (table : Table) (r : Run) : Type 0 where
   pub size : length table ≡ most_connections
-  pub connections : (c : ℕ) → Matches (opened_at table c) (connection_of r c)
+  pub connections : HasConnections table r
   pub calls : (id : CallId) → lines_of table id ≡ lines_in r id
 
 -- Every message of a connection was handled.
@@ -64,16 +64,6 @@ pub record IsCounting (table : Table) (r : Run) (conn number : ℕ) : Type 0 whe
 
 abbrev pub GridWorld : (V : Type 0) → (V → Type 0) → Type 0
 GridWorld V T = World GridShelf (GridEnv V T) Request
-
--- what the shelves mean, by the settings
-abbrev pub grid_meaning : Settings → Meaning GridShelf Request Partition
-grid_meaning settings = record {
-  object = partition_object settings;
-  state = λ (shelf : GridShelf). shelf;
-  effect_of = effect_of settings;
-  change_of = change_of settings;
-  snapshot_of = snapshot_bytes;
-}
 
 abbrev pub StandsForEvents : {V : Type 0} {T : V → Type 0} → Settings → GridWorld V T → List (Event Request) → Type 0
 StandsForEvents settings world events = StandsFor (grid_meaning settings) RequestFits world events
@@ -100,8 +90,11 @@ boxed form b = form (b.vtable, b.value)
 -- The grid has what the run has, and goes by the settings.
 pub record Holds {V : Type 0} {T : V → Type 0} (form : FormOf V T) (settings : Settings) (grid : Grid V T) (r : Run) : Type 0 where
   pub goes_by : settings_of form grid.env ≡ settings
+  -- the run goes on
+  pub goes_on : r.full ≡ false
   pub lines : grid.lines ≡ r.lines
   pub members : grid.members ≡ r.members
+  pub links : grid.links.items ≡ links_of r.members
   pub moments : grid.moments.items ≡ r.moments
   pub clocks : length r.moments ≡ r.members
   pub table : HasTable grid.connections r
@@ -143,6 +136,12 @@ pub record MayRun {V : Type 0} {T : V → Type 0} (form : FormOf V T) (grid : Gr
 -- The line ran: the grid stands for the run after it, and its text was added. Its calls were skipped that found no memory.
 pub record HasRun {V : Type 0} {T : V → Type 0} (form : FormOf V T) (settings : Settings) (new : Grid V T) (r : Run) (line : Line) (written text : List ℕ) : Type 0 where
   pub skips : List CallId
-  pub of_line : AreOfLine r line skips
+  pub of_line : AreOfLine (partition_object settings) r line skips
   pub stands : Stands form settings new (after_line (partition_object settings) skips r line)
-  pub added : text ≡ written ++ line_text (partition_object settings) r line (after_line (partition_object settings) skips r line)
+  pub added : text ≡ written ++ line_text settings r line (after_line (partition_object settings) skips r line)
+
+-- The run is given up at the line, of whose calls these found no memory: an event met a full partition.
+pub record IsGivenUp (settings : Settings) (r : Run) (line : Line) : Type 0 where
+  pub skips : List CallId
+  pub of_line : AreOfLine (partition_object settings) r line skips
+  pub full : (after_line (partition_object settings) skips r line).full ≡ true

@@ -5,6 +5,7 @@ pub mod PrintedEntries
 pub mod Printing
 pub mod Runs
 pub mod ScriptRuns
+pub mod Shelves
 pub mod Skips
 pub mod Tables
 pub mod WorldCalls

@@ -1,5 +1,5 @@
 -- When the history that a run prints for an object is one that a single thread could have seen.
-use Rattle.std.specs.Prelude.{◌≡◌, ℕ, ◌<◌, ◌≤◌, ◌≢◌, ◌⊎◌, Bool, true, false, ◌==◌, ◌&&◌, List, [], ◌∷◌, filter, Some, Contains}
+use Rattle.std.specs.Prelude.{◌≡◌, ℕ, ◌<◌, ◌≤◌, ◌≢◌, ◌⊎◌, Bool, true, false, ◌==◌, ◌&&◌, nat_lt, List, [], ◌∷◌, filter, Some, Contains}
 use Rattle.grid_base.specs.Objects.{Object}
 use Rattle.grid_base.specs.Names.{is_same}
 use Rattle.grid_base.specs.declared.names.ObjectKey.{ObjectKey}
@@ -8,7 +8,7 @@ use Rattle.grid_base.specs.declared.calls.Request.{Request}
 use Rattle.call_engine.specs.Calls.{Settings}
 use Rattle.call_engine.specs.Objects.{target_of, one_object, partition_object}
 use Rattle.replay_run.specs.ScriptRuns.{home}
-use Rattle.replay_run.specs.Runs.{Run, Arrival, Appended, reopened_at, begun, after_lines}
+use Rattle.replay_run.specs.Runs.{Run, Arrival, Appended, partitions, reopened_at, begun, after_lines}
 use Rattle.replay_run.specs.Printing.{PrintedCall, PrintedReset, Printed, Call, Reset, printed_by}
 use Rattle.script_lang.specs.declared.line.Line.{Line}
 use Rattle.script_lang.specs.declared.line.Line.TheVariants.{Trail, End}
@@ -81,10 +81,10 @@ pub record Fits {State : Type 0} (o : Object Request State) (object : GridObject
   -- and a call that arrived after it stands after it
   pub after_reset : (a : PrintedCall) (b : PrintedReset) → Contains h (Call a) → Contains h (Reset b) → b.line < a.arrived → Before h (Reset b) (Call a)
 
--- whether a line prints the history of an object: that of the object's partition, or of all
+-- whether a line prints the history of an object: that of the object's partition, or of all the grid's
 abbrev pub shows : Line → GridObject → Bool
 shows (Trail p) object = object.partition == p
-shows End object = true
+shows End object = nat_lt object.partition partitions
 shows line object = false
 
 -- One thread that used one object could have seen each history that a line prints of the run.

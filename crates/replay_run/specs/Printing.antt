@@ -1,5 +1,5 @@
 -- The text of a line's outcome and of what happened at it.
-use Rattle.std.specs.Prelude.{ℕ, ◌+◌, Bool, true, false, not, List, [], ◌∷◌, ◌++◌, length, drop, Option, Some, None, option_map, unwrap_or, is_some, if◌then◌else◌, codes, decimal}
+use Rattle.std.specs.Prelude.{ℕ, ◌+◌, Bool, true, false, not, List, [], ◌∷◌, ◌++◌, length, drop, sum_by, Option, Some, None, option_map, unwrap_or, if◌then◌else◌, codes, decimal}
 use Rattle.std.specs.List.{find, flat_map}
 use Rattle.hex.specs.Hex.{encode_lower}
 use Rattle.grid_base.specs.Objects.{Object}
@@ -16,14 +16,22 @@ use Rattle.partition_protocol.specs.Node.{Pair}
 use Rattle.partition_protocol.specs.History.{Executed, Entry, Called, Reset as Opened}
 use Rattle.partition_protocol.specs.World.{trail}
 use Rattle.partition_protocol.specs.Service.{numbers_below}
-use Rattle.call_engine.specs.Objects.{target_of}
+use Rattle.partition_protocol.specs.Took.{Took, Adopted, Synced, Applied, Bridged, Acked, Frozen, Joined, Drained, Already, Gap, Other, Stale, Dropped}
+use Rattle.partition_protocol.specs.Service.{MoveRefused, Lost, NotIdle, NotThere, AlreadyThere, NotLive, NotEligible, ReopenRefused, NotLost, NoMember}
+use Rattle.partition_protocol.specs.Events.{Event, Outcome, NothingDone, Done, TookMessage, RowMadeAt, MoveIsRefused, ReopenIsRefused, happens}
+use Rattle.partition_protocol.specs.Events as event
+use Rattle.call_engine.specs.Calls.{Settings}
+use Rattle.call_engine.specs.Objects.{target_of, partition_object}
 use Rattle.object_store.specs.Partitions.{Partition}
 use Rattle.partition_world.specs.ContentsOf.{pair_at, contents_at}
+use Rattle.partition_world.specs.Sending.{flying}
 use Rattle.replay_run.specs.Dumps.{word, number, line_end, hex_word, number_or_dash, object_words, dumped_text}
 use Rattle.partition_world.specs.Answers.{id_of}
-use Rattle.replay_run.specs.Runs.{Run, Connection, Arrival, Appended, reopened_at, world_at, connection_of, fault_on, is_open}
+use Rattle.replay_run.specs.Runs.{Run, Connection, Arrival, Appended, At, partitions, reopened_at, world_at, connection_of, fault_on, can_open, takes_bytes, links_of, event_by}
+use Rattle.replay_run.specs.Shelves.{grid_meaning}
+use Rattle.replay_run.specs.declared.links.Link.{Link}
 use Rattle.script_lang.specs.declared.line.Line.{Line}
-use Rattle.script_lang.specs.declared.line.Line.TheVariants.{Grid, OpenConn, Arrive, Dump, Trail, End}
+use Rattle.script_lang.specs.declared.line.Line.TheVariants.{Grid, OpenConn, Arrive, Flow, FlowAll, Crash, Detect, Dump, Links, Trail, End}
 use Rattle.frame_codec.specs.declared.malformed.Malformed.{Malformed}
 use Rattle.frame_codec.specs.declared.malformed.Why.{Why}
 use Rattle.frame_codec.specs.declared.malformed.Why.TheVariants.{Prefix, TooShort, TooLong, BadFragment, OpenFragments, ManyFrames, LongMessage, ShortStart, Spent}
@@ -84,9 +92,6 @@ abbrev pub printed_from : Run → ℕ → ℕ → List ℕ → List (Entry Reque
 printed_from r p place lines [] = []
 printed_from r p place lines (Called x ∷ es) = Call (printed r p place x) ∷ printed_from r p (place + 1) lines es
 printed_from r p place lines (Opened version ∷ es) = Reset (record { partition = p; place = place; line = first_line lines }) ∷ printed_from r p (place + 1) (drop 1 lines) es
-
-abbrev pub partitions : ℕ
-partitions = 271
 
 -- the entries of a partition's trail, and of all trails in order of partition
 abbrev pub entries_of : {State : Type 0} → Object Request State → Run → ℕ → List Printed
@@ -167,12 +172,77 @@ close_text line c (Some fault) = number line ++ codes "close " ++ number c ++ nu
 abbrev pub nothing_text : ℕ → List ℕ
 nothing_text line = number line ++ codes "nothing" ++ line_end
 
--- whether a line's condition is false
-abbrev pub does_nothing : Run → Line → Bool
-does_nothing before (Grid members backups capacity) = true
-does_nothing before (OpenConn c member) = is_some (connection_of before c)
-does_nothing before (Arrive c bytes) = not (is_open (connection_of before c))
-does_nothing before line = false
+-- What an event came to, in words.
+
+-- a refusal for a reason, if there is one
+abbrev pub refusal_words : Option (List ℕ) → List ℕ
+refusal_words None = codes "nothing"
+refusal_words (Some why) = codes "refused " ++ why
+
+-- how a message was taken
+abbrev pub took_word : Took → List ℕ
+took_word Adopted = codes "adopted"
+took_word Synced = codes "synced"
+took_word Applied = codes "applied"
+took_word Bridged = codes "bridged"
+took_word Acked = codes "acked"
+took_word Frozen = codes "frozen"
+took_word Joined = codes "joined"
+took_word Drained = codes "drained"
+took_word Already = codes "already"
+took_word Gap = codes "gap"
+took_word Other = codes "other"
+took_word Stale = codes "stale"
+took_word Dropped = codes "dropped"
+
+-- why a move, a join or a handover wasn't begun
+abbrev pub move_refused_word : MoveRefused → List ℕ
+move_refused_word Lost = codes "lost"
+move_refused_word NotIdle = codes "notidle"
+move_refused_word NotThere = codes "notthere"
+move_refused_word AlreadyThere = codes "alreadythere"
+move_refused_word NotLive = codes "notlive"
+move_refused_word NotEligible = codes "noteligible"
+
+-- why a partition wasn't reopened
+abbrev pub reopen_refused_word : ReopenRefused → List ℕ
+reopen_refused_word NotLost = codes "notlost"
+reopen_refused_word NoMember = codes "nomember"
+
+-- An advance that makes no row freezes the move's source.
+abbrev pub done_word : Event Request → List ℕ
+done_word event.Advance = codes "freezing"
+done_word event = codes "ok"
+
+-- with the word of an event that is done
+abbrev pub words_of : List ℕ → Outcome → List ℕ
+words_of done NothingDone = codes "nothing"
+words_of done Done = done
+words_of done (TookMessage took) = codes "took " ++ took_word took
+words_of done (RowMadeAt version) = codes "row " ++ decimal version
+words_of done (MoveIsRefused why) = refusal_words (Some (move_refused_word why))
+words_of done (ReopenIsRefused why) = refusal_words (Some (reopen_refused_word why))
+words_of done outcome = codes "ok"
+
+-- of a crash or a detection, which are done or not, whether or not a row is made
+abbrev pub fate_words : Outcome → List ℕ
+fate_words Done = codes "ok"
+fate_words (RowMadeAt version) = codes "ok"
+fate_words outcome = codes "nothing"
+
+-- what an event comes to at a partition
+abbrev pub outcome_at : {State : Type 0} → Object Request State → Run → ℕ → Event Request → Outcome
+outcome_at o r p event = (happens o (world_at o r p) event).outcome
+
+abbrev pub words_line : ℕ → List ℕ → List ℕ
+words_line line words = number line ++ words ++ line_end
+
+-- whether a line's condition is false, where it is no event's
+abbrev pub does_nothing : {State : Type 0} → Object Request State → Run → Line → Bool
+does_nothing o before (Grid members backups capacity) = true
+does_nothing o before (OpenConn c member) = not (can_open o before c member)
+does_nothing o before (Arrive c bytes) = elim (connection_of before c) [ None ↦ true | Some connection ↦ not (takes_bytes o before connection) ]
+does_nothing o before line = false
 
 -- the entries that a line prints: those of a partition's trail, or at the end those of all trails
 abbrev pub printed_by : {State : Type 0} → Object Request State → Run → Line → List Printed
@@ -188,10 +258,58 @@ trail_text line entries = number line ++ codes "trail " ++ decimal entries ++ li
 abbrev pub dump_text : ℕ → Pair → List ℕ
 dump_text line pair = number line ++ codes "dump " ++ number pair.version ++ decimal pair.count ++ line_end
 
-abbrev pub outcome_text : {State : Type 0} → Object Request State → Run → Line → List ℕ
-outcome_text o after (Dump p member) = dump_text after.lines (pair_at (world_at o after p) member)
-outcome_text o after (Trail p) = trail_text after.lines (length (trail (world_at o after p)))
-outcome_text o after line = ok_text after.lines
+-- `I flow N`: how many messages were delivered, each by an event
+abbrev pub flow_text : ℕ → ℕ → List ℕ
+flow_text line deliveries = number line ++ codes "flow " ++ decimal deliveries ++ line_end
+
+abbrev pub new_events : Run → Run → List At
+new_events before after = drop (length before.events) after.events
+
+-- the messages in flight on a link of a partition, as their bytes
+abbrev pub bytes_on : Settings → Run → ℕ → Link → List (List ℕ)
+bytes_on settings r p l = flying (grid_meaning settings) (world_at (partition_object settings) r p) l.from l.to
+
+-- `I links N`: how many messages are in flight
+abbrev pub links_text : ℕ → ℕ → List ℕ
+links_text line messages = number line ++ codes "links " ++ decimal messages ++ line_end
+
+abbrev pub in_flight : Settings → Run → ℕ → ℕ
+in_flight settings r p = sum_by (λ l. length (bytes_on settings r p l)) (links_of r.members)
+
+-- `I link F T PLACE HEX`, in order of F, T and place
+abbrev pub message_text : ℕ → Link → ℕ → List ℕ → List ℕ
+message_text line l place bytes = number line ++ codes "link " ++ number l.from ++ number l.to ++ number place ++ encode_lower bytes ++ line_end
+
+-- the messages of a link from this place on
+abbrev pub link_text_from : ℕ → Link → ℕ → List (List ℕ) → List ℕ
+link_text_from line l place [] = []
+link_text_from line l place (bytes ∷ messages) = message_text line l place bytes ++ link_text_from line l (place + 1) messages
+
+abbrev pub link_text : Settings → ℕ → Run → ℕ → Link → List ℕ
+link_text settings line r p l = link_text_from line l 0 (bytes_on settings r p l)
+
+abbrev pub line_links : Settings → Run → Line → List ℕ
+line_links settings after (Links p) = flat_map (link_text settings after.lines after p) (links_of after.members)
+line_links settings after line = []
+
+-- A line that is an event has the words of what that came to, and any other is `ok`.
+abbrev pub event_text : Settings → Run → ℕ → Option At → List ℕ
+event_text settings before line None = ok_text line
+event_text settings before line (Some e) = words_line line (words_of (done_word e.event) (outcome_at (partition_object settings) before e.partition e.event))
+
+-- A crash or a detection comes to the same in all partitions.
+abbrev pub fate_text : Settings → Run → ℕ → Event Request → List ℕ
+fate_text settings before line event = words_line line (fate_words (outcome_at (partition_object settings) before 0 event))
+
+abbrev pub outcome_text : Settings → Run → Line → Run → List ℕ
+outcome_text settings before (Dump p member) after = dump_text after.lines (pair_at (world_at (partition_object settings) after p) member)
+outcome_text settings before (Trail p) after = trail_text after.lines (length (trail (world_at (partition_object settings) after p)))
+outcome_text settings before (Links p) after = links_text after.lines (in_flight settings after p)
+outcome_text settings before (Flow p most) after = flow_text after.lines (length (new_events before after))
+outcome_text settings before (FlowAll most) after = flow_text after.lines (length (new_events before after))
+outcome_text settings before (Crash member) after = fate_text settings before after.lines (event.Crash member)
+outcome_text settings before (Detect member) after = fate_text settings before after.lines (event.Detect member)
+outcome_text settings before line after = event_text settings before after.lines (event_by line)
 
 -- the fault of a connection, which closes it
 abbrev pub closing_text : ℕ → ℕ → Option Connection → List ℕ
@@ -208,8 +326,10 @@ abbrev pub line_dump : Object Request Partition → Run → Line → List ℕ
 line_dump o after (Dump p member) = dumped_text after.lines (contents_at o (world_at o after p) member)
 line_dump o after line = []
 
--- The text of a line: its outcome, then each message that it appended, the connection that it closed, the objects that it dumps, and the entries that it prints.
-abbrev pub line_text : Object Request Partition → Run → Line → Run → List ℕ
-line_text o before line after =
-    if does_nothing before line then nothing_text after.lines
-    else outcome_text o after line ++ flat_map appended_text (new_messages before after) ++ line_close after line ++ line_dump o after line ++ flat_map (entry_text after.lines) (printed_by o after line)
+-- The text of a line: its outcome, then each message that it appended, the connection that it closed, the objects that it dumps, the messages in flight and the entries that it prints.
+abbrev pub line_text : Settings → Run → Line → Run → List ℕ
+line_text settings before line after =
+    let o = partition_object settings in
+    if does_nothing o before line then nothing_text after.lines
+    else outcome_text settings before line after ++ flat_map appended_text (new_messages before after) ++ line_close after line ++ line_dump o after line
+    ++ line_links settings after line ++ flat_map (entry_text after.lines) (printed_by o after line)

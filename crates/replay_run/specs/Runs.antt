@@ -1,7 +1,7 @@
 -- The run of a script: what its lines so far have made. The worlds of the partitions are not kept: each is the protocol's run of its events.
-use Rattle.std.specs.Prelude.{ℕ, ◌+◌, ◌==◌, Bool, true, false, not, if◌then◌else◌, ℤ, pos, List, [], ◌∷◌, ◌++◌, length, map, filter, drop, sum_by, replicate, slice_get, slice_set, Option, Some, None, is_some, unwrap_or}
+use Rattle.std.specs.Prelude.{ℕ, zero, suc, ◌+◌, ◌==◌, Bool, true, false, not, ◌&&◌, ◌||◌, nat_le, if◌then◌else◌, ℤ, pos, List, [], ◌∷◌, ◌++◌, length, map, filter, drop, sum_by, replicate, slice_get, slice_set, Option, Some, None, is_some, unwrap_or}
 use Rattle.std.specs.Int.{w32, cast_signed}
-use Rattle.std.specs.List.{list_any, find, filter_map}
+use Rattle.std.specs.List.{list_any, find, filter_map, flat_map}
 use Rattle.grid_base.specs.Objects.{Object}
 use Rattle.grid_base.specs.Names.{is_same_call}
 use Rattle.frame_codec.specs.declared.malformed.Malformed.{Malformed}
@@ -12,8 +12,12 @@ use Rattle.grid_base.specs.declared.calls.Request.{Request}
 use Rattle.partition_protocol.specs.Node.{Held}
 use Rattle.partition_protocol.specs.History.{Executed}
 use Rattle.partition_protocol.specs.Execution.{Reached, Executes, PartitionLost, WrongTarget, Migrating}
-use Rattle.partition_protocol.specs.World.{World, start}
-use Rattle.partition_protocol.specs.Events.{Event, Call, Reopen, Outcome, Refused, RowMadeAt, happens, run}
+use Rattle.partition_protocol.specs.Messages.{Packet}
+use Rattle.partition_protocol.specs.Links.{link}
+use Rattle.partition_protocol.specs.Service.{numbers_below}
+use Rattle.partition_protocol.specs.World.{World, start, is_live}
+use Rattle.partition_protocol.specs.Events.{Event, Call, Outcome, Refused, RowMadeAt, happens, run}
+use Rattle.partition_protocol.specs.Events as event
 use Rattle.partition_world.specs.Answers.{id_of, newest_call}
 use Rattle.grid_base.specs.Errors.{partition_lost, wrong_target, migrating, want_of_memory}
 use Rattle.fixed_fields.specs.Responses.{error_bytes}
@@ -21,7 +25,8 @@ use Rattle.session_core.specs.Items.{items_of}
 use Rattle.session_core.specs.declared.item.Item.{Item}
 use Rattle.session_core.specs.declared.item.Item.TheVariants.{Call as Asks, Reply}
 use Rattle.script_lang.specs.declared.line.Line.{Line}
-use Rattle.script_lang.specs.declared.line.Line.TheVariants.{Grid, OpenConn, Arrive, Clock, Dump, Trail, Comment, End}
+use Rattle.script_lang.specs.declared.line.Line.TheVariants.{OpenConn, Arrive, Clock, Deliver, Lose, Repeat, Flow, FlowAll, Resend, Crash, Detect, Move, Join, Handover, Advance, Reopen}
+use Rattle.replay_run.specs.declared.links.Link.{Link}
 
 -- a connection: its number, the member that it is to, and all the bytes that arrived on it, however they were cut
 pub record Connection : Type 0 where
@@ -65,10 +70,15 @@ pub record Run : Type 0 where
   pub arrivals : List Arrival
   pub appended : List Appended
   pub reopened : List Reopened
+  pub full : Bool  -- an event met a partition with too many messages in flight: the run is given up
+
+-- how many partitions a grid has
+abbrev pub partitions : ℕ
+partitions = 271
 
 -- after the first line
 abbrev pub begun : ℕ → ℕ → Run
-begun members backups = record { members = members; backups = backups; lines = 1; moments = replicate members 0; connections = []; events = []; arrivals = []; appended = []; reopened = [] }
+begun members backups = record { members = members; backups = backups; lines = 1; moments = replicate members 0; connections = []; events = []; arrivals = []; appended = []; reopened = []; full = false }
 
 abbrev pub is_at : ℕ → At → Bool
 is_at p e = e.partition == p
@@ -93,7 +103,7 @@ messages_on connection = messages_of true connection.bytes
 abbrev pub fault_on : Connection → Option Malformed
 fault_on connection = fault_of true connection.bytes
 
--- whether bytes can arrive on a connection, and answers go there: it was opened and didn't close
+-- whether answers go to a connection: it was opened and didn't close
 abbrev pub is_open : Option Connection → Bool
 is_open None = false
 is_open (Some connection) = not (is_some (fault_on connection))
@@ -108,6 +118,44 @@ bytes_of r = sum_by (λ (connection : Connection). length connection.bytes) r.co
 
 abbrev pub updated : Connection → List Connection → List Connection
 updated new connections = map (λ (old : Connection). if old.conn == new.conn then new else old) connections
+
+-- Members that crashed take no step. A member crashes in all partitions, one after the other, so the first one tells.
+abbrev pub lives : {State : Type 0} → Object Request State → Run → ℕ → Bool
+lives o r member = is_live (world_at o r 0) member
+
+-- whether bytes can arrive on a connection: it is open, and its member lives
+abbrev pub takes_bytes : {State : Type 0} → Object Request State → Run → Connection → Bool
+takes_bytes o r connection = is_open (Some connection) && lives o r connection.member
+
+-- links
+
+-- in order of their senders and takers, which are the members and the table service
+abbrev pub links_from : ℕ → ℕ → List Link
+links_from members from = map (λ to. record { from = from; to = to }) (numbers_below (members + 1))
+
+abbrev pub links_of : ℕ → List Link
+links_of members = flat_map (links_from members) (numbers_below (members + 1))
+
+-- the messages in flight on a link
+abbrev pub packets_on : {C : Type 0} → World C → Link → List Packet
+packets_on w l = link l.from l.to w.packets
+
+-- the first link that has a message
+abbrev pub is_busy : {C : Type 0} → World C → Link → Bool
+is_busy w l = not (length (packets_on w l) == 0)
+
+abbrev pub next_link : {C : Type 0} → World C → Option Link
+next_link w = find (is_busy w) (links_of w.members)
+
+-- A partition is full where one of its links has so many messages.
+abbrev pub most_in_flight : ℕ
+most_in_flight = 65400
+
+abbrev pub is_crowded : {C : Type 0} → World C → Link → Bool
+is_crowded w l = nat_le most_in_flight (length (packets_on w l))
+
+abbrev pub is_full : {C : Type 0} → World C → Bool
+is_full w = list_any (is_crowded w) (links_of w.members)
 
 -- answers
 
@@ -156,12 +204,20 @@ arrival_at r member request = record { id = request.id; line = r.lines; member =
 abbrev pub call_of : Arrival → Event Request
 call_of a = Call a.member a.id.conn a.id.number a.request a.now
 
+-- Of the answers that an event releases those go out whose connections are open.
+abbrev pub is_heard : Run → Executed Request → Bool
+is_heard r x = is_open (connection_of r x.conn)
+
+-- At a call its own connection is one of them, whose close comes after all that its bytes bring.
+abbrev pub is_heard_by : Run → ℕ → Executed Request → Bool
+is_heard_by r c x = (x.conn == c) || is_heard r x
+
 -- the call with an event, which may release answers or refuse it
 abbrev pub happening : {State : Type 0} → Object Request State → Run → Arrival → List Appended
 happening o r a =
     let before = world_at o r a.request.partition in
     let next = happens o before (call_of a) in
-    refused_by a.line a.request next.outcome ++ map (answer_to a.line) (released_by before next.world)
+    refused_by a.line a.request next.outcome ++ map (answer_to a.line) (filter (is_heard_by r a.id.conn) (released_by before next.world))
 
 abbrev pub arrived : Run → Arrival → List At → List Appended → Run
 arrived r a events appended = record r {
@@ -179,24 +235,59 @@ asked o skips r a =
     if is_skipped skips a.id then arrived r a [] (refusal a.line a.request (pos want_of_memory) 0 ∷ [])
     else arrived r a (record { partition = a.request.partition; event = call_of a } ∷ []) (happening o r a)
 
--- Something else than a call happens to a partition: it may release answers, of which those go out whose connections are open, and it may reopen the partition.
+-- A full partition takes no event but a loss. The run is then given up: nothing is printed of that line, and no other line runs.
+abbrev pub given_up : Run → Run
+given_up r = record r { full = true }
 
-abbrev pub is_heard : Run → Executed Request → Bool
-is_heard r x = is_open (connection_of r x.conn)
+abbrev pub asks : {State : Type 0} → Object Request State → List CallId → Run → Arrival → Run
+asks o skips r a = if is_full (world_at o r a.request.partition) then given_up (arrived r a [] []) else asked o skips r a
+
+-- Something else than a call happens to a partition: it may release answers, and it may reopen the partition.
 
 abbrev pub reopening_by : ℕ → ℕ → Event Request → Outcome → List Reopened
-reopening_by p line Reopen (RowMadeAt version) = record { partition = p; line = line } ∷ []
+reopening_by p line event.Reopen (RowMadeAt version) = record { partition = p; line = line } ∷ []
 reopening_by p line event outcome = []
 
-abbrev pub occurred : {State : Type 0} → Object Request State → Run → ℕ → Event Request → Run
-occurred o r p event =
+-- the answers that an event releases and that go out
+abbrev pub given_out : {State : Type 0} → Object Request State → Run → ℕ → Event Request → List Appended
+given_out o r p event =
     let before = world_at o r p in
-    let next = happens o before event in
-    record r {
-      events = r.events ++ record { partition = p; event = event } ∷ [];
-      appended = r.appended ++ map (answer_to r.lines) (filter (is_heard r) (released_by before next.world));
-      reopened = r.reopened ++ reopening_by p r.lines event next.outcome;
-    }
+    map (answer_to r.lines) (filter (is_heard r) (released_by before (happens o before event).world))
+
+abbrev pub occurred : {State : Type 0} → Object Request State → Run → ℕ → Event Request → Run
+occurred o r p event = record r {
+  events = r.events ++ record { partition = p; event = event } ∷ [];
+  appended = r.appended ++ given_out o r p event;
+  reopened = r.reopened ++ reopening_by p r.lines event (happens o (world_at o r p) event).outcome;
+}
+
+abbrev pub is_loss : {C : Type 0} → Event C → Bool
+is_loss (event.Lose from to place) = true
+is_loss event = false
+
+abbrev pub meets_full : {C : Type 0} → World C → Event C → Bool
+meets_full w event = not (is_loss event) && is_full w
+
+abbrev pub takes : {State : Type 0} → Object Request State → Run → ℕ → Event Request → Run
+takes o r p event = if meets_full (world_at o r p) event then given_up r else occurred o r p event
+
+-- the same in each of these partitions, in order
+abbrev pub takes_in : {State : Type 0} → Object Request State → Run → Event Request → List ℕ → Run
+takes_in o r event [] = r
+takes_in o r event (p ∷ ps) = takes_in o (takes o r p event) event ps
+
+-- The first message of a partition's first link that has one is delivered, up to so many times.
+
+abbrev pub delivery_on : Link → Event Request
+delivery_on l = event.Deliver l.from l.to 0
+
+abbrev pub flowed : {State : Type 0} → Object Request State → Run → ℕ → ℕ → Run
+flowed o r p zero = r
+flowed o r p (suc most) = elim (next_link (world_at o r p)) [ None ↦ r | Some l ↦ flowed o (takes o r p (delivery_on l)) p most ]
+
+abbrev pub flowed_in : {State : Type 0} → Object Request State → Run → ℕ → List ℕ → Run
+flowed_in o r most [] = r
+flowed_in o r most (p ∷ ps) = flowed_in o (flowed o r p most) most ps
 
 -- the lines at which a partition was reopened, in order
 abbrev pub reopened_at : ℕ → List Reopened → List ℕ
@@ -206,7 +297,7 @@ reopened_at p reopened = map (λ (x : Reopened). x.line) (filter (λ (x : Reopen
 
 abbrev pub handled : {State : Type 0} → Object Request State → List CallId → Run → Connection → Item → Run
 handled o skips r connection (Reply bytes) = told r connection.conn bytes
-handled o skips r connection (Asks request) = asked o skips r (arrival_at r connection.member request)
+handled o skips r connection (Asks request) = asks o skips r (arrival_at r connection.member request)
 
 abbrev pub handled_all : {State : Type 0} → Object Request State → List CallId → Run → Connection → List Item → Run
 handled_all o skips r connection [] = r
@@ -234,22 +325,47 @@ items_by connection bytes = drop (length (items_on connection)) (items_on (with_
 abbrev pub took_bytes : Run → Connection → List ℕ → Run
 took_bytes r connection bytes = record r { lines = r.lines + 1; connections = updated (with_bytes connection bytes) r.connections }
 
--- Bytes on a closed connection do nothing. Others may complete messages, whose items are handled in order.
+-- Bytes on a closed connection, or to a member that crashed, do nothing. Others may complete messages, whose items are handled in order.
 abbrev pub bytes_arrived : {State : Type 0} → Object Request State → List CallId → Run → Connection → List ℕ → Run
 bytes_arrived o skips r connection bytes =
-    if is_some (fault_on connection) then next_line r
-    else handled_all o skips (took_bytes r connection bytes) connection (items_by connection bytes)
+    if takes_bytes o r connection then handled_all o skips (took_bytes r connection bytes) connection (items_by connection bytes)
+    else next_line r
 
--- The run after a line. A connection is opened once, and bytes arrive where it was opened. A clock is set. The other lines change nothing.
+-- A connection is opened once, to a member that lives.
+abbrev pub can_open : {State : Type 0} → Object Request State → Run → ℕ → ℕ → Bool
+can_open o r c member = not (is_some (connection_of r c)) && lives o r member
+
+-- The event that a line is, where it is one event of a partition.
+
+abbrev pub at : ℕ → Event Request → Option At
+at partition event = Some (record { partition = partition; event = event })
+
+abbrev pub event_by : Line → Option At
+event_by (Deliver partition from to place) = at partition (event.Deliver from to place)
+event_by (Lose partition from to place) = at partition (event.Lose from to place)
+event_by (Repeat partition from to place) = at partition (event.Repeat from to place)
+event_by (Resend partition end) = at partition (event.Resend end)
+event_by (Move partition from to) = at partition (event.BeginMove from to)
+event_by (Join partition to) = at partition (event.BeginJoin to)
+event_by (Handover partition from to) = at partition (event.BeginHandover from to)
+event_by (Advance partition) = at partition event.Advance
+event_by (Reopen partition) = at partition event.Reopen
+event_by line = None
+
+abbrev pub after_event : {State : Type 0} → Object Request State → Run → Option At → Run
+after_event o r None = r
+after_event o r (Some e) = takes o r e.partition e.event
+
+-- The run after a line. A connection is opened, or bytes arrive where one was. A clock is set. An event happens in a partition, or in each one. The other lines change nothing.
 abbrev pub after_line : {State : Type 0} → Object Request State → List CallId → Run → Line → Run
-after_line o skips r (OpenConn c member) = if is_some (connection_of r c) then next_line r else opened r c member
+after_line o skips r (OpenConn c member) = if can_open o r c member then opened r c member else next_line r
 after_line o skips r (Arrive c bytes) = elim (connection_of r c) [ None ↦ next_line r | Some connection ↦ bytes_arrived o skips r connection bytes ]
 after_line o skips r (Clock member moment) = clock_set r member moment
-after_line o skips r (Grid members backups capacity) = next_line r
-after_line o skips r (Dump partition member) = next_line r
-after_line o skips r (Trail partition) = next_line r
-after_line o skips r Comment = next_line r
-after_line o skips r End = next_line r
+after_line o skips r (Flow partition most) = flowed o (next_line r) partition most
+after_line o skips r (FlowAll most) = flowed_in o (next_line r) most (numbers_below partitions)
+after_line o skips r (Crash member) = takes_in o (next_line r) (event.Crash member) (numbers_below partitions)
+after_line o skips r (Detect member) = takes_in o (next_line r) (event.Detect member) (numbers_below partitions)
+after_line o skips r line = after_event o (next_line r) (event_by line)
 
 abbrev pub after_lines : {State : Type 0} → Object Request State → List CallId → Run → List Line → Run
 after_lines o skips r [] = r

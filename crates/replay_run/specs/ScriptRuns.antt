@@ -14,7 +14,7 @@ use Rattle.object_store.specs.Partitions.{Partition}
 use Rattle.session_core.specs.Places.{partition_of_key}
 use Rattle.session_core.specs.declared.item.Item.{Item}
 use Rattle.session_core.specs.declared.item.Item.TheVariants.{Call as Asks, Reply}
-use Rattle.replay_run.specs.Runs.{Run, Connection, Arrival, begun, connection_of, messages_on, next_line, clock_set, opened, with_bytes, took_bytes, told, occurred, asked, handled_all, arrival_at}
+use Rattle.replay_run.specs.Runs.{Run, Connection, Arrival, begun, connection_of, messages_on, next_line, clock_set, opened, with_bytes, took_bytes, told, arrived, occurred, given_up, asked, handled_all, arrival_at}
 
 -- the partition that has a call's object: a map's entry is where its key is, and a queue where it was asked for
 abbrev pub home_of : GridCall → ℕ → ℕ
@@ -52,7 +52,10 @@ pub data IsRun (o : Object Request Partition) : Run → Type 0 where
   connection_opened : (r : Run) (c member : ℕ) → IsRun o r → connection_of r c ≡ None → IsRun o (opened r c member)
   bytes_taken : (r : Run) (connection : Connection) (bytes : List ℕ) → IsRun o r → connection_of r connection.conn ≡ Some connection → IsRun o (took_bytes r connection bytes)
   answer_told : (r : Run) (c : ℕ) (bytes : List ℕ) → IsRun o r → IsRun o (told r c bytes)
-  event_occurred : (r : Run) (p : ℕ) (event : Event Request) → IsRun o r → p < PARTITIONS → asked_by event ≡ [] → IsRun o (occurred o r p event)
+  event_occurred : (r : Run) (p : ℕ) (event : Event Request) → IsRun o r → asked_by event ≡ [] → IsRun o (occurred o r p event)
+  -- a call that makes no event and isn't answered
+  call_arrived : (r : Run) (member : ℕ) (request : Request) → IsRun o r → IsNext r request → IsRun o (arrived r (arrival_at r member request) [] [])
+  run_given_up : (r : Run) → IsRun o r → IsRun o (given_up r)
   call_asked : (skips : List CallId) (r : Run) (member : ℕ) (request : Request) → IsRun o r → IsNext r request → IsRun o (asked o skips r (arrival_at r member request))
 
 -- the names of the calls among items

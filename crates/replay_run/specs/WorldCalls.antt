@@ -1,15 +1,23 @@
 -- What a call does to its partition's world, and the messages that it makes.
-use Rattle.std.specs.Prelude.{◌≡◌, ◌≢◌, ℕ, ◌+◌, ◌-◌, ◌*◌, ◌<◌, ◌^◌, if◌then◌else◌, is_some, option_and_then, pos, List, length, [], ◌∷◌, ◌++◌, Option, Some, None, Contains}
+use Rattle.std.specs.Prelude.{◌≡◌, ◌≢◌, ℕ, ◌+◌, ◌-◌, ◌*◌, ◌<◌, ◌^◌, ◌==◌, Bool, true, false, ◌||◌, if◌then◌else◌, is_none, option_and_then, pos, List, length, filter, [], ◌∷◌, ◌++◌, Option, Some, None, Contains}
 use Rattle.std.specs.List.{flat_map}
 use Rattle.grid_base.specs.declared.names.CallId.{CallId}
 use Rattle.grid_base.specs.declared.calls.Request.{Request}
 use Rattle.partition_protocol.specs.Events.{Event, happens}
+use Rattle.partition_protocol.specs.Events as event
+use Rattle.partition_protocol.specs.Service.{numbers_below}
+use Rattle.partition_world.specs.declared.event.Happened.{Happened}
+use Rattle.partition_world.specs.Events.{happened_of}
 use Rattle.primary_hold.specs.declared.released.Released.{Released}
 use Rattle.partition_world.specs.declared.world.World.{World}
 use Rattle.partition_world.specs.Meanings.{Meaning}
 use Rattle.partition_world.specs.Answers.{released_at}
 use Rattle.partition_world.specs.Worlds.{StandsFor, run_of, setup_of, waiting}
 use Rattle.replay_run.specs.declared.grid.Refusal.{Refusal}
+use Rattle.script_lang.specs.declared.line.Line.{Line}
+use Rattle.script_lang.specs.declared.line.Line.TheVariants as line
+use Rattle.replay_run.specs.declared.events.Fate.{Fate}
+use Rattle.replay_run.specs.declared.events.Fate.TheVariants.{Crash, Detect}
 use Rattle.replay_run.specs.declared.grid.Grid.{Grid}
 use Rattle.call_engine.specs.Calls.{Settings}
 use Rattle.call_engine.specs.Changes.{change_of}
@@ -18,11 +26,12 @@ use Rattle.grid_base.specs.Errors.{want_of_memory}
 use Rattle.grid_base.specs.Limits.{CallFits}
 use Rattle.session_core.specs.declared.item.Item.{Item}
 use Rattle.session_core.specs.declared.item.Item.TheVariants.{Call as Asks}
-use Rattle.replay_run.specs.Runs.{Run, Connection, Arrival, Appended, connection_of, messages_on, fault_on, told, refusal, refused_by, call_of, arrival_at, items_by, asked}
-use Rattle.replay_run.specs.Printing.{appended_text, new_messages}
-use Rattle.replay_run.specs.ScriptRuns.{IsRun, IsMidway}
+use Rattle.replay_run.specs.Runs.{Run, Connection, Arrival, Appended, partitions, connection_of, messages_on, is_open, takes_bytes, took_bytes, told, refusal, refused_by, call_of, arrival_at, items_by, asked, handled_all, event_by, events_at, world_at, is_full, meets_full, occurred, takes_in}
+use Rattle.replay_run.specs.Printing.{appended_text, new_messages, outcome_at}
+use Rattle.replay_run.specs.ScriptRuns.{IsRun, IsMidway, calls_in}
 use Rattle.replay_run.specs.Tables.{Table, with_answer}
-use Rattle.replay_run.specs.Grids.{FormOf, GridWorld, grid_meaning, StandsForEvents, IsCounting, Holds}
+use Rattle.replay_run.specs.Shelves.{grid_meaning}
+use Rattle.replay_run.specs.Grids.{FormOf, GridWorld, StandsForEvents, IsSettled, IsCounting, Holds}
 
 -- the call of a request that reaches a member at a line, at the member's moment
 abbrev pub arrival_to : ℕ → ℕ → ℕ → Request → Arrival
@@ -58,7 +67,19 @@ abbrev pub with_answers : Table → ℕ → List Released → Table
 with_answers table line [] = table
 with_answers table line (answer ∷ answers) = with_answers (with_answer table answer.id line) line answers
 
--- All answers that waited at a member were given out, which is no event in any environment.
+-- Of the answers that wait those go out whose connections are open, a call's own among them.
+
+abbrev pub is_own : Option ℕ → ℕ → Bool
+is_own None c = false
+is_own (Some own) c = c == own
+
+abbrev pub goes_out : Run → Option ℕ → Released → Bool
+goes_out r own answer = is_own own answer.id.conn || is_open (connection_of r answer.id.conn)
+
+abbrev pub going_out : Run → Option ℕ → List Released → List Released
+going_out r own answers = filter (goes_out r own) answers
+
+-- All answers that waited at a member were taken, which is no event in any environment.
 pub record GivesOut {S Env C State : Type 0} (meaning_in : Env → Meaning S C State) (limits : C → Type 0) (old new : World S Env C) (member : ℕ) : Type 0 where
   pub stands : (env : Env) (events : List (Event C)) → StandsFor (meaning_in env) limits old events → StandsFor (meaning_in env) limits new events
   pub setup : setup_of new ≡ setup_of old
@@ -72,6 +93,8 @@ pub record HasAsked {V : Type 0} {T : V → Type 0} (form : FormOf V T) (setting
   pub holds : Holds form settings new (asked (partition_object settings) skips r (arrival_at r member request))
   pub counting : IsCounting new.connections (asked (partition_object settings) skips r (arrival_at r member request)) request.id.conn (request.id.number + 1)
   pub added : text ≡ written ++ texts_of (new_messages r (asked (partition_object settings) skips r (arrival_at r member request)))
+  -- its partition wasn't full
+  pub goes : is_full (world_at (partition_object settings) r request.partition) ≡ false
 
 -- A session's own answer was appended to its connection and printed.
 pub record HasTold {V : Type 0} {T : V → Type 0} (form : FormOf V T) (settings : Settings) (new : Grid V T) (r : Run) (conn number : ℕ) (answer written text : List ℕ) : Type 0 where
@@ -84,11 +107,11 @@ abbrev pub HasRoom : Run → Connection → List ℕ → Type 0
 HasRoom r k bytes = length r.arrivals + length (items_by k bytes) + 1001 * (r.lines + 1) + 1 < 2 ^ 32 - 1
 
 -- the member of a connection, where bytes can arrive on it
-abbrev pub member_if_open : Connection → Option ℕ
-member_if_open k = if is_some (fault_on k) then None else Some k.member
+abbrev pub member_if_open : Settings → Run → Connection → Option ℕ
+member_if_open settings r k = if takes_bytes (partition_object settings) r k then Some k.member else None
 
-abbrev pub open_member_in : Run → ℕ → Option ℕ
-open_member_in r c = option_and_then member_if_open (connection_of r c)
+abbrev pub open_member_in : Settings → Run → ℕ → Option ℕ
+open_member_in settings r c = option_and_then (member_if_open settings r) (connection_of r c)
 
 -- Bytes bring these items on a connection of a run to a member of the grid, and each call among them can be answered.
 pub record Brings (settings : Settings) (r : Run) (k : Connection) (bytes : List ℕ) (items : List Item) : Type 0 where
@@ -106,3 +129,68 @@ pub record HasHandledSome {V : Type 0} {T : V → Type 0} (form : FormOf V T) (s
   pub holds : Holds form settings grid now
   pub counting : IsCounting grid.connections now k.conn (length (messages_on k) + length done)
   pub added : text ≡ written ++ texts_of (new_messages r now)
+
+-- The run is given up in the midst of a line of bytes: with these of its calls skipped, one of them met a full partition.
+pub record IsGivenUpMidway (settings : Settings) (r : Run) (k : Connection) (bytes : List ℕ) (items : List Item) : Type 0 where
+  pub skips : List CallId
+  pub own : (id : CallId) → Contains skips id → Contains (calls_in items) id
+  pub full : (handled_all (partition_object settings) skips (took_bytes r k bytes) k items).full ≡ true
+
+-- events
+
+-- the member at which an event may release answers: the one that takes a message
+abbrev pub taker_of : {C : Type 0} → Event C → Option ℕ
+taker_of (event.Deliver from to place) = Some to
+taker_of event = None
+
+-- what happens to a member in all partitions, and its line
+
+abbrev pub event_in_all : Fate → Event Request
+event_in_all (Crash member) = event.Crash member
+event_in_all (Detect member) = event.Detect member
+
+abbrev pub line_of_fate : Fate → Line
+line_of_fate (Crash member) = line.Crash member
+line_of_fate (Detect member) = line.Detect member
+
+-- a line at which nothing happens in a partition
+abbrev pub is_quiet : Line → Bool
+is_quiet (line.Arrive c bytes) = false
+is_quiet (line.Flow partition most) = false
+is_quiet (line.FlowAll most) = false
+is_quiet (line.Crash member) = false
+is_quiet (line.Detect member) = false
+is_quiet line = is_none (event_by line)
+
+-- A partition may have so many events more: four bytes count them.
+abbrev pub HasRoomAt : Run → ℕ → ℕ → Type 0
+HasRoomAt r p most = length (events_at p r.events) + most + 1 < 2 ^ 32
+
+-- In the midst of a line of events: the grid has what the run has by then, and every message was handled.
+pub record IsAmid {V : Type 0} {T : V → Type 0} (form : FormOf V T) (settings : Settings) (grid : Grid V T) (r : Run) : Type 0 where
+  pub run : IsRun (partition_object settings) r
+  pub holds : Holds form settings grid r
+  pub settled : IsSettled grid.connections r
+
+-- The run has gone on, and the messages that this appended were printed.
+pub record HasGoneOn {V : Type 0} {T : V → Type 0} (form : FormOf V T) (settings : Settings) (new : Grid V T) (r next : Run) (written text : List ℕ) : Type 0 where
+  pub amid : IsAmid form settings new next
+  pub messages : List Appended
+  pub appended : next.appended ≡ r.appended ++ messages
+  pub added : text ≡ written ++ texts_of messages
+
+-- The event has happened.
+pub record HasTaken {V : Type 0} {T : V → Type 0} (form : FormOf V T) (settings : Settings) (new : Grid V T) (r : Run) (p : ℕ) (event : Event Request) (happened : Happened) (written text : List ℕ) : Type 0 where
+  pub goes : meets_full (world_at (partition_object settings) r p) event ≡ false
+  pub on : HasGoneOn form settings new r (occurred (partition_object settings) r p event) written text
+  pub outcome : happened_of happened ≡ outcome_at (partition_object settings) r p event
+
+-- Messages were delivered, each by an event.
+pub record HasFlowed {V : Type 0} {T : V → Type 0} (form : FormOf V T) (settings : Settings) (new : Grid V T) (r next : Run) (deliveries : ℕ) (written text : List ℕ) : Type 0 where
+  pub on : HasGoneOn form settings new r next written text
+  pub events : length next.events ≡ length r.events + deliveries
+
+-- It happened in the first partition and in all others.
+pub record HasTakenInAll {V : Type 0} {T : V → Type 0} (form : FormOf V T) (settings : Settings) (new : Grid V T) (r : Run) (event : Event Request) (first : Happened) (written text : List ℕ) : Type 0 where
+  pub on : HasGoneOn form settings new r (takes_in (partition_object settings) r event (numbers_below partitions)) written text
+  pub outcome : happened_of first ≡ outcome_at (partition_object settings) r 0 event

@@ -1,5 +1,7 @@
 ghost use Rattle.session_core.specs.Sessions.{StandsFor, session_after};
 ghost use Rattle.std.specs.Prelude.{◌≡◌, ◌<◌, ◌++◌, ℕ, List, None, Some, IfOk, OnOk, OnErr, option_map, option_copied};
+ghost use Rattle.replay_run.specs.Runs.{Run, connection_of, is_open};
+ghost use Rattle.replay_run.specs.Grids.{HasConnections};
 ghost use Rattle.replay_run.specs.Tables.{Opened, Gives, most_connections, no_connections, opened_as, opened_at, lines_of, changed_at, lines_answered, heard, replied, called, answered, with_opened, with_session, with_reply, with_arrival, with_answer};
 
 use grid_base::{CallId, MemberId, Memory};
@@ -130,6 +132,16 @@ impl Connections {
         ensures { option_map opened_as (option_copied result) ≡ opened_at self.now conn }
     {
         self.slots.get(conn as usize)?.as_ref()
+    }
+
+    /// Whether answers go to a connection: it was opened, and no fault closed it.
+    pub(crate) fn is_open(&self, conn: u32) -> bool
+        ensures { (r : Run) → HasConnections self.now r → result ≡ is_open (connection_of r conn) }
+    {
+        match self.get(conn) {
+            None => false,
+            Some(connection) => connection.session.closed().is_none(),
+        }
     }
 
     /// At which lines a call arrived and was answered, if it arrived. In constant time.

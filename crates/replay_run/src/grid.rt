@@ -1,4 +1,4 @@
-ghost use Rattle.std.specs.Prelude.{◌≡◌, ℕ, false, ◌+◌, ◌-◌, ◌*◌, ◌<◌, ◌≤◌, ◌^◌, List, [], ◌∷◌, ◌++◌, ◌⊎◌, Some, map, IfOk, OnOk, length};
+ghost use Rattle.std.specs.Prelude.{◌≡◌, ℕ, true, false, ◌+◌, ◌-◌, ◌*◌, ◌<◌, ◌≤◌, ◌^◌, List, [], ◌∷◌, ◌++◌, ◌⊎◌, Some, map, IfOk, OnOk, IsErrOf, ◌||◌, length};
 ghost use Rattle.std.specs.List.{flat_map};
 ghost use Rattle.grid_base.specs.declared.calls.Request.{Request as Call};
 ghost use Rattle.partition_protocol.specs.Events.{Event as ProtocolEvent};
@@ -12,18 +12,23 @@ ghost use Rattle.partition_world.specs.Events.{happened_of};
 ghost use Rattle.partition_world.specs.Meanings.{meaning};
 ghost use Rattle.partition_world.specs.Worlds.{steps_of, waiting};
 ghost use Rattle.partition_world.specs.RecordedEntries.{entry_of};
-ghost use Rattle.replay_run.specs.Runs.{Run, Connection as RunConnection, begun, call_of, refused_by, reopened_at, world_at};
-ghost use Rattle.replay_run.specs.Printing.{partitions, appended_text, entry_text, entries_of, all_entries, ok_text, nothing_text};
+ghost use Rattle.replay_run.specs.Runs.{Run, Connection as RunConnection, partitions, begun, call_of, refused_by, reopened_at, connection_of, is_open, is_full, lives, world_at};
+ghost use Rattle.replay_run.specs.Printing.{appended_text, entry_text, entries_of, all_entries, ok_text, nothing_text};
 ghost use Rattle.replay_run.specs.Tables.{with_answer};
 ghost use Rattle.replay_run.specs.ScriptRuns.{IsRun, IsNext};
-ghost use Rattle.replay_run.specs.Grids.{boxed, AreFew, Stands, StandsForEvents, Holds, IsCounting, MayRun, HasRun};
-ghost use Rattle.replay_run.specs.WorldCalls.{arrival_to, refusals, texts_of, message_of, with_answers, IsCalled, IsSkipped, GivesOut, HasAsked, HasTold, HasRoom, open_member_in, Brings, HasHandledSome};
+ghost use Rattle.replay_run.specs.Grids.{boxed, HasConnections, AreFew, Stands, StandsForEvents, Holds, IsCounting, MayRun, HasRun, IsGivenUp};
+ghost use Rattle.replay_run.specs.WorldCalls.{arrival_to, refusals, texts_of, message_of, with_answers, IsCalled, IsSkipped, is_own, going_out, GivesOut, HasAsked, HasTold, HasRoom, open_member_in, Brings, HasHandledSome, IsGivenUpMidway, is_quiet};
+ghost use Rattle.replay_run.specs.declared.run_end.RunEnd.TheVariants as RunEnds;
 
 use crate::connections::Connections;
 use crate::dumps::{push_dump, push_dumped};
 use crate::entries::{EntryPlace, line_at, push_entry, resets_of};
+use crate::events::{Fate, event_by};
+use crate::links::{Link, in_flight, is_full, links_of, push_in_flight};
+use crate::outcomes::push_links;
 use crate::print::{push_appended, push_close, push_nothing, push_ok, push_trail};
 use crate::reopened::Reopened;
+use crate::run_end::RunEnd;
 use call_engine::{GridEnv, GridShelf};
 use client_codecs::write_error;
 use entry_processors::{Processor, Registry};
@@ -156,21 +161,33 @@ fn give(
     push_appended(alloc, out, line, answer.id.conn, answer.reply.as_slice())
 }
 
-/// Gives out the answers that wait at a member, the oldest first.
-fn give_out<S: Shelf>(
+/// Whether an answer to a connection goes out: where that is open, or is the one of the call at hand, whose close comes
+/// after all that its bytes bring.
+fn goes_out(connections: &Connections, own: Option<u32>, conn: u32) -> bool
+    ensures { (r : Run) → HasConnections connections.now r → result ≡ (is_own own conn || is_open (connection_of r conn)) }
+{
+    own == Some(conn) || connections.is_open(conn)
+}
+
+/// Takes the answers that wait at a member, the oldest first, and gives those out whose connections are open or are the
+/// one of the call at hand.
+pub(crate) fn give_out<S: Shelf>(
     alloc: Global,
     world: &mut World<S>,
     member: MemberId,
     connections: &mut Connections,
+    own: Option<u32>,
     line: u32,
     out: &mut Vec<u8>,
 ) -> Result<(), Memory>
-    ensures text { OnOk result (out.new.items ≡ out.old.items ++ texts_of (map (message_of line) (waiting world.old member))) }
-    ensures table { OnOk result (connections.new ≡ with_answers connections.old line (waiting world.old member)) }
+    ensures text { (r : Run) → HasConnections connections.old r → OnOk result (out.new.items ≡ out.old.items ++ texts_of (map (message_of line) (going_out r own (waiting world.old member)))) }
+    ensures table { (r : Run) → HasConnections connections.old r → OnOk result (connections.new ≡ with_answers connections.old line (going_out r own (waiting world.old member))) }
     ensures world { OnOk result (GivesOut (meaning S.object S.state S.effect_of S.change_of S.snapshot_of) S.within_limits world.old world.new member) }
 {
     while let Some(answer) = world.pop_released(member) {
-        give(alloc, connections, line, answer, out)?;
+        if goes_out(connections, own, answer.id.conn) {
+            give(alloc, connections, line, answer, out)?;
+        }
     }
     Ok(())
 }
@@ -178,14 +195,16 @@ fn give_out<S: Shelf>(
 /// The worlds of all partitions, the connections to their members, each member's clock, and how many lines were run.
 #[derive(Drop)]
 pub struct Grid {
-    env: GridEnv,
+    pub(crate) env: GridEnv,
     members: u8,
-    lines: u32,
+    pub(crate) lines: u32,
     moments: Vec<Moment>,
-    connections: Connections,
+    pub(crate) connections: Connections,
     /// In order.
-    reopened: Vec<Reopened>,
-    worlds: Vec<World<GridShelf>>,
+    pub(crate) reopened: Vec<Reopened>,
+    /// Those of each partition.
+    pub(crate) links: Vec<Link>,
+    pub(crate) worlds: Vec<World<GridShelf>>,
 }
 
 impl Grid {
@@ -216,6 +235,7 @@ impl Grid {
             moments: vec![in alloc; 0; usize::from(members)]?,
             connections: Connections::new(alloc)?,
             reopened: Vec::new(alloc),
+            links: links_of(alloc, members)?,
             worlds,
         })
     }
@@ -234,25 +254,30 @@ impl Grid {
         self.lines
     }
 
-    /// Runs the line of that number, which is the next one, and appends its text. After want of memory the grid and
-    /// the text are given up.
+    /// Runs the line of that number, which is the next one, and appends its text. After an error the grid and the text
+    /// are given up: for want of memory, or where an event other than a loss met a partition with 65,400 messages or more
+    /// in flight on one link.
     ///
-    /// A line costs its own work: it looks up its connection and its partition by their numbers. The line `dump`
-    /// costs sorting and printing what its member keeps of the partition. The line `trail` costs the entries of its
-    /// partition's history, and the line `end` those of all.
+    /// A line costs its own work: it looks up its connection and its partition by their numbers, and an event looks at the
+    /// length of each of its partition's links. A delivery costs in addition at most the length of its link; `flow` looks
+    /// for each of its deliveries through the partition's links, and the lines of all partitions cost that for each. The
+    /// lines `dump` and `links` cost sorting and printing what their member keeps of the partition, and printing the
+    /// messages in flight. The line `trail` costs the entries of its partition's history, and the line `end` those of all.
     pub fn run_line(
         &mut self,
         alloc: Global,
         number: u32,
         line: &Line,
         out: &mut Vec<u8>,
-    ) -> Result<(), Memory>
+    ) -> Result<(), RunEnd>
         requires { MayRun (boxed form) self.old number line.now }
-        ensures { (settings : Settings) (r : Run) → Stands (boxed form) settings self.old r → OnOk result (HasRun (boxed form) settings self.new r line.now out.old.items out.new.items) }
+        ensures ok { (settings : Settings) (r : Run) → Stands (boxed form) settings self.old r → OnOk result (HasRun (boxed form) settings self.new r line.now out.old.items out.new.items) }
+        ensures full { (settings : Settings) (r : Run) → Stands (boxed form) settings self.old r → IsErrOf result RunEnds.InFlight → IsGivenUp settings r line.now }
     {
+        if let Some((partition, event)) = event_by(line) {
+            return self.run_event(alloc, number, partition, event, out);
+        }
         match line {
-            Line::Grid { .. } => self.pass(number, out),
-            Line::OpenConn { conn, member } => self.open(alloc, number, *conn, *member, out),
             Line::Arrive { conn, bytes } => self.arrive(
                 alloc,
                 number,
@@ -260,13 +285,37 @@ impl Grid {
                 bytes.as_slice(),
                 out,
             ),
+            Line::Flow { partition, most } => self.flow(alloc, number, *partition, *most, out),
+            Line::FlowAll { most } => self.flow_all(alloc, number, *most, out),
+            Line::Crash { member } => self.run_fate(alloc, number, Fate::Crash(*member), out),
+            Line::Detect { member } => self.run_fate(alloc, number, Fate::Detect(*member), out),
+            _ => Ok(self.run_quiet_line(alloc, number, line, out)?),
+        }
+    }
+
+    /// Runs a line at which nothing happens in a partition.
+    fn run_quiet_line(
+        &mut self,
+        alloc: Global,
+        number: u32,
+        line: &Line,
+        out: &mut Vec<u8>,
+    ) -> Result<(), Memory>
+        requires may { MayRun (boxed form) self.old number line.now }
+        requires quiet { is_quiet line.now ≡ true }
+        ensures { (settings : Settings) (r : Run) → Stands (boxed form) settings self.old r → OnOk result (HasRun (boxed form) settings self.new r line.now out.old.items out.new.items) }
+    {
+        match line {
+            Line::OpenConn { conn, member } => self.open(alloc, number, *conn, *member, out),
             Line::Clock { member, moment } => self.set_clock(number, *member, *moment, out),
             Line::Dump { partition, member } => {
                 self.dump(alloc, number, *partition, *member, out)
             }
+            Line::Links { partition } => self.push_links(alloc, number, *partition, out),
             Line::Trail { partition } => self.trail(alloc, number, *partition, out),
             Line::Comment => self.count(number, out),
             Line::End => self.end(alloc, number, out),
+            _ => self.pass(number, out),
         }
     }
 
@@ -288,7 +337,15 @@ impl Grid {
         push_nothing(out, number)
     }
 
-    /// `open C M`: opens a connection that wasn't opened before.
+    /// Whether a member hasn't crashed: that is so in all partitions, or in none.
+    fn is_live(&self, member: MemberId) -> bool
+        requires { (settings : Settings) × (r : Run) × Stands (boxed form) settings self.now r }
+        ensures { (settings : Settings) (r : Run) → Stands (boxed form) settings self.now r → result ≡ lives (partition_object settings) r member }
+    {
+        self.worlds[0].is_live(member)
+    }
+
+    /// `open C M`: opens a connection that wasn't opened before, to a member that lives.
     fn open(
         &mut self,
         alloc: Global,
@@ -300,7 +357,7 @@ impl Grid {
         requires { MayRun (boxed form) self.old number (Line.OpenConn conn member) }
         ensures { (settings : Settings) (r : Run) → Stands (boxed form) settings self.old r → OnOk result (HasRun (boxed form) settings self.new r (Line.OpenConn conn member) out.old.items out.new.items) }
     {
-        if self.connections.get(conn).is_some() {
+        if self.connections.get(conn).is_some() || !self.is_live(member) {
             return self.pass(number, out);
         }
         self.connections.open(alloc, conn, member);
@@ -308,7 +365,7 @@ impl Grid {
     }
 
     /// `bytes C HEX`: the messages that the bytes complete are handled in order, and a fault closes the connection.
-    /// Where it is closed or wasn't opened nothing happens.
+    /// Where it is closed or wasn't opened, or its member has crashed, nothing happens.
     fn arrive(
         &mut self,
         alloc: Global,
@@ -316,29 +373,33 @@ impl Grid {
         conn: u32,
         bytes: &[u8],
         out: &mut Vec<u8>,
-    ) -> Result<(), Memory>
+    ) -> Result<(), RunEnd>
         requires { MayRun (boxed form) self.old number (Line.Arrive conn bytes.now) }
-        ensures { (settings : Settings) (r : Run) → Stands (boxed form) settings self.old r → OnOk result (HasRun (boxed form) settings self.new r (Line.Arrive conn bytes.now) out.old.items out.new.items) }
+        ensures ok { (settings : Settings) (r : Run) → Stands (boxed form) settings self.old r → OnOk result (HasRun (boxed form) settings self.new r (Line.Arrive conn bytes.now) out.old.items out.new.items) }
+        ensures full { (settings : Settings) (r : Run) → Stands (boxed form) settings self.old r → IsErrOf result RunEnds.InFlight → IsGivenUp settings r (Line.Arrive conn bytes.now) }
     {
         let Some(member) = self.open_member(conn) else {
-            return self.pass(number, out);
+            return Ok(self.pass(number, out)?);
         };
         let Some(fed) = self.connections.feed(alloc, conn, bytes)? else {
-            return self.pass(number, out);
+            return Ok(self.pass(number, out)?);
         };
         self.count(number, out)?;
         self.handle_all(alloc, conn, member, fed.items, out)?;
-        push_close(out, number, conn, fed.closed)
+        Ok(push_close(out, number, conn, fed.closed)?)
     }
 
     /// The member of a connection, where bytes can arrive on it.
     fn open_member(&self, conn: u32) -> Option<MemberId>
-        ensures { (settings : Settings) (r : Run) → Stands (boxed form) settings self.now r → result ≡ open_member_in r conn }
+        requires { (settings : Settings) × (r : Run) × Stands (boxed form) settings self.now r }
+        ensures { (settings : Settings) (r : Run) → Stands (boxed form) settings self.now r → result ≡ open_member_in settings r conn }
     {
         let session = &self.connections.get(conn)?.session;
-        match session.closed() {
-            None => Some(session.member()),
-            Some(_) => None,
+        let member = session.member();
+        if session.closed().is_none() && self.is_live(member) {
+            Some(member)
+        } else {
+            None
         }
     }
 
@@ -350,11 +411,14 @@ impl Grid {
         member: MemberId,
         items: Vec<Item>,
         out: &mut Vec<u8>,
-    ) -> Result<(), Memory>
+    ) -> Result<(), RunEnd>
         requires { (settings : Settings) × (r : Run) × (k : RunConnection) × (bytes : List ℕ) × Brings settings r k bytes items.items × HasHandledSome (boxed form) settings self.old r k bytes [] out.old.items out.old.items × (k.conn ≡ conn) × (k.member ≡ member) × HasRoom r k bytes × AreFew r }
-        ensures { (settings : Settings) (r : Run) (k : RunConnection) (bytes : List ℕ) → Brings settings r k bytes items.items → k.conn ≡ conn → k.member ≡ member
+        ensures ok { (settings : Settings) (r : Run) (k : RunConnection) (bytes : List ℕ) → Brings settings r k bytes items.items → k.conn ≡ conn → k.member ≡ member
             → HasHandledSome (boxed form) settings self.old r k bytes [] out.old.items out.old.items
             → OnOk result (HasHandledSome (boxed form) settings self.new r k bytes items.items out.old.items out.new.items) }
+        ensures full { (settings : Settings) (r : Run) (k : RunConnection) (bytes : List ℕ) → Brings settings r k bytes items.items → k.conn ≡ conn → k.member ≡ member
+            → HasHandledSome (boxed form) settings self.old r k bytes [] out.old.items out.old.items
+            → IsErrOf result RunEnds.InFlight → IsGivenUpMidway settings r k bytes items.items }
     {
         for item in items {
             match item {
@@ -380,30 +444,44 @@ impl Grid {
         push_appended(alloc, out, self.lines, conn, answer.as_slice())
     }
 
-    /// A call arrives at its connection's member.
+    /// A call arrives at its connection's member. A full partition takes none.
     fn ask(
         &mut self,
         alloc: Global,
         member: MemberId,
         request: Request,
         out: &mut Vec<u8>,
-    ) -> Result<(), Memory>
+    ) -> Result<(), RunEnd>
         requires limits { CallFits request.call }
         requires placed { request.partition < partitions }
         requires member { member < self.old.members }
         requires stands { (settings : Settings) × (r : Run) × Holds (boxed form) settings self.old r × (length r.arrivals + 1001 * r.lines + 1 < 2 ^ 32 - 1) × IsRun (partition_object settings) r × IsNext r request × AreFew r }
-        ensures { (settings : Settings) (r : Run) → IsRun (partition_object settings) r → Holds (boxed form) settings self.old r → IsNext r request → IsCounting self.old.connections r request.id.conn request.id.number
+        ensures ok { (settings : Settings) (r : Run) → IsRun (partition_object settings) r → Holds (boxed form) settings self.old r → IsNext r request → IsCounting self.old.connections r request.id.conn request.id.number
             → OnOk result (HasAsked (boxed form) settings self.new r member request out.old.items out.new.items) }
+        ensures full { (settings : Settings) (r : Run) → Holds (boxed form) settings self.old r → IsErrOf result RunEnds.InFlight → is_full (world_at (partition_object settings) r request.partition) ≡ true }
     {
-        self.connections.arrive(request.id.conn, self.lines)?;
+        let conn = request.id.conn;
         let world = &mut self.worlds[usize::from(request.partition)];
+        if is_full(self.links.as_slice(), world) {
+            return Err(RunEnd::InFlight);
+        }
+        self.connections.arrive(conn, self.lines)?;
         let at = Arriving {
             line: self.lines,
             member,
             now: self.moments[usize::from(member)],
         };
         call(alloc, world, &self.env, at, request, out)?;
-        give_out(alloc, world, member, &mut self.connections, self.lines, out)
+        give_out(
+            alloc,
+            world,
+            member,
+            &mut self.connections,
+            Some(conn),
+            self.lines,
+            out,
+        )?;
+        Ok(())
     }
 
     /// `clock M T`: sets a member's clock.
@@ -441,6 +519,24 @@ impl Grid {
         } = self.worlds[usize::from(partition)].contents(member);
         push_dump(out, number, version, count)?;
         push_dumped(alloc, out, number, shelf)
+    }
+
+    /// `links P`: prints a partition's messages in flight.
+    fn push_links(
+        &mut self,
+        alloc: Global,
+        number: u32,
+        partition: PartitionId,
+        out: &mut Vec<u8>,
+    ) -> Result<(), Memory>
+        requires { MayRun (boxed form) self.old number (Line.Links partition) }
+        ensures { (settings : Settings) (r : Run) → Stands (boxed form) settings self.old r → OnOk result (HasRun (boxed form) settings self.new r (Line.Links partition) out.old.items out.new.items) }
+    {
+        self.lines = number;
+        let links = self.links.as_slice();
+        let world = &self.worlds[usize::from(partition)];
+        push_links(out, number, in_flight(links, world))?;
+        push_in_flight(alloc, out, number, links, world)
     }
 
     /// `trail P`: prints a partition's recorded history.

@@ -4,10 +4,15 @@
 mod connections;
 mod dumps;
 mod entries;
+mod events;
 mod grid;
 mod laws;
+mod links;
+mod outcomes;
 mod print;
 mod reopened;
+mod run_end;
 
 pub use grid::Grid;
 pub use laws::every_run_is_linearizable;
+pub use run_end::RunEnd;

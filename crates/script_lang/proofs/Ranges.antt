@@ -1,5 +1,5 @@
 -- A line that was read keeps to its ranges.
-use Rattle.std.proofs.Common.{◌≡◌, ℕ, ◌*◌, ◌≤◌, ◌==◌, ◌&&◌, Bool, true, false, not, cond, List, [], ◌∷◌, length, Option, Some, None, Result, Ok, Err, refl, sym, ap, subst, ◌∙◌, arith}
+use Rattle.std.proofs.Common.{◌≡◌, ℕ, ◌*◌, ◌≤◌, ◌==◌, Bool, true, false, not, cond, List, [], ◌∷◌, length, Option, Some, None, Result, Ok, Err, refl, sym, ap, subst, ◌∙◌, arith}
 use Rattle.std.specs.Result.{result_ok}
 use Rattle.std.proofs.lemmas.Bool.Decides.{nat_tests}
 use Rattle.hex.specs.Hex.{decode_of}
@@ -16,7 +16,7 @@ use Rattle.script_lang.specs.declared.fields.Field.TheVariants.{Hex as HexField}
 use Rattle.script_lang.specs.declared.keywords.Keyword.{Keyword}
 use Rattle.script_lang.specs.declared.keywords.Keyword.TheVariants as Keywords
 use Rattle.script_lang.specs.declared.line.Line.{Line}
-use Rattle.script_lang.specs.declared.line.Line.TheVariants.{Grid, OpenConn, Arrive, Clock, Dump, Trail, End}
+use Rattle.script_lang.specs.declared.line.Line.TheVariants.{Grid, OpenConn, Arrive, Clock, Deliver, Lose, Repeat, Flow, FlowAll, Resend, Crash, Detect, Move, Join, Handover, Advance, Reopen, Dump, Links, Trail, End}
 use Rattle.script_lang.specs.declared.reading.Value.{Value}
 use Rattle.script_lang.specs.declared.reading.Value.TheVariants as Values
 use Rattle.script_lang.specs.declared.refusal.LineWhy.{LineWhy}
@@ -65,34 +65,52 @@ AreSized-values_of members size (field ∷ fields) (word ∷ words) values short
 
 -- the line of a keyword and its values
 
-IsWithin-grid : (members size n backups capacity : ℕ) (line : Line) (b : Bool) → (n == 1) && (backups == 0) ≡ b → capacity ≤ 2147483647 → cond b (Ok (Grid n backups capacity)) (Err NotBuilt) ≡ Ok line → IsWithin members size line
-IsWithin-grid members size n backups capacity line true is small e =
-    let read : ◌≡◌ {A = Result Line LineWhy} (Ok (Grid n backups capacity)) (Ok line) = e in
-    subst (IsWithin members size) (let same : Grid n backups capacity ≡ line = cc in same) (grind (arith, nat_tests), grind (arith, nat_tests), small)
-IsWithin-grid members size n backups capacity line false is small e = absurd (let no : ◌≡◌ {A = Result Line LineWhy} (Err NotBuilt) (Ok line) = e in cc)
+IsWithin-made : (members size : ℕ) (made line : Line) → ◌≡◌ {A = Result Line LineWhy} (Ok made) (Ok line) → IsWithin members size made → IsWithin members size line
+IsWithin-made members size made line e within = subst (IsWithin members size) (let same : made ≡ line = cc in same) within
 
 IsWithin-line_with : (members size : ℕ) (keyword : Keyword) (values : List Value) (line : Line) → (is_grid keyword ≡ false → 1 ≤ members) → Fit members (fields_of keyword) values → AreSized size values
     → line_with keyword values ≡ Ok line → IsWithin members size line
 IsWithin-line_with members size Keywords.Grid (Values.Number n ∷ Values.Number backups ∷ Values.Number capacity ∷ []) line some fit sized e =
-    IsWithin-grid members size n backups capacity line ((n == 1) && (backups == 0)) refl fit.1.1.0.1 e
+    IsWithin-made members size (Grid n backups capacity) line e (fit.0.0, fit.0.1, fit.1.0.1, fit.1.1.0.1)
 IsWithin-line_with members size Keywords.Open (Values.Number conn ∷ Values.Number member ∷ []) line some fit sized e =
-    let read : ◌≡◌ {A = Result Line LineWhy} (Ok (OpenConn conn member)) (Ok line) = e in
-    subst (IsWithin members size) (let same : OpenConn conn member ≡ line = cc in same) (fit.0.1, omega (arith, fit.1.0.1, some refl))
+    IsWithin-made members size (OpenConn conn member) line e (fit.0.1, omega (arith, fit.1.0.1, some refl))
 IsWithin-line_with members size Keywords.Bytes (Values.Number conn ∷ Values.Bytes bytes ∷ []) line some fit sized e =
-    let read : ◌≡◌ {A = Result Line LineWhy} (Ok (Arrive conn bytes)) (Ok line) = e in
-    subst (IsWithin members size) (let same : Arrive conn bytes ≡ line = cc in same) (fit.0.1, sized.1.0.0, sized.1.0.1)
+    IsWithin-made members size (Arrive conn bytes) line e (fit.0.1, sized.1.0.0, sized.1.0.1)
 IsWithin-line_with members size Keywords.Clock (Values.Number member ∷ Values.Number moment ∷ []) line some fit sized e =
-    let read : ◌≡◌ {A = Result Line LineWhy} (Ok (Clock member moment)) (Ok line) = e in
-    subst (IsWithin members size) (let same : Clock member moment ≡ line = cc in same) (omega (arith, fit.0.1, some refl), fit.1.0.1)
+    IsWithin-made members size (Clock member moment) line e (omega (arith, fit.0.1, some refl), fit.1.0.1)
+IsWithin-line_with members size Keywords.Deliver (Values.Number partition ∷ Values.Number from ∷ Values.Number to ∷ Values.Number place ∷ []) line some fit sized e =
+    IsWithin-made members size (Deliver partition from to place) line e (fit.0.1, fit.1.0.1, fit.1.1.0.1, fit.1.1.1.0.1)
+IsWithin-line_with members size Keywords.Lose (Values.Number partition ∷ Values.Number from ∷ Values.Number to ∷ Values.Number place ∷ []) line some fit sized e =
+    IsWithin-made members size (Lose partition from to place) line e (fit.0.1, fit.1.0.1, fit.1.1.0.1, fit.1.1.1.0.1)
+IsWithin-line_with members size Keywords.Repeat (Values.Number partition ∷ Values.Number from ∷ Values.Number to ∷ Values.Number place ∷ []) line some fit sized e =
+    IsWithin-made members size (Repeat partition from to place) line e (fit.0.1, fit.1.0.1, fit.1.1.0.1, fit.1.1.1.0.1)
+IsWithin-line_with members size Keywords.Flow (Values.Number partition ∷ Values.Number most ∷ []) line some fit sized e =
+    IsWithin-made members size (Flow partition most) line e (fit.0.1, fit.1.0.0, fit.1.0.1)
+IsWithin-line_with members size Keywords.Flow (Values.All ∷ Values.Number most ∷ []) line some fit sized e =
+    IsWithin-made members size (FlowAll most) line e (fit.1.0.0, fit.1.0.1)
+IsWithin-line_with members size Keywords.Resend (Values.Number partition ∷ Values.Number end ∷ []) line some fit sized e =
+    IsWithin-made members size (Resend partition end) line e (fit.0.1, fit.1.0.1)
+IsWithin-line_with members size Keywords.Crash (Values.Number member ∷ []) line some fit sized e =
+    IsWithin-made members size (Crash member) line e (omega (arith, fit.0.1, some refl))
+IsWithin-line_with members size Keywords.Detect (Values.Number member ∷ []) line some fit sized e =
+    IsWithin-made members size (Detect member) line e (omega (arith, fit.0.1, some refl))
+IsWithin-line_with members size Keywords.Move (Values.Number partition ∷ Values.Number from ∷ Values.Number to ∷ []) line some fit sized e =
+    IsWithin-made members size (Move partition from to) line e (fit.0.1, omega (arith, fit.1.0.1, some refl), omega (arith, fit.1.1.0.1, some refl))
+IsWithin-line_with members size Keywords.Join (Values.Number partition ∷ Values.Number to ∷ []) line some fit sized e =
+    IsWithin-made members size (Join partition to) line e (fit.0.1, omega (arith, fit.1.0.1, some refl))
+IsWithin-line_with members size Keywords.Handover (Values.Number partition ∷ Values.Number from ∷ Values.Number to ∷ []) line some fit sized e =
+    IsWithin-made members size (Handover partition from to) line e (fit.0.1, omega (arith, fit.1.0.1, some refl), omega (arith, fit.1.1.0.1, some refl))
+IsWithin-line_with members size Keywords.Advance (Values.Number partition ∷ []) line some fit sized e =
+    IsWithin-made members size (Advance partition) line e (fit.0.1)
+IsWithin-line_with members size Keywords.Reopen (Values.Number partition ∷ []) line some fit sized e =
+    IsWithin-made members size (Reopen partition) line e (fit.0.1)
 IsWithin-line_with members size Keywords.Dump (Values.Number partition ∷ Values.Number member ∷ []) line some fit sized e =
-    let read : ◌≡◌ {A = Result Line LineWhy} (Ok (Dump partition member)) (Ok line) = e in
-    subst (IsWithin members size) (let same : Dump partition member ≡ line = cc in same) (fit.0.1, omega (arith, fit.1.0.1, some refl))
+    IsWithin-made members size (Dump partition member) line e (fit.0.1, omega (arith, fit.1.0.1, some refl))
+IsWithin-line_with members size Keywords.Links (Values.Number partition ∷ []) line some fit sized e =
+    IsWithin-made members size (Links partition) line e (fit.0.1)
 IsWithin-line_with members size Keywords.Trail (Values.Number partition ∷ []) line some fit sized e =
-    let read : ◌≡◌ {A = Result Line LineWhy} (Ok (Trail partition)) (Ok line) = e in
-    subst (IsWithin members size) (let same : Trail partition ≡ line = cc in same) fit.0.1
-IsWithin-line_with members size Keywords.End [] line some fit sized e =
-    let read : ◌≡◌ {A = Result Line LineWhy} (Ok End) (Ok line) = e in
-    subst (IsWithin members size) (let same : End ≡ line = cc in same) tt
+    IsWithin-made members size (Trail partition) line e (fit.0.1)
+IsWithin-line_with members size Keywords.End [] line some fit sized e = IsWithin-made members size End line e tt
 IsWithin-line_with members size keyword values line some fit sized e = absurd (let no : ◌≡◌ {A = Result Line LineWhy} (Err NotBuilt) (Ok line) = e in cc)
 
 IsWithin-line_of_fields : (members size : ℕ) (keyword : Keyword) (words : List (List ℕ)) (line : Line) (b : Bool) → (length words == length (fields_of keyword)) ≡ b → (is_grid keyword ≡ false → 1 ≤ members) → AreShort size words

@@ -1,5 +1,6 @@
 -- Words that are joined by spaces are those of the text, and what numbers and bytes are spelled as is read again.
 use Rattle.std.proofs.Common.{◌≡◌, ℕ, zero, suc, ◌+◌, ◌*◌, ◌-◌, ◌<◌, ◌≤◌, ◌^◌, ◌==◌, ◌&&◌, Bool, true, false, not, cond, nat_le, nat_lt, List, [], ◌∷◌, ◌++◌, length, get_or, fold, Option, Some, None, option_and_then, Ok, Err, All, refl, ap, sym, ◌∙◌, arith, rules}
+use Rattle.std.specs.Prelude.{codes}
 use Rattle.std.specs.Fmt.{decimal}
 use Rattle.std.specs.Char.{is_ascii_digit}
 use Rattle.std.specs.List.{list_all, AllPass, join_with_byte}
@@ -10,7 +11,7 @@ use Rattle.std.proofs.lemmas.List.Sums.{AllPass-from_list_all}
 use Rattle.std.proofs.lemmas.Str.Parse.{IsNumeralModel, numerals_by_fold}
 use Rattle.hex.specs.Hex.{encode_lower, is_hex_digit, IsBytes}
 use Rattle.hex.proofs.HexLemmas.{decode_of-encode_lower, decode_of-ok, length-encode_with}
-use Rattle.script_lang.specs.Words.{space, words_of, is_decimal, decimal_value, number_of, number_within, bytes_of}
+use Rattle.script_lang.specs.Words.{are_same, space, words_of, is_decimal, decimal_value, number_of, number_within, bytes_of}
 use Rattle.script_lang.proofs.Pieces.{pieces_at-slice_split}
 use Rattle.script_lang.specs.Lines.{Range, number_value, hex_value}
 use Rattle.script_lang.specs.Readings.{IsIn}
@@ -82,6 +83,20 @@ number_within-decimal least most n small low high =
 pub number_value-decimal : (range : Range) (n : ℕ) → n < 2 ^ 64 → IsIn range n → number_value range (decimal n) ≡ Ok (Values.Number n)
 number_value-decimal range n small within =
     ap (λ (number : Option ℕ). elim number [ None ↦ Err Number | Some m ↦ Ok (Values.Number m) ]) (number_within-decimal range.least range.most n small within.0 within.1)
+
+-- a number's digits aren't the word `all`
+digits_are_not_all : (ds : List ℕ) → list_all is_ascii_digit ds ≡ true → are_same ds (codes "all") ≡ false
+digits_are_not_all [] all = refl
+digits_are_not_all (d ∷ ds) all = by (d == 97) refl
+  where
+    by : (b : Bool) → (d == 97) ≡ b → b && are_same ds (codes "ll") ≡ false
+    by false is = refl
+    by true is =
+        let same : d ≡ 97 = grind (arith, nat_tests) in
+        let clash : false ≡ true = rw same at all in absurd cc
+
+pub no_number_is_all : (n : ℕ) → n < 2 ^ 64 → are_same (decimal n) (codes "all") ≡ false
+no_number_is_all n small = digits_are_not_all (decimal n) (digits_decimal digits n small)
 
 -- Bytes.
 

@@ -3,7 +3,7 @@ use Rattle.std.specs.Prelude.{◌≡◌, ℕ, true, false, List, [], ◌∷◌, 
 use Rattle.hex.specs.Hex.{decode_pairs}
 use Rattle.script_lang.specs.Lines.{line_of}
 use Rattle.script_lang.specs.declared.line.Line.{Line}
-use Rattle.script_lang.specs.declared.line.Line.TheVariants.{Grid, OpenConn, Arrive, Clock, Dump, Trail, Comment, End}
+use Rattle.script_lang.specs.declared.line.Line.TheVariants.{Grid, OpenConn, Arrive, Clock, Deliver, Lose, Repeat, Flow, FlowAll, Resend, Crash, Detect, Move, Join, Handover, Advance, Reopen, Dump, Links, Trail, Comment, End}
 use Rattle.script_lang.specs.declared.refusal.LineWhy.{LineWhy}
 use Rattle.script_lang.specs.declared.refusal.LineWhy.TheVariants.{Word, NoGrid, Count, Number, Hex, NotBuilt}
 
@@ -13,6 +13,10 @@ first_line text = line_of true 0 text
 
 abbrev later_line : List ℕ → Result Line LineWhy
 later_line text = line_of false 1 text
+
+-- a later line in a grid of three members
+abbrev line_of_three : List ℕ → Result Line LineWhy
+line_of_three text = line_of false 3 text
 
 -- the lines that are built
 
@@ -24,6 +28,12 @@ a_queue_may_have_no_value = refl
 
 a_queue_may_have_many_values : first_line (codes "grid 1 0 2147483647") ≡ Ok (Grid 1 0 2147483647)
 a_queue_may_have_many_values = refl
+
+a_grid_has_many_members : first_line (codes "grid 3 1 10") ≡ Ok (Grid 3 1 10)
+a_grid_has_many_members = refl
+
+a_grid_may_have_more_backups_than_members : first_line (codes "grid 1 6 10") ≡ Ok (Grid 1 6 10)
+a_grid_may_have_more_backups_than_members = refl
 
 a_client_connects : later_line (codes "open 63 0") ≡ Ok (OpenConn 63 0)
 a_client_connects = refl
@@ -38,8 +48,50 @@ a_clock_is_set = refl
 a_clock_shows_64_bits : later_line (codes "clock 0 18446744073709551615") ≡ Ok (Clock 0 18446744073709551615)
 a_clock_shows_64_bits = refl
 
+a_message_is_delivered : line_of_three (codes "deliver 270 0 2 7") ≡ Ok (Deliver 270 0 2 7)
+a_message_is_delivered = refl
+
+a_link_ends_at_the_service : later_line (codes "lose 0 0 1 18446744073709551615") ≡ Ok (Lose 0 0 1 18446744073709551615)
+a_link_ends_at_the_service = refl
+
+a_link_begins_at_the_service : line_of_three (codes "repeat 0 3 1 0") ≡ Ok (Repeat 0 3 1 0)
+a_link_begins_at_the_service = refl
+
+one_partition_flows : later_line (codes "flow 270 1000") ≡ Ok (Flow 270 1000)
+one_partition_flows = refl
+
+all_partitions_flow : later_line (codes "flow all 1") ≡ Ok (FlowAll 1)
+all_partitions_flow = refl
+
+the_service_sends_again : line_of_three (codes "resend 0 3") ≡ Ok (Resend 0 3)
+the_service_sends_again = refl
+
+a_member_crashes : line_of_three (codes "crash 2") ≡ Ok (Crash 2)
+a_member_crashes = refl
+
+a_crash_is_told : line_of_three (codes "detect 2") ≡ Ok (Detect 2)
+a_crash_is_told = refl
+
+a_partition_is_moved : line_of_three (codes "move 0 1 2") ≡ Ok (Move 0 1 2)
+a_partition_is_moved = refl
+
+a_member_joins : line_of_three (codes "join 0 2") ≡ Ok (Join 0 2)
+a_member_joins = refl
+
+a_partition_is_handed_over : line_of_three (codes "handover 0 1 2") ≡ Ok (Handover 0 1 2)
+a_partition_is_handed_over = refl
+
+a_move_goes_on : line_of_three (codes "advance 270") ≡ Ok (Advance 270)
+a_move_goes_on = refl
+
+a_partition_is_opened_again : line_of_three (codes "reopen 270") ≡ Ok (Reopen 270)
+a_partition_is_opened_again = refl
+
 a_part_is_printed : later_line (codes "dump 270 0") ≡ Ok (Dump 270 0)
 a_part_is_printed = refl
+
+messages_in_flight_are_printed : later_line (codes "links 270") ≡ Ok (Links 270)
+messages_in_flight_are_printed = refl
 
 a_history_is_printed : later_line (codes "trail 270") ≡ Ok (Trail 270)
 a_history_is_printed = refl
@@ -151,16 +203,33 @@ only_a_flow_goes_through_all = refl
 a_place_has_64_bits : later_line (codes "lose 0 0 1 18446744073709551616") ≡ Err Number
 a_place_has_64_bits = refl
 
--- then what isn't built
+the_service_does_not_crash : line_of_three (codes "crash 3") ≡ Err Number
+the_service_does_not_crash = refl
+
+only_a_member_gets_a_partition : line_of_three (codes "handover 0 1 3") ≡ Err Number
+only_a_member_gets_a_partition = refl
+
+a_link_ends_in_the_grid : line_of_three (codes "deliver 0 0 4 0") ≡ Err Number
+a_link_ends_in_the_grid = refl
+
+a_flow_makes_a_delivery : later_line (codes "flow all 0") ≡ Err Number
+a_flow_makes_a_delivery = refl
 
 a_grid_has_8_members_at_most : first_line (codes "grid 9 0 10") ≡ Err Number
 a_grid_has_8_members_at_most = refl
 
-no_grid_of_three_members_is_built : first_line (codes "grid 3 1 10") ≡ Err NotBuilt
-no_grid_of_three_members_is_built = refl
+a_grid_has_6_backups_at_most : first_line (codes "grid 8 7 10") ≡ Err Number
+a_grid_has_6_backups_at_most = refl
 
-no_flow_is_built : later_line (codes "flow all 1") ≡ Err NotBuilt
-no_flow_is_built = refl
+-- then what isn't built
 
-a_link_ends_at_the_service : later_line (codes "lose 0 0 1 18446744073709551615") ≡ Err NotBuilt
-a_link_ends_at_the_service = refl
+no_near_cache_is_built : later_line (codes "near 0 6d 10") ≡ Err NotBuilt
+unfolding decode_pairs
+no_near_cache_is_built = refl
+
+no_near_cache_is_asked : later_line (codes "nearget 0 6d") ≡ Err NotBuilt
+unfolding decode_pairs
+no_near_cache_is_asked = refl
+
+no_near_cache_is_fed : later_line (codes "nearfeed 0 1") ≡ Err NotBuilt
+no_near_cache_is_fed = refl

@@ -1,5 +1,5 @@
 -- The grammar of a script's lines, and why a line is refused.
-use Rattle.std.specs.Prelude.{◌≡◌, ℕ, ◌-◌, ◌*◌, ◌==◌, ◌&&◌, ◌<◌, ◌≤◌, Bool, true, false, not, if◌then◌else◌, List, [], ◌∷◌, length, Option, Some, None, option_map, Result, Ok, Err, codes}
+use Rattle.std.specs.Prelude.{ℕ, ◌-◌, ◌*◌, ◌==◌, ◌&&◌, ◌<◌, ◌≤◌, Bool, true, false, not, if◌then◌else◌, List, [], ◌∷◌, length, Option, Some, None, option_map, Result, Ok, Err, codes}
 use Rattle.std.specs.List.{find}
 use Rattle.script_lang.specs.Words.{are_same, words_of, number_within, bytes_of}
 use Rattle.script_lang.specs.declared.fields.Field.{Field}
@@ -9,7 +9,7 @@ use Rattle.script_lang.specs.declared.keywords.Keyword.TheVariants as Keywords
 use Rattle.script_lang.specs.declared.reading.Value.{Value}
 use Rattle.script_lang.specs.declared.reading.Value.TheVariants as Values
 use Rattle.script_lang.specs.declared.line.Line.{Line}
-use Rattle.script_lang.specs.declared.line.Line.TheVariants.{Grid, OpenConn, Arrive, Clock, Dump, Trail, Comment, End}
+use Rattle.script_lang.specs.declared.line.Line.TheVariants.{Grid, OpenConn, Arrive, Clock, Deliver, Lose, Repeat, Flow, FlowAll, Resend, Crash, Detect, Move, Join, Handover, Advance, Reopen, Dump, Links, Trail, Comment, End}
 use Rattle.script_lang.specs.declared.refusal.LineWhy.{LineWhy}
 use Rattle.script_lang.specs.declared.refusal.LineWhy.TheVariants.{Word, NoGrid, Count, Number, Hex, NotBuilt, NoEnd}
 
@@ -34,9 +34,10 @@ keywords =
     ∷ named (codes "clock") Keywords.Clock ∷ named (codes "deliver") Keywords.Deliver ∷ named (codes "lose") Keywords.Lose
     ∷ named (codes "repeat") Keywords.Repeat ∷ named (codes "flow") Keywords.Flow ∷ named (codes "resend") Keywords.Resend
     ∷ named (codes "crash") Keywords.Crash ∷ named (codes "detect") Keywords.Detect ∷ named (codes "move") Keywords.Move
-    ∷ named (codes "join") Keywords.Join ∷ named (codes "advance") Keywords.Advance ∷ named (codes "dump") Keywords.Dump
-    ∷ named (codes "links") Keywords.Links ∷ named (codes "trail") Keywords.Trail ∷ named (codes "near") Keywords.Near
-    ∷ named (codes "nearget") Keywords.NearGet ∷ named (codes "nearfeed") Keywords.NearFeed ∷ named (codes "end") Keywords.End ∷ []
+    ∷ named (codes "join") Keywords.Join ∷ named (codes "handover") Keywords.Handover ∷ named (codes "advance") Keywords.Advance
+    ∷ named (codes "reopen") Keywords.Reopen ∷ named (codes "dump") Keywords.Dump ∷ named (codes "links") Keywords.Links
+    ∷ named (codes "trail") Keywords.Trail ∷ named (codes "near") Keywords.Near ∷ named (codes "nearget") Keywords.NearGet
+    ∷ named (codes "nearfeed") Keywords.NearFeed ∷ named (codes "end") Keywords.End ∷ []
 
 abbrev pub keyword_of : List ℕ → Option Keyword
 keyword_of word = option_map (λ (entry : Named). entry.keyword) (find (λ (entry : Named). are_same entry.word word) keywords)
@@ -56,7 +57,9 @@ fields_of Keywords.Crash = Member ∷ []
 fields_of Keywords.Detect = Member ∷ []
 fields_of Keywords.Move = Partition ∷ Member ∷ Member ∷ []
 fields_of Keywords.Join = Partition ∷ Member ∷ []
+fields_of Keywords.Handover = Partition ∷ Member ∷ Member ∷ []
 fields_of Keywords.Advance = Partition ∷ []
+fields_of Keywords.Reopen = Partition ∷ []
 fields_of Keywords.Dump = Partition ∷ Member ∷ []
 fields_of Keywords.Links = Partition ∷ []
 fields_of Keywords.Trail = Partition ∷ []
@@ -112,14 +115,27 @@ values_of members (field ∷ fields) (word ∷ words) =
       Ok (value ∷ values)
 values_of members fields words = Ok []
 
--- The line that a keyword and its values are. Of the grids, those of one member are built, and other lines are not built yet.
+-- The line that a keyword and its values are. The near lines are not built.
 abbrev pub line_with : Keyword → List Value → Result Line LineWhy
-line_with Keywords.Grid (Values.Number members ∷ Values.Number backups ∷ Values.Number capacity ∷ []) =
-    if (members == 1) && (backups == 0) then Ok (Grid members backups capacity) else Err NotBuilt
+line_with Keywords.Grid (Values.Number members ∷ Values.Number backups ∷ Values.Number capacity ∷ []) = Ok (Grid members backups capacity)
 line_with Keywords.Open (Values.Number conn ∷ Values.Number member ∷ []) = Ok (OpenConn conn member)
 line_with Keywords.Bytes (Values.Number conn ∷ Values.Bytes bytes ∷ []) = Ok (Arrive conn bytes)
 line_with Keywords.Clock (Values.Number member ∷ Values.Number moment ∷ []) = Ok (Clock member moment)
+line_with Keywords.Deliver (Values.Number partition ∷ Values.Number from ∷ Values.Number to ∷ Values.Number place ∷ []) = Ok (Deliver partition from to place)
+line_with Keywords.Lose (Values.Number partition ∷ Values.Number from ∷ Values.Number to ∷ Values.Number place ∷ []) = Ok (Lose partition from to place)
+line_with Keywords.Repeat (Values.Number partition ∷ Values.Number from ∷ Values.Number to ∷ Values.Number place ∷ []) = Ok (Repeat partition from to place)
+line_with Keywords.Flow (Values.Number partition ∷ Values.Number most ∷ []) = Ok (Flow partition most)
+line_with Keywords.Flow (Values.All ∷ Values.Number most ∷ []) = Ok (FlowAll most)
+line_with Keywords.Resend (Values.Number partition ∷ Values.Number end ∷ []) = Ok (Resend partition end)
+line_with Keywords.Crash (Values.Number member ∷ []) = Ok (Crash member)
+line_with Keywords.Detect (Values.Number member ∷ []) = Ok (Detect member)
+line_with Keywords.Move (Values.Number partition ∷ Values.Number from ∷ Values.Number to ∷ []) = Ok (Move partition from to)
+line_with Keywords.Join (Values.Number partition ∷ Values.Number to ∷ []) = Ok (Join partition to)
+line_with Keywords.Handover (Values.Number partition ∷ Values.Number from ∷ Values.Number to ∷ []) = Ok (Handover partition from to)
+line_with Keywords.Advance (Values.Number partition ∷ []) = Ok (Advance partition)
+line_with Keywords.Reopen (Values.Number partition ∷ []) = Ok (Reopen partition)
 line_with Keywords.Dump (Values.Number partition ∷ Values.Number member ∷ []) = Ok (Dump partition member)
+line_with Keywords.Links (Values.Number partition ∷ []) = Ok (Links partition)
 line_with Keywords.Trail (Values.Number partition ∷ []) = Ok (Trail partition)
 line_with Keywords.End [] = Ok End
 line_with keyword values = Err NotBuilt
@@ -163,11 +179,25 @@ is_end line = false
 
 -- What a line that was read keeps to: its numbers are in their ranges, and its bytes have two digits each in the text.
 abbrev pub IsWithin : ℕ → ℕ → Line → Type 0
-IsWithin members size (Grid n backups capacity) = (n ≡ 1) × (backups ≡ 0) × (capacity ≤ 2147483647)
+IsWithin members size (Grid n backups capacity) = (1 ≤ n) × (n ≤ 8) × (backups ≤ 6) × (capacity ≤ 2147483647)
 IsWithin members size (OpenConn conn member) = (conn ≤ 63) × (member < members)
 IsWithin members size (Arrive conn bytes) = (conn ≤ 63) × (1 ≤ length bytes) × (2 * length bytes ≤ size)
 IsWithin members size (Clock member moment) = (member < members) × (moment ≤ 18446744073709551615)
+IsWithin members size (Deliver partition from to place) = (partition ≤ 270) × (from ≤ members) × (to ≤ members) × (place ≤ 18446744073709551615)
+IsWithin members size (Lose partition from to place) = (partition ≤ 270) × (from ≤ members) × (to ≤ members) × (place ≤ 18446744073709551615)
+IsWithin members size (Repeat partition from to place) = (partition ≤ 270) × (from ≤ members) × (to ≤ members) × (place ≤ 18446744073709551615)
+IsWithin members size (Flow partition most) = (partition ≤ 270) × (1 ≤ most) × (most ≤ 1000)
+IsWithin members size (FlowAll most) = (1 ≤ most) × (most ≤ 1000)
+IsWithin members size (Resend partition end) = (partition ≤ 270) × (end ≤ members)
+IsWithin members size (Crash member) = member < members
+IsWithin members size (Detect member) = member < members
+IsWithin members size (Move partition from to) = (partition ≤ 270) × (from < members) × (to < members)
+IsWithin members size (Join partition to) = (partition ≤ 270) × (to < members)
+IsWithin members size (Handover partition from to) = (partition ≤ 270) × (from < members) × (to < members)
+IsWithin members size (Advance partition) = partition ≤ 270
+IsWithin members size (Reopen partition) = partition ≤ 270
 IsWithin members size (Dump partition member) = (partition ≤ 270) × (member < members)
+IsWithin members size (Links partition) = partition ≤ 270
 IsWithin members size (Trail partition) = partition ≤ 270
 IsWithin members size Comment = Unit {0}
 IsWithin members size End = Unit {0}

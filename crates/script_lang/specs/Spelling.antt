@@ -5,14 +5,28 @@ use Rattle.hex.specs.Hex.{encode_lower, IsBytes}
 use Rattle.script_lang.specs.Words.{space}
 use Rattle.script_lang.specs.Lines.{IsWithin, line_of}
 use Rattle.script_lang.specs.declared.line.Line.{Line}
-use Rattle.script_lang.specs.declared.line.Line.TheVariants.{Grid, OpenConn, Arrive, Clock, Dump, Trail, Comment, End}
+use Rattle.script_lang.specs.declared.line.Line.TheVariants.{Grid, OpenConn, Arrive, Clock, Deliver, Lose, Repeat, Flow, FlowAll, Resend, Crash, Detect, Move, Join, Handover, Advance, Reopen, Dump, Links, Trail, Comment, End}
 
 abbrev pub spelled_words : Line → List (List ℕ)
 spelled_words (Grid members backups capacity) = codes "grid" ∷ decimal members ∷ decimal backups ∷ decimal capacity ∷ []
 spelled_words (OpenConn conn member) = codes "open" ∷ decimal conn ∷ decimal member ∷ []
 spelled_words (Arrive conn bytes) = codes "bytes" ∷ decimal conn ∷ encode_lower bytes ∷ []
 spelled_words (Clock member moment) = codes "clock" ∷ decimal member ∷ decimal moment ∷ []
+spelled_words (Deliver partition from to place) = codes "deliver" ∷ decimal partition ∷ decimal from ∷ decimal to ∷ decimal place ∷ []
+spelled_words (Lose partition from to place) = codes "lose" ∷ decimal partition ∷ decimal from ∷ decimal to ∷ decimal place ∷ []
+spelled_words (Repeat partition from to place) = codes "repeat" ∷ decimal partition ∷ decimal from ∷ decimal to ∷ decimal place ∷ []
+spelled_words (Flow partition most) = codes "flow" ∷ decimal partition ∷ decimal most ∷ []
+spelled_words (FlowAll most) = codes "flow" ∷ codes "all" ∷ decimal most ∷ []
+spelled_words (Resend partition end) = codes "resend" ∷ decimal partition ∷ decimal end ∷ []
+spelled_words (Crash member) = codes "crash" ∷ decimal member ∷ []
+spelled_words (Detect member) = codes "detect" ∷ decimal member ∷ []
+spelled_words (Move partition from to) = codes "move" ∷ decimal partition ∷ decimal from ∷ decimal to ∷ []
+spelled_words (Join partition to) = codes "join" ∷ decimal partition ∷ decimal to ∷ []
+spelled_words (Handover partition from to) = codes "handover" ∷ decimal partition ∷ decimal from ∷ decimal to ∷ []
+spelled_words (Advance partition) = codes "advance" ∷ decimal partition ∷ []
+spelled_words (Reopen partition) = codes "reopen" ∷ decimal partition ∷ []
 spelled_words (Dump partition member) = codes "dump" ∷ decimal partition ∷ decimal member ∷ []
+spelled_words (Links partition) = codes "links" ∷ decimal partition ∷ []
 spelled_words (Trail partition) = codes "trail" ∷ decimal partition ∷ []
 spelled_words Comment = codes "#" ∷ []
 spelled_words End = codes "end" ∷ []

@@ -19,7 +19,9 @@ pub(crate) enum Keyword {
     Detect,
     Move,
     Join,
+    Handover,
     Advance,
+    Reopen,
     Dump,
     Links,
     Trail,
@@ -30,7 +32,7 @@ pub(crate) enum Keyword {
 }
 
 /// How each line begins.
-const KEYWORDS: [(&str, Keyword); 21] = [
+const KEYWORDS: [(&str, Keyword); 23] = [
     ("grid", Keyword::Grid),
     ("open", Keyword::Open),
     ("bytes", Keyword::Bytes),
@@ -44,7 +46,9 @@ const KEYWORDS: [(&str, Keyword); 21] = [
     ("detect", Keyword::Detect),
     ("move", Keyword::Move),
     ("join", Keyword::Join),
+    ("handover", Keyword::Handover),
     ("advance", Keyword::Advance),
+    ("reopen", Keyword::Reopen),
     ("dump", Keyword::Dump),
     ("links", Keyword::Links),
     ("trail", Keyword::Trail),
@@ -85,9 +89,11 @@ impl Keyword {
             Keyword::Flow => &[Field::PartitionOrAll, Field::Deliveries],
             Keyword::Resend => &[Field::Partition, Field::LinkEnd],
             Keyword::Crash | Keyword::Detect => &[Field::Member],
-            Keyword::Move => &[Field::Partition, Field::Member, Field::Member],
+            Keyword::Move | Keyword::Handover => &[Field::Partition, Field::Member, Field::Member],
             Keyword::Join | Keyword::Dump => &[Field::Partition, Field::Member],
-            Keyword::Advance | Keyword::Links | Keyword::Trail => &[Field::Partition],
+            Keyword::Advance | Keyword::Reopen | Keyword::Links | Keyword::Trail => {
+                &[Field::Partition]
+            }
             Keyword::Near => &[Field::Connection, Field::Hex, Field::Entries],
             Keyword::NearFeed => &[Field::Connection, Field::Amount],
             Keyword::End => &[],

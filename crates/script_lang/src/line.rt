@@ -27,10 +27,82 @@ pub enum Line {
         member: MemberId,
         moment: Moment,
     },
+    /// Delivers the message at a place of a partition's link from one end to another.
+    Deliver {
+        partition: PartitionId,
+        from: u8,
+        to: u8,
+        place: usize,
+    },
+    /// Takes the message at a place of a link away undelivered.
+    Lose {
+        partition: PartitionId,
+        from: u8,
+        to: u8,
+        place: usize,
+    },
+    /// Puts a copy of the message at a place of a link in flight.
+    Repeat {
+        partition: PartitionId,
+        from: u8,
+        to: u8,
+        place: usize,
+    },
+    /// Delivers up to so many messages of a partition.
+    Flow {
+        partition: PartitionId,
+        most: u32,
+    },
+    /// Delivers up to so many messages of each partition.
+    FlowAll {
+        most: u32,
+    },
+    /// A member, or the table service, sends again what may have been lost.
+    Resend {
+        partition: PartitionId,
+        end: u8,
+    },
+    /// A member crashes.
+    Crash {
+        member: MemberId,
+    },
+    /// Tells the table service that a member crashed.
+    Detect {
+        member: MemberId,
+    },
+    /// Moves a partition from one member to another.
+    Move {
+        partition: PartitionId,
+        from: MemberId,
+        to: MemberId,
+    },
+    /// A member joins a partition's row.
+    Join {
+        partition: PartitionId,
+        to: MemberId,
+    },
+    /// Hands a partition over from one member to another, which has its contents already.
+    Handover {
+        partition: PartitionId,
+        from: MemberId,
+        to: MemberId,
+    },
+    /// A partition's move goes on.
+    Advance {
+        partition: PartitionId,
+    },
+    /// Opens a lost partition again, without what it had.
+    Reopen {
+        partition: PartitionId,
+    },
     /// Prints what a member has of a partition.
     Dump {
         partition: PartitionId,
         member: MemberId,
+    },
+    /// Prints a partition's messages in flight.
+    Links {
+        partition: PartitionId,
     },
     /// Prints the history of a partition.
     Trail {

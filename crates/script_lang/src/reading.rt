@@ -1,6 +1,7 @@
-ghost use Rattle.std.specs.Prelude.{◌≡◌, ◌≤◌, false, Ok, Err, length, IfOk, IsErrOf};
+ghost use Rattle.std.specs.Prelude.{◌≡◌, ◌≤◌, false, [], ◌∷◌, Ok, Err, length, IfOk, IsErrOf};
 ghost use Rattle.script_lang.specs.Lines.{line_of, IsWithin, fields_of, values_of, line_of_fields, line_of_words, line_with as line_of_values, is_comment as begins_comment};
 ghost use Rattle.script_lang.specs.Readings.{Reads, Fit};
+ghost use Rattle.script_lang.specs.declared.reading.Value.TheVariants as Values;
 
 use crate::fields::Field;
 use crate::keywords::Keyword;
@@ -51,51 +52,162 @@ fn read_values(
     Ok(values)
 }
 
-/// The line that a keyword and its values are.
+/// The line that a keyword and a number are.
+fn line_with_one(keyword: Keyword, number: u64) -> Result<Line, LineWhy>
+    requires { Fit 255 (fields_of keyword) (Values.Number number ∷ []) }
+    ensures { result ≡ line_of_values keyword (Values.Number number ∷ []) }
+{
+    match (keyword, number) {
+        (Keyword::Crash, member) => Ok(Line::Crash {
+            member: member as MemberId,
+        }),
+        (Keyword::Detect, member) => Ok(Line::Detect {
+            member: member as MemberId,
+        }),
+        (Keyword::Advance, partition) => Ok(Line::Advance {
+            partition: partition as PartitionId,
+        }),
+        (Keyword::Reopen, partition) => Ok(Line::Reopen {
+            partition: partition as PartitionId,
+        }),
+        (Keyword::Links, partition) => Ok(Line::Links {
+            partition: partition as PartitionId,
+        }),
+        (Keyword::Trail, partition) => Ok(Line::Trail {
+            partition: partition as PartitionId,
+        }),
+        _ => Err(LineWhy::NotBuilt),
+    }
+}
+
+/// The line that a keyword and two numbers are.
+fn line_with_two(keyword: Keyword, first: u64, second: u64) -> Result<Line, LineWhy>
+    requires { Fit 255 (fields_of keyword) (Values.Number first ∷ Values.Number second ∷ []) }
+    ensures { result ≡ line_of_values keyword (Values.Number first ∷ Values.Number second ∷ []) }
+{
+    match (keyword, first, second) {
+        (Keyword::Open, conn, member) => Ok(Line::OpenConn {
+            conn: conn as u32,
+            member: member as MemberId,
+        }),
+        (Keyword::Clock, member, moment) => Ok(Line::Clock {
+            member: member as MemberId,
+            moment,
+        }),
+        (Keyword::Flow, partition, most) => Ok(Line::Flow {
+            partition: partition as PartitionId,
+            most: most as u32,
+        }),
+        (Keyword::Resend, partition, end) => Ok(Line::Resend {
+            partition: partition as PartitionId,
+            end: end as u8,
+        }),
+        (Keyword::Join, partition, to) => Ok(Line::Join {
+            partition: partition as PartitionId,
+            to: to as MemberId,
+        }),
+        (Keyword::Dump, partition, member) => Ok(Line::Dump {
+            partition: partition as PartitionId,
+            member: member as MemberId,
+        }),
+        _ => Err(LineWhy::NotBuilt),
+    }
+}
+
+/// The line that a keyword and three numbers are.
+fn line_with_three(keyword: Keyword, first: u64, second: u64, third: u64) -> Result<Line, LineWhy>
+    requires { Fit 255 (fields_of keyword) (Values.Number first ∷ Values.Number second ∷ Values.Number third ∷ []) }
+    ensures { result ≡ line_of_values keyword (Values.Number first ∷ Values.Number second ∷ Values.Number third ∷ []) }
+{
+    match (keyword, first, second, third) {
+        (Keyword::Grid, members, backups, capacity) => Ok(Line::Grid {
+            members: members as u8,
+            backups: backups as u8,
+            capacity: capacity as u32,
+        }),
+        (Keyword::Move, partition, from, to) => Ok(Line::Move {
+            partition: partition as PartitionId,
+            from: from as MemberId,
+            to: to as MemberId,
+        }),
+        (Keyword::Handover, partition, from, to) => Ok(Line::Handover {
+            partition: partition as PartitionId,
+            from: from as MemberId,
+            to: to as MemberId,
+        }),
+        _ => Err(LineWhy::NotBuilt),
+    }
+}
+
+/// The line that a keyword, a partition, the ends of a link and a place on it are.
+fn line_of_link(
+    keyword: Keyword,
+    partition: u64,
+    from: u64,
+    to: u64,
+    place: u64,
+) -> Result<Line, LineWhy>
+    requires { Fit 255 (fields_of keyword) (Values.Number partition ∷ Values.Number from ∷ Values.Number to ∷ Values.Number place ∷ []) }
+    ensures { result ≡ line_of_values keyword (Values.Number partition ∷ Values.Number from ∷ Values.Number to ∷ Values.Number place ∷ []) }
+{
+    let partition = partition as PartitionId;
+    let (from, to) = (from as u8, to as u8);
+    let place = place as usize;
+    match keyword {
+        Keyword::Deliver => Ok(Line::Deliver {
+            partition,
+            from,
+            to,
+            place,
+        }),
+        Keyword::Lose => Ok(Line::Lose {
+            partition,
+            from,
+            to,
+            place,
+        }),
+        Keyword::Repeat => Ok(Line::Repeat {
+            partition,
+            from,
+            to,
+            place,
+        }),
+        _ => Err(LineWhy::NotBuilt),
+    }
+}
+
+/// The line that a keyword and its values are. The near lines are not built.
 fn line_with(keyword: Keyword, values: Values) -> Result<Line, LineWhy>
     requires { Fit 255 (fields_of keyword) values.items }
     ensures { result ≡ line_of_values keyword values.items }
 {
     let mut values = values.into_iter();
-    match (keyword, values.next(), values.next(), values.next()) {
+    match (values.next(), values.next(), values.next(), values.next()) {
+        // Only `end` is a word alone.
+        (None, ..) => Ok(Line::End),
+        (Some(Value::Number(one)), None, ..) => line_with_one(keyword, one),
+        (Some(Value::Number(one)), Some(Value::Number(two)), None, _) => {
+            line_with_two(keyword, one, two)
+        }
+        (Some(Value::Number(one)), Some(Value::Number(two)), Some(Value::Number(three)), None) => {
+            line_with_three(keyword, one, two, three)
+        }
         (
-            Keyword::Grid,
-            Some(Value::Number(1)),
-            Some(Value::Number(0)),
-            Some(Value::Number(capacity)),
-        ) => Ok(Line::Grid {
-            members: 1,
-            backups: 0,
-            capacity: capacity as u32,
-        }),
-        (Keyword::Open, Some(Value::Number(conn)), Some(Value::Number(member)), None) => Ok(
-            Line::OpenConn {
-                conn: conn as u32,
-                member: member as MemberId,
-            },
-        ),
-        (Keyword::Bytes, Some(Value::Number(conn)), Some(Value::Bytes(bytes)), None) => Ok(
-            Line::Arrive {
+            Some(Value::Number(one)),
+            Some(Value::Number(two)),
+            Some(Value::Number(three)),
+            Some(Value::Number(four)),
+        ) => line_of_link(keyword, one, two, three, four),
+        // Only `flow` goes through all.
+        (Some(Value::All), Some(Value::Number(most)), ..) => {
+            Ok(Line::FlowAll { most: most as u32 })
+        }
+        (Some(Value::Number(conn)), Some(Value::Bytes(bytes)), ..) if keyword == Keyword::Bytes => {
+            Ok(Line::Arrive {
                 conn: conn as u32,
                 bytes,
-            },
-        ),
-        (Keyword::Clock, Some(Value::Number(member)), Some(Value::Number(moment)), None) => Ok(
-            Line::Clock {
-                member: member as MemberId,
-                moment,
-            },
-        ),
-        (Keyword::Dump, Some(Value::Number(partition)), Some(Value::Number(member)), None) => Ok(
-            Line::Dump {
-                partition: partition as PartitionId,
-                member: member as MemberId,
-            },
-        ),
-        (Keyword::Trail, Some(Value::Number(partition)), None, None) => Ok(Line::Trail {
-            partition: partition as PartitionId,
-        }),
-        (Keyword::End, None, None, None) => Ok(Line::End),
+            })
+        }
         _ => Err(LineWhy::NotBuilt),
     }
 }

@@ -1,4 +1,4 @@
-ghost use Rattle.std.specs.Prelude.{◌<◌, IfOk, OnOk};
+ghost use Rattle.std.specs.Prelude.{◌<◌, ℕ, IfOk, OnOk};
 ghost use Rattle.script_lang.specs.Limits.{most_line_bytes};
 ghost use Rattle.script_lang.specs.Lines.{IsWithin};
 ghost use Rattle.call_engine.specs.Calls.{Settings};
@@ -100,10 +100,39 @@ const OBJECTS: &str = "\
 10 entry 100 0 0 2 6 6 70 offer x71 - x1400000000e00101030003000000000000000001
 ";
 
+// Of three members with one backup: a put is applied by its backup, whose word is lost, and the primary crashes. The backup
+// has the put as it takes over. A member joins, and what was refused or does nothing says so.
+const A_BACKUP_TAKES_OVER: &str = "\
+2 ok
+3 ok
+3 to 0 2900000000e0010100000000000000000000000000000000000000000003000000000000000f010000
+4 ok
+5 links 1
+5 link 2 0 0 030100000001000000250000000101010000006d0900000000000005fffffff56b010900000000000000fffffff576000000
+6 took applied
+7 ok
+8 ok
+9 ok
+10 flow 2
+11 ok
+12 ok
+12 to 1 2900000000e0010100000000000000000000000000000000000000000001000000000000000f010000
+13 ok
+13 to 1 1300000000c0010201000200000000000000000f000000002000000000fffffff576
+14 nothing
+15 row 3
+16 flow 363
+17 refused notlost
+18 nothing
+19 ok
+19 entry 5 0 0 1 4 - 0 put x6d x00000005fffffff56b x1300000000c001010100010000000000000000060000000024
+19 entry 5 1 1 1 13 13 0 get x6d x00000005fffffff56b x1300000000c0010201000200000000000000000f000000002000000000fffffff576
+";
+
 // A line that brings bytes on a connection.
 fn bytes_line(alloc: Global, conn: u32, hex: &str) -> Result<Line, Fail>
     requires { conn < 64 }
-    ensures { IfOk result (IsWithin 1 most_line_bytes) }
+    ensures { IfOk result (λ line. (members : ℕ) → IsWithin members most_line_bytes line) }
 {
     let bytes = hex::decode(alloc, hex.as_bytes())?;
     if bytes.is_empty() || bytes.len() > MOST_BYTES {
@@ -113,22 +142,32 @@ fn bytes_line(alloc: Global, conn: u32, hex: &str) -> Result<Line, Fail>
     Ok(Line::Arrive { conn, bytes })
 }
 
-// Runs the next line of a grid of one member.
-fn run(alloc: Global, grid: &mut Grid, line: &Line, out: &mut Vec<u8>) -> Result<(), Fail>
-    requires read { IsWithin 1 most_line_bytes line.now }
+// Runs the next line of a grid of so many members.
+fn run(
+    alloc: Global,
+    members: u8,
+    grid: &mut Grid,
+    line: &Line,
+    out: &mut Vec<u8>,
+) -> Result<(), Fail>
+    requires read { IsWithin members most_line_bytes line.now }
     requires stands { (settings : Settings) × (r : Run) × Stands (boxed form) settings grid.old r }
     ensures { OnOk result ((settings : Settings) × (r : Run) × Stands (boxed form) settings grid.new r) }
 {
-    if grid.members() != 1 || grid.lines() >= MOST_LINES {
+    if grid.members() != members || grid.lines() >= MOST_LINES {
         return Err(Fail::from("another grid, or too many lines"));
     }
     let number = grid.lines() + 1;
-    Ok(grid.run_line(alloc, number, line, out)?)
+    match grid.run_line(alloc, number, line, out) {
+        Ok(()) => Ok(()),
+        Err(_) => Err(Fail::from("the run ended")),
+    }
 }
 
-// Bytes arrive on a connection.
+// Bytes arrive on a connection of such a grid.
 fn arrive(
     alloc: Global,
+    members: u8,
     grid: &mut Grid,
     conn: u32,
     hex: &str,
@@ -139,7 +178,7 @@ fn arrive(
     ensures { OnOk result ((settings : Settings) × (r : Run) × Stands (boxed form) settings grid.new r) }
 {
     let line = bytes_line(alloc, conn, hex)?;
-    run(alloc, grid, &line, out)
+    run(alloc, members, grid, &line, out)
 }
 
 // What a member has of a partition is printed.
@@ -157,7 +196,7 @@ fn dump(
         partition,
         member: 0,
     };
-    run(alloc, grid, &line, out)
+    run(alloc, 1, grid, &line, out)
 }
 
 #[test]
@@ -166,12 +205,12 @@ fn answers_a_put_and_a_get(rt: HostRuntime) -> Result<(), Fail> {
     let mut grid = Grid::new(alloc, 1, 0, 10, Vec::new(alloc))?;
     let mut out = Vec::new(alloc);
     let open = Line::OpenConn { conn: 0, member: 0 };
-    run(alloc, &mut grid, &open, &mut out)?;
+    run(alloc, 1, &mut grid, &open, &mut out)?;
     let begun = format!(in alloc; "{PREFIX}{AUTH}")?;
-    arrive(alloc, &mut grid, 0, begun.as_str(), &mut out)?;
-    arrive(alloc, &mut grid, 0, PUT, &mut out)?;
-    arrive(alloc, &mut grid, 0, GET, &mut out)?;
-    run(alloc, &mut grid, &Line::End, &mut out)?;
+    arrive(alloc, 1, &mut grid, 0, begun.as_str(), &mut out)?;
+    arrive(alloc, 1, &mut grid, 0, PUT, &mut out)?;
+    arrive(alloc, 1, &mut grid, 0, GET, &mut out)?;
+    run(alloc, 1, &mut grid, &Line::End, &mut out)?;
     assert_eq!(rt; out.as_slice(), PUT_AND_GET.as_bytes());
     Ok(())
 }
@@ -182,22 +221,22 @@ fn runs_each_kind_of_line(rt: HostRuntime) -> Result<(), Fail> {
     let mut grid = Grid::new(alloc, 1, 0, 10, Vec::new(alloc))?;
     let mut out = Vec::new(alloc);
     let open = Line::OpenConn { conn: 0, member: 0 };
-    run(alloc, &mut grid, &open, &mut out)?;
-    run(alloc, &mut grid, &open, &mut out)?;
-    run(alloc, &mut grid, &Line::Comment, &mut out)?;
-    arrive(alloc, &mut grid, 1, PREFIX, &mut out)?;
+    run(alloc, 1, &mut grid, &open, &mut out)?;
+    run(alloc, 1, &mut grid, &open, &mut out)?;
+    run(alloc, 1, &mut grid, &Line::Comment, &mut out)?;
+    arrive(alloc, 1, &mut grid, 1, PREFIX, &mut out)?;
     let early = format!(in alloc; "{PREFIX}{PUT}")?;
-    arrive(alloc, &mut grid, 0, early.as_str(), &mut out)?;
-    arrive(alloc, &mut grid, 0, AUTH, &mut out)?;
-    arrive(alloc, &mut grid, 0, PING_AND_GET_BEGUN, &mut out)?;
-    arrive(alloc, &mut grid, 0, GET_ENDED, &mut out)?;
+    arrive(alloc, 1, &mut grid, 0, early.as_str(), &mut out)?;
+    arrive(alloc, 1, &mut grid, 0, AUTH, &mut out)?;
+    arrive(alloc, 1, &mut grid, 0, PING_AND_GET_BEGUN, &mut out)?;
+    arrive(alloc, 1, &mut grid, 0, GET_ENDED, &mut out)?;
     let trail = Line::Trail { partition: 5 };
-    run(alloc, &mut grid, &trail, &mut out)?;
+    run(alloc, 1, &mut grid, &trail, &mut out)?;
     let other = Line::Trail { partition: 6 };
-    run(alloc, &mut grid, &other, &mut out)?;
-    arrive(alloc, &mut grid, 0, "05000000", &mut out)?;
-    arrive(alloc, &mut grid, 0, "00", &mut out)?;
-    run(alloc, &mut grid, &Line::End, &mut out)?;
+    run(alloc, 1, &mut grid, &other, &mut out)?;
+    arrive(alloc, 1, &mut grid, 0, "05000000", &mut out)?;
+    arrive(alloc, 1, &mut grid, 0, "00", &mut out)?;
+    run(alloc, 1, &mut grid, &Line::End, &mut out)?;
     assert_eq!(rt; out.as_slice(), MANY_LINES.as_bytes());
     Ok(())
 }
@@ -210,20 +249,88 @@ fn dumps_an_entry_and_a_queue(rt: HostRuntime) -> Result<(), Fail> {
     let mut grid = Grid::new(alloc, 1, 0, 10, processors)?;
     let mut out = Vec::new(alloc);
     let open = Line::OpenConn { conn: 0, member: 0 };
-    run(alloc, &mut grid, &open, &mut out)?;
+    run(alloc, 1, &mut grid, &open, &mut out)?;
     let clock = Line::Clock {
         member: 0,
         moment: 70,
     };
-    run(alloc, &mut grid, &clock, &mut out)?;
+    run(alloc, 1, &mut grid, &clock, &mut out)?;
     let begun = format!(in alloc; "{PREFIX}{AUTH}")?;
-    arrive(alloc, &mut grid, 0, begun.as_str(), &mut out)?;
-    arrive(alloc, &mut grid, 0, ADD, &mut out)?;
-    arrive(alloc, &mut grid, 0, OFFER, &mut out)?;
+    arrive(alloc, 1, &mut grid, 0, begun.as_str(), &mut out)?;
+    arrive(alloc, 1, &mut grid, 0, ADD, &mut out)?;
+    arrive(alloc, 1, &mut grid, 0, OFFER, &mut out)?;
     dump(alloc, &mut grid, 5, &mut out)?;
     dump(alloc, &mut grid, 100, &mut out)?;
     dump(alloc, &mut grid, 6, &mut out)?;
-    run(alloc, &mut grid, &Line::End, &mut out)?;
+    run(alloc, 1, &mut grid, &Line::End, &mut out)?;
     assert_eq!(rt; out.as_slice(), OBJECTS.as_bytes());
+    Ok(())
+}
+
+// A client puts a value at the primary, and its backup applies that and takes over.
+fn lose_the_primary(alloc: Global, grid: &mut Grid, out: &mut Vec<u8>) -> Result<(), Fail>
+    requires { (settings : Settings) × (r : Run) × Stands (boxed form) settings grid.old r }
+    ensures { OnOk result ((settings : Settings) × (r : Run) × Stands (boxed form) settings grid.new r) }
+{
+    let open = Line::OpenConn { conn: 0, member: 2 };
+    run(alloc, 3, grid, &open, out)?;
+    let begun = format!(in alloc; "{PREFIX}{AUTH}")?;
+    arrive(alloc, 3, grid, 0, begun.as_str(), out)?;
+    arrive(alloc, 3, grid, 0, PUT, out)?;
+    let links = Line::Links { partition: 5 };
+    run(alloc, 3, grid, &links, out)?;
+    let deliver = Line::Deliver {
+        partition: 5,
+        from: 2,
+        to: 0,
+        place: 0,
+    };
+    run(alloc, 3, grid, &deliver, out)?;
+    let lose = Line::Lose {
+        partition: 5,
+        from: 0,
+        to: 2,
+        place: 0,
+    };
+    run(alloc, 3, grid, &lose, out)?;
+    run(alloc, 3, grid, &Line::Crash { member: 2 }, out)?;
+    run(alloc, 3, grid, &Line::Detect { member: 2 }, out)?;
+    let flow = Line::Flow {
+        partition: 5,
+        most: 20,
+    };
+    run(alloc, 3, grid, &flow, out)
+}
+
+// Another client gets the value at the backup, and a member joins.
+fn go_on_without_it(alloc: Global, grid: &mut Grid, out: &mut Vec<u8>) -> Result<(), Fail>
+    requires { (settings : Settings) × (r : Run) × Stands (boxed form) settings grid.old r }
+    ensures { OnOk result ((settings : Settings) × (r : Run) × Stands (boxed form) settings grid.new r) }
+{
+    let open = Line::OpenConn { conn: 1, member: 0 };
+    run(alloc, 3, grid, &open, out)?;
+    let begun = format!(in alloc; "{PREFIX}{AUTH}")?;
+    arrive(alloc, 3, grid, 1, begun.as_str(), out)?;
+    arrive(alloc, 3, grid, 1, GET, out)?;
+    run(alloc, 3, grid, &Line::Advance { partition: 5 }, out)?;
+    let join = Line::Join {
+        partition: 5,
+        to: 1,
+    };
+    run(alloc, 3, grid, &join, out)?;
+    run(alloc, 3, grid, &Line::FlowAll { most: 20 }, out)?;
+    run(alloc, 3, grid, &Line::Reopen { partition: 5 }, out)?;
+    arrive(alloc, 3, grid, 0, "00", out)
+}
+
+#[test]
+fn goes_on_with_a_backup(rt: HostRuntime) -> Result<(), Fail> {
+    let alloc = rt.alloc();
+    let mut grid = Grid::new(alloc, 3, 1, 10, Vec::new(alloc))?;
+    let mut out = Vec::new(alloc);
+    lose_the_primary(alloc, &mut grid, &mut out)?;
+    go_on_without_it(alloc, &mut grid, &mut out)?;
+    run(alloc, 3, &mut grid, &Line::End, &mut out)?;
+    assert_eq!(rt; out.as_slice(), A_BACKUP_TAKES_OVER.as_bytes());
     Ok(())
 }

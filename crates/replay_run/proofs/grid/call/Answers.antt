@@ -1,4 +1,4 @@
-use Rattle.std.proofs.Common.{◌∙◌, ◌++◌, List, refl, ap, sym, inl, inr, w64, rules, arith}
+use Rattle.std.proofs.Common.{◌∙◌, ◌++◌, List, refl, ap, sym, inl, inr, w64, rules}
 use mir.Val.{SFits}
 use Rattle.std.proofs.lemmas.Int.{to_z-of_z}
 use Rattle.std.proofs.lemmas.Result.{on_ok_weaker}

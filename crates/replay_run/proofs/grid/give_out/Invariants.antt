@@ -1,15 +1,17 @@
-use Rattle.std.proofs.Common.{◌≡◌, ◌++◌, length, map}
+use Rattle.std.proofs.Common.{◌≡◌, ◌++◌, length}
 use Rattle.partition_world.specs.Meanings.{meaning}
 use Rattle.partition_world.specs.Worlds.{waiting}
-use Rattle.replay_run.specs.WorldCalls.{texts_of, message_of, with_answers}
-use Rattle.replay_run.proofs.GivingOut.{GaveOut}
+use Rattle.replay_run.specs.Runs.{Run}
+use Rattle.replay_run.specs.Grids.{HasConnections}
+use Rattle.replay_run.proofs.GivingOut.{GaveOut, text_out, table_out}
 use Rattle.replay_run.proofs.grid.give_out.Given as goal
 
 -- what waits still is what the text and the table still lack
 abbrev pub invariant-loop-answer : goal.invariant-loop-answer
 invariant-loop-answer g l = record {
-  text : l.out.items ++ texts_of (map (message_of l.line) (waiting l.world l.member)) ≡ l.initial.out.items ++ texts_of (map (message_of l.line) (waiting l.initial.world l.member));
-  table : with_answers l.connections l.line (waiting l.world l.member) ≡ with_answers l.initial.connections l.line (waiting l.initial.world l.member);
+  connections : (r : Run) → HasConnections l.initial.connections r → HasConnections l.connections r;
+  text : (r : Run) → HasConnections l.initial.connections r → l.out.items ++ text_out r l.own l.line (waiting l.world l.member) ≡ l.initial.out.items ++ text_out r l.own l.line (waiting l.initial.world l.member);
+  table : (r : Run) → HasConnections l.initial.connections r → table_out r l.own l.line l.connections (waiting l.world l.member) ≡ table_out r l.own l.line l.initial.connections (waiting l.initial.world l.member);
   world : GaveOut (meaning g.S.Shelf.object g.S.Shelf.state g.S.Shelf.effect_of g.S.Shelf.change_of g.S.Shelf.snapshot_of) g.S.Shelf.within_limits l.initial.world l.world l.member;
 }
 

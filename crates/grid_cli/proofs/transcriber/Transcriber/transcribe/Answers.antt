@@ -1,7 +1,7 @@
 use Rattle.std.proofs.Common.{[], take, sym, ◌∙◌, ap}
 use Rattle.std.specs.Io.KnownBytes.{append_known}
 use Rattle.grid_edge.proofs.Told.{append_known-nil}
-use Rattle.grid_cli.specs.declared.transcriber.Ran.TheVariants.{Goes, Ended, Refused}
+use Rattle.grid_cli.specs.declared.transcriber.Ran.TheVariants.{Goes, Ended, Refused, GivenUp}
 use Rattle.grid_cli.proofs.TranscriberLaws.{stops_at_once, stops_in_text, ran_so}
 use Rattle.grid_cli.proofs.transcriber.Transcriber.transcribe.Goals as goal
 
@@ -29,3 +29,8 @@ pub returns-in-Refused-clause-stops : goal.returns-in-Refused-clause-stops
 returns-in-Refused-clause-stops g c = λ forms skips done written follows.
     let h = ran_so _ forms (Refused c.in-Refused.line c.in-Refused.why) c.in-Ok.ran c.run.new.self.stage skips done written c.args.text.now c.run.new.self.text.items (sym c.in-Refused.is) (c.in-Ok.ensures forms skips done written follows) in
     ([], c.run.new.self.text.items, h, c.in-Ok-write_all.ensures.ok ∙ ap (append_known (g.K.Sink.taken c.args.out.now)) c.as_slice.ensures.value)
+
+pub returns-in-GivenUp-clause-stops : goal.returns-in-GivenUp-clause-stops
+returns-in-GivenUp-clause-stops g c = λ forms skips done written follows.
+    let h = ran_so _ forms GivenUp c.in-Ok.ran c.run.new.self.stage skips done written c.args.text.now c.run.new.self.text.items (sym c.in-GivenUp.is) (c.in-Ok.ensures forms skips done written follows) in
+    (h.0, c.run.new.self.text.items, h.1, c.in-Ok-write_all.ensures.ok ∙ ap (append_known (g.K.Sink.taken c.args.out.now)) c.as_slice.ensures.value)

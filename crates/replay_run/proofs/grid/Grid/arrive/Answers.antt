@@ -1,23 +1,34 @@
-use Rattle.std.proofs.Common.{◌∙◌, sym}
-use Rattle.std.proofs.lemmas.Result.{on_ok_weaker}
+use Rattle.std.proofs.Common.{◌∙◌, Err, ap, sym}
 use Rattle.script_lang.specs.declared.line.Line.TheVariants.{Arrive}
+use Rattle.replay_run.specs.declared.run_end.RunEnd.TheVariants.{InFlight}
+use Rattle.replay_run.proofs.Asking.{handed_on}
 use Rattle.replay_run.proofs.Bounds.{room}
 use Rattle.replay_run.proofs.Feeding.{not_refused, has_begun}
 use Rattle.replay_run.proofs.GridLines.{next_number, few_lines, idle_line, bytes_line}
+use Rattle.replay_run.proofs.LineCalls.{given_up_as}
+use Rattle.replay_run.proofs.Midway.{given_up_line}
 use Rattle.replay_run.proofs.grid.Grid.arrive.Goals as goal
 
 -- Bytes can't arrive on the connection.
-pub returns-in_default : goal.returns-in_default
-returns-in_default g c = λ settings r s.
+pub returns-in_default-clause-ok : goal.returns-in_default-clause-ok
+returns-in_default-clause-ok g c = λ settings r s.
     let at_line = next_number c.args.self.now c.args.number (Arrive c.args.conn c.args.bytes.now) c.requires r s in
-    on_ok_weaker c.pass.result
-    (λ e. idle_line c.args.self.now c.pass.new.self r c.args.number c.args.conn c.args.bytes.now c.args.out.now.items c.pass.new.out.items s at_line (sym (c.open_member.ensures _ r s) ∙ c.in_default.is) c.pass.ensures.grid e)
-    c.pass.ensures.text
+    idle_line c.args.self.now c.pass.new.self r c.args.number c.args.conn c.args.bytes.now c.args.out.now.items c.pass.new.out.items s at_line (sym (c.open_member.ensures _ r s) ∙ c.in_default.is) c.pass.ensures.grid c.in_ok-pass.ensures.text
 
 -- A connection that is open takes its bytes.
-pub returns-in_default-2 : goal.returns-in_default-2
-returns-in_default-2 g c = λ settings r s.
+pub returns-in_default-2-clause-ok : goal.returns-in_default-2-clause-ok
+returns-in_default-2-clause-ok g c = λ settings r s.
     absurd (not_refused c.args.self.now r s c.args.conn c.in-Some.member (sym (c.open_member.ensures _ r s) ∙ c.in-Some.is) c.args.bytes.now c.in_ok-fed.field-0 c.in_ok-fed.ensures.gives c.in_default-2.is)
+
+-- A call of its items met a full partition.
+pub returns-in_err-handle_all-clause-full : goal.returns-in_err-handle_all-clause-full
+returns-in_err-handle_all-clause-full g c = λ settings r s fails.
+    let begun = has_begun c.args.self.now r s c.args.conn c.in-Some.member (sym (c.open_member.ensures _ r s) ∙ c.in-Some.is) c.args.bytes.now c.in_ok-fed.field-0 c.in_ok-fed.ensures.gives
+    c.count.new.self c.args.number c.count.new.out.items c.in-Some-2.fed c.feed.new.self (next_number c.args.self.now c.args.number (Arrive c.args.conn c.args.bytes.now) c.requires r s) c.in-Some-2.is c.in_ok-fed.ensures.stands c.count.ensures.grid in
+    let its = begun.open_there in
+    let why = handed_on c.from_residual-in_err-handle_all.result c.in_err-handle_all.field-0.0 InFlight c.from_residual-in_err-handle_all.ensures.1 fails in
+    given_up_line settings r c.args.conn c.args.bytes.now its.connection its.there its.takes
+    (given_up_as begun.brings.come (c.handle_all.ensures.full settings r its.connection c.args.bytes.now begun.brings its.numbered its.to begun.none_handled (c.in_err-handle_all.was ∙ ap Err why)))
 
 pub handle_all-requires : goal.handle_all-requires
 handle_all-requires g c =
@@ -40,15 +51,13 @@ handle_all-requires g c =
       s.few,
     )
 
-pub returns : goal.returns
-returns g c = λ settings r s.
+pub returns-clause-ok : goal.returns-clause-ok
+returns-clause-ok g c = λ settings r s.
     let line = Arrive c.args.conn c.args.bytes.now in
     let at_line = next_number c.args.self.now c.args.number line c.requires r s in
     let begun = has_begun c.args.self.now r s c.args.conn c.in-Some.member (sym (c.open_member.ensures _ r s) ∙ c.in-Some.is) c.args.bytes.now c.in_ok-fed.field-0 c.in_ok-fed.ensures.gives
     c.count.new.self c.args.number c.count.new.out.items c.in-Some-2.fed c.feed.new.self at_line c.in-Some-2.is c.in_ok-fed.ensures.stands c.count.ensures.grid in
     let its = begun.open_there in
-    let did = c.in_ok-handle_all.ensures settings r its.connection c.args.bytes.now begun.brings its.numbered its.to begun.none_handled in
-    on_ok_weaker c.push_close.result
-    (λ e. bytes_line r c.args.conn its.connection its.there c.args.bytes.now c.in-Some-2.fed.items.items begun.brings c.handle_all.new.self c.count.new.out.items c.handle_all.new.out.items did its.sound
-    c.in-Some-2.fed.closed c.args.number c.args.out.now.items c.push_close.new.out.items s.small s.few s.reached c.requires.read.2 c.in_ok-count.ensures.text at_line begun.closed e)
-    c.push_close.ensures
+    let did = c.in_ok-handle_all.ensures.ok settings r its.connection c.args.bytes.now begun.brings its.numbered its.to begun.none_handled in
+    bytes_line r c.args.conn its.connection its.there c.args.bytes.now c.in-Some-2.fed.items.items begun.brings c.handle_all.new.self c.count.new.out.items c.handle_all.new.out.items did its.takes
+    c.in-Some-2.fed.closed c.args.number c.args.out.now.items c.push_close.new.out.items s.small s.few s.reached c.requires.read.2 c.in_ok-count.ensures.text at_line begun.closed c.in_ok-push_close.ensures

@@ -1,10 +1,13 @@
-use Rattle.std.proofs.Common.{◌∙◌, ◌++◌, List, ℕ, map, set, refl, ap, arith}
+use Rattle.std.proofs.Common.{◌≡◌, ◌∙◌, ◌++◌, false, Some, List, ℕ, map, set, refl, ap, sym, subst, arith}
 use Rattle.partition_world.specs.Worlds.{waiting}
-use Rattle.replay_run.specs.Runs.{events_at}
+use Rattle.call_engine.specs.Objects.{partition_object}
+use Rattle.replay_run.specs.Runs.{events_at, world_at, is_full}
 use Rattle.replay_run.specs.Tables.{Table}
-use Rattle.replay_run.specs.WorldCalls.{arrival_to, texts_of, message_of, with_answers}
-use Rattle.replay_run.proofs.Asking.{on_ok_all, world_within, world_there, world_is, world_room, did_by, stands_by, moment_within, moment_there, named_next}
+use Rattle.replay_run.specs.Grids.{HasConnections}
+use Rattle.replay_run.specs.WorldCalls.{arrival_to, texts_of, message_of, with_answers, going_out}
+use Rattle.replay_run.proofs.Asking.{world_within, world_there, world_is, world_room, did_by, stands_by, moment_within, moment_there, named_next, told_full}
 use Rattle.replay_run.proofs.GivingOut.{has_given_out}
+use Rattle.replay_run.proofs.TableRuns.{connections_called}
 use Rattle.replay_run.proofs.GridCalls.{asked_grid}
 use Rattle.replay_run.proofs.grid.Grid.ask.Goals as goal
 
@@ -31,21 +34,30 @@ index-requires g c =
     let within = moment_within c.args.self.now c.requires.stands.1 c.requires.stands.2 c.args.member c.from-2.result c.requires.member c.from-2.ensures in
     omega (arith, within, c.args.self.now.moments.ok.0)
 
-pub returns : goal.returns
-returns g c = λ settings r run h next count.
+-- The partition is full.
+pub returns-then-is_full-clause-full : goal.returns-then-is_full-clause-full
+returns-then-is_full-clause-full g c = λ settings r h fails.
+    sym (told_full _ c.args.self.now r h c.args.request.partition c.from.result c.requires.placed c.from.ensures c.index_mut-world.result.now c.index_mut-world.ensures.value c.as_slice.result.now c.as_slice.ensures.value c.is_full.result (c.is_full.ensures c.args.self.now.env))
+    ∙ c.if-is_full.true
+
+pub returns-clause-ok : goal.returns-clause-ok
+returns-clause-ok g c = λ settings r run h next count.
     let grid = c.args.self.now in
     let line = c.args.self.now.lines in
     let partition = c.args.request.partition in
+    let conn = c.args.request.id.conn in
     let old = c.index_mut-world.result.now in
     let read = c.index_mut-world.ensures.value in
-    let answers = waiting c.call.new.world c.args.member in
+    let answers = going_out r (Some conn) (waiting c.call.new.world c.args.member) in
     let now = c.index.result.now in
     let events = events_at partition r.events in
+    let goes : is_full (world_at (partition_object settings) r partition) ≡ false =
+    sym (told_full _ grid r h partition c.from.result c.requires.placed c.from.ensures old read c.as_slice.result.now c.as_slice.ensures.value c.is_full.result (c.is_full.ensures grid.env)) ∙ c.if-is_full.false in
     let did = did_by _ grid.env settings h.goes_by old c.call.new.world events (arrival_to line c.args.member now c.args.request) c.args.out.now.items c.call.new.out.items (c.in_ok-call.ensures events)
     (world_is grid r h partition c.from.result c.requires.placed c.from.ensures old read).stands
     (named_next settings r run c.args.member line now c.args.request next h.lines (moment_there grid r h c.args.member c.from-2.result c.requires.member c.from-2.ensures now c.index.ensures)) in
-    on_ok_all c.give_out.result c.give_out.ensures.text c.give_out.ensures.table c.give_out.ensures.world
-    (λ text table out. asked_grid grid r run h c.args.member c.args.request next count c.requires.placed _ old c.call.new.world c.give_out.new.world line now did.0 c.args.out.now.items c.give_out.new.out.items
+    let has : HasConnections c.arrive.new.self r = subst (λ (t : Table). HasConnections t r) (sym c.in_ok-arrive.ensures.ok) (connections_called grid.connections r conn line h.table.connections) in
+    asked_grid grid r run h c.args.member c.args.request next count c.requires.placed _ old c.call.new.world c.give_out.new.world line now did.0 c.args.out.now.items c.give_out.new.out.items
     (world_there grid r h partition c.from.result c.requires.placed c.from.ensures old read)
     h.lines
     (moment_there grid r h c.args.member c.from-2.result c.requires.member c.from-2.ensures now c.index.ensures)
@@ -53,11 +65,13 @@ returns g c = λ settings r run h next count.
       env = refl;
       lines = refl;
       members = refl;
+      links = refl;
       moments = refl;
-      table = table ∙ ap (λ (t : Table). with_answers t line answers) c.in_ok-arrive.ensures.ok;
+      table = c.in_ok-give_out.ensures.table r has ∙ ap (λ (t : Table). with_answers t line answers) c.in_ok-arrive.ensures.ok;
       reopened = refl;
       worlds = λ i. set grid.worlds.items (c.from.ensures i) c.give_out.new.world;
     })
-    (has_given_out _ settings grid.env c.call.new.world c.give_out.new.world c.args.member h.goes_by out)
+    (has_given_out _ settings grid.env c.call.new.world c.give_out.new.world c.args.member h.goes_by c.in_ok-give_out.ensures.world)
     did.2
-    (text ∙ ap (λ (xs : List ℕ). xs ++ texts_of (map (message_of line) answers)) did.1))
+    (c.in_ok-give_out.ensures.text r has ∙ ap (λ (xs : List ℕ). xs ++ texts_of (map (message_of line) answers)) did.1)
+    goes

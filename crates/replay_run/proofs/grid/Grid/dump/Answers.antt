@@ -1,4 +1,4 @@
-use Rattle.std.proofs.Common.{◌≡◌, ◌<◌, ◌+◌, ◌∙◌, ◌++◌, append-nil, ap, sym, subst, refl, arith}
+use Rattle.std.proofs.Common.{◌≡◌, ◌<◌, ◌+◌, ◌∙◌, [], ◌++◌, append-nil, ap, sym, subst, refl, arith}
 use Rattle.std.proofs.lemmas.Result.{on_ok_weaker}
 use Rattle.script_lang.specs.declared.line.Line.TheVariants.{Dump}
 use Rattle.replica_node.specs.Contents.{pair_of}
@@ -8,10 +8,11 @@ use Rattle.partition_world.specs.Worlds.{run_of}
 use Rattle.call_engine.specs.Calls.{Settings}
 use Rattle.call_engine.specs.Objects.{partition_object}
 use Rattle.replay_run.specs.Dumps.{dumped_text}
-use Rattle.replay_run.specs.Runs.{next_line, events_at, world_at}
-use Rattle.replay_run.specs.Printing.{partitions, dump_text}
-use Rattle.replay_run.specs.Grids.{grid_meaning, StandsForEvents}
-use Rattle.replay_run.proofs.Asking.{world_within, world_is}
+use Rattle.replay_run.specs.Runs.{next_line, events_at, world_at, partitions}
+use Rattle.replay_run.specs.Printing.{dump_text}
+use Rattle.replay_run.specs.Shelves.{grid_meaning}
+use Rattle.replay_run.specs.Grids.{StandsForEvents}
+use Rattle.replay_run.proofs.Asking.{world_within, world_is, told_of}
 use Rattle.replay_run.proofs.WorldRuns.{run_is}
 use Rattle.replay_run.proofs.GridLines.{counted, counted_stands, counted_line, next_number, both_texts}
 use Rattle.replay_run.proofs.grid.Grid.dump.Goals as goal
@@ -44,8 +45,7 @@ returns g c = λ settings r s.
     let events = events_at p r.events in
     let o = partition_object settings in
     let pair : pair_of c.contents-version.result ≡ pair_at (world_at o (next_line r) p) member =
-    subst (λ (x : Settings). StandsForEvents x world events → pair_of c.contents-version.result ≡ pair_at (run_of (grid_meaning x) world events) member) s.holds.goes_by (c.contents-version.ensures.pair grid.env events) is.stands
-    ∙ ap (λ w. pair_at w member) (run_is world (next_line r) p is) in
+    told_of _ (counted grid number) (next_line r) stands.holds p c.from.result low c.from.ensures world c.index.ensures (λ w. pair_at w member) (pair_of c.contents-version.result) (c.contents-version.ensures.pair grid.env) in
     let shown : c.contents-version.result.shelf.now ≡ contents_at o (world_at o (next_line r) p) member =
     subst (λ (x : Settings). StandsForEvents x world events → c.contents-version.result.shelf.now ≡ contents_at (partition_object x) (run_of (grid_meaning x) world events) member) s.holds.goes_by (c.contents-version.ensures.state grid.env events) is.stands
     ∙ ap (λ w. contents_at o w member) (run_is world (next_line r) p is) in
@@ -56,5 +56,5 @@ returns g c = λ settings r s.
     (both_texts c.args.out.now.items outcome dumped c.push_dump.new.out.items c.push_dumped.new.out.items
     (c.in_ok-push_dump.ensures ∙ (λ i. c.args.out.now.items ++ dump_text (at_line i) (pair i)))
     (e ∙ (λ i. c.push_dump.new.out.items ++ dumped_text (at_line i) (shown i)))
-    ∙ ap (λ xs. c.args.out.now.items ++ xs) (sym (append-nil (outcome ++ dumped)))))
+    ∙ ap (λ xs. c.args.out.now.items ++ xs) (sym (append-nil (outcome ++ dumped ++ []) ∙ append-nil (outcome ++ dumped)))))
     c.push_dumped.ensures

@@ -1,10 +1,12 @@
-use Rattle.std.proofs.Common.{◌+◌, ◌<◌, ◌∙◌, [], ◌∷◌, ◌++◌, ap, sym, subst, length, drop}
+use Rattle.std.proofs.Common.{◌+◌, ◌<◌, ◌∙◌, [], ◌∷◌, ◌++◌, Err, ap, sym, subst, length, drop}
 use Rattle.session_core.specs.declared.item.Item.{Item}
 use Rattle.session_core.specs.declared.item.Item.TheVariants.{Call as Asks, Reply}
 use Rattle.replay_run.specs.Runs.{messages_on}
 use Rattle.replay_run.specs.Grids.{IsCounting}
 use Rattle.replay_run.specs.WorldCalls.{Brings}
-use Rattle.replay_run.proofs.LineCalls.{at_next_as, at_end, may_ask, next_call, next_count, handled_as, told_on, asked_at, told_one_more, asked_one_more}
+use Rattle.replay_run.specs.declared.run_end.RunEnd.TheVariants.{InFlight}
+use Rattle.replay_run.proofs.Asking.{handed_on}
+use Rattle.replay_run.proofs.LineCalls.{at_next_as, at_end, may_ask, next_call, next_count, handled_as, given_up_as, told_on, asked_at, told_one_more, asked_one_more, asked_full}
 use Rattle.replay_run.proofs.grid.Grid.handle_all.Goals as goal
 
 pub ask-requires : goal.ask-requires
@@ -45,10 +47,24 @@ loop-item-preserved g c = λ settings r k bytes all_brings of_conn of_member beg
     handled_as (ap (λ (x : Item). done ++ x ∷ []) c.in-Call.is)
     (asked_one_more grid r k bytes done q rest brings written mid so_far c.ask.new.self c.ask.new.out.items
     (asked_at of_member
-    (c.in_ok-ask-in-Call.ensures settings so_far.now so_far.midway.run so_far.holds (next_call grid r k bytes done q rest brings written mid so_far) (next_count grid r k bytes done q rest brings written mid so_far))))
+    (c.in_ok-ask-in-Call.ensures.ok settings so_far.now so_far.midway.run so_far.holds (next_call grid r k bytes done q rest brings written mid so_far) (next_count grid r k bytes done q rest brings written mid so_far))))
 
-pub returns : goal.returns
-returns g c = λ settings r k bytes brings of_conn of_member begun.
+-- The call meets a full partition.
+pub returns-in_err-ask-in-Call-clause-full : goal.returns-in_err-ask-in-Call-clause-full
+returns-in_err-ask-in-Call-clause-full g c = λ settings r k bytes all_brings of_conn of_member begun fails.
+    let gives = c.into_iter-item-iterator.ensures.into_iter_gives in
+    let done = c.loop-item.yielded in
+    let q = c.in-Call.request in
+    let rest = drop (length done + 1) c.args.items.items in
+    let split = at_next_as c.into_iter-item-iterator.result c.args.items.items gives.0 (gives.1 ∙ c.args.items.ok.0) done c.loop-item.item-iterator c.loop-item.yielded_by c.next.result c.next.new.self c.next.ensures.steps c.in-Some.item (Asks q) c.in-Some.is c.in-Call.is in
+    let so_far = c.loop-item.invariant settings r k bytes all_brings of_conn of_member begun in
+    let why = handed_on c.from_residual-in_err-ask-in-Call.result c.in_err-ask-in-Call.field-0.0 InFlight c.from_residual-in_err-ask-in-Call.ensures.1 fails in
+    given_up_as split
+    (asked_full c.loop-item.self r k bytes done q rest (subst (Brings settings r k bytes) split all_brings) c.args.out.now.items c.loop-item.out.items so_far
+    (c.ask.ensures.full settings so_far.now so_far.holds (c.in_err-ask-in-Call.was ∙ ap Err why)))
+
+pub returns-clause-ok : goal.returns-clause-ok
+returns-clause-ok g c = λ settings r k bytes brings of_conn of_member begun.
     let gives = c.into_iter-item-iterator.ensures.into_iter_gives in
     let whole = at_end c.into_iter-item-iterator.result c.args.items.items gives.0 (gives.1 ∙ c.args.items.ok.0) c.loop-item.yielded c.loop-item.item-iterator c.loop-item.yielded_by c.next.result c.next.new.self c.next.ensures.steps c.in-None.is in
     handled_as (sym whole) (c.loop-item.invariant settings r k bytes brings of_conn of_member begun)

@@ -1,4 +1,4 @@
-use Rattle.std.proofs.Common.{◌≡◌, ◌≤◌, ◌+◌, ◌∙◌, ◌++◌, [], ◌∷◌, suc, List, ℕ, length, map, take, drop, slice_get, Some, refl, ap, sym, arith}
+use Rattle.std.proofs.Common.{◌≡◌, ◌+◌, ◌∙◌, ◌++◌, suc, List, ℕ, length, take, drop, slice_get, Some, ap, sym, arith}
 use Rattle.std.proofs.lemmas.List.{length-map}
 use Rattle.partition_protocol.specs.World.{trail}
 use Rattle.call_engine.specs.Objects.{partition_object}

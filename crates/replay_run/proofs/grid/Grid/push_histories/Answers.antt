@@ -1,6 +1,6 @@
+use Rattle.replay_run.specs.Runs.{partitions}
 use Rattle.std.proofs.Common.{◌≡◌, ◌∙◌, ◌++◌, ap, arith}
 use Rattle.call_engine.specs.Objects.{partition_object}
-use Rattle.replay_run.specs.Printing.{partitions}
 use Rattle.replay_run.proofs.HistoryTexts.{texts_below, texts_more}
 use Rattle.replay_run.proofs.grid.Grid.push_histories.Goals as goal
 

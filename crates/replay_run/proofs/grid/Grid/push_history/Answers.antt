@@ -1,4 +1,4 @@
-use Rattle.std.proofs.Common.{◌≡◌, map, arith}
+use Rattle.std.proofs.Common.{arith}
 use Rattle.std.proofs.lemmas.Option.{slice_get_within}
 use Rattle.replay_run.proofs.Asking.{told_history}
 use Rattle.replay_run.proofs.grid.Grid.push_history.Goals as goal

@@ -1,58 +1,45 @@
-use Rattle.std.proofs.Common.{[], ◌+◌, ◌∙◌, ◌++◌, append-nil, ap, sym, refl}
+use Rattle.std.proofs.Common.{◌∙◌, ap, sym, subst}
 use Rattle.std.proofs.lemmas.Result.{on_ok_weaker}
-use Rattle.script_lang.specs.declared.line.Line.TheVariants.{Grid, Arrive, Comment}
-use Rattle.replay_run.specs.Printing.{ok_text}
-use Rattle.replay_run.proofs.GridLines.{may_run_as, has_run_as, next_number, passed_line, counted_line}
+use Rattle.script_lang.specs.declared.line.Line.TheVariants.{Arrive}
+use Rattle.replay_run.specs.Grids.{IsGivenUp}
+use Rattle.replay_run.proofs.GridLines.{may_run_as, has_run_as}
 use Rattle.replay_run.proofs.grid.Grid.run_line.Goals as goal
 
--- The grid is made once.
-pub returns-in-Grid : goal.returns-in-Grid
-returns-in-Grid g c = λ settings r s.
-    let line = Grid c.in-Grid.members c.in-Grid.backups c.in-Grid.capacity in
-    let at_line = next_number c.args.self.now c.args.number c.args.line.now c.requires r s in
-    on_ok_weaker c.pass.result
-    (λ e. has_run_as c.in-Grid.is
-    (passed_line c.args.self.now c.pass.new.self r c.args.number line s at_line refl c.pass.ensures.grid c.args.out.now.items c.pass.new.out.items refl e))
-    c.pass.ensures.text
-
-pub returns-in-Comment : goal.returns-in-Comment
-returns-in-Comment g c = λ settings r s.
-    let at_line = next_number c.args.self.now c.args.number c.args.line.now c.requires r s in
-    on_ok_weaker c.count.result
-    (λ e. has_run_as c.in-Comment.is
-    (counted_line c.args.self.now c.count.new.self r c.args.number Comment s at_line refl c.count.ensures.grid c.args.out.now.items c.count.new.out.items refl refl
-    (e ∙ ap (λ n. c.args.out.now.items ++ ok_text n) at_line ∙ ap (λ xs. c.args.out.now.items ++ xs) (sym (append-nil (ok_text (r.lines + 1) ++ []) ∙ append-nil (ok_text (r.lines + 1)))))))
-    c.count.ensures.text
-
-pub open-requires : goal.open-requires
-open-requires g c = may_run_as c.in-OpenConn.is c.requires
-
-pub returns-in-OpenConn : goal.returns-in-OpenConn
-returns-in-OpenConn g c = λ settings r s. on_ok_weaker c.open.result (has_run_as c.in-OpenConn.is) (c.open.ensures settings r s)
+pub returns-in-Some-clause-ok : goal.returns-in-Some-clause-ok
+returns-in-Some-clause-ok g c = λ settings r s. c.run_event.ensures.ok settings r c.args.line.now s (sym c.in-Some.ensures)
 
 pub arrive-requires : goal.arrive-requires
 arrive-requires g c = may_run_as (c.in-Arrive.is ∙ ap (Arrive c.in-Arrive.conn) (sym c.as_slice.ensures)) c.requires
 
-pub returns-in-Arrive : goal.returns-in-Arrive
-returns-in-Arrive g c = λ settings r s. on_ok_weaker c.arrive.result (has_run_as (c.in-Arrive.is ∙ ap (Arrive c.in-Arrive.conn) (sym c.as_slice.ensures))) (c.arrive.ensures settings r s)
+pub returns-in-Arrive-clause-ok : goal.returns-in-Arrive-clause-ok
+returns-in-Arrive-clause-ok g c = λ settings r s. on_ok_weaker c.arrive.result (has_run_as (c.in-Arrive.is ∙ ap (Arrive c.in-Arrive.conn) (sym c.as_slice.ensures))) (c.arrive.ensures.ok settings r s)
 
-pub set_clock-requires : goal.set_clock-requires
-set_clock-requires g c = may_run_as c.in-Clock.is c.requires
+pub flow-requires : goal.flow-requires
+flow-requires g c = may_run_as c.in-Flow.is c.requires
 
-pub returns-in-Clock : goal.returns-in-Clock
-returns-in-Clock g c = λ settings r s. on_ok_weaker c.set_clock.result (has_run_as c.in-Clock.is) (c.set_clock.ensures settings r s)
+pub returns-in-Flow-clause-ok : goal.returns-in-Flow-clause-ok
+returns-in-Flow-clause-ok g c = λ settings r s. on_ok_weaker c.flow.result (has_run_as c.in-Flow.is) (c.flow.ensures.ok settings r s)
 
-pub dump-requires : goal.dump-requires
-dump-requires g c = may_run_as c.in-Dump.is c.requires
+pub flow_all-requires : goal.flow_all-requires
+flow_all-requires g c = may_run_as c.in-FlowAll.is c.requires
 
-pub returns-in-Dump : goal.returns-in-Dump
-returns-in-Dump g c = λ settings r s. on_ok_weaker c.dump.result (has_run_as c.in-Dump.is) (c.dump.ensures settings r s)
+pub returns-in-FlowAll-clause-ok : goal.returns-in-FlowAll-clause-ok
+returns-in-FlowAll-clause-ok g c = λ settings r s. on_ok_weaker c.flow_all.result (has_run_as c.in-FlowAll.is) (c.flow_all.ensures.ok settings r s)
 
-pub trail-requires : goal.trail-requires
-trail-requires g c = may_run_as c.in-Trail.is c.requires
+pub run_fate-requires : goal.run_fate-requires
+run_fate-requires g c = may_run_as c.in-Crash.is c.requires
 
-pub returns-in-Trail : goal.returns-in-Trail
-returns-in-Trail g c = λ settings r s. on_ok_weaker c.trail.result (has_run_as c.in-Trail.is) (c.trail.ensures settings r s)
+pub returns-in-Crash-clause-ok : goal.returns-in-Crash-clause-ok
+returns-in-Crash-clause-ok g c = λ settings r s. on_ok_weaker c.run_fate.result (has_run_as c.in-Crash.is) (c.run_fate.ensures.ok settings r s)
 
-pub returns-in-End : goal.returns-in-End
-returns-in-End g c = λ settings r s. on_ok_weaker c.end.result (has_run_as c.in-End.is) (c.end.ensures settings r s)
+pub returns-in-Crash-clause-full : goal.returns-in-Crash-clause-full
+returns-in-Crash-clause-full g c = λ settings r s full. subst (IsGivenUp settings r) (sym c.in-Crash.is) (c.run_fate.ensures.full settings r s full)
+
+pub run_fate-requires-in-Detect : goal.run_fate-requires-in-Detect
+run_fate-requires-in-Detect g c = may_run_as c.in-Detect.is c.requires
+
+pub returns-in-Detect-clause-ok : goal.returns-in-Detect-clause-ok
+returns-in-Detect-clause-ok g c = λ settings r s. on_ok_weaker c.run_fate-in-Detect.result (has_run_as c.in-Detect.is) (c.run_fate-in-Detect.ensures.ok settings r s)
+
+pub returns-in-Detect-clause-full : goal.returns-in-Detect-clause-full
+returns-in-Detect-clause-full g c = λ settings r s full. subst (IsGivenUp settings r) (sym c.in-Detect.is) (c.run_fate-in-Detect.ensures.full settings r s full)

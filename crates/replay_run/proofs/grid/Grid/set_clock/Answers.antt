@@ -23,6 +23,7 @@ returns g c = λ settings r s.
       env = ap (λ (x : Grid _ _). x.env) made;
       lines = ap (λ (x : Grid _ _). x.lines) made;
       members = ap (λ (x : Grid _ _). x.members) made;
+      links = ap (λ (x : Grid _ _). x.links.items) made;
       moments = ap (λ (x : Grid _ _). x.moments.items) made ∙ (λ i. set grid.moments.items (c.from.ensures i) c.args.moment);
       connections = ap (λ (x : Grid _ _). x.connections) made;
       reopened = ap (λ (x : Grid _ _). x.reopened.items) made;

@@ -6,8 +6,8 @@ use Rattle.script_lang.specs.declared.line.Line.TheVariants.{Trail}
 use Rattle.partition_protocol.specs.World.{trail}
 use Rattle.call_engine.specs.Objects.{partition_object}
 use Rattle.partition_world.specs.RecordedEntries.{entry_of}
-use Rattle.replay_run.specs.Runs.{next_line, world_at}
-use Rattle.replay_run.specs.Printing.{partitions, trail_text, entry_text, entries_of}
+use Rattle.replay_run.specs.Runs.{next_line, world_at, partitions}
+use Rattle.replay_run.specs.Printing.{trail_text, entry_text, entries_of}
 use Rattle.replay_run.proofs.Asking.{world_within, told_history}
 use Rattle.replay_run.proofs.GridLines.{counted, counted_stands, counted_line, next_number, both_texts}
 use Rattle.replay_run.proofs.grid.Grid.trail.Goals as goal
@@ -30,6 +30,6 @@ returns g c = λ settings r s.
     let count : c.len.result ≡ length es = c.len.ensures ∙ sym (length-map c.in_ok-trail.trail entry_of) ∙ ap length told in
     on_ok_weaker c.push_entries.result
     (λ e. counted_line c.args.self.now (counted c.args.self.now number) r number (Trail p) s at_line refl refl c.args.out.now.items c.push_entries.new.out.items refl refl
-    (both_texts c.args.out.now.items (trail_text (r.lines + 1) (length es) ++ []) (flat_map (entry_text (next_line r).lines) (entries_of (partition_object settings) (next_line r) p)) c.push_trail.new.out.items c.push_entries.new.out.items
-    (c.in_ok-push_trail.ensures ∙ (λ i. c.args.out.now.items ++ trail_text (at_line i) (count i)) ∙ ap (λ xs. c.args.out.now.items ++ xs) (sym (append-nil (trail_text (r.lines + 1) (length es))))) e))
+    (both_texts c.args.out.now.items (trail_text (r.lines + 1) (length es) ++ [] ++ []) (flat_map (entry_text (next_line r).lines) (entries_of (partition_object settings) (next_line r) p)) c.push_trail.new.out.items c.push_entries.new.out.items
+    (c.in_ok-push_trail.ensures ∙ (λ i. c.args.out.now.items ++ trail_text (at_line i) (count i)) ∙ ap (λ xs. c.args.out.now.items ++ xs) (sym (append-nil (trail_text (r.lines + 1) (length es) ++ []) ∙ append-nil (trail_text (r.lines + 1) (length es))))) e))
     (c.push_entries.ensures settings (next_line r) stands told)

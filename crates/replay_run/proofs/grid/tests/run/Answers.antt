@@ -11,17 +11,17 @@ run_line-requires g c =
     let members = c.members.ensures settings r s in
     let first = c.lines.ensures settings r s in
     let lines = c.lines-number.ensures settings r s in
-    let one : 1 ≡ r.members = omega (arith, members, c.if-members-ne1.false) in
+    let same : c.args.members ≡ r.members = omega (arith, members, c.if-members.false) in
     record {
       settings = settings;
       run = r;
       stands = s;
-      read = subst (λ n. IsWithin n most_line_bytes c.args.line.now) one c.requires.read;
+      read = subst (λ n. IsWithin n most_line_bytes c.args.line.now) same c.requires.read;
       next = ap (λ n. n + 1) lines;
       within = omega (arith, first, lines, c.if-lines-ge-MOST_LINES.false);
     }
 
-pub returns : goal.returns
-returns g c =
-    let did = c.in_ok-run_line.ensures c.requires.stands.0 c.requires.stands.1 c.requires.stands.2 in
+pub returns-in-Ok : goal.returns-in-Ok
+returns-in-Ok g c =
+    let did = c.in-Ok.ensures.ok c.requires.stands.0 c.requires.stands.1 c.requires.stands.2 in
     (c.requires.stands.0, _, did.stands)

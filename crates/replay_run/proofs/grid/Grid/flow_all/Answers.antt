@@ -1,0 +1,47 @@
+use Rattle.std.proofs.Common.{◌∙◌, ◌++◌, Err, sym, ap, refl}
+use Rattle.script_lang.specs.declared.line.Line.TheVariants.{FlowAll}
+use Rattle.partition_protocol.specs.Service.{numbers_below}
+use Rattle.call_engine.specs.Objects.{partition_object}
+use Rattle.replay_run.specs.Runs.{next_line, flowed_in, partitions}
+use Rattle.replay_run.specs.Printing.{flow_text}
+use Rattle.replay_run.specs.declared.run_end.RunEnd.TheVariants.{InFlight}
+use Rattle.replay_run.proofs.Asking.{handed_on}
+use Rattle.replay_run.proofs.Bounds.{flow_all_few}
+use Rattle.replay_run.proofs.EventRuns.{flowed_in_kept}
+use Rattle.replay_run.proofs.GridLines.{next_number, few_lines}
+use Rattle.replay_run.proofs.EventLines.{counted_amid, stands_room, events_line, line_given_up, flow_all_prints, flow_outcome}
+use Rattle.replay_run.proofs.grid.Grid.flow_all.Goals as goal
+
+pub deliver_in_all-requires-clause-most : goal.deliver_in_all-requires-clause-most
+deliver_in_all-requires-clause-most g c = c.requires.read.1
+
+pub deliver_in_all-requires-clause-stands : goal.deliver_in_all-requires-clause-stands
+deliver_in_all-requires-clause-stands g c =
+    let may = c.requires in
+    let s = may.stands in
+    (may.settings, next_line may.run, counted_amid c.args.self.now may.run c.args.number s may.next, λ p. stands_room c.args.self.now may.run s (few_lines c.args.self.now c.args.number (FlowAll c.args.most) may may.run s) p c.args.most may.read.1)
+
+pub returns-in_err-deliveries-clause-full : goal.returns-in_err-deliveries-clause-full
+returns-in_err-deliveries-clause-full g c = λ settings r s was.
+    let at_line = next_number c.args.self.now c.args.number (FlowAll c.args.most) c.requires r s in
+    let why = handed_on c.from_residual.result c.in_err-deliveries.field-0.0 InFlight c.from_residual.ensures.1 was in
+    line_given_up settings r (FlowAll c.args.most)
+    (c.in_err-deliveries.ensures.full settings (next_line r) (counted_amid c.args.self.now r c.args.number s at_line) (ap Err why))
+
+pub returns-clause-ok : goal.returns-clause-ok
+returns-clause-ok g c = λ settings r s.
+    let grid = c.args.self.now in
+    let number = c.args.number in
+    let most = c.args.most in
+    let o = partition_object settings in
+    let next = flowed_in o (next_line r) most (numbers_below partitions) in
+    let at_line = next_number grid number (FlowAll most) c.requires r s in
+    let did = c.in_ok-deliveries.ensures.ok settings (next_line r) (counted_amid grid r number s at_line) in
+    let kept = flowed_in_kept o (next_line r) most (numbers_below partitions) in
+    events_line grid c.deliver_in_all.new.self r next (FlowAll most) s refl kept (flow_all_few o r s.few most c.requires.read.1) (flow_all_prints settings r next most)
+    c.new-messages.result.items c.deliver_in_all.new.out.items did.on
+    (flow_text number c.in_ok-deliveries.deliveries) c.args.out.now.items c.push_flow.new.out.items c.push_text.new.out.items
+    c.new-messages.ensures.items
+    (flow_outcome settings r next number c.in_ok-deliveries.deliveries (at_line ∙ sym kept.lines) did.events)
+    c.in_ok-push_flow.ensures
+    (c.in_ok-push_text.ensures ∙ ap (λ xs. c.push_flow.new.out.items ++ xs) c.as_slice.ensures.value)
