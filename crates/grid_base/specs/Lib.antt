@@ -3,3 +3,5 @@ pub mod Histories
 pub mod Limits
 pub mod Names
 pub mod Objects
+pub mod Refusals
+pub mod Shelves

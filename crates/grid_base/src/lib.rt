@@ -11,8 +11,8 @@ mod shelf;
 pub use bytes::Bytes;
 pub use calls::{Answer, Change, Executed, GridCall, MapCall, QueueCall, Request};
 pub use names::{CallId, ClientKey, MemberId, Moment, ObjectKey, Owner, PartitionId};
-pub use refusal::CallRefused;
-pub use shelf::Shelf;
+pub use refusal::{CallRefused, PartitionRefused};
+pub use shelf::{Executes, Shelf};
 
 /// Want of memory: the one error whose coming no contract explains.
 pub type Memory = std::alloc::AllocError;

@@ -22,6 +22,12 @@ pub struct CallId {
 }
 
 impl fmt::Display for CallId {
+    ghost use Rattle.std.specs.Prelude.{◌++◌, ◌∷◌, Some};
+    ghost use Rattle.std.specs.Fmt.{decimal};
+
+    /// Its two numbers in decimal digits, with a space between.
+    ghost output = { λ id. Some (decimal id.conn ++ 32 ∷ decimal id.number) };
+
     fn fmt<W: fmt::Write>(&self, f: &mut fmt::Formatter<W>) -> fmt::Result {
         write!(f, "{} {}", self.conn, self.number)
     }

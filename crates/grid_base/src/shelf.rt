@@ -1,6 +1,6 @@
-ghost use Rattle.std.specs.Prelude.{◌≡◌, ◌≤◌, ◌+◌, ℕ, List, Option, Some, None, IfOk, OnOk, OnErr, is_some, true};
-ghost use Rattle.grid_base.specs.Objects.{Object, IsSmall};
-ghost use Rattle.grid_base.specs.declared.calls.Change.{Change as ChangeOf};
+ghost use Rattle.std.specs.Prelude.{◌≡◌, ◌≢◌, ◌≤◌, ◌+◌, ℕ, List, Some, None, IfOk, OnOk, OnErr, is_some, true};
+ghost use Rattle.grid_base.specs.Objects.{IsSmall};
+ghost use Rattle.grid_base.specs.Shelves.{ShelfModel};
 
 use crate::Memory;
 use crate::bytes::Bytes;
@@ -10,91 +10,80 @@ use std::alloc::Global;
 
 /// What one member keeps of one partition.
 ///
-/// To contracts a shelf in an environment is a one-thread object: it has a state, and what a call
-/// answers, changes and leaves is a function of the state, the call and the moment.
-/// Executing only looks: the state changes when the effect is applied, here and on each backup alike.
+/// To contracts a shelf is, for each plan, a one-thread object: it has a state, and what a call answers, changes and
+/// leaves is a function of the plan, the state, the call and the moment.
+/// The state changes when an effect is applied, here and on each backup alike.
 pub trait Shelf: Sized + Drop {
-    type Env;
+    /// What an environment means for calls, as plain data.
+    type Plan;
 
     type Call;
 
     ghost State: { Type 0 };
 
-    /// The state that the shelf has now.
-    ghost state: { Self → State };
-
-    ghost empty_state: { State };
-
-    /// The object that the shelf is in an environment.
-    ghost object: { Self.Env → Object Self.Call State };
-
-    /// The bytes that make the state after a call of the one before it; none where nothing changes.
-    ghost effect_of: { Self.Env → State → Self.Call → ℕ → Option (List ℕ) };
-
-    ghost change_of: { Self.Env → State → Self.Call → ℕ → Option ChangeOf };
-
-    /// What every call keeps to, so that its effect can be written down: the limits of a message.
-    ghost within_limits: { Self.Call → Type 0 };
-
-    /// What so many calls within their limits can make of the empty state, and states no larger than that.
-    ghost within: { ℕ → State → Type 0 };
-
-    /// The state after an effect; none where the effect does not fit the state.
-    ghost applied: { List ℕ → State → Option State };
-
-    /// The bytes that stand for a state.
-    ghost snapshot_of: { State → List ℕ };
+    /// The state that a shelf has, the object that it is by a plan, and the bytes of effects and states.
+    ghost model: { ShelfModel Self Self.Plan Self.Call State };
 
     /// The shelf without objects. Takes no memory.
     fn empty(alloc: Global) -> Self
-        ensures { state result ≡ empty_state };
-
-    /// What a call answers, changes and reports at a moment. Changes nothing.
-    fn execute(
-        &self,
-        alloc: Global,
-        env: &Self::Env,
-        call: &Self::Call,
-        now: Moment,
-    ) -> Result<Executed, Memory>
-        requires limits { within_limits call.now }
-        requires small { IsSmall within (state self.now) }
-        ensures reply { IfOk result (λ e. e.reply ≡ (object env.now).reply (state self.now) call.now now) }
-        ensures effect { IfOk result (λ e. e.effect ≡ effect_of env.now (state self.now) call.now now) }
-        ensures change { IfOk result (λ e. e.change ≡ change_of env.now (state self.now) call.now now) };
+        ensures { model.state result ≡ model.empty_state };
 
     /// Makes the state after an effect. Want of memory changes nothing.
     fn apply(&mut self, alloc: Global, effect: &Bytes) -> Result<(), Memory>
-        requires { is_some (applied effect.now (state self.old)) ≡ true }
-        ensures ok { OnOk result (applied effect.now (state self.old) ≡ Some (state self.new)) }
-        ensures err { OnErr result (state self.new ≡ state self.old) };
+        requires { is_some (model.applied effect.now (model.state self.old)) ≡ true }
+        ensures ok { OnOk result (model.applied effect.now (model.state self.old) ≡ Some (model.state self.new)) }
+        ensures err { OnErr result (model.state self.new ≡ model.state self.old) };
 
     /// The bytes that stand for the state.
     fn snapshot(&self, alloc: Global) -> Result<Bytes, Memory>
-        requires { IsSmall within (state self.now) }
-        ensures { IfOk result (λ bytes. bytes ≡ snapshot_of (state self.now)) };
+        requires { IsSmall model.within (model.state self.now) }
+        ensures { IfOk result (λ bytes. bytes ≡ model.snapshot_of (model.state self.now)) };
 
     /// The shelf that has the state for which the bytes stand.
     fn install(alloc: Global, bytes: &Bytes) -> Result<Self, Memory>
-        requires { (s : State) × IsSmall within s × (snapshot_of s ≡ bytes.now) }
-        ensures { (s : State) → IsSmall within s → snapshot_of s ≡ bytes.now → IfOk result (λ shelf. state shelf ≡ s) };
+        requires { (s : State) × IsSmall model.within s × (model.snapshot_of s ≡ bytes.now) }
+        ensures { (s : State) → IsSmall model.within s → model.snapshot_of s ≡ bytes.now → IfOk result (λ shelf. model.state shelf ≡ s) };
 
-    ghost begins_empty: { (env : Self.Env) → (object env).empty ≡ empty_state };
+    ghost begins_empty: { (plan : Self.Plan) → (model.object plan).empty ≡ model.empty_state };
 
-    /// A call changes the state exactly where it has an effect.
-    ghost changes_by_effect: { (env : Self.Env) (s : State) (call : Self.Call) (now : ℕ) → (object env).changes s call now ≡ is_some (effect_of env s call now) };
+    /// A call counts as a change exactly where it has an effect.
+    ghost changes_by_effect: { (plan : Self.Plan) (s : State) (call : Self.Call) (now : ℕ) → (model.object plan).changes s call now ≡ is_some (model.effect_of plan s call now) };
 
-    ghost same_without_effect: { (env : Self.Env) (s : State) (call : Self.Call) (now : ℕ) → effect_of env s call now ≡ None → (object env).after s call now ≡ s };
+    /// A call without an effect leaves the state as it was.
+    ghost same_without_effect: { (plan : Self.Plan) (s : State) (call : Self.Call) (now : ℕ) → model.effect_of plan s call now ≡ None → (model.object plan).after s call now ≡ s };
 
-    ghost made_by_effect: { (env : Self.Env) (s : State) (call : Self.Call) (now : ℕ) (effect : List ℕ) → IsSmall within s → within_limits call → effect_of env s call now ≡ Some effect → applied effect s ≡ Some ((object env).after s call now) };
+    /// A call with an effect leaves another state.
+    ghost differs_by_effect: { (plan : Self.Plan) (s : State) (call : Self.Call) (now : ℕ) (effect : List ℕ) → model.effect_of plan s call now ≡ Some effect → (model.object plan).after s call now ≢ s };
 
-    ghost begins_within: { within 0 empty_state };
+    ghost made_by_effect: { (plan : Self.Plan) (s : State) (call : Self.Call) (now : ℕ) (effect : List ℕ) → IsSmall model.within s → model.within_limits call → model.effect_of plan s call now ≡ Some effect → model.applied effect s ≡ Some ((model.object plan).after s call now) };
+
+    ghost begins_within: { model.within 0 model.empty_state };
 
     /// Each call adds one.
-    ghost grows_within: { (env : Self.Env) (n : ℕ) (s : State) (call : Self.Call) (now : ℕ) → within_limits call → within n s → within (n + 1) ((object env).after s call now) };
+    ghost grows_within: { (plan : Self.Plan) (n : ℕ) (s : State) (call : Self.Call) (now : ℕ) → model.within_limits call → model.within n s → model.within (n + 1) ((model.object plan).after s call now) };
 
-    ghost widens: { (m n : ℕ) (s : State) → m ≤ n → within m s → within n s };
+    ghost widens: { (m n : ℕ) (s : State) → m ≤ n → model.within m s → model.within n s };
 
     /// No two states have one snapshot.
-    ghost one_spelling: { (s t : State) → IsSmall within s → IsSmall within t → snapshot_of s ≡ snapshot_of t → s ≡ t };
+    ghost one_spelling: { (s t : State) → IsSmall model.within s → IsSmall model.within t → model.snapshot_of s ≡ model.snapshot_of t → s ≡ t };
+}
+
+/// A shelf on which calls are executed in an environment of this type, which may hold what no thread shares.
+pub trait Executes<N>: Shelf {
+    /// What the environment means.
+    ghost plan_of: { N → Self.Plan };
+
+    /// What a call answers, changes and reports at a moment. Only looks: the caller applies the effect.
+    fn execute(
+        &self,
+        alloc: Global,
+        env: &N,
+        call: &Self::Call,
+        now: Moment,
+    ) -> Result<Executed, Memory>
+        requires limits { Self.model.within_limits call.now }
+        requires small { IsSmall Self.model.within (Self.model.state self.now) }
+        ensures reply { IfOk result (λ e. e.reply ≡ (Self.model.object (plan_of env.now)).reply (Self.model.state self.now) call.now now) }
+        ensures effect { IfOk result (λ e. e.effect ≡ Self.model.effect_of (plan_of env.now) (Self.model.state self.now) call.now now) }
+        ensures change { IfOk result (λ e. e.change ≡ Self.model.change_of (plan_of env.now) (Self.model.state self.now) call.now now) };
 }
