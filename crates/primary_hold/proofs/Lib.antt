@@ -1,4 +1,5 @@
 pub mod AckLists
 pub mod AckPlaces
 pub mod AnswerLists
+pub mod Latest
 pub mod Settles

@@ -1,8 +1,8 @@
 pub mod Acks
+pub mod Adopting
 pub mod Answering
-pub mod Calls
-pub mod Holds
-pub mod Primaries
+pub mod Changes
+pub mod Facts
 pub mod Rings
-pub mod Started
+pub mod Rooms
 pub mod Views

@@ -52,6 +52,15 @@ impl Acks {
         })
     }
 
+    /// No acknowledgements, and room for none. Takes no memory.
+    pub fn none(alloc: Global) -> Acks
+        ensures { result.list ≡ [] }
+    {
+        Acks {
+            list: Vec::new(alloc),
+        }
+    }
+
     /// The acknowledgements, in the order in which members first acknowledged.
     pub fn as_slice(&self) -> &[Acknowledged]
         ensures { result.now ≡ self.now.list }
@@ -118,4 +127,23 @@ impl Model for Earlier {
     ghost Value = { EarlierVersion };
 
     ghost view = { λ e. record { version = e.version; acks = e.acks.list } };
+}
+
+impl Earlier {
+    pub(crate) fn view(&self) -> EarlierView<'_>
+        ensures version { result.version ≡ self.now.version }
+        ensures acks { result.acks.now ≡ self.now.acks }
+    {
+        EarlierView {
+            version: self.version,
+            acks: self.acks.as_slice(),
+        }
+    }
+}
+
+/// The version before the known one, and what was acknowledged in it.
+#[derive(Clone, Copy)]
+pub(crate) struct EarlierView<'a> {
+    pub(crate) version: u32,
+    pub(crate) acks: &'a [Acknowledged],
 }

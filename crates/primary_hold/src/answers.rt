@@ -1,10 +1,13 @@
 ghost use Rattle.std.specs.Prelude.{◌≡◌, ◌↔◌, ◌≤◌, ◌<◌, ◌==◌, ◌&&◌, [], ◌∷◌, ◌++◌, length, map, not, take, drop, slice_get, option_copied, option_to_list, IsNone, OnOk};
-ghost use Rattle.std.specs.List.{list_any};
+ghost use Rattle.std.specs.List.{list_all, list_any};
 ghost use Rattle.partition_table.specs.Rows.{is_empty};
-ghost use Rattle.primary_hold.specs.declared.released.Released.{Released as Answer};
+ghost use Rattle.primary_hold.specs.declared.answer.CallAnswer.{CallAnswer as Answer};
+ghost use Rattle.partition_protocol.specs.Node.{is_released};
+ghost use Rattle.primary_hold.specs.Views.{viewed};
 ghost use Rattle.primary_hold.specs.Answering.{answering_of, held_of, holds_call};
 
-use crate::released::Released;
+use crate::answer::CallAnswer;
+use crate::view::View;
 use grid_base::{CallId, Memory};
 use std::alloc::Global;
 use std::collections::VecDeque;
@@ -14,7 +17,7 @@ use std::marker::Model;
 /// the held ones behind them.
 #[derive(Debug, Drop)]
 pub struct Answers {
-    list: VecDeque<Released>,
+    list: VecDeque<CallAnswer>,
     /// How many were released.
     ready: usize,
 }
@@ -22,7 +25,9 @@ pub struct Answers {
 impl Model for Answers {
     ghost use Rattle.std.specs.Prelude.{◌≤◌, ◌-◌, length, take, drop};
     ghost use Rattle.std.specs.VecDeque.{deque_len, deque_capacity};
-    ghost use Rattle.primary_hold.specs.Answering.{AnswerQueue};
+    ghost use Rattle.partition_protocol.specs.Node.{is_released};
+ghost use Rattle.primary_hold.specs.Views.{viewed};
+ghost use Rattle.primary_hold.specs.Answering.{AnswerQueue};
 
     ghost Value = { AnswerQueue };
 
@@ -36,12 +41,19 @@ impl Model for Answers {
 }
 
 /// Whether the answer of that call is behind the first ones.
-fn has_call(answers: &VecDeque<Released>, first: usize, id: CallId) -> bool
+fn has_call(answers: &VecDeque<CallAnswer>, first: usize, id: CallId) -> bool
     ensures { let behind = drop first answers.now.items in
         result ≡ list_any (λ (a : Answer). (a.id.conn == id.conn) && (a.id.number == id.number)) behind }
 {
     answers.iter().skip(first).any(|answer| answer.id.conn == id.conn
         && answer.id.number == id.number)
+}
+
+/// Whether each backup of the view has acknowledged what the answers behind the first ones saw.
+fn are_released(answers: &VecDeque<CallAnswer>, first: usize, view: &View<'_>) -> bool
+    ensures { result ≡ list_all (λ (a : Answer). is_released (viewed view.now) a.seen) (drop first answers.now.items) }
+{
+    answers.iter().skip(first).all(|answer| view.is_released(answer.seen))
 }
 
 impl Answers {
@@ -56,7 +68,7 @@ impl Answers {
     }
 
     /// The oldest released answer, which is given out with this, in constant time. Takes no memory.
-    pub fn pop_released(&mut self) -> Option<Released>
+    pub fn pop_released(&mut self) -> Option<CallAnswer>
         ensures given { self.old.released ≡ option_to_list result ++ self.new.released }
         ensures none { IsNone result ↔ (self.old.released ≡ []) }
         ensures held { self.new.held ≡ self.old.held }
@@ -84,6 +96,13 @@ impl Answers {
         has_call(&self.list, self.ready, id)
     }
 
+    /// Whether each backup of the view has acknowledged what each of the held answers saw.
+    pub(crate) fn are_released_by(&self, view: &View<'_>) -> bool
+        ensures { result ≡ list_all (λ (a : Answer). is_released (viewed view.now) a.seen) self.now.held }
+    {
+        are_released(&self.list, self.ready, view)
+    }
+
     /// Whether an answer is held. Takes no memory.
     pub fn holds_any(&self) -> bool
         ensures { result ≡ not (is_empty self.now.held) }
@@ -92,7 +111,7 @@ impl Answers {
     }
 
     /// The oldest held answer. Takes no memory.
-    pub(crate) fn first_held(&self) -> Option<&Released>
+    pub(crate) fn first_held(&self) -> Option<&CallAnswer>
         ensures { option_copied result ≡ slice_get self.now.held 0 }
     {
         self.list.get(self.ready)
@@ -107,7 +126,7 @@ impl Answers {
     }
 
     /// Holds an answer, into the room that there is.
-    pub(crate) fn hold(&mut self, answer: Released)
+    pub(crate) fn hold(&mut self, answer: CallAnswer)
         requires { 1 ≤ self.old.spare }
         ensures released { self.new.released ≡ self.old.released }
         ensures held { self.new.held ≡ self.old.held ++ answer ∷ [] }

@@ -1,29 +1,26 @@
-ghost use Rattle.std.specs.Prelude.{◌≡◌, ◌-◌, true, false, [], Some, None, nat_le, min};
-ghost use Rattle.partition_protocol.specs.Node.{acked, is_at_least, is_released};
+ghost use Rattle.std.specs.Prelude.{◌≡◌, ◌-◌, true, Some, nat_le, min};
+ghost use Rattle.partition_protocol.specs.Node.{acked, acked_by, is_at_least, is_released};
 ghost use Rattle.partition_protocol.specs.CatchUp.{heard, heard_earlier, catch_up_by, recent_limit};
 ghost use Rattle.partition_protocol.specs.Replica.{lags};
-ghost use Rattle.primary_hold.specs.Started.{started, bare};
-ghost use Rattle.primary_hold.specs.Views.{viewed, earlier_viewed, numbers_of_pair, messages_of, IsCovered};
+ghost use Rattle.primary_hold.specs.Views.{viewed, earlier_viewed, messages_of};
 
-use crate::acks::{Acknowledged, acked_by};
-use crate::hold::RECENT;
+use crate::acks::{Acknowledged, EarlierView, acked_by};
+use crate::room::RECENT;
 use grid_base::MemberId;
+use partition_protocol::Pair;
 use partition_table::{Row, RowMember};
-
-/// The version before the known one, and what was acknowledged in it.
-#[derive(Clone, Copy)]
-pub(crate) struct EarlierView<'a> {
-    pub(crate) version: u32,
-    pub(crate) acks: &'a [Acknowledged],
-}
 
 /// What a primary knows of its backups in a row: what it sends each of them to catch up follows from it.
 #[derive(Clone, Copy)]
 pub struct View<'a> {
     pub(crate) row: &'a Row,
+    /// The pair that names the primary's contents, as its two numbers.
+    pub(crate) version: u32,
     pub(crate) count: u32,
     pub(crate) opening: bool,
     pub(crate) acks: &'a [Acknowledged],
+    /// One acknowledgement more: of this member, with this count.
+    pub(crate) latest: Option<(MemberId, u32)>,
     pub(crate) earlier: Option<EarlierView<'a>>,
     pub(crate) recent: u32,
     pub(crate) adopted: u32,
@@ -36,27 +33,12 @@ pub enum CatchUp {
     Whole,
     /// The effects of the known version after this number.
     Effects { after: u32 },
-    /// The effects of the version before after this number up to where the known version began, the bridge to it,
-    /// and the effects since.
-    Bridged { version: u32, after: u32 },
+    /// The effects of the version before after this pair up to where the known version began, the bridge to it, and
+    /// the effects since.
+    Bridged { base: Pair },
 }
 
 impl<'a> View<'a> {
-    /// That of a primary which begins with the row, and has heard from nobody. Takes no memory.
-    pub fn first(row: &'a Row, count: u32) -> View<'a>
-        ensures { viewed result ≡ bare (started row.now count false []) }
-    {
-        View {
-            row,
-            count,
-            opening: false,
-            acks: &[],
-            earlier: None,
-            recent: 0,
-            adopted: count,
-        }
-    }
-
     /// The row that it is of.
     pub fn row(&self) -> &Row
         ensures { result.now ≡ (viewed self.now).known }
@@ -91,31 +73,29 @@ impl<'a> View<'a> {
     /// What that backup is sent to catch up: effects where it may lead, has acknowledged something, and lacks no
     /// more than the recent ones. Goes over the acknowledgements once or twice, and takes no memory.
     pub fn catch_up(&self, backup: &RowMember) -> CatchUp
-        ensures messages { let by = catch_up_by (viewed self.now) backup.now.eligible (heard (viewed self.now) backup.now.member) in
+        ensures { let by = catch_up_by (viewed self.now) backup.now.eligible (heard (viewed self.now) backup.now.member) in
             messages_of (viewed self.now) result ≡ by }
-        ensures covered { IsCovered (viewed self.now) result }
     {
         if !backup.eligible {
             return CatchUp::Whole;
         }
         match self.heard(backup.member) {
             None => CatchUp::Whole,
-            Some((version, after)) => self.catch_up_from(version, after),
+            Some(pair) => self.catch_up_from(pair),
         }
     }
 
     /// What is sent to an eligible backup that has been heard with this pair.
-    fn catch_up_from(&self, version: u32, after: u32) -> CatchUp
-        ensures messages { let by = catch_up_by (viewed self.now) true (Some (record { version = version; count = after })) in
+    fn catch_up_from(&self, pair: Pair) -> CatchUp
+        ensures { let by = catch_up_by (viewed self.now) true (Some pair) in
             messages_of (viewed self.now) result ≡ by }
-        ensures covered { IsCovered (viewed self.now) result }
     {
-        if !self.covers(after) {
+        if !self.covers(pair.count) {
             CatchUp::Whole
-        } else if version == self.row.version {
-            CatchUp::Effects { after }
+        } else if pair.version == self.row.version {
+            CatchUp::Effects { after: pair.count }
         } else {
-            CatchUp::Bridged { version, after }
+            CatchUp::Bridged { base: pair }
         }
     }
 
@@ -131,18 +111,38 @@ impl<'a> View<'a> {
     pub fn acked(&self, member: MemberId) -> Option<u32>
         ensures { result ≡ acked (viewed self.now) member }
     {
-        match acked_by(self.acks, member) {
+        match self.acked_here(member) {
             Some(count) => Some(count),
             None => { if self.opening { Some(0) } else { None } }
         }
     }
 
-    /// The version and the count that a member acknowledged last, in the known version or the one before.
-    pub(crate) fn heard(&self, member: MemberId) -> Option<(u32, u32)>
-        ensures { result ≡ numbers_of_pair (heard (viewed self.now) member) }
+    /// What was taken from a member in the known version.
+    fn acked_here(&self, member: MemberId) -> Option<u32>
+        ensures { result ≡ acked_by member (viewed self.now).acks }
+    {
+        let before = acked_by(self.acks, member);
+        match self.latest {
+            None => before,
+            Some((latest, count)) => {
+                if latest == member {
+                    Some(count.max(before.unwrap_or(0)))
+                } else {
+                    before
+                }
+            }
+        }
+    }
+
+    /// The newest pair that a member is known to have: acknowledged in the known version, or in the one before.
+    pub(crate) fn heard(&self, member: MemberId) -> Option<Pair>
+        ensures { result ≡ heard (viewed self.now) member }
     {
         match self.acked(member) {
-            Some(count) => Some((self.row.version, count)),
+            Some(count) => Some(Pair {
+                version: self.row.version,
+                count,
+            }),
             None => heard_earlier(self.earlier, member),
         }
     }
@@ -159,12 +159,15 @@ impl<'a> View<'a> {
 }
 
 /// What a member acknowledged in the version before the known one.
-fn heard_earlier(earlier: Option<EarlierView<'_>>, member: MemberId) -> Option<(u32, u32)>
-    ensures { result ≡ numbers_of_pair (heard_earlier (earlier_viewed earlier.entry) member) }
+fn heard_earlier(earlier: Option<EarlierView<'_>>, member: MemberId) -> Option<Pair>
+    ensures { result ≡ heard_earlier (earlier_viewed earlier.entry) member }
 {
     let earlier = earlier?;
     let count = acked_by(earlier.acks, member)?;
-    Some((earlier.version, count))
+    Some(Pair {
+        version: earlier.version,
+        count,
+    })
 }
 
 fn is_at_least(acked: Option<u32>, seen: u32) -> bool

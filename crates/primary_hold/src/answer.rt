@@ -1,8 +1,8 @@
 use grid_base::{Bytes, CallId, Change};
 
-/// The answer of a call, once each backup has what the call saw.
+/// The answer of a call that was executed.
 #[derive(Debug, Drop)]
-pub struct Released {
+pub struct CallAnswer {
     pub id: CallId,
     /// The version in which the call was executed.
     pub version: u32,
