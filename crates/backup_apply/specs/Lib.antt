@@ -1,2 +1,2 @@
-pub mod Backups
-pub mod Taken
+pub mod Contents
+pub mod Steps

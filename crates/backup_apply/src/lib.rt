@@ -1,12 +1,11 @@
-//! What a backup keeps of a partition, and how it goes on by what its primary sends it.
+//! How a backup takes whole contents, effects and bridges: what it says, and what its contents do.
 #![tactic(auto)]
 
-mod backup;
-mod standing;
-mod taken;
+mod contents;
+mod steps;
 
-pub use backup::Backup;
-pub use taken::{BridgeTaken, EffectTaken, SyncTaken};
+pub use contents::ContentsChange;
+pub use steps::{BackupStep, take_bridge, take_effect, take_sync};
 
 #[cfg(test)]
 mod tests;
