@@ -10,15 +10,15 @@ use Rattle.backup_apply.specs.declared.steps.BackupStep.{BackupStep}
 use Rattle.backup_apply.specs.declared.steps.BackupStep.TheVariants.{Acknowledges, Silent}
 
 abbrev pub step_of : ℕ → BackupStep → Node → Step
-step_of from (Acknowledges pair change took) node = acknowledging (with_pair node pair.version pair.count) from (took_of took)
+step_of from (Acknowledges version count change took) node = acknowledging (with_pair node version count) from (took_of took)
 step_of from (Silent took) node = unanswered node (took_of took)
 
 -- how it took what it was sent
 abbrev pub took_by : BackupStep → Took
-took_by (Acknowledges pair change took) = took
+took_by (Acknowledges version count change took) = took
 took_by (Silent took) = took
 
 -- and what its contents do
 abbrev pub change_by : BackupStep → ContentsChange
-change_by (Acknowledges pair change took) = change
+change_by (Acknowledges version count change took) = change
 change_by (Silent took) = Keep

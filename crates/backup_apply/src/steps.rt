@@ -14,9 +14,10 @@ use partition_protocol::Pair;
 /// What a backup does about what it was sent.
 #[derive(Clone, Copy)]
 pub enum BackupStep<'a> {
-    /// It has contents of this name from then on, and acknowledges them to the sender.
+    /// It has contents of this version after so many effects from then on, and acknowledges them to the sender.
     Acknowledges {
-        pair: Pair,
+        version: u32,
+        count: u32,
         change: ContentsChange<'a>,
         took: Took,
     },
@@ -33,13 +34,15 @@ pub fn take_sync<'a>(have: Pair, sent: Pair, snapshot: &'a Bytes) -> BackupStep<
 {
     if sent.is_ahead_of(&have) {
         BackupStep::Acknowledges {
-            pair: sent,
+            version: sent.version,
+            count: sent.count,
             change: ContentsChange::Install(snapshot),
             took: Took::Synced,
         }
     } else {
         BackupStep::Acknowledges {
-            pair: have,
+            version: have.version,
+            count: have.count,
             change: ContentsChange::Keep,
             took: Took::Already,
         }
@@ -56,13 +59,15 @@ pub fn take_effect<'a>(have: Pair, sent: Pair, effect: &'a Bytes) -> BackupStep<
         BackupStep::Silent(Took::Other)
     } else if sent.count > 0 && sent.count - 1 == have.count {
         BackupStep::Acknowledges {
-            pair: sent,
+            version: sent.version,
+            count: sent.count,
             change: ContentsChange::Apply(effect),
             took: Took::Applied,
         }
     } else if sent.count <= have.count {
         BackupStep::Acknowledges {
-            pair: have,
+            version: have.version,
+            count: have.count,
             change: ContentsChange::Keep,
             took: Took::Already,
         }
@@ -80,17 +85,15 @@ pub fn take_bridge(have: Pair, version: u32, base: Pair) -> BackupStep<'static>
 {
     if have.version == version {
         BackupStep::Acknowledges {
-            pair: have,
+            version: have.version,
+            count: have.count,
             change: ContentsChange::Keep,
             took: Took::Already,
         }
     } else if have == base {
-        let pair = Pair {
+        BackupStep::Acknowledges {
             version,
             count: base.count,
-        };
-        BackupStep::Acknowledges {
-            pair,
             change: ContentsChange::Keep,
             took: Took::Bridged,
         }

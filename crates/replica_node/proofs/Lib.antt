@@ -1,6 +1,7 @@
-pub mod SendLists
+pub mod Adopted
 pub mod Adoptions
-pub mod Lookings
-pub mod Ackings
-pub mod Applyings
-pub mod Crossings
+pub mod Leaving
+pub mod Looking
+pub mod Reactions
+pub mod SendLists
+pub mod Takes

@@ -1,6 +1,7 @@
-pub mod Refusals
-pub mod Contents
+pub mod Calls
+pub mod Carried
+pub mod Decisions
 pub mod Nodes
-pub mod Roles
 pub mod Sending
+pub mod Taken
 pub mod Takings

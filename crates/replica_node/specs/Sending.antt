@@ -3,8 +3,6 @@ use Rattle.std.specs.Prelude.{◌≡◌, ℕ, List, [], ◌++◌, map, Option, S
 use Rattle.partition_protocol.specs.Messages.{Message, Sent}
 use Rattle.member_wire.specs.Said.{Contents, said_with, written}
 use Rattle.member_wire.specs.Spelling.{LengthsFit}
-use Rattle.primary_hold.specs.declared.primary.Primary.{Primary}
-use Rattle.primary_hold.specs.Primaries.{node_of, contents_of, ring_of}
 use Rattle.primary_hold.specs.Rings.{kept}
 
 -- a snapshot is of the state at hand, whatever names it, and an effect is one of the newest effects, of which the last has the number `count`
@@ -13,10 +11,6 @@ carried snapshot_of state ring count = record {
   snapshot = λ version counted. snapshot_of state;
   effect = λ version number. unwrap_or (kept ring count number) [];
 }
-
--- what a primary writes
-abbrev pub primary_carries : {S State : Type 0} → (State → List ℕ) → (S → State) → Primary S → Contents
-primary_carries snapshot_of state primary = carried snapshot_of (state (contents_of primary)) (ring_of primary) (node_of primary).pair.count
 
 -- the lengths of what the message carries can be written down
 abbrev pub Fits : Contents → Sent → Type 0

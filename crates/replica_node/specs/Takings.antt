@@ -5,33 +5,25 @@ use Rattle.partition_table.specs.declared.Row.{Row}
 use Rattle.partition_table.specs.Rows.{is_primary, is_in, is_eligible}
 use Rattle.partition_protocol.specs.Node.{Node, Pair, acked, no_pair}
 use Rattle.partition_protocol.specs.Took.{Took, Synced, Applied}
-use Rattle.partition_protocol.specs.Adoption.{is_before_reset, begun, stays_primary}
 use Rattle.partition_protocol.specs.Replica.{is_newer}
 use Rattle.member_wire.specs.declared.message.MemberMessage.{MemberMessage}
 use Rattle.member_wire.specs.declared.message.MemberMessage.TheVariants as said
-use Rattle.primary_hold.specs.declared.released.Released.{Released}
+use Rattle.backup_apply.specs.declared.contents.ContentsChange.{ContentsChange}
+use Rattle.backup_apply.specs.declared.contents.ContentsChange.TheVariants.{Keep}
+use Rattle.backup_apply.specs.Contents.{Does, IsChangeBySync, IsChangeByEffect}
+use Rattle.member_wire.specs.declared.took.Took.{Took as TookWord}
+use Rattle.primary_hold.specs.declared.answer.CallAnswer.{CallAnswer}
+use Rattle.primary_hold.specs.Adopting.{drops_contents, ring_in}
 
 -- a row
-
--- it drops the contents that are of a version before its reset, and those of a member that isn't in it
-abbrev pub drops_contents : ℕ → Row → Node → Bool
-drops_contents m row node = is_before_reset row node || not (is_in row m)
-
--- the name of the contents that are left in the row
-abbrev pub pair_in : ℕ → Row → Node → Pair
-pair_in m row node = if drops_contents m row node then no_pair else node.pair
 
 -- of an empty state and the old one, the one that is left in the row
 abbrev pub state_in : {State : Type 0} → State → ℕ → Row → Node → State → State
 state_in empty m row node state = if drops_contents m row node then empty else state
 
--- a primary goes on in the row with its contents
-abbrev pub goes_on : ℕ → Row → Node → Bool
-goes_on m row node = is_primary row m && stays_primary row node m
-
--- and so with its newest effects
-abbrev pub ring_in : ℕ → Row → Node → List (List ℕ) → List (List ℕ)
-ring_in m row node ring = if goes_on m row node then ring else []
+-- What contents do behind what the row leaves of them
+abbrev pub DoesIn : {State : Type 0} → (ℕ → State → Type 0) → State → (List ℕ → State → Option State) → (State → List ℕ) → ℕ → Row → Node → ContentsChange → State → State → Type 0
+DoesIn within empty applied snapshot_of m row node change old new = Does within applied snapshot_of change (state_in empty m row node old) new
 
 -- the state and the newest effects once the member looked at the row, which it adopts where it is newer
 
@@ -82,11 +74,21 @@ IsFit within applied snapshot_of (said.Effect version number effect) took state 
 IsFit {State} within applied snapshot_of (said.Sync row count snapshot) took state = (x : State) × IsSmall within x × (snapshot_of x ≡ snapshot)
 IsFit within applied snapshot_of message took state = Unit {0}
 
--- an acknowledgement of that backup is its first one, and the backup may not lead yet
-abbrev pub joins_by : ℕ → Node → Bool
-joins_by from node = not (is_some (acked node from)) && not (is_eligible node.known from)
-
 -- the answers that are left: a member that no longer leads drops those that it held
-abbrev pub answers_left : Bool → List Released → List Released → List Released
+abbrev pub answers_left : Bool → List CallAnswer → List CallAnswer → List CallAnswer
 answers_left true waiting held = waiting ++ held
 answers_left false waiting held = waiting
+
+-- the row, where it is newer than the known one
+abbrev pub if_newer : Row → Node → Option Row
+if_newer row node = if is_newer row node then Some row else None
+
+-- the row that a member adopts as it takes the message
+abbrev pub newer_row : MemberMessage → Node → Option Row
+newer_row message node = elim (row_in message) [ None ↦ None | Some row ↦ if_newer row node ]
+
+-- what the contents do, by the message and how it is taken
+abbrev pub IsChangeBy : MemberMessage → TookWord → ContentsChange → Type 0
+IsChangeBy (said.Sync row count snapshot) took change = IsChangeBySync snapshot took change
+IsChangeBy (said.Effect version number effect) took change = IsChangeByEffect effect took change
+IsChangeBy message took change = change ≡ Keep

@@ -1,117 +1,117 @@
-ghost use Rattle.std.specs.Prelude.{◌≡◌, ◌+◌, ◌<◌, ◌^◌, ◌++◌, ◌∷◌, ℕ, List, [], map, Some, None, All, false, true, is_some, option_copied, IfOk, IfErr, OnOk, OnErr};
+ghost use Rattle.std.specs.Prelude.{◌≡◌, ◌+◌, ◌<◌, ◌^◌, ℕ, true, List, [], Some, None, option_copied, map, IfOk, OnOk, OnErr};
 ghost use Rattle.grid_base.specs.Objects.{IsSmall};
 ghost use Rattle.partition_table.specs.declared.RowMember.{RowMember as MemberOf};
 ghost use Rattle.partition_protocol.specs.Messages.{Effect};
-ghost use Rattle.partition_protocol.specs.Node.{settled};
-ghost use Rattle.partition_protocol.specs.Execution.{Executes, executing, reached, sent_on_executing};
-ghost use Rattle.partition_protocol.specs.Replica.{to_one};
-ghost use Rattle.member_wire.specs.Said.{Contents, written};
-ghost use Rattle.primary_hold.specs.Calls.{answer_at, called_at};
-ghost use Rattle.primary_hold.specs.Rings.{ring_after};
-ghost use Rattle.primary_hold.specs.Primaries.{node_of as primary_node, contents_of as primary_contents, answers_of, ring_of as primary_ring};
-ghost use Rattle.replica_node.specs.Nodes.{node_of, contents_of, waiting, held_answers, ring_of, ends_of, member_of, IsUnchanged};
-ghost use Rattle.replica_node.specs.Refusals.{RefusedAs, SendsNothing};
-ghost use Rattle.replica_node.specs.Sending.{Fits, Sends};
+ghost use Rattle.partition_protocol.specs.Execution.{Executes as IsExecuted, executing, reached, sent_on_executing};
+ghost use Rattle.member_wire.specs.Said.{Contents};
+ghost use Rattle.replica_node.specs.Calls.{reached_as, HasCalled};
+ghost use Rattle.replica_node.specs.Nodes.{node_of, contents_of, member_of, IsUnchanged};
+ghost use Rattle.replica_node.specs.Sending.{Sends};
 
 use crate::node::Node;
-use crate::refused::NodeRefused;
-use crate::role::Role;
-use grid_base::{Bytes, CallId, MemberId, Memory, Moment, Shelf};
+use grid_base::{Bytes, CallId, Executes, Memory, Moment, PartitionRefused, Shelf};
 use member_wire::Outbox;
 use partition_table::RowMember;
-use primary_hold::{Called, Prepared, Primary};
 use std::alloc::Global;
+
+/// A call that was executed.
+#[derive(Debug, Drop)]
+pub struct Execution {
+    /// The count of effects that it saw, its own included.
+    pub seen: u32,
+    /// A copy of its reply.
+    pub reply: Bytes,
+    /// Its answer waits for the backups. Else it is released, as are all before it.
+    pub is_held: bool,
+    /// Its effect, for each backup.
+    pub sent: Outbox,
+}
+
+/// What became of a call.
+#[derive(Debug, Drop)]
+pub enum Called {
+    Executed(Execution),
+    /// The member executes none. Nothing has changed.
+    Refused(PartitionRefused),
+}
 
 impl<S: Shelf> Node<S> {
     /// Executes a call that reaches the member, where it is primary and isn't frozen: makes its change, writes its
-    /// effect to each backup, and holds its answer until each of them has what the call saw. A refusal changes nothing,
-    /// and sends nothing unless it is for want of memory.
+    /// effect for each backup, and holds its answer until each of them has what the call saw. Want of memory changes
+    /// nothing, and comes only where the call would be executed.
     ///
-    /// Costs what the shelf makes of the call, and a copy of its effect for each backup.
-    pub fn call(
+    /// Costs what the shelf makes of the call, a copy of its reply, and a copy of its effect for each backup.
+    pub fn call<N>(
         &mut self,
         alloc: Global,
-        env: &S::Env,
+        env: &N,
         id: CallId,
         call: &S::Call,
         now: Moment,
-        out: &mut Outbox,
-    ) -> Result<Called, NodeRefused>
-        requires limits { S.within_limits call.now }
-        requires small { IsSmall S.within (S.state (contents_of self.old)) }
+    ) -> Result<Called, Memory>
+    where
+        S: Executes<N>,
+        requires limits { S.model.within_limits call.now }
+        requires small { IsSmall S.model.within (S.model.state (contents_of self.old)) }
         requires fits { (node_of self.old).pair.count + 1 < 2 ^ 32 }
-        requires empty { out.old ≡ [] }
-        ensures reached { OnOk result (reached (member_of self.old) (node_of self.old) ≡ Executes) }
-        ensures refused { IfErr result (RefusedAs (reached (member_of self.old) (node_of self.old))) }
-        ensures unsent { IfErr result (λ refused. SendsNothing refused out.old out.new) }
-        ensures node { let changes = (S.object env.now).changes (S.state (contents_of self.old)) call.now now in
-            OnOk result (node_of self.new ≡ settled (executing changes id.conn id.number (node_of self.old))) }
-        ensures contents { let after = (S.object env.now).after (S.state (contents_of self.old)) call.now now in
-            OnOk result (S.state (contents_of self.new) ≡ after) }
-        ensures sent { (k : Contents) (bytes : List ℕ) →
-            S.effect_of env.now (S.state (contents_of self.old)) call.now now ≡ Some bytes →
-            let after = executing true id.conn id.number (node_of self.old) in
-            k.effect after.pair.version after.pair.count ≡ bytes →
-            OnOk result (out.new ≡ map (written k) (sent_on_executing true after)) }
-        ensures fits { (k : Contents) (bytes : List ℕ) →
-            S.effect_of env.now (S.state (contents_of self.old)) call.now now ≡ Some bytes →
-            let after = executing true id.conn id.number (node_of self.old) in
-            k.effect after.pair.version after.pair.count ≡ bytes →
-            OnOk result (All (Fits k) (sent_on_executing true after)) }
-        ensures silent { S.effect_of env.now (S.state (contents_of self.old)) call.now now ≡ None → OnOk result (out.new ≡ []) }
-        ensures answers { let state = S.state (contents_of self.old) in
-            let after = executing ((S.object env.now).changes state call.now now) id.conn id.number (node_of self.old) in
-            let reply = (S.object env.now).reply state call.now now in
-            let answer = answer_at after id reply (S.change_of env.now state call.now now) in
-            OnOk result (waiting self.new ++ held_answers self.new ≡ waiting self.old ++ held_answers self.old ++ answer ∷ []) }
-        ensures ring { let effect = S.effect_of env.now (S.state (contents_of self.old)) call.now now in
-            OnOk result (ring_of self.new ≡ ring_after effect (ring_of self.old)) }
-        ensures called { let state = S.state (contents_of self.old) in
-            let after = executing ((S.object env.now).changes state call.now now) id.conn id.number (node_of self.old) in
-            IfOk result (λ called. called ≡ called_at after ((S.object env.now).reply state call.now now)) }
-        ensures ends { ends_of self.new ≡ ends_of self.old }
-        ensures err { OnErr result (IsUnchanged S.state self.old self.new) }
+        ensures ok { IfOk result (HasCalled S.model (S.plan_of env.now) id call.now now self.old self.new) }
+        ensures err { OnErr result (IsUnchanged S.model.state self.old self.new) }
+        ensures wanted { OnErr result (reached (member_of self.old) (node_of self.old) ≡ IsExecuted) }
     {
-        let version = self.known().version;
-        if self.known().lost {
-            return Err(NodeRefused::PartitionLost { version });
+        if let Some(why) = self.refuses() {
+            return Ok(Called::Refused(why));
         }
-        match &mut self.role {
-            Role::Follows(_) => Err(NodeRefused::WrongTarget { version }),
-            Role::Leads(primary) => {
-                let prepared = primary.prepare(alloc, env, call, now)?;
-                send_effect(alloc, primary, &prepared, out)?;
-                Ok(primary.commit(alloc, id, prepared)?)
-            }
+        let executed = self.shelf.execute(alloc, env, call, now)?;
+        let reply = executed.reply.copied(alloc)?;
+        let sent = self.effect_for_each(alloc, executed.effect.as_ref())?;
+        self.facts.reserve()?;
+        if let Some(effect) = &executed.effect {
+            self.shelf.apply(alloc, effect)?;
         }
+        self.facts.count_call(id, executed);
+        let seen = self.facts.pair().count;
+        self.facts.settle();
+        Ok(Called::Executed(Execution {
+            seen,
+            reply,
+            is_held: self.facts.holds_any(),
+            sent,
+        }))
     }
-}
 
-/// Writes the effect of a call that is about to be committed to each backup, if the call has one.
-fn send_effect<S: Shelf>(
-    alloc: Global,
-    primary: &Primary<S>,
-    prepared: &Prepared,
-    out: &mut Outbox,
-) -> Result<(), Memory>
-    requires { (primary_node primary.now).pair.count + 1 < 2 ^ 32 }
-    ensures sent { (k : Contents) (bytes : List ℕ) (conn number : ℕ) → prepared.now.effect ≡ Some bytes →
-        let after = executing true conn number (primary_node primary.now) in
-        k.effect after.pair.version after.pair.count ≡ bytes →
-        OnOk result (Sends k (sent_on_executing true after) out.old out.new) }
-    ensures silent { prepared.now.effect ≡ None → OnOk result (out.new ≡ out.old) }
-{
-    if let Some(effect) = prepared.effect() {
-        send_to_all(
-            alloc,
-            primary.row().backups(),
-            primary.version(),
-            primary.count() + 1,
-            effect,
-            out,
-        )?;
+    /// Why it executes no call, if it does not.
+    fn refuses(&self) -> Option<PartitionRefused>
+        ensures { reached (member_of self.now) (node_of self.now) ≡ reached_as result }
+    {
+        let known = self.facts.known();
+        let version = known.version;
+        if known.lost {
+            Some(PartitionRefused::PartitionLost { version })
+        } else if !self.facts.leads() {
+            Some(PartitionRefused::WrongTarget { version })
+        } else if self.facts.is_frozen() {
+            Some(PartitionRefused::Migrating { version })
+        } else {
+            None
+        }
     }
-    Ok(())
+
+    /// The effect of a call that is about to be counted, for each backup, if the call has one.
+    fn effect_for_each(&self, alloc: Global, effect: Option<&Bytes>) -> Result<Outbox, Memory>
+        requires { (node_of self.now).pair.count + 1 < 2 ^ 32 }
+        ensures sent { (k : Contents) (bytes : List ℕ) (conn number : ℕ) → option_copied effect.entry ≡ Some bytes →
+            let after = executing true conn number (node_of self.now) in
+            k.effect after.pair.version after.pair.count ≡ bytes → IfOk result (Sends k (sent_on_executing true after) []) }
+        ensures silent { option_copied effect.entry ≡ None → IfOk result (λ sent. sent ≡ []) }
+    {
+        let mut sent = Outbox::new(alloc);
+        if let Some(effect) = effect {
+            let pair = self.facts.pair();
+            let backups = self.facts.known().backups();
+            send_to_all(alloc, backups, pair.version, pair.count + 1, effect, &mut sent)?;
+        }
+        Ok(sent)
+    }
 }
 
 /// Writes the effect of a number to each of these members.

@@ -1,9 +1,8 @@
-/// What a member has of a partition.
+use partition_protocol::Pair;
+
+/// What a member has of a partition, and the pair that names it.
 #[derive(Drop)]
 pub struct Contents<'a, S> {
-    /// The version of the contents.
-    pub version: u32,
-    /// How many effects they have.
-    pub count: u32,
+    pub pair: Pair,
     pub shelf: &'a S,
 }

@@ -1,24 +1,20 @@
-//! One member's part of a partition: what it knows, its contents, and how it takes calls and messages.
+//! One member's part of a partition: how it decides about calls and messages, and performs what it decided.
 #![tactic(auto)]
 
 mod adoption;
-mod bridge;
 mod calls;
 mod catch_up;
 mod contents;
-mod effects;
-mod messages;
-mod named;
+mod decision;
 mod node;
-mod notes;
-mod refused;
+mod reaction;
 mod resend;
-mod role;
-mod whole;
+mod taking;
 
+pub use calls::{Called, Execution};
 pub use contents::Contents;
 pub use node::Node;
-pub use refused::NodeRefused;
+pub use taking::Taken;
 
 #[cfg(test)]
 mod tests;
