@@ -1,5 +1,5 @@
 -- What contents do, and what is asked of them.
-use Rattle.std.specs.Prelude.{◌≡◌, ℕ, true, List, Option, Some, is_some}
+use Rattle.std.specs.Prelude.{◌≡◌, ℕ, true, List, Option, Some, None, is_some}
 use Rattle.grid_base.specs.Objects.{IsSmall}
 use Rattle.member_wire.specs.declared.took.Took.{Took}
 use Rattle.member_wire.specs.declared.took.Took.TheVariants as took
@@ -17,6 +17,12 @@ abbrev pub IsChangeByEffect : List ℕ → Took → ContentsChange → Type 0
 IsChangeByEffect bytes took.Applied (Apply effect) = effect.now ≡ bytes
 IsChangeByEffect bytes took.Applied change = ⊥
 IsChangeByEffect bytes took change = change ≡ Keep
+
+-- the effect of a call is applied, if it has one
+abbrev pub IsOfEffect : Option (List ℕ) → ContentsChange → Type 0
+IsOfEffect None change = change ≡ Keep
+IsOfEffect (Some bytes) (Apply effect) = effect.now ≡ bytes
+IsOfEffect (Some bytes) change = ⊥
 
 -- The state after it: the one for which the bytes stand, the one that the effect makes, or the same
 abbrev pub Does : {State : Type 0} → (ℕ → State → Type 0) → (List ℕ → State → Option State) → (State → List ℕ) → ContentsChange → State → State → Type 0

@@ -1,5 +1,5 @@
-ghost use Rattle.std.specs.Prelude.{◌≡◌, OnOk, OnErr};
-ghost use Rattle.backup_apply.specs.Contents.{Does, IsPossible};
+ghost use Rattle.std.specs.Prelude.{◌≡◌, option_copied, OnOk, OnErr};
+ghost use Rattle.backup_apply.specs.Contents.{Does, IsOfEffect, IsPossible};
 
 use grid_base::{Bytes, Memory, Shelf};
 use std::alloc::Global;
@@ -16,6 +16,16 @@ pub enum ContentsChange<'a> {
 }
 
 impl<'a> ContentsChange<'a> {
+    /// What the contents do where a call has this effect, or none.
+    pub fn of_effect(effect: Option<&'a Bytes>) -> ContentsChange<'a>
+        ensures { IsOfEffect (option_copied effect.entry) result }
+    {
+        match effect {
+            None => ContentsChange::Keep,
+            Some(bytes) => ContentsChange::Apply(bytes),
+        }
+    }
+
     /// Does this to a shelf. Costs an installation or an application of an effect, and else nothing. Want of memory
     /// changes nothing.
     pub fn perform<S: Shelf>(self, alloc: Global, shelf: &mut S) -> Result<(), Memory>

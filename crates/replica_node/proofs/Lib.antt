@@ -1,5 +1,6 @@
 pub mod Adopted
 pub mod Adoptions
+pub mod Executing
 pub mod Leaving
 pub mod Looking
 pub mod Reactions

@@ -4,11 +4,12 @@ ghost use Rattle.partition_table.specs.declared.RowMember.{RowMember as MemberOf
 ghost use Rattle.partition_protocol.specs.Messages.{Effect};
 ghost use Rattle.partition_protocol.specs.Execution.{Executes as IsExecuted, executing, reached, sent_on_executing};
 ghost use Rattle.member_wire.specs.Said.{Contents};
-ghost use Rattle.replica_node.specs.Calls.{reached_as, HasCalled};
+ghost use Rattle.replica_node.specs.Calls.{reached_as, HasCalled, HasExecuted};
 ghost use Rattle.replica_node.specs.Nodes.{node_of, contents_of, member_of, IsUnchanged};
 ghost use Rattle.replica_node.specs.Sending.{Sends};
 
 use crate::node::Node;
+use backup_apply::ContentsChange;
 use grid_base::{Bytes, CallId, Executes, Memory, Moment, PartitionRefused, Shelf};
 use member_wire::Outbox;
 use partition_table::RowMember;
@@ -58,25 +59,45 @@ impl<S: Shelf> Node<S> {
         ensures err { OnErr result (IsUnchanged S.model.state self.old self.new) }
         ensures wanted { OnErr result (reached (member_of self.old) (node_of self.old) ≡ IsExecuted) }
     {
-        if let Some(why) = self.refuses() {
-            return Ok(Called::Refused(why));
+        match self.refuses() {
+            Some(why) => Ok(Called::Refused(why)),
+            None => Ok(Called::Executed(self.execute(alloc, env, id, call, now)?)),
         }
+    }
+
+    /// Executes a call. All memory is taken before anything changes.
+    fn execute<N>(
+        &mut self,
+        alloc: Global,
+        env: &N,
+        id: CallId,
+        call: &S::Call,
+        now: Moment,
+    ) -> Result<Execution, Memory>
+    where
+        S: Executes<N>,
+        requires limits { S.model.within_limits call.now }
+        requires small { IsSmall S.model.within (S.model.state (contents_of self.old)) }
+        requires fits { (node_of self.old).pair.count + 1 < 2 ^ 32 }
+        requires reached { reached (member_of self.old) (node_of self.old) ≡ IsExecuted }
+        ensures ok { IfOk result (HasExecuted S.model (S.plan_of env.now) id call.now now self.old self.new) }
+        ensures err { OnErr result (IsUnchanged S.model.state self.old self.new) }
+    {
         let executed = self.shelf.execute(alloc, env, call, now)?;
         let reply = executed.reply.copied(alloc)?;
         let sent = self.effect_for_each(alloc, executed.effect.as_ref())?;
         self.facts.reserve()?;
-        if let Some(effect) = &executed.effect {
-            self.shelf.apply(alloc, effect)?;
-        }
+        let change = ContentsChange::of_effect(executed.effect.as_ref());
+        change.perform(alloc, &mut self.shelf)?;
         self.facts.count_call(id, executed);
         let seen = self.facts.pair().count;
         self.facts.settle();
-        Ok(Called::Executed(Execution {
+        Ok(Execution {
             seen,
             reply,
             is_held: self.facts.holds_any(),
             sent,
-        }))
+        })
     }
 
     /// Why it executes no call, if it does not.
