@@ -68,14 +68,14 @@ impl<S: Shelf> Backup<S> {
         count: u32,
         snapshot: &Bytes,
     ) -> Result<SyncTaken, Memory>
-        requires small { (s : S.State) × IsSmall S.within s × (S.snapshot_of s ≡ snapshot.now) }
+        requires small { (s : S.State) × IsSmall S.model.within s × (S.model.snapshot_of s ≡ snapshot.now) }
         ensures took { (from : ℕ) (row : Row) (node : Node) → row.version ≡ version → node.pair ≡ pair_of self.old → IfOk result (λ taken. sync_took taken ≡ (sync_backup from row count node).took) }
         ensures pair { (from : ℕ) (row : Row) (node : Node) → row.version ≡ version → node.pair ≡ pair_of self.old → OnOk result (pair_of self.new ≡ (sync_backup from row count node).node.pair) }
         ensures says { IfOk result (SyncSays (pair_of self.old)) }
-        ensures contents { IfOk result (λ taken. SyncLeaves S.snapshot_of snapshot.now taken (S.state (contents_of self.old)) (S.state (contents_of self.new))) }
-        ensures state { (s : S.State) → IsSmall S.within s → S.snapshot_of s ≡ snapshot.now → IfOk result (λ taken. S.state (contents_of self.new) ≡ synced_state taken s (S.state (contents_of self.old))) }
+        ensures contents { IfOk result (λ taken. SyncLeaves S.model.snapshot_of snapshot.now taken (S.model.state (contents_of self.old)) (S.model.state (contents_of self.new))) }
+        ensures state { (s : S.State) → IsSmall S.model.within s → S.model.snapshot_of s ≡ snapshot.now → IfOk result (λ taken. S.model.state (contents_of self.new) ≡ synced_state taken s (S.model.state (contents_of self.old))) }
         ensures err_pair { OnErr result (pair_of self.new ≡ pair_of self.old) }
-        ensures err_contents { OnErr result (S.state (contents_of self.new) ≡ S.state (contents_of self.old)) }
+        ensures err_contents { OnErr result (S.model.state (contents_of self.new) ≡ S.model.state (contents_of self.old)) }
     {
         if !self.standing.is_behind(version, count) {
             return Ok(SyncTaken::Already {
@@ -96,13 +96,13 @@ impl<S: Shelf> Backup<S> {
         number: u32,
         effect: &Bytes,
     ) -> Result<EffectTaken, Memory>
-        requires fits { (pair_of self.old).version ≡ version → number ≡ (pair_of self.old).count + 1 → is_some (S.applied effect.now (S.state (contents_of self.old))) ≡ true }
+        requires fits { (pair_of self.old).version ≡ version → number ≡ (pair_of self.old).count + 1 → is_some (S.model.applied effect.now (S.model.state (contents_of self.old))) ≡ true }
         ensures took { (m from : ℕ) (node : Node) → node.pair ≡ pair_of self.old → is_backup node.known m ≡ true → IfOk result (λ taken. effect_took taken ≡ (on_effect m from version number node).took) }
         ensures pair { (m from : ℕ) (node : Node) → node.pair ≡ pair_of self.old → is_backup node.known m ≡ true → OnOk result (pair_of self.new ≡ (on_effect m from version number node).node.pair) }
         ensures says { IfOk result (EffectSays (pair_of self.old)) }
-        ensures contents { IfOk result (λ taken. EffectLeaves S.applied effect.now taken (S.state (contents_of self.old)) (S.state (contents_of self.new))) }
+        ensures contents { IfOk result (λ taken. EffectLeaves S.model.applied effect.now taken (S.model.state (contents_of self.old)) (S.model.state (contents_of self.new))) }
         ensures err_pair { OnErr result (pair_of self.new ≡ pair_of self.old) }
-        ensures err_contents { OnErr result (S.state (contents_of self.new) ≡ S.state (contents_of self.old)) }
+        ensures err_contents { OnErr result (S.model.state (contents_of self.new) ≡ S.model.state (contents_of self.old)) }
     {
         let taken = self.standing.judge_effect(version, number);
         if let EffectTaken::Applied = taken {

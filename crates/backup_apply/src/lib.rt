@@ -7,6 +7,3 @@ mod taken;
 
 pub use backup::Backup;
 pub use taken::{BridgeTaken, EffectTaken, SyncTaken};
-
-#[cfg(test)]
-mod tests;

@@ -19,6 +19,3 @@ pub use primary::Primary;
 pub use released::Released;
 pub use room::Room;
 pub use view::{CatchUp, View};
-
-#[cfg(test)]
-mod tests;

@@ -19,7 +19,7 @@ use crate::hold::Hold;
 use crate::released::Released;
 use crate::room::Room;
 use crate::view::View;
-use grid_base::{Bytes, CallId, MemberId, Memory, Moment, Shelf};
+use grid_base::{Bytes, CallId, Executes, MemberId, Memory, Moment, Shelf};
 use partition_table::Row;
 use std::alloc::Global;
 
@@ -80,23 +80,25 @@ impl<S: Shelf> Primary<S> {
     }
 
     /// Executes a call, unless the primary is frozen, and changes nothing.
-    pub fn prepare(
+    pub fn prepare<N>(
         &self,
         alloc: Global,
-        env: &S::Env,
+        env: &N,
         call: &S::Call,
         now: Moment,
     ) -> Result<Prepared, PrimaryRefused>
-        requires limits { S.within_limits call.now }
-        requires small { IsSmall S.within (S.state (contents_of self.now)) }
+    where
+        S: Executes<N>,
+        requires limits { S.model.within_limits call.now }
+        requires small { IsSmall S.model.within (S.model.state (contents_of self.now)) }
         ensures ok { OnOk result ((node_of self.now).frozen ≡ false) }
         ensures refused { IfErr result (RefusedBy (node_of self.now)) }
-        ensures reply { let state = S.state (contents_of self.now) in
-            IfOk result (λ prepared. prepared.reply ≡ (S.object env.now).reply state call.now now) }
-        ensures effect { let state = S.state (contents_of self.now) in
-            IfOk result (λ prepared. prepared.effect ≡ S.effect_of env.now state call.now now) }
-        ensures change { let state = S.state (contents_of self.now) in
-            IfOk result (λ prepared. prepared.change ≡ S.change_of env.now state call.now now) }
+        ensures reply { let state = S.model.state (contents_of self.now) in
+            IfOk result (λ prepared. prepared.reply ≡ (S.model.object (S.plan_of env.now)).reply state call.now now) }
+        ensures effect { let state = S.model.state (contents_of self.now) in
+            IfOk result (λ prepared. prepared.effect ≡ S.model.effect_of (S.plan_of env.now) state call.now now) }
+        ensures change { let state = S.model.state (contents_of self.now) in
+            IfOk result (λ prepared. prepared.change ≡ S.model.change_of (S.plan_of env.now) state call.now now) }
     {
         if self.hold.frozen {
             return Err(PrimaryRefused::Migrating {
@@ -109,21 +111,23 @@ impl<S: Shelf> Primary<S> {
         }
     }
 
-    fn executed(
+    fn executed<N>(
         &self,
         alloc: Global,
-        env: &S::Env,
+        env: &N,
         call: &S::Call,
         now: Moment,
     ) -> Result<Prepared, Memory>
-        requires limits { S.within_limits call.now }
-        requires small { IsSmall S.within (S.state self.now.shelf) }
-        ensures reply { let state = S.state self.now.shelf in
-            IfOk result (λ prepared. prepared.reply ≡ (S.object env.now).reply state call.now now) }
-        ensures effect { let state = S.state self.now.shelf in
-            IfOk result (λ prepared. prepared.effect ≡ S.effect_of env.now state call.now now) }
-        ensures change { let state = S.state self.now.shelf in
-            IfOk result (λ prepared. prepared.change ≡ S.change_of env.now state call.now now) }
+    where
+        S: Executes<N>,
+        requires limits { S.model.within_limits call.now }
+        requires small { IsSmall S.model.within (S.model.state self.now.shelf) }
+        ensures reply { let state = S.model.state self.now.shelf in
+            IfOk result (λ prepared. prepared.reply ≡ (S.model.object (S.plan_of env.now)).reply state call.now now) }
+        ensures effect { let state = S.model.state self.now.shelf in
+            IfOk result (λ prepared. prepared.effect ≡ S.model.effect_of (S.plan_of env.now) state call.now now) }
+        ensures change { let state = S.model.state self.now.shelf in
+            IfOk result (λ prepared. prepared.change ≡ S.model.change_of (S.plan_of env.now) state call.now now) }
     {
         let executed = self.shelf.execute(alloc, env, call, now)?;
         let copy = executed.reply.copied(alloc)?;
@@ -138,12 +142,12 @@ impl<S: Shelf> Primary<S> {
         id: CallId,
         prepared: Prepared,
     ) -> Result<Called, Memory>
-        requires fits_effect { (bytes : List ℕ) → prepared.effect ≡ Some bytes → is_some (S.applied bytes (S.state (contents_of self.old))) ≡ true }
+        requires fits_effect { (bytes : List ℕ) → prepared.effect ≡ Some bytes → is_some (S.model.applied bytes (S.model.state (contents_of self.old))) ≡ true }
         requires fits { (node_of self.old).pair.count + 1 < 2 ^ 32 }
         ensures node { let changes = is_some prepared.effect in
             OnOk result (node_of self.new ≡ settled (executing changes id.conn id.number (node_of self.old))) }
-        ensures contents { let old = S.state (contents_of self.old) in
-            OnOk result (EffectLeaves S.applied prepared.effect old (S.state (contents_of self.new))) }
+        ensures contents { let old = S.model.state (contents_of self.old) in
+            OnOk result (EffectLeaves S.model.applied prepared.effect old (S.model.state (contents_of self.new))) }
         ensures answers { let after = executing (is_some prepared.effect) id.conn id.number (node_of self.old) in
             let answer = answer_at after id prepared.reply prepared.change in
             OnOk result (all_of (answers_of self.new) ≡ all_of (answers_of self.old) ++ answer ∷ []) }
@@ -151,7 +155,7 @@ impl<S: Shelf> Primary<S> {
         ensures called { let after = executing (is_some prepared.effect) id.conn id.number (node_of self.old) in
             IfOk result (λ called. called ≡ called_at after prepared.reply) }
         ensures err_node { OnErr result (node_of self.new ≡ node_of self.old) }
-        ensures err_contents { OnErr result (S.state (contents_of self.new) ≡ S.state (contents_of self.old)) }
+        ensures err_contents { OnErr result (S.model.state (contents_of self.new) ≡ S.model.state (contents_of self.old)) }
         ensures err_answers { OnErr result (answers_of self.new ≡ answers_of self.old) }
         ensures err_ring { OnErr result (ring_of self.new ≡ ring_of self.old) }
     {
@@ -162,10 +166,10 @@ impl<S: Shelf> Primary<S> {
 
     /// Applies the effect of a call, if it has one.
     fn apply(&mut self, alloc: Global, prepared: &Prepared) -> Result<(), Memory>
-        requires { (bytes : List ℕ) → prepared.now.effect ≡ Some bytes → is_some (S.applied bytes (S.state self.old.shelf)) ≡ true }
+        requires { (bytes : List ℕ) → prepared.now.effect ≡ Some bytes → is_some (S.model.applied bytes (S.model.state self.old.shelf)) ≡ true }
         ensures hold { self.new.hold ≡ self.old.hold }
-        ensures ok { OnOk result (EffectLeaves S.applied prepared.now.effect (S.state self.old.shelf) (S.state self.new.shelf)) }
-        ensures err { OnErr result (S.state self.new.shelf ≡ S.state self.old.shelf) }
+        ensures ok { OnOk result (EffectLeaves S.model.applied prepared.now.effect (S.model.state self.old.shelf) (S.model.state self.new.shelf)) }
+        ensures err { OnErr result (S.model.state self.new.shelf ≡ S.model.state self.old.shelf) }
     {
         match prepared.effect() {
             None => Ok(()),
@@ -175,35 +179,37 @@ impl<S: Shelf> Primary<S> {
 
     /// Executes a call, makes its change, and holds its answer until each backup has what the call saw. A refusal
     /// changes nothing.
-    pub fn call(
+    pub fn call<N>(
         &mut self,
         alloc: Global,
-        env: &S::Env,
+        env: &N,
         id: CallId,
         call: &S::Call,
         now: Moment,
     ) -> Result<Called, PrimaryRefused>
-        requires limits { S.within_limits call.now }
-        requires small { IsSmall S.within (S.state (contents_of self.old)) }
+    where
+        S: Executes<N>,
+        requires limits { S.model.within_limits call.now }
+        requires small { IsSmall S.model.within (S.model.state (contents_of self.old)) }
         requires fits { (node_of self.old).pair.count + 1 < 2 ^ 32 }
         ensures ok { OnOk result ((node_of self.old).frozen ≡ false) }
         ensures refused { IfErr result (RefusedBy (node_of self.old)) }
-        ensures node { let changes = (S.object env.now).changes (S.state (contents_of self.old)) call.now now in
+        ensures node { let changes = (S.model.object (S.plan_of env.now)).changes (S.model.state (contents_of self.old)) call.now now in
             OnOk result (node_of self.new ≡ settled (executing changes id.conn id.number (node_of self.old))) }
-        ensures contents { let after = (S.object env.now).after (S.state (contents_of self.old)) call.now now in
-            OnOk result (S.state (contents_of self.new) ≡ after) }
-        ensures answers { let state = S.state (contents_of self.old) in
-            let after = executing ((S.object env.now).changes state call.now now) id.conn id.number (node_of self.old) in
-            let reply = (S.object env.now).reply state call.now now in
-            let answer = answer_at after id reply (S.change_of env.now state call.now now) in
+        ensures contents { let after = (S.model.object (S.plan_of env.now)).after (S.model.state (contents_of self.old)) call.now now in
+            OnOk result (S.model.state (contents_of self.new) ≡ after) }
+        ensures answers { let state = S.model.state (contents_of self.old) in
+            let after = executing ((S.model.object (S.plan_of env.now)).changes state call.now now) id.conn id.number (node_of self.old) in
+            let reply = (S.model.object (S.plan_of env.now)).reply state call.now now in
+            let answer = answer_at after id reply (S.model.change_of (S.plan_of env.now) state call.now now) in
             OnOk result (all_of (answers_of self.new) ≡ all_of (answers_of self.old) ++ answer ∷ []) }
-        ensures ring { let effect = S.effect_of env.now (S.state (contents_of self.old)) call.now now in
+        ensures ring { let effect = S.model.effect_of (S.plan_of env.now) (S.model.state (contents_of self.old)) call.now now in
             OnOk result (ring_of self.new ≡ ring_after effect (ring_of self.old)) }
-        ensures called { let state = S.state (contents_of self.old) in
-            let after = executing ((S.object env.now).changes state call.now now) id.conn id.number (node_of self.old) in
-            IfOk result (λ called. called ≡ called_at after ((S.object env.now).reply state call.now now)) }
+        ensures called { let state = S.model.state (contents_of self.old) in
+            let after = executing ((S.model.object (S.plan_of env.now)).changes state call.now now) id.conn id.number (node_of self.old) in
+            IfOk result (λ called. called ≡ called_at after ((S.model.object (S.plan_of env.now)).reply state call.now now)) }
         ensures err_node { OnErr result (node_of self.new ≡ node_of self.old) }
-        ensures err_contents { OnErr result (S.state (contents_of self.new) ≡ S.state (contents_of self.old)) }
+        ensures err_contents { OnErr result (S.model.state (contents_of self.new) ≡ S.model.state (contents_of self.old)) }
         ensures err_answers { OnErr result (answers_of self.new ≡ answers_of self.old) }
         ensures err_ring { OnErr result (ring_of self.new ≡ ring_of self.old) }
     {

@@ -27,23 +27,23 @@ impl<S: Shelf> Node<S> {
     /// Costs a copy of the row, and for its primary what it writes: a snapshot of the contents at most, and for each
     /// backup a copy of it or up to 64 effects. Want of memory changes nothing, but some messages may have been written.
     pub fn adopt(&mut self, alloc: Global, row: &Row, out: &mut Outbox) -> Result<bool, Memory>
-        requires { IsSmall S.within (S.state (contents_of self.old)) }
+        requires { IsSmall S.model.within (S.model.state (contents_of self.old)) }
         ensures newer { IfOk result (λ newer. newer ≡ is_newer row.now (node_of self.old)) }
         ensures node { let step = on_row (member_of self.old) row.now (node_of self.old) in
             OnOk result (node_of self.new ≡ step.node) }
         ensures sent { let step = on_row (member_of self.old) row.now (node_of self.old) in
-            let k = carried_by S.snapshot_of S.state self.new in
+            let k = carried_by S.model.snapshot_of S.model.state self.new in
             OnOk result (out.new ≡ out.old ++ map (written k) step.sent) }
         ensures fits { let step = on_row (member_of self.old) row.now (node_of self.old) in
-            OnOk result (All (Fits (carried_by S.snapshot_of S.state self.new)) step.sent) }
-        ensures contents { let left = state_after_row S.empty_state (member_of self.old) row.now (node_of self.old) (S.state (contents_of self.old)) in
-            OnOk result (S.state (contents_of self.new) ≡ left) }
+            OnOk result (All (Fits (carried_by S.model.snapshot_of S.model.state self.new)) step.sent) }
+        ensures contents { let left = state_after_row S.model.empty_state (member_of self.old) row.now (node_of self.old) (S.model.state (contents_of self.old)) in
+            OnOk result (S.model.state (contents_of self.new) ≡ left) }
         ensures answers { let leads = is_primary (node_of self.new).known (member_of self.new) in
             OnOk result (waiting self.new ++ held_answers self.new ≡ answers_left leads (waiting self.old) (held_answers self.old)) }
         ensures ring { let left = ring_after_row (member_of self.old) row.now (node_of self.old) (ring_of self.old) in
             OnOk result (ring_of self.new ≡ left) }
         ensures ends { ends_of self.new ≡ ends_of self.old }
-        ensures err { OnErr result (IsUnchanged S.state self.old self.new) }
+        ensures err { OnErr result (IsUnchanged S.model.state self.old self.new) }
     {
         if row.version <= self.known().version {
             return Ok(false);
@@ -80,8 +80,8 @@ impl<S: Shelf> Node<S> {
     pub(crate) fn follow(&mut self, alloc: Global, row: Row)
         requires { is_primary row (member_of self.old) ≡ false }
         ensures node { node_of self.new ≡ adopted_row (member_of self.old) row (node_of self.old) }
-        ensures contents { let left = state_in S.empty_state (member_of self.old) row (node_of self.old) (S.state (contents_of self.old)) in
-            S.state (contents_of self.new) ≡ left }
+        ensures contents { let left = state_in S.model.empty_state (member_of self.old) row (node_of self.old) (S.model.state (contents_of self.old)) in
+            S.model.state (contents_of self.new) ≡ left }
         ensures waiting { waiting self.new ≡ waiting self.old }
         ensures held { held_answers self.new ≡ [] }
         ensures ring { ring_of self.new ≡ [] }
@@ -107,11 +107,11 @@ impl<S: Shelf> Node<S> {
 
     /// Goes on as primary in a row, with its contents: writes each backup what it is sent to catch up.
     fn lead_on(&mut self, alloc: Global, row: Row, out: &mut Outbox) -> Result<(), Memory>
-        requires small { IsSmall S.within (S.state (contents_of self.old)) }
+        requires small { IsSmall S.model.within (S.model.state (contents_of self.old)) }
         requires primary { is_primary row (member_of self.old) ≡ true }
         requires stays { stays_primary row (node_of self.old) (member_of self.old) ≡ true }
         ensures node { OnOk result (node_of self.new ≡ adopted_row (member_of self.old) row (node_of self.old)) }
-        ensures sent { let k = carried_by S.snapshot_of S.state self.new in
+        ensures sent { let k = carried_by S.model.snapshot_of S.model.state self.new in
             OnOk result (Sends k (sent_on_adopting (member_of self.old) (node_of self.new)) out.old out.new) }
         ensures contents { OnOk result (contents_of self.new ≡ contents_of self.old) }
         ensures waiting { OnOk result (waiting self.new ≡ waiting self.old) }
@@ -133,14 +133,14 @@ impl<S: Shelf> Node<S> {
         row: Row,
         out: &mut Outbox,
     ) -> Result<(), Memory>
-        requires small { IsSmall S.within (S.state (contents_of self.old)) }
+        requires small { IsSmall S.model.within (S.model.state (contents_of self.old)) }
         requires primary { is_primary row (member_of self.old) ≡ true }
         requires follows { is_primary (node_of self.old).known (member_of self.old) ≡ false }
         requires since { row.reset ≤ (node_of self.old).pair.version }
         ensures node { OnOk result (node_of self.new ≡ adopted_row (member_of self.old) row (node_of self.old)) }
-        ensures sent { let k = carried_by S.snapshot_of S.state self.new in
+        ensures sent { let k = carried_by S.model.snapshot_of S.model.state self.new in
             OnOk result (Sends k (sent_on_adopting (member_of self.old) (node_of self.new)) out.old out.new) }
-        ensures contents { OnOk result (S.state (contents_of self.new) ≡ S.state (contents_of self.old)) }
+        ensures contents { OnOk result (S.model.state (contents_of self.new) ≡ S.model.state (contents_of self.old)) }
         ensures waiting { OnOk result (waiting self.new ≡ waiting self.old) }
         ensures held { OnOk result (held_answers self.new ≡ held_answers self.old) }
         ensures ring { OnOk result (ring_of self.new ≡ []) }
@@ -170,9 +170,9 @@ impl<S: Shelf> Node<S> {
         requires primary { is_primary row (member_of self.old) ≡ true }
         requires before { (node_of self.old).pair.version < row.reset }
         ensures node { OnOk result (node_of self.new ≡ adopted_row (member_of self.old) row (node_of self.old)) }
-        ensures sent { let k = carried_by S.snapshot_of S.state self.new in
+        ensures sent { let k = carried_by S.model.snapshot_of S.model.state self.new in
             OnOk result (Sends k (sent_on_adopting (member_of self.old) (node_of self.new)) out.old out.new) }
-        ensures contents { OnOk result (S.state (contents_of self.new) ≡ S.empty_state) }
+        ensures contents { OnOk result (S.model.state (contents_of self.new) ≡ S.model.empty_state) }
         ensures waiting { OnOk result (waiting self.new ≡ waiting self.old) }
         ensures held { OnOk result (held_answers self.new ≡ held_answers self.old) }
         ensures ring { OnOk result (ring_of self.new ≡ []) }

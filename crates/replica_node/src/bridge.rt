@@ -60,21 +60,21 @@ impl<S: Shelf> Node<S> {
         out: &mut Outbox,
     ) -> Result<Took, Memory>
         requires empty { out.old ≡ [] }
-        requires small { IsSmall S.within (S.state (contents_of self.old)) }
+        requires small { IsSmall S.model.within (S.model.state (contents_of self.old)) }
         ensures node { OnOk result (node_of self.new ≡ settled (on_bridge (member_of self.old) from row.now base count (node_of self.old)).node) }
         ensures took { IfOk result (λ took. took_of took ≡ (on_bridge (member_of self.old) from row.now base count (node_of self.old)).took) }
-        ensures sent { let k = carried_by S.snapshot_of S.state self.new in
+        ensures sent { let k = carried_by S.model.snapshot_of S.model.state self.new in
             OnOk result (out.new ≡ map (written k) (on_bridge (member_of self.old) from row.now base count (node_of self.old)).sent) }
-        ensures fits { let k = carried_by S.snapshot_of S.state self.new in
+        ensures fits { let k = carried_by S.model.snapshot_of S.model.state self.new in
             OnOk result (All (Fits k) (on_bridge (member_of self.old) from row.now base count (node_of self.old)).sent) }
-        ensures contents { let left = state_after_row S.empty_state (member_of self.old) row.now (node_of self.old) (S.state (contents_of self.old)) in
-            OnOk result (S.state (contents_of self.new) ≡ left) }
+        ensures contents { let left = state_after_row S.model.empty_state (member_of self.old) row.now (node_of self.old) (S.model.state (contents_of self.old)) in
+            OnOk result (S.model.state (contents_of self.new) ≡ left) }
         ensures answers { let leads = is_primary (node_of self.new).known (member_of self.new) in
             OnOk result (waiting self.new ++ held_answers self.new ≡ answers_left leads (waiting self.old) (held_answers self.old)) }
         ensures ring { let left = ring_after_row (member_of self.old) row.now (node_of self.old) (ring_of self.old) in
             OnOk result (ring_of self.new ≡ left) }
         ensures ends { ends_of self.new ≡ ends_of self.old }
-        ensures err { OnErr result (IsUnchanged S.state self.old self.new) }
+        ensures err { OnErr result (IsUnchanged S.model.state self.old self.new) }
     {
         let known = self.known().version;
         if row.version < known || (row.version == known && !self.known().is_backup(self.member)) {
@@ -106,18 +106,18 @@ impl<S: Shelf> Node<S> {
         requires known { row.now.version ≡ (node_of self.old).known.version }
         ensures node { OnOk result (node_of self.new ≡ settled (on_bridge (member_of self.old) from row.now base count (node_of self.old)).node) }
         ensures took { IfOk result (λ took. took_of took ≡ (on_bridge (member_of self.old) from row.now base count (node_of self.old)).took) }
-        ensures sent { let k = carried_by S.snapshot_of S.state self.new in
+        ensures sent { let k = carried_by S.model.snapshot_of S.model.state self.new in
             OnOk result (out.new ≡ map (written k) (on_bridge (member_of self.old) from row.now base count (node_of self.old)).sent) }
-        ensures fits { let k = carried_by S.snapshot_of S.state self.new in
+        ensures fits { let k = carried_by S.model.snapshot_of S.model.state self.new in
             OnOk result (All (Fits k) (on_bridge (member_of self.old) from row.now base count (node_of self.old)).sent) }
-        ensures contents { let left = state_after_row S.empty_state (member_of self.old) row.now (node_of self.old) (S.state (contents_of self.old)) in
-            OnOk result (S.state (contents_of self.new) ≡ left) }
+        ensures contents { let left = state_after_row S.model.empty_state (member_of self.old) row.now (node_of self.old) (S.model.state (contents_of self.old)) in
+            OnOk result (S.model.state (contents_of self.new) ≡ left) }
         ensures answers { let leads = is_primary (node_of self.new).known (member_of self.new) in
             OnOk result (waiting self.new ++ held_answers self.new ≡ answers_left leads (waiting self.old) (held_answers self.old)) }
         ensures ring { let left = ring_after_row (member_of self.old) row.now (node_of self.old) (ring_of self.old) in
             OnOk result (ring_of self.new ≡ left) }
         ensures ends { ends_of self.new ≡ ends_of self.old }
-        ensures err { OnErr result (IsUnchanged S.state self.old self.new) }
+        ensures err { OnErr result (IsUnchanged S.model.state self.old self.new) }
     {
         let took = answer_bridge(alloc, from, row.version, base, count, self.role.pair(), out)?;
         self.role.cross(row.version, base, count);
@@ -139,18 +139,18 @@ impl<S: Shelf> Node<S> {
         requires newer { is_newer row.now (node_of self.old) ≡ true }
         ensures node { OnOk result (node_of self.new ≡ settled (on_bridge (member_of self.old) from row.now base count (node_of self.old)).node) }
         ensures took { IfOk result (λ took. took_of took ≡ (on_bridge (member_of self.old) from row.now base count (node_of self.old)).took) }
-        ensures sent { let k = carried_by S.snapshot_of S.state self.new in
+        ensures sent { let k = carried_by S.model.snapshot_of S.model.state self.new in
             OnOk result (out.new ≡ map (written k) (on_bridge (member_of self.old) from row.now base count (node_of self.old)).sent) }
-        ensures fits { let k = carried_by S.snapshot_of S.state self.new in
+        ensures fits { let k = carried_by S.model.snapshot_of S.model.state self.new in
             OnOk result (All (Fits k) (on_bridge (member_of self.old) from row.now base count (node_of self.old)).sent) }
-        ensures contents { let left = state_after_row S.empty_state (member_of self.old) row.now (node_of self.old) (S.state (contents_of self.old)) in
-            OnOk result (S.state (contents_of self.new) ≡ left) }
+        ensures contents { let left = state_after_row S.model.empty_state (member_of self.old) row.now (node_of self.old) (S.model.state (contents_of self.old)) in
+            OnOk result (S.model.state (contents_of self.new) ≡ left) }
         ensures answers { let leads = is_primary (node_of self.new).known (member_of self.new) in
             OnOk result (waiting self.new ++ held_answers self.new ≡ answers_left leads (waiting self.old) (held_answers self.old)) }
         ensures ring { let left = ring_after_row (member_of self.old) row.now (node_of self.old) (ring_of self.old) in
             OnOk result (ring_of self.new ≡ left) }
         ensures ends { ends_of self.new ≡ ends_of self.old }
-        ensures err { OnErr result (IsUnchanged S.state self.old self.new) }
+        ensures err { OnErr result (IsUnchanged S.model.state self.old self.new) }
     {
         let known = row.copied(alloc)?;
         let took = answer_bridge(

@@ -3,7 +3,7 @@ ghost use Rattle.grid_base.specs.Objects.{IsSmall};
 ghost use Rattle.partition_table.specs.declared.RowMember.{RowMember as MemberOf};
 ghost use Rattle.partition_protocol.specs.Messages.{Effect};
 ghost use Rattle.partition_protocol.specs.Node.{settled};
-ghost use Rattle.partition_protocol.specs.Execution.{Executes, executing, reached, sent_on_executing};
+ghost use Rattle.partition_protocol.specs.Execution.{Executes as MayExecute, executing, reached, sent_on_executing};
 ghost use Rattle.partition_protocol.specs.Replica.{to_one};
 ghost use Rattle.member_wire.specs.Said.{Contents, written};
 ghost use Rattle.primary_hold.specs.Calls.{answer_at, called_at};
@@ -16,7 +16,7 @@ ghost use Rattle.replica_node.specs.Sending.{Fits, Sends};
 use crate::node::Node;
 use crate::refused::NodeRefused;
 use crate::role::Role;
-use grid_base::{Bytes, CallId, MemberId, Memory, Moment, Shelf};
+use grid_base::{Bytes, CallId, Executes, MemberId, Memory, Moment, Shelf};
 use member_wire::Outbox;
 use partition_table::RowMember;
 use primary_hold::{Called, Prepared, Primary};
@@ -28,49 +28,51 @@ impl<S: Shelf> Node<S> {
     /// and sends nothing unless it is for want of memory.
     ///
     /// Costs what the shelf makes of the call, and a copy of its effect for each backup.
-    pub fn call(
+    pub fn call<N>(
         &mut self,
         alloc: Global,
-        env: &S::Env,
+        env: &N,
         id: CallId,
         call: &S::Call,
         now: Moment,
         out: &mut Outbox,
     ) -> Result<Called, NodeRefused>
-        requires limits { S.within_limits call.now }
-        requires small { IsSmall S.within (S.state (contents_of self.old)) }
+    where
+        S: Executes<N>,
+        requires limits { S.model.within_limits call.now }
+        requires small { IsSmall S.model.within (S.model.state (contents_of self.old)) }
         requires fits { (node_of self.old).pair.count + 1 < 2 ^ 32 }
         requires empty { out.old ≡ [] }
-        ensures reached { OnOk result (reached (member_of self.old) (node_of self.old) ≡ Executes) }
+        ensures reached { OnOk result (reached (member_of self.old) (node_of self.old) ≡ MayExecute) }
         ensures refused { IfErr result (RefusedAs (reached (member_of self.old) (node_of self.old))) }
         ensures unsent { IfErr result (λ refused. SendsNothing refused out.old out.new) }
-        ensures node { let changes = (S.object env.now).changes (S.state (contents_of self.old)) call.now now in
+        ensures node { let changes = (S.model.object (S.plan_of env.now)).changes (S.model.state (contents_of self.old)) call.now now in
             OnOk result (node_of self.new ≡ settled (executing changes id.conn id.number (node_of self.old))) }
-        ensures contents { let after = (S.object env.now).after (S.state (contents_of self.old)) call.now now in
-            OnOk result (S.state (contents_of self.new) ≡ after) }
+        ensures contents { let after = (S.model.object (S.plan_of env.now)).after (S.model.state (contents_of self.old)) call.now now in
+            OnOk result (S.model.state (contents_of self.new) ≡ after) }
         ensures sent { (k : Contents) (bytes : List ℕ) →
-            S.effect_of env.now (S.state (contents_of self.old)) call.now now ≡ Some bytes →
+            S.model.effect_of (S.plan_of env.now) (S.model.state (contents_of self.old)) call.now now ≡ Some bytes →
             let after = executing true id.conn id.number (node_of self.old) in
             k.effect after.pair.version after.pair.count ≡ bytes →
             OnOk result (out.new ≡ map (written k) (sent_on_executing true after)) }
         ensures fits { (k : Contents) (bytes : List ℕ) →
-            S.effect_of env.now (S.state (contents_of self.old)) call.now now ≡ Some bytes →
+            S.model.effect_of (S.plan_of env.now) (S.model.state (contents_of self.old)) call.now now ≡ Some bytes →
             let after = executing true id.conn id.number (node_of self.old) in
             k.effect after.pair.version after.pair.count ≡ bytes →
             OnOk result (All (Fits k) (sent_on_executing true after)) }
-        ensures silent { S.effect_of env.now (S.state (contents_of self.old)) call.now now ≡ None → OnOk result (out.new ≡ []) }
-        ensures answers { let state = S.state (contents_of self.old) in
-            let after = executing ((S.object env.now).changes state call.now now) id.conn id.number (node_of self.old) in
-            let reply = (S.object env.now).reply state call.now now in
-            let answer = answer_at after id reply (S.change_of env.now state call.now now) in
+        ensures silent { S.model.effect_of (S.plan_of env.now) (S.model.state (contents_of self.old)) call.now now ≡ None → OnOk result (out.new ≡ []) }
+        ensures answers { let state = S.model.state (contents_of self.old) in
+            let after = executing ((S.model.object (S.plan_of env.now)).changes state call.now now) id.conn id.number (node_of self.old) in
+            let reply = (S.model.object (S.plan_of env.now)).reply state call.now now in
+            let answer = answer_at after id reply (S.model.change_of (S.plan_of env.now) state call.now now) in
             OnOk result (waiting self.new ++ held_answers self.new ≡ waiting self.old ++ held_answers self.old ++ answer ∷ []) }
-        ensures ring { let effect = S.effect_of env.now (S.state (contents_of self.old)) call.now now in
+        ensures ring { let effect = S.model.effect_of (S.plan_of env.now) (S.model.state (contents_of self.old)) call.now now in
             OnOk result (ring_of self.new ≡ ring_after effect (ring_of self.old)) }
-        ensures called { let state = S.state (contents_of self.old) in
-            let after = executing ((S.object env.now).changes state call.now now) id.conn id.number (node_of self.old) in
-            IfOk result (λ called. called ≡ called_at after ((S.object env.now).reply state call.now now)) }
+        ensures called { let state = S.model.state (contents_of self.old) in
+            let after = executing ((S.model.object (S.plan_of env.now)).changes state call.now now) id.conn id.number (node_of self.old) in
+            IfOk result (λ called. called ≡ called_at after ((S.model.object (S.plan_of env.now)).reply state call.now now)) }
         ensures ends { ends_of self.new ≡ ends_of self.old }
-        ensures err { OnErr result (IsUnchanged S.state self.old self.new) }
+        ensures err { OnErr result (IsUnchanged S.model.state self.old self.new) }
     {
         let version = self.known().version;
         if self.known().lost {

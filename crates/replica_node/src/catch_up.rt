@@ -27,11 +27,11 @@ fn send_whole<S: Shelf>(
     snapshot: &mut Option<Bytes>,
     out: &mut Outbox,
 ) -> Result<(), Memory>
-    requires small { IsSmall S.within (S.state shelf.now) }
-    requires made { IsOf (S.snapshot_of (S.state shelf.now)) snapshot.old }
-    ensures sent { (k : Contents) → k.snapshot row.now.version count ≡ S.snapshot_of (S.state shelf.now) →
+    requires small { IsSmall S.model.within (S.model.state shelf.now) }
+    requires made { IsOf (S.model.snapshot_of (S.model.state shelf.now)) snapshot.old }
+    ensures sent { (k : Contents) → k.snapshot row.now.version count ≡ S.model.snapshot_of (S.model.state shelf.now) →
         OnOk result (Sends k (to_one to (Sync row.now count)) out.old out.new) }
-    ensures made { OnOk result (IsOf (S.snapshot_of (S.state shelf.now)) snapshot.new) }
+    ensures made { OnOk result (IsOf (S.model.snapshot_of (S.model.state shelf.now)) snapshot.new) }
 {
     if let Some(bytes) = snapshot {
         out.write_sync(alloc, to, row, count, bytes)?;
@@ -51,8 +51,8 @@ pub(crate) fn send_contents<S: Shelf>(
     count: u32,
     out: &mut Outbox,
 ) -> Result<(), Memory>
-    requires small { IsSmall S.within (S.state shelf.now) }
-    ensures sent { (k : Contents) → k.snapshot row.now.version count ≡ S.snapshot_of (S.state shelf.now) →
+    requires small { IsSmall S.model.within (S.model.state shelf.now) }
+    ensures sent { (k : Contents) → k.snapshot row.now.version count ≡ S.model.snapshot_of (S.model.state shelf.now) →
         OnOk result (Sends k (flat_map (λ (b : MemberOf). to_one b.member (Sync row.now count)) (backups_of row.now)) out.old out.new) }
 {
     let mut snapshot = None;
@@ -72,7 +72,7 @@ fn send_effects<S: Shelf>(
     upto: u32,
     out: &mut Outbox,
 ) -> Result<(), Memory>
-    ensures { let k = primary_carries S.snapshot_of S.state primary.now in
+    ensures { let k = primary_carries S.model.snapshot_of S.model.state primary.now in
         OnOk result (Sends k (all_to to (effects version after upto)) out.old out.new) }
 {
     for before in after..upto {
@@ -91,7 +91,7 @@ fn send_effect<S: Shelf>(
     number: u32,
     out: &mut Outbox,
 ) -> Result<(), Memory>
-    ensures { let k = primary_carries S.snapshot_of S.state primary.now in
+    ensures { let k = primary_carries S.model.snapshot_of S.model.state primary.now in
         OnOk result (Sends k (to_one to (Effect version number)) out.old out.new) }
 {
     match primary.recent(number) {
@@ -113,7 +113,7 @@ fn send_bridged<S: Shelf>(
     count: u32,
     out: &mut Outbox,
 ) -> Result<(), Memory>
-    ensures { let k = primary_carries S.snapshot_of S.state primary.now in
+    ensures { let k = primary_carries S.model.snapshot_of S.model.state primary.now in
         let messages = effects base after begun ++ (Bridge row.now base begun ∷ effects row.now.version begun count) in
         OnOk result (Sends k (all_to to messages) out.old out.new) }
 {
@@ -132,11 +132,11 @@ fn send_catch_up<S: Shelf>(
     snapshot: &mut Option<Bytes>,
     out: &mut Outbox,
 ) -> Result<(), Memory>
-    requires small { IsSmall S.within (S.state (contents_of primary.now)) }
-    requires made { IsOf (S.snapshot_of (S.state (contents_of primary.now))) snapshot.old }
-    ensures sent { let k = primary_carries S.snapshot_of S.state primary.now in
+    requires small { IsSmall S.model.within (S.model.state (contents_of primary.now)) }
+    requires made { IsOf (S.model.snapshot_of (S.model.state (contents_of primary.now))) snapshot.old }
+    ensures sent { let k = primary_carries S.model.snapshot_of S.model.state primary.now in
         OnOk result (Sends k (catch_up (viewed view.now) backup.now) out.old out.new) }
-    ensures made { OnOk result (IsOf (S.snapshot_of (S.state (contents_of primary.now))) snapshot.new) }
+    ensures made { OnOk result (IsOf (S.model.snapshot_of (S.model.state (contents_of primary.now))) snapshot.new) }
 {
     let to = backup.member;
     let version = view.row().version;
@@ -180,8 +180,8 @@ pub(crate) fn send_catch_ups<S: Shelf>(
     view: &View<'_>,
     out: &mut Outbox,
 ) -> Result<(), Memory>
-    requires { IsSmall S.within (S.state (contents_of primary.now)) }
-    ensures { let k = primary_carries S.snapshot_of S.state primary.now in
+    requires { IsSmall S.model.within (S.model.state (contents_of primary.now)) }
+    ensures { let k = primary_carries S.model.snapshot_of S.model.state primary.now in
         OnOk result (Sends k (flat_map (catch_up (viewed view.now)) (backups_of (viewed view.now).known)) out.old out.new) }
 {
     let mut snapshot = None;
@@ -198,10 +198,10 @@ pub(crate) fn send_lagging<S: Shelf>(
     view: &View<'_>,
     out: &mut Outbox,
 ) -> Result<(), Memory>
-    requires { IsSmall S.within (S.state (contents_of primary.now)) }
+    requires { IsSmall S.model.within (S.model.state (contents_of primary.now)) }
     ensures { let node = viewed view.now in
         let lagging = flat_map (λ (b : MemberOf). if lags node b.member then catch_up node b else []) (backups_of node.known) in
-        OnOk result (Sends (primary_carries S.snapshot_of S.state primary.now) lagging out.old out.new) }
+        OnOk result (Sends (primary_carries S.model.snapshot_of S.model.state primary.now) lagging out.old out.new) }
 {
     let mut snapshot = None;
     for backup in view.row().backups() {
@@ -218,12 +218,12 @@ fn send_if_lagging<S: Shelf>(
     snapshot: &mut Option<Bytes>,
     out: &mut Outbox,
 ) -> Result<(), Memory>
-    requires small { IsSmall S.within (S.state (contents_of primary.now)) }
-    requires made { IsOf (S.snapshot_of (S.state (contents_of primary.now))) snapshot.old }
+    requires small { IsSmall S.model.within (S.model.state (contents_of primary.now)) }
+    requires made { IsOf (S.model.snapshot_of (S.model.state (contents_of primary.now))) snapshot.old }
     ensures sent { let node = viewed view.now in
         let lagging = (if lags node backup.now.member then catch_up node backup.now else []) in
-        OnOk result (Sends (primary_carries S.snapshot_of S.state primary.now) lagging out.old out.new) }
-    ensures made { OnOk result (IsOf (S.snapshot_of (S.state (contents_of primary.now))) snapshot.new) }
+        OnOk result (Sends (primary_carries S.model.snapshot_of S.model.state primary.now) lagging out.old out.new) }
+    ensures made { OnOk result (IsOf (S.model.snapshot_of (S.model.state (contents_of primary.now))) snapshot.new) }
 {
     if view.lags(backup.member) {
         send_catch_up(alloc, primary, view, backup, snapshot, out)?;

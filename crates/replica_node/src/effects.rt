@@ -30,20 +30,20 @@ impl<S: Shelf> Node<S> {
         out: &mut Outbox,
     ) -> Result<Took, Memory>
         requires empty { out.old ≡ [] }
-        requires fits { (on_effect (member_of self.old) from version number (node_of self.old)).took ≡ WasApplied → is_some (S.applied effect.now (S.state (contents_of self.old))) ≡ true }
+        requires fits { (on_effect (member_of self.old) from version number (node_of self.old)).took ≡ WasApplied → is_some (S.model.applied effect.now (S.model.state (contents_of self.old))) ≡ true }
         ensures node { OnOk result (node_of self.new ≡ settled (on_effect (member_of self.old) from version number (node_of self.old)).node) }
         ensures took { IfOk result (λ took. took_of took ≡ (on_effect (member_of self.old) from version number (node_of self.old)).took) }
-        ensures sent { let k = carried_by S.snapshot_of S.state self.new in
+        ensures sent { let k = carried_by S.model.snapshot_of S.model.state self.new in
             OnOk result (out.new ≡ map (written k) (on_effect (member_of self.old) from version number (node_of self.old)).sent) }
-        ensures fits { let k = carried_by S.snapshot_of S.state self.new in
+        ensures fits { let k = carried_by S.model.snapshot_of S.model.state self.new in
             OnOk result (All (Fits k) (on_effect (member_of self.old) from version number (node_of self.old)).sent) }
-        ensures contents { let leaves = Leaves S.within S.empty_state S.applied S.snapshot_of (member_of self.old) (node_of self.old) (MemberMessage.Effect version number effect.now) (on_effect (member_of self.old) from version number (node_of self.old)).took in
-            OnOk result (leaves (S.state (contents_of self.old)) (S.state (contents_of self.new))) }
+        ensures contents { let leaves = Leaves S.model.within S.model.empty_state S.model.applied S.model.snapshot_of (member_of self.old) (node_of self.old) (MemberMessage.Effect version number effect.now) (on_effect (member_of self.old) from version number (node_of self.old)).took in
+            OnOk result (leaves (S.model.state (contents_of self.old)) (S.model.state (contents_of self.new))) }
         ensures answers { let leads = is_primary (node_of self.new).known (member_of self.new) in
             OnOk result (waiting self.new ++ held_answers self.new ≡ answers_left leads (waiting self.old) (held_answers self.old)) }
         ensures ring { OnOk result (ring_of self.new ≡ ring_of self.old) }
         ensures ends { ends_of self.new ≡ ends_of self.old }
-        ensures err { OnErr result (IsUnchanged S.state self.old self.new) }
+        ensures err { OnErr result (IsUnchanged S.model.state self.old self.new) }
     {
         match &mut self.role {
             Role::Follows(follower) => {
@@ -72,16 +72,16 @@ impl<S: Shelf> Follower<S> {
         out: &mut Outbox,
     ) -> Result<Took, Memory>
         requires empty { out.old ≡ [] }
-        requires fits { (on_effect member from version number (follower_node self.old)).took ≡ WasApplied → is_some (S.applied effect.now (S.state (backup_contents self.old.kept))) ≡ true }
+        requires fits { (on_effect member from version number (follower_node self.old)).took ≡ WasApplied → is_some (S.model.applied effect.now (S.model.state (backup_contents self.old.kept))) ≡ true }
         ensures node { OnOk result (follower_node self.new ≡ (on_effect member from version number (follower_node self.old)).node) }
         ensures took { IfOk result (λ took. took_of took ≡ (on_effect member from version number (follower_node self.old)).took) }
         ensures sent { (k : Contents) → OnOk result (out.new ≡ map (written k) (on_effect member from version number (follower_node self.old)).sent) }
         ensures fits { (k : Contents) → OnOk result (All (Fits k) (on_effect member from version number (follower_node self.old)).sent) }
         ensures contents { let took = (on_effect member from version number (follower_node self.old)).took in
-            OnOk result (EffectLeaves S.applied effect.now took (S.state (backup_contents self.old.kept)) (S.state (backup_contents self.new.kept))) }
+            OnOk result (EffectLeaves S.model.applied effect.now took (S.model.state (backup_contents self.old.kept)) (S.model.state (backup_contents self.new.kept))) }
         ensures answers { self.new.answers ≡ self.old.answers }
         ensures err_node { OnErr result (follower_node self.new ≡ follower_node self.old) }
-        ensures err_contents { OnErr result (S.state (backup_contents self.new.kept) ≡ S.state (backup_contents self.old.kept)) }
+        ensures err_contents { OnErr result (S.model.state (backup_contents self.new.kept) ≡ S.model.state (backup_contents self.old.kept)) }
     {
         if !self.known.is_backup(member) {
             return Ok(Took::Other);

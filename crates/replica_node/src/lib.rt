@@ -19,6 +19,3 @@ mod whole;
 pub use contents::Contents;
 pub use node::Node;
 pub use refused::NodeRefused;
-
-#[cfg(test)]
-mod tests;

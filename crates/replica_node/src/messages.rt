@@ -31,27 +31,27 @@ impl<S: Shelf> Node<S> {
         out: &mut Outbox,
     ) -> Result<Took, Memory>
         requires empty { out.old ≡ [] }
-        requires small { IsSmall S.within (S.state (contents_of self.old)) }
+        requires small { IsSmall S.model.within (S.model.state (contents_of self.old)) }
         requires fits { let step = taking (service_of self.old) (member_of self.old) from (message_of message.now) (node_of self.old) in
-            IsFit S.within S.applied S.snapshot_of message.now step.took (S.state (contents_of self.old)) }
+            IsFit S.model.within S.model.applied S.model.snapshot_of message.now step.took (S.model.state (contents_of self.old)) }
         ensures node { let step = taking (service_of self.old) (member_of self.old) from (message_of message.now) (node_of self.old) in
             OnOk result (node_of self.new ≡ settled step.node) }
         ensures took { let step = taking (service_of self.old) (member_of self.old) from (message_of message.now) (node_of self.old) in
             IfOk result (λ took. took_of took ≡ step.took) }
         ensures sent { let step = taking (service_of self.old) (member_of self.old) from (message_of message.now) (node_of self.old) in
-            let k = carried_by S.snapshot_of S.state self.new in
+            let k = carried_by S.model.snapshot_of S.model.state self.new in
             OnOk result (out.new ≡ map (written k) step.sent) }
         ensures fits { let step = taking (service_of self.old) (member_of self.old) from (message_of message.now) (node_of self.old) in
-            OnOk result (All (Fits (carried_by S.snapshot_of S.state self.new)) step.sent) }
+            OnOk result (All (Fits (carried_by S.model.snapshot_of S.model.state self.new)) step.sent) }
         ensures contents { let step = taking (service_of self.old) (member_of self.old) from (message_of message.now) (node_of self.old) in
-            let leaves = Leaves S.within S.empty_state S.applied S.snapshot_of (member_of self.old) (node_of self.old) message.now step.took in
-            OnOk result (leaves (S.state (contents_of self.old)) (S.state (contents_of self.new))) }
+            let leaves = Leaves S.model.within S.model.empty_state S.model.applied S.model.snapshot_of (member_of self.old) (node_of self.old) message.now step.took in
+            OnOk result (leaves (S.model.state (contents_of self.old)) (S.model.state (contents_of self.new))) }
         ensures answers { let leads = is_primary (node_of self.new).known (member_of self.new) in
             OnOk result (waiting self.new ++ held_answers self.new ≡ answers_left leads (waiting self.old) (held_answers self.old)) }
         ensures ring { let left = ring_after_taking (member_of self.old) (node_of self.old) (row_in message.now) (ring_of self.old) in
             OnOk result (ring_of self.new ≡ left) }
         ensures ends { ends_of self.new ≡ ends_of self.old }
-        ensures err { OnErr result (IsUnchanged S.state self.old self.new) }
+        ensures err { OnErr result (IsUnchanged S.model.state self.old self.new) }
     {
         match message {
             MemberMessage::Row { row } => self.take_row(alloc, row, out),
@@ -82,21 +82,21 @@ impl<S: Shelf> Node<S> {
     /// Takes a row: a newer one is adopted.
     fn take_row(&mut self, alloc: Global, row: &Row, out: &mut Outbox) -> Result<Took, Memory>
         requires empty { out.old ≡ [] }
-        requires small { IsSmall S.within (S.state (contents_of self.old)) }
+        requires small { IsSmall S.model.within (S.model.state (contents_of self.old)) }
         ensures node { OnOk result (node_of self.new ≡ settled (on_row (member_of self.old) row.now (node_of self.old)).node) }
         ensures took { IfOk result (λ took. took_of took ≡ (on_row (member_of self.old) row.now (node_of self.old)).took) }
-        ensures sent { let k = carried_by S.snapshot_of S.state self.new in
+        ensures sent { let k = carried_by S.model.snapshot_of S.model.state self.new in
             OnOk result (out.new ≡ map (written k) (on_row (member_of self.old) row.now (node_of self.old)).sent) }
-        ensures fits { let k = carried_by S.snapshot_of S.state self.new in
+        ensures fits { let k = carried_by S.model.snapshot_of S.model.state self.new in
             OnOk result (All (Fits k) (on_row (member_of self.old) row.now (node_of self.old)).sent) }
-        ensures contents { let left = state_after_row S.empty_state (member_of self.old) row.now (node_of self.old) (S.state (contents_of self.old)) in
-            OnOk result (S.state (contents_of self.new) ≡ left) }
+        ensures contents { let left = state_after_row S.model.empty_state (member_of self.old) row.now (node_of self.old) (S.model.state (contents_of self.old)) in
+            OnOk result (S.model.state (contents_of self.new) ≡ left) }
         ensures answers { let leads = is_primary (node_of self.new).known (member_of self.new) in
             OnOk result (waiting self.new ++ held_answers self.new ≡ answers_left leads (waiting self.old) (held_answers self.old)) }
         ensures ring { let left = ring_after_row (member_of self.old) row.now (node_of self.old) (ring_of self.old) in
             OnOk result (ring_of self.new ≡ left) }
         ensures ends { ends_of self.new ≡ ends_of self.old }
-        ensures err { OnErr result (IsUnchanged S.state self.old self.new) }
+        ensures err { OnErr result (IsUnchanged S.model.state self.old self.new) }
     {
         let newer = self.adopt(alloc, row, out)?;
         self.settle();

@@ -35,7 +35,7 @@ impl<S: Shelf> Node<S> {
         row: &Row,
     ) -> Result<Node<S>, Memory>
         ensures node { row.now.version ≡ 1 → IfOk result (λ node. node_of node ≡ opening_node row.now member) }
-        ensures contents { IfOk result (λ node. S.state (contents_of node) ≡ S.empty_state) }
+        ensures contents { IfOk result (λ node. S.model.state (contents_of node) ≡ S.model.empty_state) }
         ensures waiting { IfOk result (λ node. waiting node ≡ []) }
         ensures held { IfOk result (λ node. held_answers node ≡ []) }
         ensures ring { IfOk result (λ node. ring_of node ≡ []) }
@@ -109,7 +109,7 @@ impl<S: Shelf> Node<S> {
         ensures none { IsNone result ↔ (waiting self.old ≡ []) }
         ensures held { held_answers self.new ≡ held_answers self.old }
         ensures node { node_of self.new ≡ node_of self.old }
-        ensures contents { S.state (contents_of self.new) ≡ S.state (contents_of self.old) }
+        ensures contents { S.model.state (contents_of self.new) ≡ S.model.state (contents_of self.old) }
         ensures ring { ring_of self.new ≡ ring_of self.old }
         ensures ends { ends_of self.new ≡ ends_of self.old }
     {

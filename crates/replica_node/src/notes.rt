@@ -163,16 +163,16 @@ impl<S: Shelf> Node<S> {
         requires empty { out.old ≡ [] }
         ensures node { OnOk result (node_of self.new ≡ settled (on_ack (service_of self.old) (member_of self.old) from version count (node_of self.old)).node) }
         ensures took { IfOk result (λ took. took_of took ≡ (on_ack (service_of self.old) (member_of self.old) from version count (node_of self.old)).took) }
-        ensures sent { let k = carried_by S.snapshot_of S.state self.new in
+        ensures sent { let k = carried_by S.model.snapshot_of S.model.state self.new in
             OnOk result (out.new ≡ map (written k) (on_ack (service_of self.old) (member_of self.old) from version count (node_of self.old)).sent) }
-        ensures fits { let k = carried_by S.snapshot_of S.state self.new in
+        ensures fits { let k = carried_by S.model.snapshot_of S.model.state self.new in
             OnOk result (All (Fits k) (on_ack (service_of self.old) (member_of self.old) from version count (node_of self.old)).sent) }
-        ensures contents { OnOk result (S.state (contents_of self.new) ≡ S.state (contents_of self.old)) }
+        ensures contents { OnOk result (S.model.state (contents_of self.new) ≡ S.model.state (contents_of self.old)) }
         ensures answers { let leads = is_primary (node_of self.new).known (member_of self.new) in
             OnOk result (waiting self.new ++ held_answers self.new ≡ answers_left leads (waiting self.old) (held_answers self.old)) }
         ensures ring { OnOk result (ring_of self.new ≡ ring_of self.old) }
         ensures ends { ends_of self.new ≡ ends_of self.old }
-        ensures err { OnErr result (IsUnchanged S.state self.old self.new) }
+        ensures err { OnErr result (IsUnchanged S.model.state self.old self.new) }
     {
         match &mut self.role {
             Role::Leads(primary) => {
@@ -192,16 +192,16 @@ impl<S: Shelf> Node<S> {
         requires empty { out.old ≡ [] }
         ensures node { OnOk result (node_of self.new ≡ settled (on_freeze (service_of self.old) (member_of self.old) version (node_of self.old)).node) }
         ensures took { IfOk result (λ took. took_of took ≡ (on_freeze (service_of self.old) (member_of self.old) version (node_of self.old)).took) }
-        ensures sent { let k = carried_by S.snapshot_of S.state self.new in
+        ensures sent { let k = carried_by S.model.snapshot_of S.model.state self.new in
             OnOk result (out.new ≡ map (written k) (on_freeze (service_of self.old) (member_of self.old) version (node_of self.old)).sent) }
-        ensures fits { let k = carried_by S.snapshot_of S.state self.new in
+        ensures fits { let k = carried_by S.model.snapshot_of S.model.state self.new in
             OnOk result (All (Fits k) (on_freeze (service_of self.old) (member_of self.old) version (node_of self.old)).sent) }
-        ensures contents { OnOk result (S.state (contents_of self.new) ≡ S.state (contents_of self.old)) }
+        ensures contents { OnOk result (S.model.state (contents_of self.new) ≡ S.model.state (contents_of self.old)) }
         ensures answers { let leads = is_primary (node_of self.new).known (member_of self.new) in
             OnOk result (waiting self.new ++ held_answers self.new ≡ answers_left leads (waiting self.old) (held_answers self.old)) }
         ensures ring { OnOk result (ring_of self.new ≡ ring_of self.old) }
         ensures ends { ends_of self.new ≡ ends_of self.old }
-        ensures err { OnErr result (IsUnchanged S.state self.old self.new) }
+        ensures err { OnErr result (IsUnchanged S.model.state self.old self.new) }
     {
         match &mut self.role {
             Role::Leads(primary) => freeze_leading(alloc, primary, self.service, version, out),

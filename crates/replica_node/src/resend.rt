@@ -21,14 +21,14 @@ impl<S: Shelf> Node<S> {
     /// backup that lags what it is sent to catch up, and to the service who has joined, and that the primary is frozen
     /// and holds nothing. Costs a snapshot of the contents at most, and what it writes.
     pub fn resend(&self, alloc: Global, out: &mut Outbox) -> Result<bool, Memory>
-        requires { IsSmall S.within (S.state (contents_of self.now)) }
+        requires { IsSmall S.model.within (S.model.state (contents_of self.now)) }
         ensures leads { IfOk result (λ leads. leads ≡ is_primary (node_of self.now).known (member_of self.now)) }
         ensures sent { let node = node_of self.now in
             let again = (if is_primary node.known (member_of self.now) then sent_again (service_of self.now) node else []) in
-            OnOk result (out.new ≡ out.old ++ map (written (carried_by S.snapshot_of S.state self.now)) again) }
+            OnOk result (out.new ≡ out.old ++ map (written (carried_by S.model.snapshot_of S.model.state self.now)) again) }
         ensures fits { let node = node_of self.now in
             let again = (if is_primary node.known (member_of self.now) then sent_again (service_of self.now) node else []) in
-            OnOk result (All (Fits (carried_by S.snapshot_of S.state self.now)) again) }
+            OnOk result (All (Fits (carried_by S.model.snapshot_of S.model.state self.now)) again) }
     {
         match &self.role {
             Role::Follows(_) => Ok(false),
@@ -46,8 +46,8 @@ fn send_again<S: Shelf>(
     service: MemberId,
     out: &mut Outbox,
 ) -> Result<(), Memory>
-    requires { IsSmall S.within (S.state (primary_contents primary.now)) }
-    ensures { let k = primary_carries S.snapshot_of S.state primary.now in
+    requires { IsSmall S.model.within (S.model.state (primary_contents primary.now)) }
+    ensures { let k = primary_carries S.model.snapshot_of S.model.state primary.now in
         OnOk result (Sends k (sent_again service (primary_node primary.now)) out.old out.new) }
 {
     let view = primary.view();

@@ -90,11 +90,11 @@ impl<S: Shelf> Role<S> {
 
     /// Writes what a primary sends each backup to catch up as it goes on in that row.
     pub(crate) fn send_in(&self, alloc: Global, row: &Row, out: &mut Outbox) -> Result<(), Memory>
-        requires small { IsSmall S.within (S.state (role_contents self.now)) }
+        requires small { IsSmall S.model.within (S.model.state (role_contents self.now)) }
         requires leads { leads self.now ≡ true }
         ensures { let node = role_node self.now in
             let next = adopt_as_primary row.now true node.held node in
-            let k = carried S.snapshot_of (S.state (role_contents self.now)) (role_ring self.now) node.pair.count in
+            let k = carried S.model.snapshot_of (S.model.state (role_contents self.now)) (role_ring self.now) node.pair.count in
             OnOk result (Sends k (flat_map (catch_up next) (backups_of row.now)) out.old out.new) }
     {
         match self {

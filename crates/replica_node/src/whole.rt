@@ -39,13 +39,13 @@ fn answer_sync<S: Shelf>(
     snapshot: &Bytes,
     out: &mut Outbox,
 ) -> Result<Option<S>, Memory>
-    requires { (s : S.State) × IsSmall S.within s × (S.snapshot_of s ≡ snapshot.now) }
+    requires { (s : S.State) × IsSmall S.model.within s × (S.model.snapshot_of s ≡ snapshot.now) }
     ensures sent { (k : Contents) (row : RowOf) (node : NodeOf) → row.version ≡ version → node.pair ≡ have →
         OnOk result (Sends k (sync_backup from row count node).sent out.old out.new) }
     ensures ahead { (row : RowOf) (node : NodeOf) → row.version ≡ version → node.pair ≡ have →
         IfOk result (λ made. is_some made ≡ is_ahead row count node) }
-    ensures state { (s : S.State) → IsSmall S.within s → S.snapshot_of s ≡ snapshot.now →
-        IfOk result (λ made. IfSome made (λ shelf. S.state shelf ≡ s)) }
+    ensures state { (s : S.State) → IsSmall S.model.within s → S.model.snapshot_of s ≡ snapshot.now →
+        IfOk result (λ made. IfSome made (λ shelf. S.model.state shelf ≡ s)) }
 {
     if is_past(have, version, count) {
         acknowledge(alloc, from, version, count, out)?;
@@ -69,22 +69,22 @@ impl<S: Shelf> Node<S> {
         out: &mut Outbox,
     ) -> Result<Took, Memory>
         requires empty { out.old ≡ [] }
-        requires small { IsSmall S.within (S.state (contents_of self.old)) }
-        requires fits { (s : S.State) × IsSmall S.within s × (S.snapshot_of s ≡ snapshot.now) }
+        requires small { IsSmall S.model.within (S.model.state (contents_of self.old)) }
+        requires fits { (s : S.State) × IsSmall S.model.within s × (S.model.snapshot_of s ≡ snapshot.now) }
         ensures node { OnOk result (node_of self.new ≡ settled (on_sync (member_of self.old) from row.now count (node_of self.old)).node) }
         ensures took { IfOk result (λ took. took_of took ≡ (on_sync (member_of self.old) from row.now count (node_of self.old)).took) }
-        ensures sent { let k = carried_by S.snapshot_of S.state self.new in
+        ensures sent { let k = carried_by S.model.snapshot_of S.model.state self.new in
             OnOk result (out.new ≡ map (written k) (on_sync (member_of self.old) from row.now count (node_of self.old)).sent) }
-        ensures fits { let k = carried_by S.snapshot_of S.state self.new in
+        ensures fits { let k = carried_by S.model.snapshot_of S.model.state self.new in
             OnOk result (All (Fits k) (on_sync (member_of self.old) from row.now count (node_of self.old)).sent) }
-        ensures contents { let leaves = Leaves S.within S.empty_state S.applied S.snapshot_of (member_of self.old) (node_of self.old) (MemberMessage.Sync row.now count snapshot.now) (on_sync (member_of self.old) from row.now count (node_of self.old)).took in
-            OnOk result (leaves (S.state (contents_of self.old)) (S.state (contents_of self.new))) }
+        ensures contents { let leaves = Leaves S.model.within S.model.empty_state S.model.applied S.model.snapshot_of (member_of self.old) (node_of self.old) (MemberMessage.Sync row.now count snapshot.now) (on_sync (member_of self.old) from row.now count (node_of self.old)).took in
+            OnOk result (leaves (S.model.state (contents_of self.old)) (S.model.state (contents_of self.new))) }
         ensures answers { let leads = is_primary (node_of self.new).known (member_of self.new) in
             OnOk result (waiting self.new ++ held_answers self.new ≡ answers_left leads (waiting self.old) (held_answers self.old)) }
         ensures ring { let left = ring_after_row (member_of self.old) row.now (node_of self.old) (ring_of self.old) in
             OnOk result (ring_of self.new ≡ left) }
         ensures ends { ends_of self.new ≡ ends_of self.old }
-        ensures err { OnErr result (IsUnchanged S.state self.old self.new) }
+        ensures err { OnErr result (IsUnchanged S.model.state self.old self.new) }
     {
         let known = self.known().version;
         if row.version < known || (row.version == known && !self.known().is_backup(self.member)) {
@@ -114,21 +114,21 @@ impl<S: Shelf> Node<S> {
         requires empty { out.old ≡ [] }
         requires backup { is_backup (node_of self.old).known (member_of self.old) ≡ true }
         requires known { row.now.version ≡ (node_of self.old).known.version }
-        requires fits { (s : S.State) × IsSmall S.within s × (S.snapshot_of s ≡ snapshot.now) }
+        requires fits { (s : S.State) × IsSmall S.model.within s × (S.model.snapshot_of s ≡ snapshot.now) }
         ensures node { OnOk result (node_of self.new ≡ settled (on_sync (member_of self.old) from row.now count (node_of self.old)).node) }
         ensures took { IfOk result (λ took. took_of took ≡ (on_sync (member_of self.old) from row.now count (node_of self.old)).took) }
-        ensures sent { let k = carried_by S.snapshot_of S.state self.new in
+        ensures sent { let k = carried_by S.model.snapshot_of S.model.state self.new in
             OnOk result (out.new ≡ map (written k) (on_sync (member_of self.old) from row.now count (node_of self.old)).sent) }
-        ensures fits { let k = carried_by S.snapshot_of S.state self.new in
+        ensures fits { let k = carried_by S.model.snapshot_of S.model.state self.new in
             OnOk result (All (Fits k) (on_sync (member_of self.old) from row.now count (node_of self.old)).sent) }
-        ensures contents { let leaves = Leaves S.within S.empty_state S.applied S.snapshot_of (member_of self.old) (node_of self.old) (MemberMessage.Sync row.now count snapshot.now) (on_sync (member_of self.old) from row.now count (node_of self.old)).took in
-            OnOk result (leaves (S.state (contents_of self.old)) (S.state (contents_of self.new))) }
+        ensures contents { let leaves = Leaves S.model.within S.model.empty_state S.model.applied S.model.snapshot_of (member_of self.old) (node_of self.old) (MemberMessage.Sync row.now count snapshot.now) (on_sync (member_of self.old) from row.now count (node_of self.old)).took in
+            OnOk result (leaves (S.model.state (contents_of self.old)) (S.model.state (contents_of self.new))) }
         ensures answers { let leads = is_primary (node_of self.new).known (member_of self.new) in
             OnOk result (waiting self.new ++ held_answers self.new ≡ answers_left leads (waiting self.old) (held_answers self.old)) }
         ensures ring { let left = ring_after_row (member_of self.old) row.now (node_of self.old) (ring_of self.old) in
             OnOk result (ring_of self.new ≡ left) }
         ensures ends { ends_of self.new ≡ ends_of self.old }
-        ensures err { OnErr result (IsUnchanged S.state self.old self.new) }
+        ensures err { OnErr result (IsUnchanged S.model.state self.old self.new) }
     {
         let made = answer_sync(
             alloc,
@@ -155,21 +155,21 @@ impl<S: Shelf> Node<S> {
         requires empty { out.old ≡ [] }
         requires backup { is_backup row.now (member_of self.old) ≡ true }
         requires newer { is_newer row.now (node_of self.old) ≡ true }
-        requires fits { (s : S.State) × IsSmall S.within s × (S.snapshot_of s ≡ snapshot.now) }
+        requires fits { (s : S.State) × IsSmall S.model.within s × (S.model.snapshot_of s ≡ snapshot.now) }
         ensures node { OnOk result (node_of self.new ≡ settled (on_sync (member_of self.old) from row.now count (node_of self.old)).node) }
         ensures took { IfOk result (λ took. took_of took ≡ (on_sync (member_of self.old) from row.now count (node_of self.old)).took) }
-        ensures sent { let k = carried_by S.snapshot_of S.state self.new in
+        ensures sent { let k = carried_by S.model.snapshot_of S.model.state self.new in
             OnOk result (out.new ≡ map (written k) (on_sync (member_of self.old) from row.now count (node_of self.old)).sent) }
-        ensures fits { let k = carried_by S.snapshot_of S.state self.new in
+        ensures fits { let k = carried_by S.model.snapshot_of S.model.state self.new in
             OnOk result (All (Fits k) (on_sync (member_of self.old) from row.now count (node_of self.old)).sent) }
-        ensures contents { let leaves = Leaves S.within S.empty_state S.applied S.snapshot_of (member_of self.old) (node_of self.old) (MemberMessage.Sync row.now count snapshot.now) (on_sync (member_of self.old) from row.now count (node_of self.old)).took in
-            OnOk result (leaves (S.state (contents_of self.old)) (S.state (contents_of self.new))) }
+        ensures contents { let leaves = Leaves S.model.within S.model.empty_state S.model.applied S.model.snapshot_of (member_of self.old) (node_of self.old) (MemberMessage.Sync row.now count snapshot.now) (on_sync (member_of self.old) from row.now count (node_of self.old)).took in
+            OnOk result (leaves (S.model.state (contents_of self.old)) (S.model.state (contents_of self.new))) }
         ensures answers { let leads = is_primary (node_of self.new).known (member_of self.new) in
             OnOk result (waiting self.new ++ held_answers self.new ≡ answers_left leads (waiting self.old) (held_answers self.old)) }
         ensures ring { let left = ring_after_row (member_of self.old) row.now (node_of self.old) (ring_of self.old) in
             OnOk result (ring_of self.new ≡ left) }
         ensures ends { ends_of self.new ≡ ends_of self.old }
-        ensures err { OnErr result (IsUnchanged S.state self.old self.new) }
+        ensures err { OnErr result (IsUnchanged S.model.state self.old self.new) }
     {
         let known = row.copied(alloc)?;
         let made = answer_sync(

@@ -10,6 +10,6 @@ use Rattle.replica_node.proofs.catch_up.send_catch_ups.Given as goal
 -- the backups before this one were sent what they lack, and the snapshot is of the contents
 abbrev pub invariant-loop-backup : goal.invariant-loop-backup
 invariant-loop-backup g l = record {
-  sent : Sends (primary_carries g.S.Shelf.snapshot_of g.S.Shelf.state l.primary) (flat_map (catch_up (viewed l.view)) (take l.backup-index l.backup-items)) l.initial.out l.out;
-  made : IsOf (g.S.Shelf.snapshot_of (g.S.Shelf.state (contents_of l.primary))) l.snapshot;
+  sent : Sends (primary_carries g.S.Shelf.model.snapshot_of g.S.Shelf.model.state l.primary) (flat_map (catch_up (viewed l.view)) (take l.backup-index l.backup-items)) l.initial.out l.out;
+  made : IsOf (g.S.Shelf.model.snapshot_of (g.S.Shelf.model.state (contents_of l.primary))) l.snapshot;
 }

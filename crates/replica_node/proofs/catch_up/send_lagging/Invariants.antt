@@ -12,7 +12,7 @@ use Rattle.replica_node.proofs.catch_up.send_lagging.Given as goal
 -- of the backups before this one, those that lag were sent what they lack, and the snapshot is of the contents
 abbrev pub invariant-loop-backup : goal.invariant-loop-backup
 invariant-loop-backup g l = record {
-  sent : Sends (primary_carries g.S.Shelf.snapshot_of g.S.Shelf.state l.primary)
+  sent : Sends (primary_carries g.S.Shelf.model.snapshot_of g.S.Shelf.model.state l.primary)
       (flat_map (λ (b : RowMember). if lags (viewed l.view) b.member then catch_up (viewed l.view) b else []) (take l.backup-index l.backup-items)) l.initial.out l.out;
-  made : IsOf (g.S.Shelf.snapshot_of (g.S.Shelf.state (contents_of l.primary))) l.snapshot;
+  made : IsOf (g.S.Shelf.model.snapshot_of (g.S.Shelf.model.state (contents_of l.primary))) l.snapshot;
 }

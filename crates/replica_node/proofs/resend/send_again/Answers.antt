@@ -12,7 +12,7 @@ use Rattle.replica_node.proofs.resend.send_again.Goals as goal
 
 pub returns : goal.returns
 returns g c =
-    let k = primary_carries g.S.Shelf.snapshot_of g.S.Shelf.state c.args.primary.now in
+    let k = primary_carries g.S.Shelf.model.snapshot_of g.S.Shelf.model.state c.args.primary.now in
     sends_append k _ _ _ _ _
     (sends_append k _ _ _ _ _
     (subst (λ (node : Node). Sends k (flat_map (λ (b : RowMember). if lags node b.member then catch_up node b else []) (backups_of node.known)) c.args.out.now c.send_lagging.new.out)

@@ -11,9 +11,9 @@ use Rattle.replica_node.proofs.node.Node.call.Goals as goal
 pub commit-requires-clause-fits_effect : goal.commit-requires-clause-fits_effect
 commit-requires-clause-fits_effect g c bytes is =
     let S = g.S.Shelf in
-    let state = S.state (primary_contents c.in-Leads.primary) in
-    let small : IsSmall S.within state = subst (λ (role : Role _). IsSmall S.within (S.state (role_contents role))) c.in-Leads.is c.requires.small in
-    ap is_some (g.met.S.Shelf.made_by_effect c.args.env.now state c.args.call.now c.args.now bytes small c.requires.limits (sym c.in_ok-prepared-in-Leads.ensures.effect ∙ is))
+    let state = S.model.state (primary_contents c.in-Leads.primary) in
+    let small : IsSmall S.model.within state = subst (λ (role : Role _). IsSmall S.model.within (S.model.state (role_contents role))) c.in-Leads.is c.requires.small in
+    ap is_some (g.met.S.Shelf.made_by_effect (g.S.Executes.plan_of c.args.env.now) state c.args.call.now c.args.now bytes small c.requires.limits (sym c.in_ok-prepared-in-Leads.ensures.effect ∙ is))
 
 pub returns-in_ok-commit-in-Leads-clause-sent : goal.returns-in_ok-commit-in-Leads-clause-sent
 returns-in_ok-commit-in-Leads-clause-sent g c = rw c.in-Leads.is (λ k bytes is effect.

@@ -10,4 +10,4 @@ pub returns-clause-sent : goal.returns-clause-sent
 returns-clause-sent g c =
     let m = c.args.self.now.member in
     same_sends _ _ _ _ _ (sym (ap (sent_on_adopting m) c.start.ensures.node ∙ sent_beginning m c.args.row 0 (map held_of c.into_parts-answers.result.answers.held) c.requires.primary))
-    (c.in_ok-send_contents.ensures.sent _ (ap (λ shelf. g.S.Shelf.snapshot_of (g.S.Shelf.state shelf)) c.start.ensures.contents))
+    (c.in_ok-send_contents.ensures.sent _ (ap (λ shelf. g.S.Shelf.model.snapshot_of (g.S.Shelf.model.state shelf)) c.start.ensures.contents))

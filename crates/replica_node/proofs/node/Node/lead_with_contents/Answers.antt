@@ -13,4 +13,4 @@ returns-clause-sent g c =
     let m = c.args.self.now.member in
     let same : contents_of c.start.result ≡ role_contents c.args.self.now.role = cc in
     same_sends _ _ _ _ _ (sym (ap (sent_on_adopting m) c.start.ensures.node ∙ sent_beginning m c.args.row c.count-count.result (map held_of c.into_parts-kept.result.answers.held) c.requires.primary))
-    (c.in_ok-send_contents.ensures.sent _ (ap (λ shelf. g.S.Shelf.snapshot_of (g.S.Shelf.state shelf)) (same ∙ sym c.shelf.ensures)))
+    (c.in_ok-send_contents.ensures.sent _ (ap (λ shelf. g.S.Shelf.model.snapshot_of (g.S.Shelf.model.state shelf)) (same ∙ sym c.shelf.ensures)))

@@ -33,10 +33,10 @@ returns-clause-contents g c =
     let m = c.args.self.now.member in
     let row = c.args.row.now in
     let node = node_of c.args.self.now in
-    let old = S.state (contents_of c.args.self.now) in
+    let old = S.model.state (contents_of c.args.self.now) in
     let ahead = c.in_ok-made.ensures.ahead row node refl (sym c.pair.ensures) in
-    subst (λ (took : Took). Leaves S.within S.empty_state S.applied S.snapshot_of m node (said.Sync row c.args.count c.args.snapshot.now) took old (S.state (contents_of c.install.new.self)))
+    subst (λ (took : Took). Leaves S.model.within S.model.empty_state S.model.applied S.model.snapshot_of m node (said.Sync row c.args.count c.args.snapshot.now) took old (S.model.state (contents_of c.install.new.self)))
     (sym (ap (λ (s : Step). s.took) (looked_here m row node (sync_backup c.args.from row c.args.count) c.requires.known c.requires.backup)))
-    (sync_leaves S.within S.empty_state S.applied S.snapshot_of S.state m c.args.from node node row c.args.count c.args.snapshot.now c.in_ok-made.made old
+    (sync_leaves S.model.within S.model.empty_state S.model.applied S.model.snapshot_of S.model.state m c.args.from node node row c.args.count c.args.snapshot.now c.in_ok-made.made old
     (contents_of c.args.self.now) (contents_of c.install.new.self) ahead c.install.ensures.contents
-    (sym (left_here S.empty_state m row node old c.requires.known)) c.in_ok-made.ensures.state)
+    (sym (left_here S.model.empty_state m row node old c.requires.known)) c.in_ok-made.ensures.state)

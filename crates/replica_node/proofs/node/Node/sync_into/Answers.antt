@@ -41,14 +41,14 @@ returns-clause-contents g c =
     let row = c.args.row.now in
     let node = node_of c.args.self.now in
     let next = adopted_row m row node in
-    let old = S.state (contents_of c.args.self.now) in
+    let old = S.model.state (contents_of c.args.self.now) in
     let pair = adopted_pair m row node c.requires.backup ∙ sym c.pair_in.ensures in
     let ahead = c.in_ok-made.ensures.ahead row next refl pair in
-    subst (λ (took : Took). Leaves S.within S.empty_state S.applied S.snapshot_of m node (said.Sync row c.args.count c.args.snapshot.now) took old (S.state (contents_of c.install.new.self)))
+    subst (λ (took : Took). Leaves S.model.within S.model.empty_state S.model.applied S.model.snapshot_of m node (said.Sync row c.args.count c.args.snapshot.now) took old (S.model.state (contents_of c.install.new.self)))
     (sym (ap (λ (s : Step). s.took) (looked_into m row node (sync_backup c.args.from row c.args.count) c.requires.newer c.requires.backup)))
-    (sync_leaves S.within S.empty_state S.applied S.snapshot_of S.state m c.args.from node next row c.args.count c.args.snapshot.now c.in_ok-made.made old
+    (sync_leaves S.model.within S.model.empty_state S.model.applied S.model.snapshot_of S.model.state m c.args.from node next row c.args.count c.args.snapshot.now c.in_ok-made.made old
     (contents_of c.follow.new.self) (contents_of c.install.new.self) ahead c.install.ensures.contents
-    (c.follow.ensures.contents ∙ ap (λ (r : Row). state_in S.empty_state m r node old) c.in_ok-known.ensures ∙ sym (left_newer S.empty_state m row node old c.requires.newer)) c.in_ok-made.ensures.state)
+    (c.follow.ensures.contents ∙ ap (λ (r : Row). state_in S.model.empty_state m r node old) c.in_ok-known.ensures ∙ sym (left_newer S.model.empty_state m row node old c.requires.newer)) c.in_ok-made.ensures.state)
 
 pub returns-clause-fits : goal.returns-clause-fits
 returns-clause-fits g c =

@@ -51,7 +51,7 @@ returns-clause-contents g c =
     let next : c.args.number ≡ node.pair.count + 1 = omega arith in
     let applied = effect_applied c.args.member c.args.from c.args.version c.args.number node back same next in
     let S = g.S.Shelf in
-    let old = S.state (contents_of c.args.self.now.kept) in
-    let new = S.state (contents_of c.take_effect.new.self) in
-    subst (λ (took : Took). EffectLeaves S.applied c.args.effect.now took old new) (sym (ap (λ (s : Step). s.took) applied))
-    (applied_leaves S.applied c.args.effect.now _ old new (c.in_ok-take_effect.ensures.took c.args.member c.args.from node refl back ∙ ap (λ (s : Step). s.took) applied) c.in_ok-take_effect.ensures.contents)
+    let old = S.model.state (contents_of c.args.self.now.kept) in
+    let new = S.model.state (contents_of c.take_effect.new.self) in
+    subst (λ (took : Took). EffectLeaves S.model.applied c.args.effect.now took old new) (sym (ap (λ (s : Step). s.took) applied))
+    (applied_leaves S.model.applied c.args.effect.now _ old new (c.in_ok-take_effect.ensures.took c.args.member c.args.from node refl back ∙ ap (λ (s : Step). s.took) applied) c.in_ok-take_effect.ensures.contents)
