@@ -24,7 +24,7 @@ use Rattle.replica_node.specs.Nodes.{node_of, contents_of, waiting as node_waiti
 use Rattle.table_service.specs.Services.{Setup, service_of}
 use Rattle.partition_world.specs.declared.world.World.{World}
 use Rattle.partition_world.specs.declared.event.Happened.{Happened}
-use Rattle.partition_world.specs.Meanings.{Meaning}
+use Rattle.grid_base.specs.Shelves.{Meaning}
 use Rattle.partition_world.specs.Shelves.{IsShelf}
 use Rattle.partition_world.specs.Events.{happened_of}
 use Rattle.partition_world.specs.Answers.{held_answer, released_by, released_at, is_at}
@@ -43,7 +43,7 @@ abbrev pub waits_in : {S : Type 0} → Option (Node S) → List Released
 waits_in None = []
 waits_in (Some node) = node_waiting node
 
-pub waiting_in : {S Env C : Type 0} (world : World S Env C) (m : ℕ) → waiting world m ≡ waits_in (slice_get world.nodes.items m)
+pub waiting_in : {S Plan C : Type 0} (world : World S Plan C) (m : ℕ) → waiting world m ≡ waits_in (slice_get world.nodes.items m)
 waiting_in {S = S} world m = go (slice_get world.nodes.items m) refl
   where
     go : (node : Option (Node S)) → slice_get world.nodes.items m ≡ node → waiting world m ≡ waits_in node
@@ -51,7 +51,7 @@ waiting_in {S = S} world m = go (slice_get world.nodes.items m) refl
     go (Some node) e = rw e refl
 
 -- the same nodes have the same answers
-pub same_waiting : {S Env C : Type 0} (old new : World S Env C) → new.nodes.items ≡ old.nodes.items → (m : ℕ) → waiting new m ≡ waiting old m
+pub same_waiting : {S Plan C : Type 0} (old new : World S Plan C) → new.nodes.items ≡ old.nodes.items → (m : ℕ) → waiting new m ≡ waiting old m
 same_waiting old new same m = waiting_in new m ∙ ap (λ ns. waits_in (slice_get ns m)) same ∙ sym (waiting_in old m)
 
 -- a member's number, the partition's and that of the backups never change
@@ -65,15 +65,15 @@ same_grid o w = walk o w (λ e u. SameGrid w u) (λ e ps. record { partition = r
     (λ e s st ps. record { partition = refl; members = refl; backups = refl }) (λ e s st ps. record { partition = refl; members = refl; backups = refl })
     (λ e f t i q n j at l. record { partition = refl; members = refl; backups = refl }) (λ m conn number call now n at l p f. record { partition = refl; members = refl; backups = refl })
 
-module _ {S Env C State : Type 0} (k : Meaning S C State) (limits : C → Type 0) (within : ℕ → State → Type 0) (applied : List ℕ → State → Option State) (shelf : IsShelf k limits within applied)
-    (world : World S Env C) (w : Machine C) (stood : Stood k.object limits within w) (agrees : Agrees k world w) where
+module _ {S Plan C State : Type 0} (k : Meaning S C State) (limits : C → Type 0) (within : ℕ → State → Type 0) (applied : List ℕ → State → Option State) (shelf : IsShelf k limits within applied)
+    (world : World S Plan C) (w : Machine C) (stood : Stood k.object limits within w) (agrees : Agrees k world w) where
   -- what a member knows is the protocol's node
   pub node_at : (m : ℕ) (node : Node S) → slice_get world.nodes.items m ≡ Some node → NodeAt w.nodes m (node_of node)
   node_at m node there = ap (λ ns. slice_get ns m) (sym agrees.nodes) ∙ get_map node_of world.nodes.items m node there
 
   -- no event, and at most one node that is another one and says the same
 
-  pub record IsQuiet (new : World S Env C) : Type 0 where
+  pub record IsQuiet (new : World S Plan C) : Type 0 where
     pub setup : setup_of new ≡ setup_of world
     pub members : new.members ≡ world.members
     pub size : vec_len new.nodes ≡ vec_len world.nodes
@@ -83,10 +83,10 @@ module _ {S Env C State : Type 0} (k : Meaning S C State) (limits : C → Type 0
     pub links : HasLists new.links (list_of world.links)
     pub recorded : Records new.recorder w.recorded
 
-  pub same_lists : (new : World S Env C) → HasLists new.links (list_of world.links) → HasLists new.links (flying k w)
+  pub same_lists : (new : World S Plan C) → HasLists new.links (list_of world.links) → HasLists new.links (flying k w)
   same_lists new links f t = links f t ∙ agrees.links f t
 
-  pub agrees_still : (new : World S Env C) → IsQuiet new → new.nodes.items ≡ world.nodes.items → Agrees k new w
+  pub agrees_still : (new : World S Plan C) → IsQuiet new → new.nodes.items ≡ world.nodes.items → Agrees k new w
   agrees_still new quiet nodes = record {
     setup = quiet.setup ∙ agrees.setup;
     members = quiet.members ∙ agrees.members;
@@ -124,7 +124,7 @@ module _ {S Env C State : Type 0} (k : Meaning S C State) (limits : C → Type 0
             subst (λ (n : ProtocolNode). HasNewest n (kept (ring_of kin) n.pair.count)) (sym same.node)
             (subst (λ r. HasNewest (node_of node) (kept r (node_of node).pair.count)) (sym same.ring) has)
 
-    pub kin_waiting : (new : World S Env C) → new.nodes.items ≡ slice_set world.nodes.items m kin → (q : ℕ) → waiting new q ≡ waiting world q
+    pub kin_waiting : (new : World S Plan C) → new.nodes.items ≡ slice_set world.nodes.items m kin → (q : ℕ) → waiting new q ≡ waiting world q
     kin_waiting new nodes q = waiting_in new q ∙ ap (λ ns. waits_in (slice_get ns q)) nodes ∙ go (numbers q m) ∙ sym (waiting_in world q)
       where
         numbers : (a b : ℕ) → (a ≡ b) ⊎ (a ≢ b)
@@ -136,7 +136,7 @@ module _ {S Env C State : Type 0} (k : Meaning S C State) (limits : C → Type 0
             ∙ ap waits_in (sym there) ∙ ap (λ j. waits_in (slice_get world.nodes.items j)) (sym e)
         go (inr d) = ap waits_in (set_get_other world.nodes.items m q kin d)
 
-    pub agrees_with_kin : (new : World S Env C) → IsQuiet new → new.nodes.items ≡ slice_set world.nodes.items m kin → Agrees k new w
+    pub agrees_with_kin : (new : World S Plan C) → IsQuiet new → new.nodes.items ≡ slice_set world.nodes.items m kin → Agrees k new w
     agrees_with_kin new quiet nodes = record {
       setup = quiet.setup ∙ agrees.setup;
       members = quiet.members ∙ agrees.members;
@@ -212,7 +212,7 @@ module _ {S Env C State : Type 0} (k : Meaning S C State) (limits : C → Type 0
         longer = extends k.object w event
 
     -- all but the nodes is that of the next world
-    pub record IsRest (new : World S Env C) : Type 0 where
+    pub record IsRest (new : World S Plan C) : Type 0 where
       pub setup : setup_of new ≡ setup_of world
       pub members : new.members ≡ world.members
       pub size : vec_len new.nodes ≡ vec_len world.nodes
@@ -223,14 +223,14 @@ module _ {S Env C State : Type 0} (k : Meaning S C State) (limits : C → Type 0
       pub fit : HasFit k next
       pub recorded : Records new.recorder next.recorded
 
-    pub setup_next : (new : World S Env C) → setup_of new ≡ setup_of world → setup_of new ≡ record { partition = next.partition; members = next.members; backups = next.backups }
+    pub setup_next : (new : World S Plan C) → setup_of new ≡ setup_of world → setup_of new ≡ record { partition = next.partition; members = next.members; backups = next.backups }
     setup_next new same =
         same ∙ agrees.setup ∙ ap (λ p. let s : Setup = record { partition = p; members = w.members; backups = w.backups } in s) (sym grid.partition)
         ∙ ap (λ m. let s : Setup = record { partition = next.partition; members = m; backups = w.backups } in s) (sym grid.members)
         ∙ ap (λ b. let s : Setup = record { partition = next.partition; members = next.members; backups = b } in s) (sym grid.backups)
 
     -- where no member takes a step
-    pub agrees_same : (new : World S Env C) → IsRest new → new.nodes.items ≡ world.nodes.items → next.nodes ≡ w.nodes → Agrees k new next
+    pub agrees_same : (new : World S Plan C) → IsRest new → new.nodes.items ≡ world.nodes.items → next.nodes ≡ w.nodes → Agrees k new next
     agrees_same new rest nodes same = record {
       setup = setup_next new rest.setup;
       members = rest.members ∙ agrees.members ∙ sym grid.members;
@@ -249,7 +249,7 @@ module _ {S Env C State : Type 0} (k : Meaning S C State) (limits : C → Type 0
     -- and where one does
     module _ (m : ℕ) (node moved : Node S) (there : slice_get world.nodes.items m ≡ Some node) (is : IsMember k next m moved)
         (answers : (answer : Released) → Contains (node_waiting moved) answer → Contains (node_waiting node) answer ⊎ IsReleased next answer) where
-      pub agrees_moved : (new : World S Env C) → IsRest new → new.nodes.items ≡ slice_set world.nodes.items m moved → next.nodes ≡ slice_set w.nodes m (node_of moved) → Agrees k new next
+      pub agrees_moved : (new : World S Plan C) → IsRest new → new.nodes.items ≡ slice_set world.nodes.items m moved → next.nodes ≡ slice_set w.nodes m (node_of moved) → Agrees k new next
       agrees_moved new rest nodes set = record {
         setup = setup_next new rest.setup;
         members = rest.members ∙ agrees.members ∙ sym grid.members;

@@ -43,7 +43,7 @@ use Rattle.partition_world.specs.declared.event.Happened.{Happened}
 use Rattle.partition_world.specs.declared.event.Happened.TheVariants as happened
 use Rattle.partition_world.specs.declared.event.CallOutcome.{CallOutcome}
 use Rattle.partition_world.specs.declared.event.CallOutcome.TheVariants as call_outcome
-use Rattle.partition_world.specs.Meanings.{Meaning}
+use Rattle.grid_base.specs.Shelves.{Meaning}
 use Rattle.partition_world.specs.Shelves.{IsShelf}
 use Rattle.partition_world.specs.Events.{happened_of}
 use Rattle.partition_world.specs.Answers.{newest_call, answer_of, held_answer, released_by, released_at}
@@ -258,8 +258,8 @@ abbrev pub came_to : Called → CallOutcome × ℕ × List ℕ
 came_to (came.Released seen reply) = (call_outcome.Released seen, seen, reply)
 came_to (came.Held seen reply) = (call_outcome.Held seen, seen, reply)
 
-module _ {S Env C State : Type 0} (k : Meaning S C State) (limits : C → Type 0) (within : ℕ → State → Type 0) (applied : List ℕ → State → Option State) (shelf : IsShelf k limits within applied)
-    (world : World S Env C) (events : List (Event C)) (m conn number : ℕ) (call : C) (now : ℕ) (comes : Comes k limits world events (Call m conn number call now)) where
+module _ {S Plan C State : Type 0} (k : Meaning S C State) (limits : C → Type 0) (within : ℕ → State → Type 0) (applied : List ℕ → State → Option State) (shelf : IsShelf k limits within applied)
+    (world : World S Plan C) (events : List (Event C)) (m conn number : ℕ) (call : C) (now : ℕ) (comes : Comes k limits world events (Call m conn number call now)) where
   abbrev pub event : Event C
   event = Call m conn number call now
 
@@ -278,7 +278,7 @@ module _ {S Env C State : Type 0} (k : Meaning S C State) (limits : C → Type 0
   pub agrees : Agrees k world w
   agrees = comes.stands.agrees
 
-  abbrev pub IsQuiet : World S Env C → Type 0
+  abbrev pub IsQuiet : World S Plan C → Type 0
   IsQuiet new = agreement.IsQuiet k limits within applied shelf world w stood agrees new
 
   -- a live member has a node
@@ -313,7 +313,7 @@ module _ {S Env C State : Type 0} (k : Meaning S C State) (limits : C → Type 0
     number_is = ap (λ (e : Ends). e.member) was.ends
 
     -- A node that says the same stands in its place
-    module _ (kin : Node S) (same : IsUnchanged k.state node kin) (ends : ends_of kin ≡ ends_of node) (new : World S Env C) (is_quiet : IsQuiet new) (nodes : new.nodes.items ≡ slice_set world.nodes.items m kin) where
+    module _ (kin : Node S) (same : IsUnchanged k.state node kin) (ends : ends_of kin ≡ ends_of node) (new : World S Plan C) (is_quiet : IsQuiet new) (nodes : new.nodes.items ≡ slice_set world.nodes.items m kin) where
       pub kept_kin : IsKept k world new events
       kept_kin = record {
         agrees = agreement.agrees_with_kin k limits within applied shelf world w stood agrees m node kin there same ends new is_quiet nodes;
@@ -515,7 +515,7 @@ module _ {S Env C State : Type 0} (k : Meaning S C State) (limits : C → Type 0
           go true = refl
           go false = refl
 
-      module _ (new : World S Env C) (setup_stays : setup_of new ≡ setup_of world) (members : new.members ≡ world.members) (size : vec_len new.nodes ≡ vec_len world.nodes) (crashed : new.crashed.items ≡ world.crashed.items)
+      module _ (new : World S Plan C) (setup_stays : setup_of new ≡ setup_of world) (members : new.members ≡ world.members) (size : vec_len new.nodes ≡ vec_len world.nodes) (crashed : new.crashed.items ≡ world.crashed.items)
           (service : service_of new.service ≡ service_of world.service) (ends : new.links.ends ≡ world.links.ends) (links : HasLists new.links (with_sent m out (list_of world.links)))
           (version : ℕ) (version_is : version ≡ (node_of moved).pair.version) (told : CallOutcome × ℕ × List ℕ) (told_is : told ≡ came_to called)
           (recorded : Records new.recorder (record w.recorded { log = w.recorded.log ++ CalledEntry (entry version told) ∷ [] }))

@@ -3,7 +3,7 @@ use Rattle.std.proofs.Common.{◌≡◌, ℕ, ◌+◌, ◌<◌, ◌^◌, List, [
 use Rattle.partition_protocol.specs.Events.{Event, Call, Deliver, Lose, Repeat, Resend, Crash, Detect, BeginMove, BeginJoin, BeginHandover, Advance, Reopen}
 use Rattle.partition_protocol.specs.Arrivals.{Asked, CallName, NamedOnce, arrivals, asked_by, name}
 use Rattle.partition_world.specs.declared.world.World.{World}
-use Rattle.partition_world.specs.Meanings.{Meaning}
+use Rattle.grid_base.specs.Shelves.{Meaning}
 use Rattle.partition_world.specs.Events.{EventWithin}
 use Rattle.partition_world.specs.Worlds.{steps_of, StandsFor, MayCome, Comes}
 use Rattle.partition_world.proofs.HeldAnswers.{arrivals_more}
@@ -27,7 +27,7 @@ quiet_within limits Reopen quiet = tt
 quiet_arrivals : {C : Type 0} (events : List (Event C)) (event : Event C) → asked_by event ≡ [] → arrivals (events ++ event ∷ []) ≡ arrivals events
 quiet_arrivals events event quiet = arrivals_more events event ∙ ap (λ asked. arrivals events ++ asked) quiet ∙ append-nil (arrivals events)
 
-may_come : {S Env C State : Type 0} (k : Meaning S C State) (limits : C → Type 0) (world : World S Env C) (events : List (Event C)) (event : Event C)
+may_come : {S Plan C State : Type 0} (k : Meaning S C State) (limits : C → Type 0) (world : World S Plan C) (events : List (Event C)) (event : Event C)
     → StandsFor k limits world events → steps_of world < 1000 → asked_by event ≡ [] → MayCome limits events event
 may_come {C = C} k limits world events event stands few quiet = record {
   room = let steps = stands.steps in omega (arith, steps, few);
@@ -35,7 +35,7 @@ may_come {C = C} k limits world events event stands few quiet = record {
   once = subst (λ (asked : List (Asked C)). NamedOnce (map name asked)) (sym (quiet_arrivals events event quiet)) stands.once;
 }
 
-pub quiet_comes : {S Env C State : Type 0} (k : Meaning S C State) (limits : C → Type 0) (world : World S Env C) (event : Event C)
+pub quiet_comes : {S Plan C State : Type 0} (k : Meaning S C State) (limits : C → Type 0) (world : World S Plan C) (event : Event C)
     (some : (events : List (Event C)) × StandsFor k limits world events) → steps_of world < 1000 → asked_by event ≡ [] → Comes k limits world some.0 event
 quiet_comes k limits world event some few quiet = record {
   stands = some.1;
@@ -46,7 +46,7 @@ nobody : (m : CallName) → Contains [] m → ⊥
 nobody m (k, within, e) = absurd (omega (arith, within))
 
 -- the first event of a world has its name for itself
-pub first_comes : {S Env C State : Type 0} (k : Meaning S C State) (limits : C → Type 0) (world : World S Env C) (member conn number : ℕ) (call : C) (now : ℕ)
+pub first_comes : {S Plan C State : Type 0} (k : Meaning S C State) (limits : C → Type 0) (world : World S Plan C) (member conn number : ℕ) (call : C) (now : ℕ)
     → StandsFor k limits world [] → limits call → Comes k limits world [] (Call member conn number call now)
 first_comes k limits world member conn number call now stands small = record {
   stands = stands;

@@ -9,14 +9,14 @@ use Rattle.partition_protocol.proofs.WellFormed.{every_run_is_well_formed}
 use Rattle.partition_protocol.proofs.Answers.{Single}
 use Rattle.table_service.specs.Services.{Setup}
 use Rattle.partition_world.specs.declared.world.World.{World}
-use Rattle.partition_world.specs.Meanings.{Meaning}
+use Rattle.grid_base.specs.Shelves.{Meaning}
 use Rattle.partition_world.specs.Shelves.{IsShelf}
 use Rattle.partition_world.specs.Worlds.{setup_of, run_of, Agrees, Comes}
 use Rattle.partition_world.proofs.EffectsLead.{Stood, run_stood, next_stood}
 use Rattle.partition_world.proofs.HeldAnswers.{IsNewlyNamed, newly_named, answers_single}
 
-module _ {S Env C State : Type 0} (k : Meaning S C State) (limits : C → Type 0) (within : ℕ → State → Type 0) (applied : List ℕ → State → Option State) (shelf : IsShelf k limits within applied)
-    (world : World S Env C) (events : List (Event C)) (event : Event C) (comes : Comes k limits world events event) where
+module _ {S Plan C State : Type 0} (k : Meaning S C State) (limits : C → Type 0) (within : ℕ → State → Type 0) (applied : List ℕ → State → Option State) (shelf : IsShelf k limits within applied)
+    (world : World S Plan C) (events : List (Event C)) (event : Event C) (comes : Comes k limits world events event) where
   abbrev pub w : Machine C
   w = run_of k world events
 

@@ -9,7 +9,7 @@ use Rattle.link_net.specs.Links.{list_of}
 use Rattle.table_service.specs.Services.{service_of}
 use Rattle.partition_world.specs.declared.world.World.{World}
 use Rattle.partition_world.specs.declared.event.Happened.TheVariants as happened
-use Rattle.partition_world.specs.Meanings.{Meaning}
+use Rattle.grid_base.specs.Shelves.{Meaning}
 use Rattle.partition_world.specs.Shelves.{IsShelf}
 use Rattle.partition_world.specs.Recorders.{Records}
 use Rattle.partition_world.specs.Worlds.{setup_of, run_of, Comes, HasRun}
@@ -18,8 +18,8 @@ use Rattle.partition_world.proofs.EffectsLead.{lawful, Stood}
 use Rattle.partition_world.proofs.LinkBytes as bytes
 use Rattle.partition_world.proofs.Quiet.{quiet_run}
 
-module _ {S Env C State : Type 0} (k : Meaning S C State) (limits : C → Type 0) (within : ℕ → State → Type 0) (applied : List ℕ → State → Option State) (shelf : IsShelf k limits within applied)
-    (world : World S Env C) (events : List (Event C)) (m : ℕ) (comes : Comes k limits world events (Crash m)) (lives : is_live (run_of k world events) m ≡ true) where
+module _ {S Plan C State : Type 0} (k : Meaning S C State) (limits : C → Type 0) (within : ℕ → State → Type 0) (applied : List ℕ → State → Option State) (shelf : IsShelf k limits within applied)
+    (world : World S Plan C) (events : List (Event C)) (m : ℕ) (comes : Comes k limits world events (Crash m)) (lives : is_live (run_of k world events) m ≡ true) where
   abbrev pub w : Machine C
   w = run_of k world events
 
@@ -41,18 +41,18 @@ module _ {S Env C State : Type 0} (k : Meaning S C State) (limits : C → Type 0
   same_packets : next.packets ≡ w.packets
   same_packets = ap (λ (u : Machine C). u.packets) next_is
 
-  pub crashes : (new : World S Env C) → new ≡ record world { crashed = new.crashed } → new.crashed.items ≡ m ∷ world.crashed.items → HasRun k world new events (Crash m) happened.Done
+  pub crashes : (new : World S Plan C) → new ≡ record world { crashed = new.crashed } → new.crashed.items ≡ m ∷ world.crashed.items → HasRun k world new events (Crash m) happened.Done
   crashes new rest items =
       quiet_run k limits within applied shelf world events (Crash m) comes new happened.Done (sym (ap (λ (h : HappenedThere C). h.outcome) happens_so))
       (record {
-        setup = ap (λ (v : World S Env C). setup_of v) rest;
-        members = ap (λ (v : World S Env C). v.members) rest;
-        size = ap (λ (v : World S Env C). vec_len v.nodes) rest;
+        setup = ap (λ (v : World S Plan C). setup_of v) rest;
+        members = ap (λ (v : World S Plan C). v.members) rest;
+        size = ap (λ (v : World S Plan C). vec_len v.nodes) rest;
         crashed = items ∙ ap (λ ms. m ∷ ms) comes.stands.agrees.crashed ∙ sym (ap (λ (u : Machine C). u.crashed) next_is);
-        service = ap (λ (v : World S Env C). service_of v.service) rest ∙ comes.stands.agrees.service ∙ sym (ap (λ (u : Machine C). u.service) next_is);
-        ends = ap (λ (v : World S Env C). v.links.ends) rest;
-        links = λ f t. ap (λ (v : World S Env C). list_of v.links f t) rest ∙ comes.stands.agrees.links f t ∙ sym (bytes.same_lists k law w stood.good stood.led (Crash m) same_packets f t);
+        service = ap (λ (v : World S Plan C). service_of v.service) rest ∙ comes.stands.agrees.service ∙ sym (ap (λ (u : Machine C). u.service) next_is);
+        ends = ap (λ (v : World S Plan C). v.links.ends) rest;
+        links = λ f t. ap (λ (v : World S Plan C). list_of v.links f t) rest ∙ comes.stands.agrees.links f t ∙ sym (bytes.same_lists k law w stood.good stood.led (Crash m) same_packets f t);
         fit = λ p c. bytes.fits_stay k law w stood.good stood.led (Crash m) comes.stands.agrees.fit p (subst (In p) same_packets (in_contains p next.packets c));
-        recorded = subst (Records new.recorder) (sym (ap (λ (u : Machine C). u.recorded) next_is)) (subst (λ (v : World S Env C). Records v.recorder w.recorded) (sym rest) comes.stands.agrees.recorded);
+        recorded = subst (Records new.recorder) (sym (ap (λ (u : Machine C). u.recorded) next_is)) (subst (λ (v : World S Plan C). Records v.recorder w.recorded) (sym rest) comes.stands.agrees.recorded);
       })
-      (ap (λ (v : World S Env C). v.nodes.items) rest) (ap (λ (u : Machine C). u.nodes) next_is) (ap (λ (u : Machine C). u.released) next_is)
+      (ap (λ (v : World S Plan C). v.nodes.items) rest) (ap (λ (u : Machine C). u.nodes) next_is) (ap (λ (u : Machine C). u.released) next_is)

@@ -47,7 +47,7 @@ use Rattle.table_service.specs.Services.{Setup, service_of}
 use Rattle.partition_world.specs.declared.recorder.Recorder.{Recorder}
 use Rattle.partition_world.specs.declared.world.World.{World}
 use Rattle.partition_world.specs.declared.event.Happened.TheVariants as happened
-use Rattle.partition_world.specs.Meanings.{Meaning}
+use Rattle.grid_base.specs.Shelves.{Meaning}
 use Rattle.partition_world.specs.Shelves.{IsShelf}
 use Rattle.partition_world.specs.Answers.{newest_call, answer_of, held_answer, released_by, released_at}
 use Rattle.partition_world.specs.InFlight.{contents_in, IsRing}
@@ -71,7 +71,7 @@ use Rattle.partition_world.proofs.Spelled.{flying_spelled}
 use Rattle.partition_world.proofs.Taking as takings
 
 -- what stands at a place of a link are the bytes of the message there, which has its spelling
-module _ {S Env C State : Type 0} (k : Meaning S C State) (limits : C → Type 0) (world : World S Env C) (events : List (Event C)) (f t i : ℕ) (comes : Comes k limits world events (Deliver f t i)) where
+module _ {S Plan C State : Type 0} (k : Meaning S C State) (limits : C → Type 0) (world : World S Plan C) (events : List (Event C)) (f t i : ℕ) (comes : Comes k limits world events (Deliver f t i)) where
   abbrev pub w : Machine C
   w = run_of k world events
 
@@ -90,7 +90,7 @@ module _ {S Env C State : Type 0} (k : Meaning S C State) (limits : C → Type 0
         (ap (λ bs. slice_get bs i) (same ∙ comes.stands.agrees.links f t) ∙ link_at k w f t i msg at) e
 
 -- a live member has a node
-pub inside : {S Env C State : Type 0} (k : Meaning S C State) (limits : C → Type 0) (world : World S Env C) (events : List (Event C)) → StandsFor k limits world events → (m : ℕ) → is_live (run_of k world events) m ≡ true → m < length world.nodes.items
+pub inside : {S Plan C State : Type 0} (k : Meaning S C State) (limits : C → Type 0) (world : World S Plan C) (events : List (Event C)) → StandsFor k limits world events → (m : ℕ) → is_live (run_of k world events) m ≡ true → m < length world.nodes.items
 inside k limits world events stands m lives =
     let below = less m (run_of k world events).members (both_left (nat_lt m (run_of k world events).members) (not _) lives) in
     let formed = every_run_is_well_formed k.object (setup_of world).partition (setup_of world).members (setup_of world).backups events in
@@ -198,8 +198,8 @@ pub record HasTaken {S C State : Type 0} (k : Meaning S C State) (within : ℕ �
   pub ring : ring_of moved ≡ ring_after_taking (member_of old) (node_of old) (row_in message) (ring_of old)
   pub ends : ends_of moved ≡ ends_of old
 
-module _ {S Env C State : Type 0} (k : Meaning S C State) (limits : C → Type 0) (within : ℕ → State → Type 0) (applied : List ℕ → State → Option State) (shelf : IsShelf k limits within applied)
-    (world : World S Env C) (events : List (Event C)) (f m i : ℕ) (comes : Comes k limits world events (Deliver f m i)) (node : Node S) (there : slice_get world.nodes.items m ≡ Some node) where
+module _ {S Plan C State : Type 0} (k : Meaning S C State) (limits : C → Type 0) (within : ℕ → State → Type 0) (applied : List ℕ → State → Option State) (shelf : IsShelf k limits within applied)
+    (world : World S Plan C) (events : List (Event C)) (f m i : ℕ) (comes : Comes k limits world events (Deliver f m i)) (node : Node S) (there : slice_get world.nodes.items m ≡ Some node) where
   abbrev pub at_first : Machine C
   at_first = run_of k world events
 
@@ -231,10 +231,10 @@ module _ {S Env C State : Type 0} (k : Meaning S C State) (limits : C → Type 0
   small = subst (IsSmall within) (sym was.contents) (stood.small n.pair)
 
   -- the member is as it was
-  abbrev pub IsQuiet : World S Env C → Type 0
+  abbrev pub IsQuiet : World S Plan C → Type 0
   IsQuiet new = agreement.IsQuiet k limits within applied shelf world at_first stood comes.stands.agrees new
 
-  pub kept_so : (kin : Node S) → IsUnchanged k.state node kin → ends_of kin ≡ ends_of node → (new : World S Env C) → IsQuiet new → new.nodes.items ≡ slice_set world.nodes.items m kin → IsKept k world new events
+  pub kept_so : (kin : Node S) → IsUnchanged k.state node kin → ends_of kin ≡ ends_of node → (new : World S Plan C) → IsQuiet new → new.nodes.items ≡ slice_set world.nodes.items m kin → IsKept k world new events
   kept_so kin same ends new quiet nodes = record {
     agrees = agreement.agrees_with_kin k limits within applied shelf world at_first stood comes.stands.agrees m node kin there same ends new quiet nodes;
     waits = agreement.kin_waiting k limits within applied shelf world at_first stood comes.stands.agrees m node kin there same ends new nodes;
@@ -558,11 +558,11 @@ module _ {S Env C State : Type 0} (k : Meaning S C State) (limits : C → Type 0
       }
 
       -- and the world has run
-      abbrev pub IsRest : World S Env C → Type 0
+      abbrev pub IsRest : World S Plan C → Type 0
       IsRest new =
           agreement.IsRest k limits within applied shelf world at_first stood comes.stands.agrees event (comings.new k limits within applied shelf world events event comes) (comings.single k limits within applied shelf world events event comes) new
 
-      pub rest_then : (new : World S Env C) → setup_of new ≡ setup_of world → new.members ≡ world.members → vec_len new.nodes ≡ vec_len world.nodes → new.crashed.items ≡ world.crashed.items → service_of new.service ≡ service_of world.service
+      pub rest_then : (new : World S Plan C) → setup_of new ≡ setup_of world → new.members ≡ world.members → vec_len new.nodes ≡ vec_len world.nodes → new.crashed.items ≡ world.crashed.items → service_of new.service ≡ service_of world.service
           → new.links.ends ≡ world.links.ends → HasLists new.links (flying k next) → Records new.recorder next.recorded → IsRest new
       rest_then new setup members size crashed service ends links recorded = record {
         setup = setup;
@@ -576,7 +576,7 @@ module _ {S Env C State : Type 0} (k : Meaning S C State) (limits : C → Type 0
         recorded = recorded;
       }
 
-      pub waits_then : (new : World S Env C) → new.nodes.items ≡ slice_set world.nodes.items m moved → (q : ℕ) → waiting new q ≡ waiting world q ++ released_at k.object k.change_of at_first event q
+      pub waits_then : (new : World S Plan C) → new.nodes.items ≡ slice_set world.nodes.items m moved → (q : ℕ) → waiting new q ≡ waiting world q ++ released_at k.object k.change_of at_first event q
       waits_then new nodes q = agreement.waiting_in new q ∙ ap (λ ns. agreement.waits_in (slice_get ns q)) nodes ∙ go (number_cases q m)
         where
           go : (q ≡ m) ⊎ (q ≢ m) → agreement.waits_in (slice_get (slice_set world.nodes.items m moved) q) ≡ waiting world q ++ released_at k.object k.change_of at_first event q
@@ -589,7 +589,7 @@ module _ {S Env C State : Type 0} (k : Meaning S C State) (limits : C → Type 0
               ap agreement.waits_in (set_get_other world.nodes.items m q moved d) ∙ sym (agreement.waiting_in world q) ∙ sym (append-nil (waiting world q))
               ∙ ap (λ rs. waiting world q ++ rs) (sym (rw (number_other m q (λ e. d (sym e))) refl))
 
-      pub member_run : (new : World S Env C) (word : Took) → took_of word ≡ took → IsRest new → new.nodes.items ≡ slice_set world.nodes.items m moved → HasRun k world new events event (happened.Took word)
+      pub member_run : (new : World S Plan C) (word : Took) → took_of word ≡ took → IsRest new → new.nodes.items ≡ slice_set world.nodes.items m moved → HasRun k world new events event (happened.Took word)
       member_run new word took_word rest nodes = record {
         outcome = ap TookMessage (took_word ∙ taken.took_is ∙ ap (λ (s : Step). s.took) step_is) ∙ sym (ap (λ (h : HappenedThere C). h.outcome) happens_so);
         agrees =

@@ -13,7 +13,7 @@ use Rattle.replica_node.specs.declared.node.Node.{Node}
 use Rattle.replica_node.specs.Nodes.{node_of, contents_of, waiting as node_waiting, held_answers, ring_of, ends_of}
 use Rattle.table_service.specs.Services.{Setup, service_of}
 use Rattle.partition_world.specs.declared.world.World.{World}
-use Rattle.partition_world.specs.Meanings.{Meaning}
+use Rattle.grid_base.specs.Shelves.{Meaning}
 use Rattle.partition_world.specs.Answers.{held_answer}
 use Rattle.partition_world.specs.InFlight.{IsRing}
 use Rattle.partition_world.specs.Sending.{HasNewest}
@@ -31,7 +31,7 @@ pub record Gives {S State : Type 0} (state : S → State) (node next : Node S) (
   pub ring : ring_of next ≡ ring_of node
   pub ends : ends_of next ≡ ends_of node
 
-module _ {S Env C State : Type 0} (k : Meaning S C State) (limits : C → Type 0) (old : World S Env C) (events : List (Event C)) (stands : StandsFor k limits old events) (m : ℕ) (node next : Node S)
+module _ {S Plan C State : Type 0} (k : Meaning S C State) (limits : C → Type 0) (old : World S Plan C) (events : List (Event C)) (stands : StandsFor k limits old events) (m : ℕ) (node next : Node S)
     (there : slice_get old.nodes.items m ≡ Some node) (given : Option Released) (gives : Gives k.state node next given) where
   abbrev pub w : Machine C
   w = run_of k old events
@@ -71,20 +71,20 @@ module _ {S Env C State : Type 0} (k : Meaning S C State) (limits : C → Type 0
           subst (λ (n : ProtocolNode). HasNewest n (kept (ring_of next) n.pair.count)) (sym gives.same)
           (subst (λ r. HasNewest (node_of node) (kept r (node_of node).pair.count)) (sym gives.ring) has)
 
-  module _ (new : World S Env C) (rest : new ≡ record old { nodes = new.nodes }) (size : vec_len new.nodes ≡ vec_len old.nodes) (nodes : new.nodes.items ≡ slice_set old.nodes.items m next) where
+  module _ (new : World S Plan C) (rest : new ≡ record old { nodes = new.nodes }) (size : vec_len new.nodes ≡ vec_len old.nodes) (nodes : new.nodes.items ≡ slice_set old.nodes.items m next) where
     new_agrees : Agrees k new w
     new_agrees = record {
-      setup = ap (λ (v : World S Env C). setup_of v) rest ∙ agrees.setup;
-      members = ap (λ (v : World S Env C). v.members) rest ∙ agrees.members;
+      setup = ap (λ (v : World S Plan C). setup_of v) rest ∙ agrees.setup;
+      members = ap (λ (v : World S Plan C). v.members) rest ∙ agrees.members;
       size = size ∙ agrees.size;
       nodes = ap (map node_of) nodes ∙ map_set node_of old.nodes.items m next ∙ ap (slice_set (map node_of old.nodes.items) m) gives.same ∙ unset ∙ agrees.nodes;
       each = λ q x at. each q x (get_set old.nodes.items m q next x (ap (λ ns. slice_get ns q) (sym nodes) ∙ at));
-      crashed = ap (λ (v : World S Env C). v.crashed.items) rest ∙ agrees.crashed;
-      service = ap (λ (v : World S Env C). service_of v.service) rest ∙ agrees.service;
-      ends = ap (λ (v : World S Env C). v.links.ends) rest ∙ agrees.ends;
-      links = λ f t. ap (λ (v : World S Env C). list_of v.links f t) rest ∙ agrees.links f t;
+      crashed = ap (λ (v : World S Plan C). v.crashed.items) rest ∙ agrees.crashed;
+      service = ap (λ (v : World S Plan C). service_of v.service) rest ∙ agrees.service;
+      ends = ap (λ (v : World S Plan C). v.links.ends) rest ∙ agrees.ends;
+      links = λ f t. ap (λ (v : World S Plan C). list_of v.links f t) rest ∙ agrees.links f t;
       fit = agrees.fit;
-      recorded = subst (λ (v : World S Env C). Records v.recorder w.recorded) (sym rest) agrees.recorded;
+      recorded = subst (λ (v : World S Plan C). Records v.recorder w.recorded) (sym rest) agrees.recorded;
       waiting = λ q answer c. waits q answer (subst (λ rs. Contains rs answer) (waiting_in new q ∙ ap (λ ns. waits_in (slice_get ns q)) nodes) c);
     }
       where
@@ -112,10 +112,10 @@ module _ {S Env C State : Type 0} (k : Meaning S C State) (limits : C → Type 0
       some = subst (λ (s : Setup). 1 ≤ s.members) (sym setup) stands.some;
       most = subst (λ (s : Setup). s.members ≤ 8) (sym setup) stands.most;
       agrees = subst (λ (u : Machine C). Agrees k new u) (sym (ap (λ (s : Setup). run k.object (start s.partition s.members s.backups) events) setup)) new_agrees;
-      steps = ap (λ (v : World S Env C). steps_of v) rest ∙ stands.steps;
+      steps = ap (λ (v : World S Plan C). steps_of v) rest ∙ stands.steps;
       within = stands.within;
       once = stands.once;
     }
       where
         setup : setup_of new ≡ setup_of old
-        setup = ap (λ (v : World S Env C). setup_of v) rest
+        setup = ap (λ (v : World S Plan C). setup_of v) rest

@@ -17,7 +17,7 @@ use Rattle.partition_protocol.proofs.LinkFacts.{packet}
 use Rattle.link_net.specs.Links.{Net, HasLists, list_of, except}
 use Rattle.partition_world.specs.declared.world.World.{World}
 use Rattle.partition_world.specs.declared.event.Happened.TheVariants as happened
-use Rattle.partition_world.specs.Meanings.{Meaning}
+use Rattle.grid_base.specs.Shelves.{Meaning}
 use Rattle.partition_world.specs.Shelves.{IsShelf}
 use Rattle.partition_world.specs.InFlight.{bytes_of}
 use Rattle.partition_world.specs.Sending.{HasFit, flying}
@@ -55,13 +55,13 @@ except_itself {X = X} f t x a e g h = go (cases ((g == f) && (h == t)))
         ∙ ap (a g) (sym (same_number h t (both_right (g == f) (h == t) on)))
     go (inr off) = ap (λ b. cond b x (a g h)) off
 
-module _ {S Env C State : Type 0} (k : Meaning S C State) (limits : C → Type 0) (within : ℕ → State → Type 0) (applied : List ℕ → State → Option State) (shelf : IsShelf k limits within applied)
-    (world : World S Env C) (events : List (Event C)) (f t i : ℕ) where
+module _ {S Plan C State : Type 0} (k : Meaning S C State) (limits : C → Type 0) (within : ℕ → State → Type 0) (applied : List ℕ → State → Option State) (shelf : IsShelf k limits within applied)
+    (world : World S Plan C) (events : List (Event C)) (f t i : ℕ) where
   abbrev pub w : Machine C
   w = run_of k world events
 
   -- with other links
-  abbrev pub over : Net → World S Env C
+  abbrev pub over : Net → World S Plan C
   over net = record world { links = net }
 
   module _ (event : Event C) (comes : Comes k limits world events event) (net : Net) (ends : net.ends ≡ world.links.ends) where

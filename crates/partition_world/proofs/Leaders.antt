@@ -7,7 +7,7 @@ use Rattle.partition_protocol.specs.World.{World as Machine, trail}
 use Rattle.replica_node.specs.declared.node.Node.{Node}
 use Rattle.replica_node.specs.Nodes.{node_of}
 use Rattle.partition_world.specs.declared.world.World.{World}
-use Rattle.partition_world.specs.Meanings.{Meaning}
+use Rattle.grid_base.specs.Shelves.{Meaning}
 use Rattle.partition_world.specs.Recorders.{leader_pair, trail_by}
 use Rattle.partition_world.specs.Worlds.{Agrees, pair_of_member, leading_pair}
 use Rattle.partition_world.proofs.Trails.{first_pair, trail_is}
@@ -17,7 +17,7 @@ of_node node = ((node_of node).pair.version, (node_of node).pair.count)
 
 -- what the code finds
 
-module _ {S Env C : Type 0} (world : World S Env C) where
+module _ {S Plan C : Type 0} (world : World S Plan C) where
   pub leading_none : None ≡ world.recorder.leader → None ≡ leading_pair world
   leading_none e = ap (option_and_then (pair_of_member world)) e
 
@@ -36,7 +36,7 @@ pair_there [] (suc m) = refl
 pair_there (node ∷ nodes) zero = refl
 pair_there (node ∷ nodes) (suc m) = pair_there nodes m
 
-module _ {S Env C State : Type 0} (k : Meaning S C State) (world : World S Env C) (w : Machine C) (agrees : Agrees k world w) where
+module _ {S Plan C State : Type 0} (k : Meaning S C State) (world : World S Plan C) (w : Machine C) (agrees : Agrees k world w) where
   pub leading_is : leader_pair (leading_pair world) ≡ first_pair w
   leading_is = go world.recorder.leader ∙ ap (option_and_then (λ m. option_map (λ (n : ProtocolNode). n.pair) (slice_get w.nodes m))) agrees.recorded.leader
     where

@@ -13,7 +13,7 @@ use Rattle.link_net.specs.Links.{HasLists, list_of, except}
 use Rattle.table_service.specs.Services.{service_of}
 use Rattle.partition_world.specs.declared.world.World.{World}
 use Rattle.partition_world.specs.declared.event.Happened.{Happened}
-use Rattle.partition_world.specs.Meanings.{Meaning}
+use Rattle.grid_base.specs.Shelves.{Meaning}
 use Rattle.partition_world.specs.Shelves.{IsShelf}
 use Rattle.partition_world.specs.Events.{happened_of}
 use Rattle.partition_world.specs.Answers.{held_answer, released_by, released_at, is_at}
@@ -27,18 +27,18 @@ use Rattle.partition_world.proofs.Agreement.{same_waiting}
 use Rattle.partition_world.proofs.EffectsLead.{lawful}
 use Rattle.partition_world.proofs.LinkBytes as bytes
 
-module _ {S Env C State : Type 0} (k : Meaning S C State) (limits : C → Type 0) (within : ℕ → State → Type 0) (applied : List ℕ → State → Option State) (shelf : IsShelf k limits within applied)
-    (world : World S Env C) (events : List (Event C)) (event : Event C) (comes : Comes k limits world events event) where
+module _ {S Plan C State : Type 0} (k : Meaning S C State) (limits : C → Type 0) (within : ℕ → State → Type 0) (applied : List ℕ → State → Option State) (shelf : IsShelf k limits within applied)
+    (world : World S Plan C) (events : List (Event C)) (event : Event C) (comes : Comes k limits world events event) where
   abbrev pub w : Machine C
   w = run_of k world events
 
   abbrev pub next : Machine C
   next = (happens k.object w event).world
 
-  abbrev pub IsRest : World S Env C → Type 0
+  abbrev pub IsRest : World S Plan C → Type 0
   IsRest new = agreement.IsRest k limits within applied shelf world w (comings.stood k limits within applied shelf world events event comes) comes.stands.agrees event (comings.new k limits within applied shelf world events event comes) (comings.single k limits within applied shelf world events event comes) new
 
-  abbrev pub IsQuiet : World S Env C → Type 0
+  abbrev pub IsQuiet : World S Plan C → Type 0
   IsQuiet new = agreement.IsQuiet k limits within applied shelf world w (comings.stood k limits within applied shelf world events event comes) comes.stands.agrees new
 
   -- nothing is released at any member
@@ -52,7 +52,7 @@ module _ {S Env C State : Type 0} (k : Meaning S C State) (limits : C → Type 0
       go true = none
       go false = refl
 
-  pub quiet_run : (new : World S Env C) (happened : Happened) → happened_of happened ≡ (happens k.object w event).outcome → IsRest new → new.nodes.items ≡ world.nodes.items
+  pub quiet_run : (new : World S Plan C) (happened : Happened) → happened_of happened ≡ (happens k.object w event).outcome → IsRest new → new.nodes.items ≡ world.nodes.items
       → next.nodes ≡ w.nodes → next.released ≡ w.released → HasRun k world new events event happened
   quiet_run new happened outcome rest nodes same released = record {
     outcome = outcome;
@@ -63,7 +63,7 @@ module _ {S Env C State : Type 0} (k : Meaning S C State) (limits : C → Type 0
   }
 
   -- not even an event
-  pub kept : (new : World S Env C) → IsQuiet new → new.nodes.items ≡ world.nodes.items → IsKept k world new events
+  pub kept : (new : World S Plan C) → IsQuiet new → new.nodes.items ≡ world.nodes.items → IsKept k world new events
   kept new quiet nodes = record {
     agrees = agreement.agrees_still k limits within applied shelf world w (comings.stood k limits within applied shelf world events event comes) comes.stands.agrees new quiet nodes;
     waits = λ m. same_waiting world new nodes m;
@@ -74,7 +74,7 @@ module _ {S Env C State : Type 0} (k : Meaning S C State) (limits : C → Type 0
     pub same_next : next ≡ w
     same_next = ap (λ (x : HappenedThere C). x.world) h
 
-    pub unmoved : (new : World S Env C) (happened : Happened) → happened_of happened ≡ out → IsQuiet new → new.nodes.items ≡ world.nodes.items → HasRun k world new events event happened
+    pub unmoved : (new : World S Plan C) (happened : Happened) → happened_of happened ≡ out → IsQuiet new → new.nodes.items ≡ world.nodes.items → HasRun k world new events event happened
     unmoved new happened outcome quiet nodes = record {
       outcome = outcome ∙ sym (ap (λ (x : HappenedThere C). x.outcome) h);
       agrees = subst (λ (u : Machine C). Agrees k new u) (sym same_next) (kept new quiet nodes).agrees;
@@ -86,7 +86,7 @@ module _ {S Env C State : Type 0} (k : Meaning S C State) (limits : C → Type 0
     pub next_is : next ≡ with_packets w ps
     next_is = ap (λ (x : HappenedThere C). x.world) h
 
-    pub packets_run : (new : World S Env C) (happened : Happened) → happened_of happened ≡ out → setup_of new ≡ setup_of world → new.members ≡ world.members → vec_len new.nodes ≡ vec_len world.nodes
+    pub packets_run : (new : World S Plan C) (happened : Happened) → happened_of happened ≡ out → setup_of new ≡ setup_of world → new.members ≡ world.members → vec_len new.nodes ≡ vec_len world.nodes
         → new.crashed.items ≡ world.crashed.items → service_of new.service ≡ service_of world.service → new.links.ends ≡ world.links.ends → Records new.recorder w.recorded
         → HasLists new.links (flying k next) → HasFit k next → new.nodes.items ≡ world.nodes.items → HasRun k world new events event happened
     packets_run new happened outcome setup members size crashed service ends recorded links fit nodes =

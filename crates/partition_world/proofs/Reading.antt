@@ -8,13 +8,13 @@ use Rattle.replica_node.specs.declared.node.Node.{Node}
 use Rattle.replica_node.specs.Nodes.{node_of, contents_of}
 use Rattle.partition_world.specs.declared.world.World.{World}
 use Rattle.partition_world.specs.ContentsOf.{pair_at, contents_at}
-use Rattle.partition_world.specs.Meanings.{Meaning}
+use Rattle.grid_base.specs.Shelves.{Meaning}
 use Rattle.partition_world.specs.Recorders.{leader_pair, trail_by}
 use Rattle.partition_world.specs.Worlds.{Agrees, pair_of_member, leading_pair}
 use Rattle.partition_world.proofs.Places.{get_map}
 use Rattle.partition_world.proofs.Trails.{first_pair, trail_is}
 
-module _ {S Env C State : Type 0} (k : Meaning S C State) (world : World S Env C) (w : Machine C) (agrees : Agrees k world w) (m : ℕ) (node : Node S) (there : slice_get world.nodes.items m ≡ Some node) where
+module _ {S Plan C State : Type 0} (k : Meaning S C State) (world : World S Plan C) (w : Machine C) (agrees : Agrees k world w) (m : ℕ) (node : Node S) (there : slice_get world.nodes.items m ≡ Some node) where
   pub node_there : slice_get w.nodes m ≡ Some (node_of node)
   node_there = ap (λ ns. slice_get ns m) (sym agrees.nodes) ∙ get_map node_of world.nodes.items m node there
 
@@ -30,7 +30,7 @@ module _ {S Env C State : Type 0} (k : Meaning S C State) (world : World S Env C
 
 -- the pair of the standing row's first member
 
-pub member_pair : {S Env C : Type 0} (world : World S Env C) (m : ℕ) → leader_pair (pair_of_member world m) ≡ option_map (λ (n : ProtocolNode). n.pair) (slice_get (map node_of world.nodes.items) m)
+pub member_pair : {S Plan C : Type 0} (world : World S Plan C) (m : ℕ) → leader_pair (pair_of_member world m) ≡ option_map (λ (n : ProtocolNode). n.pair) (slice_get (map node_of world.nodes.items) m)
 member_pair {S = S} world m = go world.nodes.items m
   where
     go : (nodes : List (Node S)) (i : ℕ) → leader_pair (option_map (λ (node : Node S). ((node_of node).pair.version, (node_of node).pair.count)) (slice_get nodes i)) ≡ option_map (λ (n : ProtocolNode). n.pair) (slice_get (map node_of nodes) i)
@@ -38,7 +38,7 @@ member_pair {S = S} world m = go world.nodes.items m
     go (node ∷ nodes) zero = refl
     go (node ∷ nodes) (suc i) = go nodes i
 
-pub first_pair_is : {S Env C State : Type 0} (k : Meaning S C State) (world : World S Env C) (w : Machine C) → Agrees k world w → leader_pair (leading_pair world) ≡ first_pair w
+pub first_pair_is : {S Plan C State : Type 0} (k : Meaning S C State) (world : World S Plan C) (w : Machine C) → Agrees k world w → leader_pair (leading_pair world) ≡ first_pair w
 first_pair_is k world w agrees =
     ap (λ m. leader_pair (option_and_then (pair_of_member world) m)) agrees.recorded.leader ∙ go (first_of w.recorded.standing.members)
   where
@@ -46,5 +46,5 @@ first_pair_is k world w agrees =
     go None = refl
     go (Some m) = member_pair world m ∙ ap (λ ns. option_map (λ (n : ProtocolNode). n.pair) (slice_get ns m)) agrees.nodes
 
-pub trail_told : {S Env C State : Type 0} (k : Meaning S C State) (world : World S Env C) (w : Machine C) → Agrees k world w → trail_by w.recorded (leader_pair (leading_pair world)) ≡ trail w
+pub trail_told : {S Plan C State : Type 0} (k : Meaning S C State) (world : World S Plan C) (w : Machine C) → Agrees k world w → trail_by w.recorded (leader_pair (leading_pair world)) ≡ trail w
 trail_told k world w agrees = ap (trail_by w.recorded) (first_pair_is k world w agrees) ∙ sym (trail_is w)

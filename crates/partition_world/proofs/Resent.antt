@@ -26,7 +26,7 @@ use Rattle.replica_node.specs.Nodes.{node_of, contents_of, member_of, service_of
 use Rattle.replica_node.specs.Sending.{Fits}
 use Rattle.partition_world.specs.declared.world.World.{World}
 use Rattle.partition_world.specs.declared.event.Happened.TheVariants as happened
-use Rattle.partition_world.specs.Meanings.{Meaning}
+use Rattle.grid_base.specs.Shelves.{Meaning}
 use Rattle.partition_world.specs.Shelves.{IsShelf}
 use Rattle.partition_world.specs.Sending.{IsNamed, HasFit, flying}
 use Rattle.partition_world.specs.Worlds.{setup_of, run_of, IsMember, Comes, HasRun}
@@ -52,8 +52,8 @@ none_past h n (s ∷ ss) l every =
 pub resend_other : {C State : Type 0} (o : Object C State) (w : Machine C) (m : ℕ) (node : ProtocolNode) → is_live w m ≡ true → NodeAt w.nodes m node → is_primary node.known m ≡ false → happens o w (Resend m) ≡ nothing w
 resend_other o w m node lives there follows = let apart = member_apart w m lives in rw (apart, lives, there, follows) refl
 
-module _ {S Env C State : Type 0} (k : Meaning S C State) (limits : C → Type 0) (within : ℕ → State → Type 0) (applied : List ℕ → State → Option State) (shelf : IsShelf k limits within applied)
-    (world : World S Env C) (events : List (Event C)) (m : ℕ) (comes : Comes k limits world events (Resend m)) (lives : is_live (run_of k world events) m ≡ true)
+module _ {S Plan C State : Type 0} (k : Meaning S C State) (limits : C → Type 0) (within : ℕ → State → Type 0) (applied : List ℕ → State → Option State) (shelf : IsShelf k limits within applied)
+    (world : World S Plan C) (events : List (Event C)) (m : ℕ) (comes : Comes k limits world events (Resend m)) (lives : is_live (run_of k world events) m ≡ true)
     (place : ℕ) (node : Node S) (at_place : place ≡ m) (read : node ≡ get_or world.nodes.items place node) where
   abbrev pub w : Machine C
   w = run_of k world events
@@ -62,7 +62,7 @@ module _ {S Env C State : Type 0} (k : Meaning S C State) (limits : C → Type 0
   next = (happens k.object w (Resend m)).world
 
   -- with other links
-  abbrev pub over : Net → World S Env C
+  abbrev pub over : Net → World S Plan C
   over net = record world { links = net }
 
   law : IsLawful k.object

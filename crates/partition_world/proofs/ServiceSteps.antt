@@ -35,7 +35,7 @@ use Rattle.partition_world.specs.declared.world.World.{World}
 use Rattle.partition_world.specs.declared.recorder.Recorder.{Recorder}
 use Rattle.partition_world.specs.declared.event.Happened.{Happened}
 use Rattle.partition_world.specs.declared.event.Happened.TheVariants as happened
-use Rattle.partition_world.specs.Meanings.{Meaning}
+use Rattle.grid_base.specs.Shelves.{Meaning}
 use Rattle.partition_world.specs.Shelves.{IsShelf}
 use Rattle.partition_world.specs.Events.{move_outcome, reopen_outcome, happened_of}
 use Rattle.partition_world.specs.InFlight.{contents_in}
@@ -62,7 +62,7 @@ count_none h n (s ∷ ss) below over = let l = below.0 in rw (messages_to, numbe
 abbrev pub standing_by : {C : Type 0} → Recorded C → Service → Recorded C
 standing_by r s = record r { standing = cond s.row.lost r.standing s.row }
 
-module _ {S Env C State : Type 0} (k : Meaning S C State) (limits : C → Type 0) (world : World S Env C) (events : List (Event C)) (event : Event C) (comes : Comes k limits world events event) where
+module _ {S Plan C State : Type 0} (k : Meaning S C State) (limits : C → Type 0) (world : World S Plan C) (events : List (Event C)) (event : Event C) (comes : Comes k limits world events event) where
   abbrev pub w : Machine C
   w = run_of k world events
 
@@ -183,25 +183,25 @@ module _ {S Env C State : Type 0} (k : Meaning S C State) (limits : C → Type 0
           (every_of_all (λ (x : Sent). LengthsFit (said_with (contents_in k next) x.message)) ss (fits (contents_in k next)))
 
       module _ (service : TableService) (setup : service_setup service ≡ setup_of world) (serves : service_of service ≡ s) where
-        pub served_run : (new : World S Env C) → new ≡ record world { service = service; links = new.links; recorder = new.recorder } → Records new.recorder r
+        pub served_run : (new : World S Plan C) → new ≡ record world { service = service; links = new.links; recorder = new.recorder } → Records new.recorder r
             → HasLists new.links (with_sent world.members out (list_of links)) → new.links.ends ≡ links.ends → (happened : Happened) → happened_of happened ≡ outcome → HasRun k world new events event happened
         served_run new rest recorded sent size happened same =
             quiet.quiet_run k limits within applied shelf world events event comes new happened (same ∙ sym served.outcome)
             (record {
-              setup = ap (λ (x : World S Env C). setup_of x) rest ∙ setup;
-              members = ap (λ (x : World S Env C). x.members) rest;
-              size = ap (λ (x : World S Env C). vec_len x.nodes) rest;
-              crashed = ap (λ (x : World S Env C). x.crashed.items) rest ∙ comes.stands.agrees.crashed ∙ sym served.crashed;
-              service = ap (λ (x : World S Env C). service_of x.service) rest ∙ serves ∙ sym served.service;
+              setup = ap (λ (x : World S Plan C). setup_of x) rest ∙ setup;
+              members = ap (λ (x : World S Plan C). x.members) rest;
+              size = ap (λ (x : World S Plan C). vec_len x.nodes) rest;
+              crashed = ap (λ (x : World S Plan C). x.crashed.items) rest ∙ comes.stands.agrees.crashed ∙ sym served.crashed;
+              service = ap (λ (x : World S Plan C). service_of x.service) rest ∙ serves ∙ sym served.service;
               ends = size ∙ ends;
               links = links_next new.links sent;
               fit = fits_next;
               recorded = subst (Records new.recorder) (sym served.recorded) recorded;
             })
-            (ap (λ (x : World S Env C). x.nodes.items) rest) served.nodes served.released
+            (ap (λ (x : World S Plan C). x.nodes.items) rest) served.nodes served.released
 
         -- the partition stands by the service's row, where this was recorded before
-        pub stands_run : (recorder : Recorder C) (before : Recorded C) → Records recorder before → r ≡ standing_by before s → (new : World S Env C)
+        pub stands_run : (recorder : Recorder C) (before : Recorded C) → Records recorder before → r ≡ standing_by before s → (new : World S Plan C)
             → ((x : Recorded C) → Records recorder x → Records new.recorder (standing_by x (service_of service))) → HasLists new.links (with_sent world.members out (list_of links)) → new.links.ends ≡ links.ends
             → new ≡ record world { service = service; links = new.links; recorder = new.recorder } → (happened : Happened) → happened_of happened ≡ outcome → HasRun k world new events event happened
         stands_run recorder before keeps is new stands sent size rest happened same =
@@ -222,7 +222,7 @@ loss_done made x false is e = refl
 pub loss_few : (members m : ℕ) (s : Service) (h : ℕ) → count_to h (told_on_loss members m s) ≤ 2
 loss_few members m s h = on_if (λ ss. count_to h ss ≤ 2) (is_in s.row m) (telling members (detecting m s)) [] (let one = telling_few h m members (detecting m s) in omega (arith, one)) (omega arith)
 
-module _ {S Env C State : Type 0} (k : Meaning S C State) (limits : C → Type 0) (world : World S Env C) (events : List (Event C)) (m : ℕ) (comes : Comes k limits world events (Detect m)) where
+module _ {S Plan C State : Type 0} (k : Meaning S C State) (limits : C → Type 0) (world : World S Plan C) (events : List (Event C)) (m : ℕ) (comes : Comes k limits world events (Detect m)) where
   abbrev now : Machine C
   now = run_of k world events
 
@@ -276,7 +276,7 @@ refused_why no_move.NotLive other = (IsNotLive, refl)
 refused_why no_move.NotEligible other = (IsNotEligible, refl)
 refused_why no_move.Memory other = absurd (other refl)
 
-module _ {S Env C State : Type 0} (k : Meaning S C State) (limits : C → Type 0) (world : World S Env C) (events : List (Event C)) (event : Event C) (comes : Comes k limits world events event) where
+module _ {S Plan C State : Type 0} (k : Meaning S C State) (limits : C → Type 0) (world : World S Plan C) (events : List (Event C)) (event : Event C) (comes : Comes k limits world events event) where
   abbrev here : Machine C
   here = run_of k world events
 
@@ -316,7 +316,7 @@ module _ {S Env C State : Type 0} (k : Meaning S C State) (limits : C → Type 0
 
 -- a member is to take another's place
 
-module _ {S Env C State : Type 0} (k : Meaning S C State) (limits : C → Type 0) (world : World S Env C) (events : List (Event C)) (from to : ℕ) (comes : Comes k limits world events (BeginMove from to)) where
+module _ {S Plan C State : Type 0} (k : Meaning S C State) (limits : C → Type 0) (world : World S Plan C) (events : List (Event C)) (from to : ℕ) (comes : Comes k limits world events (BeginMove from to)) where
   abbrev moves_at : Machine C
   moves_at = run_of k world events
 
@@ -341,7 +341,7 @@ module _ {S Env C State : Type 0} (k : Meaning S C State) (limits : C → Type 0
 
 -- a member is to join
 
-module _ {S Env C State : Type 0} (k : Meaning S C State) (limits : C → Type 0) (world : World S Env C) (events : List (Event C)) (to : ℕ) (comes : Comes k limits world events (BeginJoin to)) where
+module _ {S Plan C State : Type 0} (k : Meaning S C State) (limits : C → Type 0) (world : World S Plan C) (events : List (Event C)) (to : ℕ) (comes : Comes k limits world events (BeginJoin to)) where
   abbrev joins_at : Machine C
   joins_at = run_of k world events
 
@@ -366,7 +366,7 @@ module _ {S Env C State : Type 0} (k : Meaning S C State) (limits : C → Type 0
 
 -- a backup is to lead
 
-module _ {S Env C State : Type 0} (k : Meaning S C State) (limits : C → Type 0) (world : World S Env C) (events : List (Event C)) (from to : ℕ) (comes : Comes k limits world events (BeginHandover from to)) where
+module _ {S Plan C State : Type 0} (k : Meaning S C State) (limits : C → Type 0) (world : World S Plan C) (events : List (Event C)) (from to : ℕ) (comes : Comes k limits world events (BeginHandover from to)) where
   abbrev hands_at : Machine C
   hands_at = run_of k world events
 
@@ -422,7 +422,7 @@ step_few members Nothing s h = omega arith
 step_few members (Freezes source target) s h = let one = count_all h (record { to = source; message = Freeze s.row.version } ∷ []) in omega (arith, one)
 step_few members (MakesRow row) s h = tells_few members (advancing (MakesRow row) s) h
 
-module _ {S Env C State : Type 0} (k : Meaning S C State) (limits : C → Type 0) (world : World S Env C) (events : List (Event C)) (comes : Comes k limits world events Advance) where
+module _ {S Plan C State : Type 0} (k : Meaning S C State) (limits : C → Type 0) (world : World S Plan C) (events : List (Event C)) (comes : Comes k limits world events Advance) where
   abbrev steps_at : Machine C
   steps_at = run_of k world events
 
@@ -457,7 +457,7 @@ reopen_why no_reopening.NotLost other = (IsNotLost, refl)
 reopen_why no_reopening.NoMember other = (HasNoMember, refl)
 reopen_why no_reopening.Memory other = absurd (other refl)
 
-module _ {S Env C State : Type 0} (k : Meaning S C State) (limits : C → Type 0) (world : World S Env C) (events : List (Event C)) (comes : Comes k limits world events Reopen) where
+module _ {S Plan C State : Type 0} (k : Meaning S C State) (limits : C → Type 0) (world : World S Plan C) (events : List (Event C)) (comes : Comes k limits world events Reopen) where
   abbrev opens_at : Machine C
   opens_at = run_of k world events
 
@@ -519,7 +519,7 @@ module _ {S Env C State : Type 0} (k : Meaning S C State) (limits : C → Type 0
 pub sends_same : (first out items : List (ℕ × List ℕ)) (ss : List Sent) → items ≡ out → Sends first out ss → Sends first items ss
 sends_same first out items ss e sends contents = e ∙ sends contents
 
-module _ {S Env C State : Type 0} (k : Meaning S C State) (limits : C → Type 0) (world : World S Env C) (events : List (Event C)) (comes : Comes k limits world events (Resend world.members)) where
+module _ {S Plan C State : Type 0} (k : Meaning S C State) (limits : C → Type 0) (world : World S Plan C) (events : List (Event C)) (comes : Comes k limits world events (Resend world.members)) where
   abbrev sends_at : Machine C
   sends_at = run_of k world events
 

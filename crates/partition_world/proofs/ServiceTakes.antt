@@ -22,7 +22,7 @@ use Rattle.table_service.specs.Services.{service_of}
 use Rattle.table_service.specs.Steps.{taking_at_service}
 use Rattle.partition_world.specs.declared.world.World.{World}
 use Rattle.partition_world.specs.declared.event.Happened.TheVariants as happened
-use Rattle.partition_world.specs.Meanings.{Meaning}
+use Rattle.grid_base.specs.Shelves.{Meaning}
 use Rattle.partition_world.specs.Shelves.{IsShelf}
 use Rattle.partition_world.specs.InFlight.{contents_in}
 use Rattle.partition_world.specs.Sending.{HasFit, flying}
@@ -54,8 +54,8 @@ service_taken u (Joined v b) = record { nodes = refl; released = refl; crashed =
 service_taken u (Freeze v) = record { nodes = refl; released = refl; crashed = refl; packets = refl; service = refl; outcome = refl }
 service_taken u (Frozen v) = record { nodes = refl; released = refl; crashed = refl; packets = refl; service = refl; outcome = refl }
 
-module _ {S Env C State : Type 0} (k : Meaning S C State) (limits : C → Type 0) (within : ℕ → State → Type 0) (applied : List ℕ → State → Option State) (shelf : IsShelf k limits within applied)
-    (world : World S Env C) (events : List (Event C)) (f t i : ℕ) (comes : Comes k limits world events (Deliver f t i)) where
+module _ {S Plan C State : Type 0} (k : Meaning S C State) (limits : C → Type 0) (within : ℕ → State → Type 0) (applied : List ℕ → State → Option State) (shelf : IsShelf k limits within applied)
+    (world : World S Plan C) (events : List (Event C)) (f t i : ℕ) (comes : Comes k limits world events (Deliver f t i)) where
   abbrev pub w : Machine C
   w = run_of k world events
 
@@ -103,7 +103,7 @@ module _ {S Env C State : Type 0} (k : Meaning S C State) (limits : C → Type 0
         bytes.fits_next k law w stood.good stood.led event comes.stands.agrees.fit (taken_out f t i w.packets) t (contents_in k w) [] (bytes.taken_in k law w stood.good stood.led event f t i w.packets)
         (packets ∙ sym (append-nil (taken_out f t i w.packets))) tt tt
 
-  module _ (msg : Message) (at : slice_get (link f t w.packets) i ≡ Some (packet f t msg)) (new : World S Env C) (lists : HasLists new.links (except f t (remove (list_of world.links f t) i) (list_of world.links)))
+  module _ (msg : Message) (at : slice_get (link f t w.packets) i ≡ Some (packet f t msg)) (new : World S Plan C) (lists : HasLists new.links (except f t (remove (list_of world.links f t) i) (list_of world.links)))
       (ends : new.links.ends ≡ world.links.ends) where
     -- a crashed member drops it
     pub dropped : (t == w.members) ≡ false → is_live w t ≡ false → setup_of new ≡ setup_of world → new.members ≡ world.members → new.nodes ≡ world.nodes → new.crashed ≡ world.crashed → service_of new.service ≡ service_of world.service

@@ -7,14 +7,14 @@ use Rattle.partition_protocol.proofs.EventFacts.{run_next}
 use Rattle.table_service.specs.Services.{Setup}
 use Rattle.partition_world.specs.declared.world.World.{World}
 use Rattle.partition_world.specs.declared.event.Happened.{Happened}
-use Rattle.partition_world.specs.Meanings.{Meaning}
+use Rattle.grid_base.specs.Shelves.{Meaning}
 use Rattle.partition_world.specs.Events.{EventWithin}
 use Rattle.partition_world.specs.Worlds.{setup_of, run_of, Agrees, StandsFor, Comes, HasRun, KeepsSetup}
 use Rattle.partition_world.proofs.Newest.{all_one}
 
-module _ {S Env C State : Type 0} (k : Meaning S C State) (limits : C → Type 0) (old new : World S Env C) (events : List (Event C)) (event : Event C) (comes : Comes k limits old events event) (keeps : KeepsSetup old new) where
+module _ {S Plan C State : Type 0} (k : Meaning S C State) (limits : C → Type 0) (old new : World S Plan C) (events : List (Event C)) (event : Event C) (comes : Comes k limits old events event) (keeps : KeepsSetup old new) where
   -- the event is counted
-  abbrev pub counted : World S Env C
+  abbrev pub counted : World S Plan C
   counted = record new { steps = new.steps + 1 }
 
   counted_agrees : (w : Machine C) → Agrees k new w → Agrees k counted w

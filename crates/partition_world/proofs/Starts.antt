@@ -24,7 +24,7 @@ use Rattle.replica_node.specs.declared.node.Node.{Node}
 use Rattle.replica_node.specs.Nodes.{node_of, contents_of, waiting as node_waiting, held_answers, ring_of, ends_of, Ends}
 use Rattle.table_service.specs.Services.{Setup, service_of}
 use Rattle.partition_world.specs.declared.world.World.{World}
-use Rattle.partition_world.specs.Meanings.{Meaning}
+use Rattle.grid_base.specs.Shelves.{Meaning}
 use Rattle.partition_world.specs.Answers.{held_answer}
 use Rattle.partition_world.specs.InFlight.{IsRing, contents_in}
 use Rattle.partition_world.specs.Sending.{HasNewest}
@@ -71,7 +71,7 @@ newest_opened row m kept i l r = absurd (let z = none in omega (arith, l, r, z))
     none = on_if (λ (p : Pair). p.count ≡ 0) (is_in row m) (record { version = 1; count = 0 }) no_pair refl refl
 
 -- nothing waits anywhere
-pub none_waits : {S Env C : Type 0} (world : World S Env C) → All (λ (node : Node S). node_waiting node ≡ []) world.nodes.items → (m : ℕ) → waiting world m ≡ []
+pub none_waits : {S Plan C : Type 0} (world : World S Plan C) → All (λ (node : Node S). node_waiting node ≡ []) world.nodes.items → (m : ℕ) → waiting world m ≡ []
 none_waits {S = S} world none m = waiting_in world m ∙ go (slice_get world.nodes.items m) refl
   where
     go : (node : Option (Node S)) → slice_get world.nodes.items m ≡ node → waits_in node ≡ []
@@ -79,7 +79,7 @@ none_waits {S = S} world none m = waiting_in world m ∙ go (slice_get world.nod
     go (Some node) at = all_at (λ (node : Node S). node_waiting node ≡ []) world.nodes.items m node none at
 
 -- What a world is made of: the first row of its service, as it is read for the nodes and for the recorder, and empty shelves
-pub record IsNew {S Env C State : Type 0} (k : Meaning S C State) (world : World S Env C) (partition members backups : ℕ) : Type 0 where
+pub record IsNew {S Plan C State : Type 0} (k : Meaning S C State) (world : World S Plan C) (partition members backups : ℕ) : Type 0 where
   pub first : Row
   pub standing : Row
   pub nothing : State
@@ -101,7 +101,7 @@ pub record IsNew {S Env C State : Type 0} (k : Meaning S C State) (world : World
   pub recorded : Records world.recorder (record { standing = standing; log = []; bases = record { version = 1; reset = 0; pair = no_pair } ∷ []; openings = [] })
   pub steps : steps_of world ≡ 0
 
-module _ {S Env C State : Type 0} (k : Meaning S C State) (limits : C → Type 0) (world : World S Env C) (partition members backups : ℕ) (is : IsNew k world partition members backups) where
+module _ {S Plan C State : Type 0} (k : Meaning S C State) (limits : C → Type 0) (world : World S Plan C) (partition members backups : ℕ) (is : IsNew k world partition members backups) where
   abbrev pub w : Machine C
   w = start partition members backups
 

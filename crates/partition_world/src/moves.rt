@@ -1,6 +1,6 @@
 ghost use Rattle.std.specs.Prelude.{◌≡◌, List, IfOk, OnErr};
 ghost use Rattle.partition_protocol.specs.Events.{Event as ProtocolEvent, BeginMove, BeginJoin, BeginHandover, Advance, Reopen};
-ghost use Rattle.partition_world.specs.Meanings.{meaning};
+ghost use Rattle.grid_base.specs.Shelves.{meaning};
 ghost use Rattle.partition_world.specs.Worlds.{Comes, HasRun, IsKept, KeepsSetup, leading_pair};
 
 use crate::event::Happened;
@@ -20,11 +20,11 @@ impl<S: Shelf> World<S> {
         from: MemberId,
         to: MemberId,
     ) -> Result<Happened, Memory>
-        requires { (env : S.Env) × (events : List (ProtocolEvent S.Call)) × Comes (meaning S.object S.state S.effect_of S.change_of S.snapshot_of env) S.within_limits self.old events (BeginMove from to) }
-        ensures ok { (env : S.Env) (events : List (ProtocolEvent S.Call)) → let k = meaning S.object S.state S.effect_of S.change_of S.snapshot_of env in
-            Comes k S.within_limits self.old events (BeginMove from to) → IfOk result (HasRun k self.old self.new events (BeginMove from to)) }
-        ensures err { (env : S.Env) (events : List (ProtocolEvent S.Call)) → let k = meaning S.object S.state S.effect_of S.change_of S.snapshot_of env in
-            Comes k S.within_limits self.old events (BeginMove from to) → OnErr result (IsKept k self.old self.new events) }
+        requires { (plan : S.Plan) × (events : List (ProtocolEvent S.Call)) × Comes (meaning S.model plan) S.model.within_limits self.old events (BeginMove from to) }
+        ensures ok { (plan : S.Plan) (events : List (ProtocolEvent S.Call)) → let k = meaning S.model plan in
+            Comes k S.model.within_limits self.old events (BeginMove from to) → IfOk result (HasRun k self.old self.new events (BeginMove from to)) }
+        ensures err { (plan : S.Plan) (events : List (ProtocolEvent S.Call)) → let k = meaning S.model plan in
+            Comes k S.model.within_limits self.old events (BeginMove from to) → OnErr result (IsKept k self.old self.new events) }
         ensures keeps { KeepsSetup self.old self.new }
     {
         self.links.reserve(self.members, MOST_TOLD)?;
@@ -43,11 +43,11 @@ impl<S: Shelf> World<S> {
 
     /// A member is to join the row.
     pub(crate) fn begin_join(&mut self, alloc: Global, to: MemberId) -> Result<Happened, Memory>
-        requires { (env : S.Env) × (events : List (ProtocolEvent S.Call)) × Comes (meaning S.object S.state S.effect_of S.change_of S.snapshot_of env) S.within_limits self.old events (BeginJoin to) }
-        ensures ok { (env : S.Env) (events : List (ProtocolEvent S.Call)) → let k = meaning S.object S.state S.effect_of S.change_of S.snapshot_of env in
-            Comes k S.within_limits self.old events (BeginJoin to) → IfOk result (HasRun k self.old self.new events (BeginJoin to)) }
-        ensures err { (env : S.Env) (events : List (ProtocolEvent S.Call)) → let k = meaning S.object S.state S.effect_of S.change_of S.snapshot_of env in
-            Comes k S.within_limits self.old events (BeginJoin to) → OnErr result (IsKept k self.old self.new events) }
+        requires { (plan : S.Plan) × (events : List (ProtocolEvent S.Call)) × Comes (meaning S.model plan) S.model.within_limits self.old events (BeginJoin to) }
+        ensures ok { (plan : S.Plan) (events : List (ProtocolEvent S.Call)) → let k = meaning S.model plan in
+            Comes k S.model.within_limits self.old events (BeginJoin to) → IfOk result (HasRun k self.old self.new events (BeginJoin to)) }
+        ensures err { (plan : S.Plan) (events : List (ProtocolEvent S.Call)) → let k = meaning S.model plan in
+            Comes k S.model.within_limits self.old events (BeginJoin to) → OnErr result (IsKept k self.old self.new events) }
         ensures keeps { KeepsSetup self.old self.new }
     {
         self.links.reserve(self.members, MOST_TOLD)?;
@@ -66,9 +66,9 @@ impl<S: Shelf> World<S> {
 
     /// A backup is to lead in place of the primary, which leaves the row. Takes no memory.
     pub(crate) fn begin_handover(&mut self, from: MemberId, to: MemberId) -> Happened
-        requires { (env : S.Env) × (events : List (ProtocolEvent S.Call)) × Comes (meaning S.object S.state S.effect_of S.change_of S.snapshot_of env) S.within_limits self.old events (BeginHandover from to) }
-        ensures ok { (env : S.Env) (events : List (ProtocolEvent S.Call)) → let k = meaning S.object S.state S.effect_of S.change_of S.snapshot_of env in
-            Comes k S.within_limits self.old events (BeginHandover from to) → HasRun k self.old self.new events (BeginHandover from to) result }
+        requires { (plan : S.Plan) × (events : List (ProtocolEvent S.Call)) × Comes (meaning S.model plan) S.model.within_limits self.old events (BeginHandover from to) }
+        ensures ok { (plan : S.Plan) (events : List (ProtocolEvent S.Call)) → let k = meaning S.model plan in
+            Comes k S.model.within_limits self.old events (BeginHandover from to) → HasRun k self.old self.new events (BeginHandover from to) result }
         ensures keeps { KeepsSetup self.old self.new }
     {
         match self.service.begin_handover(from, to) {
@@ -82,11 +82,11 @@ impl<S: Shelf> World<S> {
 
     /// The move under way takes its next step.
     pub(crate) fn advance(&mut self, alloc: Global) -> Result<Happened, Memory>
-        requires { (env : S.Env) × (events : List (ProtocolEvent S.Call)) × Comes (meaning S.object S.state S.effect_of S.change_of S.snapshot_of env) S.within_limits self.old events Advance }
-        ensures ok { (env : S.Env) (events : List (ProtocolEvent S.Call)) → let k = meaning S.object S.state S.effect_of S.change_of S.snapshot_of env in
-            Comes k S.within_limits self.old events Advance → IfOk result (HasRun k self.old self.new events Advance) }
-        ensures err { (env : S.Env) (events : List (ProtocolEvent S.Call)) → let k = meaning S.object S.state S.effect_of S.change_of S.snapshot_of env in
-            Comes k S.within_limits self.old events Advance → OnErr result (IsKept k self.old self.new events) }
+        requires { (plan : S.Plan) × (events : List (ProtocolEvent S.Call)) × Comes (meaning S.model plan) S.model.within_limits self.old events Advance }
+        ensures ok { (plan : S.Plan) (events : List (ProtocolEvent S.Call)) → let k = meaning S.model plan in
+            Comes k S.model.within_limits self.old events Advance → IfOk result (HasRun k self.old self.new events Advance) }
+        ensures err { (plan : S.Plan) (events : List (ProtocolEvent S.Call)) → let k = meaning S.model plan in
+            Comes k S.model.within_limits self.old events Advance → OnErr result (IsKept k self.old self.new events) }
         ensures keeps { KeepsSetup self.old self.new }
     {
         self.links.reserve(self.members, MOST_TOLD)?;
@@ -106,11 +106,11 @@ impl<S: Shelf> World<S> {
 
     /// The loss of a lost partition is accepted, and it goes on empty.
     pub(crate) fn reopen(&mut self, alloc: Global) -> Result<Happened, Memory>
-        requires { (env : S.Env) × (events : List (ProtocolEvent S.Call)) × Comes (meaning S.object S.state S.effect_of S.change_of S.snapshot_of env) S.within_limits self.old events Reopen }
-        ensures ok { (env : S.Env) (events : List (ProtocolEvent S.Call)) → let k = meaning S.object S.state S.effect_of S.change_of S.snapshot_of env in
-            Comes k S.within_limits self.old events Reopen → IfOk result (HasRun k self.old self.new events Reopen) }
-        ensures err { (env : S.Env) (events : List (ProtocolEvent S.Call)) → let k = meaning S.object S.state S.effect_of S.change_of S.snapshot_of env in
-            Comes k S.within_limits self.old events Reopen → OnErr result (IsKept k self.old self.new events) }
+        requires { (plan : S.Plan) × (events : List (ProtocolEvent S.Call)) × Comes (meaning S.model plan) S.model.within_limits self.old events Reopen }
+        ensures ok { (plan : S.Plan) (events : List (ProtocolEvent S.Call)) → let k = meaning S.model plan in
+            Comes k S.model.within_limits self.old events Reopen → IfOk result (HasRun k self.old self.new events Reopen) }
+        ensures err { (plan : S.Plan) (events : List (ProtocolEvent S.Call)) → let k = meaning S.model plan in
+            Comes k S.model.within_limits self.old events Reopen → OnErr result (IsKept k self.old self.new events) }
         ensures keeps { KeepsSetup self.old self.new }
     {
         if !self.service.row().lost {

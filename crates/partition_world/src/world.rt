@@ -3,7 +3,7 @@ ghost use Rattle.partition_protocol.specs.Node.{opening_node};
 ghost use Rattle.partition_protocol.specs.Service.{numbers_below};
 ghost use Rattle.partition_protocol.specs.Events.{Event as ProtocolEvent};
 ghost use Rattle.replica_node.specs.Nodes.{node_of, contents_of, waiting as node_waiting, held_answers, ring_of, ends_of};
-ghost use Rattle.partition_world.specs.Meanings.{meaning};
+ghost use Rattle.grid_base.specs.Shelves.{meaning};
 ghost use Rattle.partition_world.specs.Worlds.{StandsFor, IsReleased, run_of, setup_of, steps_of, waiting};
 
 use crate::recorder::Recorder;
@@ -44,7 +44,7 @@ impl<S: Shelf> World<S> {
     ) -> Result<World<S>, Memory>
         requires some { 1 ≤ members }
         requires most { members ≤ 8 }
-        ensures stands { IfOk result (λ world. (env : S.Env) → StandsFor (meaning S.object S.state S.effect_of S.change_of S.snapshot_of env) S.within_limits world []) }
+        ensures stands { IfOk result (λ world. (plan : S.Plan) → StandsFor (meaning S.model plan) S.model.within_limits world []) }
         ensures setup { IfOk result (λ world. setup_of world ≡ record { partition = partition; members = members; backups = backups }) }
         ensures waiting { IfOk result (λ world. (member : ℕ) → waiting world member ≡ []) }
         ensures steps { IfOk result (λ world. steps_of world ≡ 0) }
@@ -70,12 +70,12 @@ impl<S: Shelf> World<S> {
         ensures none { IsNone result ↔ (waiting self.old member ≡ []) }
         ensures kept { IfNone result (waiting self.new member ≡ waiting self.old member) }
         ensures others { (other : ℕ) → other ≢ member → waiting self.new other ≡ waiting self.old other }
-        ensures released { (env : S.Env) (events : List (ProtocolEvent S.Call)) → let k = meaning S.object S.state S.effect_of S.change_of S.snapshot_of env in
-            StandsFor k S.within_limits self.old events → IfSome result (IsReleased (run_of k self.old events)) }
+        ensures released { (plan : S.Plan) (events : List (ProtocolEvent S.Call)) → let k = meaning S.model plan in
+            StandsFor k S.model.within_limits self.old events → IfSome result (IsReleased (run_of k self.old events)) }
 
         // It is no event.
-        ensures stands { (env : S.Env) (events : List (ProtocolEvent S.Call)) → let k = meaning S.object S.state S.effect_of S.change_of S.snapshot_of env in
-            StandsFor k S.within_limits self.old events → StandsFor k S.within_limits self.new events }
+        ensures stands { (plan : S.Plan) (events : List (ProtocolEvent S.Call)) → let k = meaning S.model plan in
+            StandsFor k S.model.within_limits self.old events → StandsFor k S.model.within_limits self.new events }
         ensures steps { steps_of self.new ≡ steps_of self.old }
         ensures setup { setup_of self.new ≡ setup_of self.old }
     {
@@ -88,7 +88,7 @@ fn opening_nodes<S: Shelf>(alloc: Global, members: u8, row: &Row) -> Result<Vec<
     requires { row.now.version ≡ 1 }
     ensures len { IfOk result (λ nodes. vec_len nodes ≡ members) }
     ensures nodes { IfOk result (λ nodes. map node_of nodes.items ≡ map (opening_node row.now) (numbers_below members)) }
-    ensures empty { IfOk result (λ nodes. All (λ node. S.state (contents_of node) ≡ S.empty_state) nodes.items) }
+    ensures empty { IfOk result (λ nodes. All (λ node. S.model.state (contents_of node) ≡ S.model.empty_state) nodes.items) }
     ensures waiting { IfOk result (λ nodes. All (λ node. node_waiting node ≡ []) nodes.items) }
     ensures held { IfOk result (λ nodes. All (λ node. held_answers node ≡ []) nodes.items) }
     ensures ring { IfOk result (λ nodes. All (λ node. ring_of node ≡ []) nodes.items) }

@@ -1,7 +1,7 @@
 -- The recorder tells the trail of the standing row's first member.
 use Rattle.std.proofs.Common.{◌≡◌, ◌∙◌, map, IfOk, ap, subst}
 use Rattle.partition_protocol.specs.World.{trail}
-use Rattle.partition_world.specs.Meanings.{meaning}
+use Rattle.grid_base.specs.Shelves.{meaning}
 use Rattle.partition_world.specs.RecordedEntries.{entry_of}
 use Rattle.partition_world.specs.Recorders.{leader_pair, trail_by}
 use Rattle.partition_world.specs.Worlds.{run_of}
@@ -9,9 +9,9 @@ use Rattle.partition_world.proofs.Reading.{trail_told}
 use Rattle.partition_world.proofs.world.World.trail.Goals as goal
 
 pub returns : goal.returns
-returns g c env events stands =
+returns g c plan events stands =
     let S = g.S.Shelf in
-    let k = meaning S.object S.state S.effect_of S.change_of S.snapshot_of env in
+    let k = meaning S.model plan in
     let world = c.args.self.now in
     let w = run_of k world events in
     let told : trail_by w.recorded (leader_pair c.leading_pair.result) ≡ trail w = ap (λ p. trail_by w.recorded (leader_pair p)) c.leading_pair.ensures ∙ trail_told k world w stands.agrees in
