@@ -1,6 +1,6 @@
 -- The laws that the trait of shelves gives are those of a shelf by each plan.
-use Rattle.std.proofs.Common.{◌≡◌, ℕ, ◌+◌, ◌≤◌, List, Option, Some, None, is_some, sym, subst}
-use Rattle.grid_base.specs.Objects.{Object, IsSmall}
+use Rattle.std.proofs.Common.{◌≡◌, ℕ, ◌+◌, ◌≤◌, List, Some, None, is_some, sym, subst}
+use Rattle.grid_base.specs.Objects.{IsSmall}
 use Rattle.grid_base.specs.Shelves.{ShelfModel, meaning}
 use Rattle.partition_world.specs.Shelves.{IsShelf}
 

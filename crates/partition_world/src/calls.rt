@@ -6,6 +6,7 @@ ghost use Rattle.partition_world.specs.Worlds.{Comes, HasRun, IsKept, KeepsSetup
 
 use crate::entry::Entry;
 use crate::event::{CallOutcome, Happened};
+use crate::records::Records;
 use crate::world::World;
 use grid_base::{CallId, Executes, MemberId, Memory, Moment, Shelf};
 use member_wire::Outbox;
@@ -13,7 +14,7 @@ use primary_hold::Called;
 use replica_node::NodeRefused;
 use std::alloc::{AllocError, Global};
 
-impl<S: Shelf> World<S> {
+impl<S: Shelf, R: Records<S::Call>> World<S, R> {
     /// A call reaches a member.
     pub(crate) fn call<N>(
         &mut self,
@@ -27,11 +28,11 @@ impl<S: Shelf> World<S> {
     where
         S: Executes<N>,
         S::Call: Drop,
-        requires { (events : List (ProtocolEvent S.Call)) × Comes (meaning S.model (S.plan_of env.now)) S.model.within_limits self.old events (CallEvent member id.conn id.number call now) }
+        requires { (events : List (ProtocolEvent S.Call)) × Comes (meaning S.model (S.plan_of env.now)) R.records S.model.within_limits self.old events (CallEvent member id.conn id.number call now) }
         ensures ok { (events : List (ProtocolEvent S.Call)) → let k = meaning S.model (S.plan_of env.now) in let e = CallEvent member id.conn id.number call now in
-            Comes k S.model.within_limits self.old events e → IfOk result (HasRun k self.old self.new events e) }
+            Comes k R.records S.model.within_limits self.old events e → IfOk result (HasRun k R.records self.old self.new events e) }
         ensures err { (events : List (ProtocolEvent S.Call)) → let k = meaning S.model (S.plan_of env.now) in
-            Comes k S.model.within_limits self.old events (CallEvent member id.conn id.number call now) → OnErr result (IsKept k self.old self.new events) }
+            Comes k R.records S.model.within_limits self.old events (CallEvent member id.conn id.number call now) → OnErr result (IsKept k R.records self.old self.new events) }
         ensures keeps { KeepsSetup self.old self.new }
     {
         if !self.is_live(member) {
@@ -66,13 +67,13 @@ impl<S: Shelf> World<S> {
     where
         S: Executes<N>,
         S::Call: Drop,
-        requires comes { (events : List (ProtocolEvent S.Call)) × Comes (meaning S.model (S.plan_of env.now)) S.model.within_limits self.old events (CallEvent member id.conn id.number call now) }
+        requires comes { (events : List (ProtocolEvent S.Call)) × Comes (meaning S.model (S.plan_of env.now)) R.records S.model.within_limits self.old events (CallEvent member id.conn id.number call now) }
         requires lives { (events : List (ProtocolEvent S.Call)) → let k = meaning S.model (S.plan_of env.now) in
-            Comes k S.model.within_limits self.old events (CallEvent member id.conn id.number call now) → is_live (run_of k self.old events) member ≡ true }
+            Comes k R.records S.model.within_limits self.old events (CallEvent member id.conn id.number call now) → is_live (run_of k self.old events) member ≡ true }
         ensures ok { (events : List (ProtocolEvent S.Call)) → let k = meaning S.model (S.plan_of env.now) in let e = CallEvent member id.conn id.number call now in
-            Comes k S.model.within_limits self.old events e → IfOk result (λ outcome. HasRun k self.old self.new events e (Happened.Called outcome)) }
+            Comes k R.records S.model.within_limits self.old events e → IfOk result (λ outcome. HasRun k R.records self.old self.new events e (Happened.Called outcome)) }
         ensures err { (events : List (ProtocolEvent S.Call)) → let k = meaning S.model (S.plan_of env.now) in let e = CallEvent member id.conn id.number call now in
-            Comes k S.model.within_limits self.old events e → IfErr result (HasRefused k self.old self.new events e) }
+            Comes k R.records S.model.within_limits self.old events e → IfErr result (HasRefused k R.records self.old self.new events e) }
         ensures keeps { KeepsSetup self.old self.new }
     {
         self.recorder.reserve()?;

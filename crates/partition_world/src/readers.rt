@@ -8,17 +8,20 @@ ghost use Rattle.replica_node.specs.Contents.{pair_of};
 ghost use Rattle.partition_world.specs.ContentsOf.{pair_at, contents_at};
 ghost use Rattle.grid_base.specs.Shelves.{meaning};
 ghost use Rattle.partition_world.specs.RecordedEntries.{entry_of};
+ghost use Rattle.partition_world.specs.Recorders.{KeepsAll};
 ghost use Rattle.partition_world.specs.Sending.{flying};
 ghost use Rattle.partition_world.specs.Worlds.{StandsFor, run_of, steps_of, node_count};
 
 use crate::history::Trail;
+use crate::recorder::Recorder;
+use crate::records::Records;
 use crate::world::World;
 use grid_base::{Bytes, MemberId, Memory, Shelf};
 use partition_table::Row;
 use replica_node::Contents;
 use std::alloc::Global;
 
-impl<S: Shelf> World<S> {
+impl<S: Shelf, R: Records<S::Call>> World<S, R> {
     /// How many events were run. Takes no memory.
     pub fn steps(&self) -> u32
         ensures { result ≡ steps_of self.now }
@@ -29,7 +32,7 @@ impl<S: Shelf> World<S> {
     /// Whether a member takes steps. Another number is no member's. Takes no memory.
     pub fn is_live(&self, member: MemberId) -> bool
         ensures { (plan : S.Plan) (events : List (ProtocolEvent S.Call)) → let k = meaning S.model plan in
-            StandsFor k S.model.within_limits self.now events → result ≡ is_live (run_of k self.now events) member }
+            StandsFor k R.records S.model.within_limits self.now events → result ≡ is_live (run_of k self.now events) member }
     {
         member < self.members && !self.crashed.contains(&member)
     }
@@ -37,7 +40,7 @@ impl<S: Shelf> World<S> {
     /// Whether the table service was told that the member has crashed. Takes no memory.
     pub fn is_detected(&self, member: MemberId) -> bool
         ensures { (plan : S.Plan) (events : List (ProtocolEvent S.Call)) → let k = meaning S.model plan in
-            StandsFor k S.model.within_limits self.now events → result ≡ is_among (run_of k self.now events).service.detected member }
+            StandsFor k R.records S.model.within_limits self.now events → result ≡ is_among (run_of k self.now events).service.detected member }
     {
         self.service.is_detected(member)
     }
@@ -45,7 +48,7 @@ impl<S: Shelf> World<S> {
     /// Whether a move is under way. Takes no memory.
     pub fn moving(&self) -> bool
         ensures { (plan : S.Plan) (events : List (ProtocolEvent S.Call)) → let k = meaning S.model plan in
-            StandsFor k S.model.within_limits self.now events → result ≡ not (is_idle (run_of k self.now events).service.move) }
+            StandsFor k R.records S.model.within_limits self.now events → result ≡ not (is_idle (run_of k self.now events).service.move) }
     {
         self.service.moving()
     }
@@ -53,7 +56,7 @@ impl<S: Shelf> World<S> {
     /// The newest row, which the table service made. Takes no memory.
     pub fn row(&self) -> &Row
         ensures { (plan : S.Plan) (events : List (ProtocolEvent S.Call)) → let k = meaning S.model plan in
-            StandsFor k S.model.within_limits self.now events → result.now ≡ (run_of k self.now events).service.row }
+            StandsFor k R.records S.model.within_limits self.now events → result.now ≡ (run_of k self.now events).service.row }
     {
         self.service.row()
     }
@@ -62,7 +65,7 @@ impl<S: Shelf> World<S> {
     pub fn known(&self, member: MemberId) -> &Row
         requires { member < node_count self.now }
         ensures { (plan : S.Plan) (events : List (ProtocolEvent S.Call)) → let k = meaning S.model plan in
-            StandsFor k S.model.within_limits self.now events → (node : ProtocolNode) → slice_get (run_of k self.now events).nodes member ≡ Some node → result.now ≡ node.known }
+            StandsFor k R.records S.model.within_limits self.now events → (node : ProtocolNode) → slice_get (run_of k self.now events).nodes member ≡ Some node → result.now ≡ node.known }
     {
         self.nodes[usize::from(member)].known()
     }
@@ -71,7 +74,7 @@ impl<S: Shelf> World<S> {
     pub fn is_frozen(&self, member: MemberId) -> bool
         requires { member < node_count self.now }
         ensures { (plan : S.Plan) (events : List (ProtocolEvent S.Call)) → let k = meaning S.model plan in
-            StandsFor k S.model.within_limits self.now events → (node : ProtocolNode) → slice_get (run_of k self.now events).nodes member ≡ Some node → result ≡ node.frozen }
+            StandsFor k R.records S.model.within_limits self.now events → (node : ProtocolNode) → slice_get (run_of k self.now events).nodes member ≡ Some node → result ≡ node.frozen }
     {
         self.nodes[usize::from(member)].is_frozen()
     }
@@ -80,9 +83,9 @@ impl<S: Shelf> World<S> {
     pub fn contents(&self, member: MemberId) -> Contents<'_, S>
         requires { member < node_count self.now }
         ensures pair { (plan : S.Plan) (events : List (ProtocolEvent S.Call)) → let k = meaning S.model plan in
-            StandsFor k S.model.within_limits self.now events → pair_of result ≡ pair_at (run_of k self.now events) member }
+            StandsFor k R.records S.model.within_limits self.now events → pair_of result ≡ pair_at (run_of k self.now events) member }
         ensures state { (plan : S.Plan) (events : List (ProtocolEvent S.Call)) → let k = meaning S.model plan in
-            StandsFor k S.model.within_limits self.now events → S.model.state result.shelf.now ≡ contents_at k.object (run_of k self.now events) member }
+            StandsFor k R.records S.model.within_limits self.now events → S.model.state result.shelf.now ≡ contents_at k.object (run_of k self.now events) member }
     {
         self.nodes[usize::from(member)].contents()
     }
@@ -90,16 +93,21 @@ impl<S: Shelf> World<S> {
     /// The messages in flight from one end to another, in the order in which they were sent. Takes no memory.
     pub fn in_flight(&self, from: u8, to: u8) -> &[Bytes]
         ensures { (plan : S.Plan) (events : List (ProtocolEvent S.Call)) → let k = meaning S.model plan in
-            StandsFor k S.model.within_limits self.now events → result.now ≡ flying k (run_of k self.now events) from to }
+            StandsFor k R.records S.model.within_limits self.now events → result.now ≡ flying k (run_of k self.now events) from to }
     {
         self.links.list(from, to)
     }
+}
 
+impl<S: Shelf> World<S, Recorder<S::Call>>
+where
+    S::Call: Drop,
+{
     /// The history by which the partition stands. Costs a pass over the bases and one over the log for each version in
     /// which it goes on, and memory for the places of its entries.
     pub fn trail(&self, alloc: Global) -> Result<Trail<'_, S::Call>, Memory>
         ensures { (plan : S.Plan) (events : List (ProtocolEvent S.Call)) → let k = meaning S.model plan in
-            StandsFor k S.model.within_limits self.now events → IfOk result (λ entries. map entry_of entries ≡ trail (run_of k self.now events)) }
+            StandsFor k KeepsAll S.model.within_limits self.now events → IfOk result (λ entries. map entry_of entries ≡ trail (run_of k self.now events)) }
     {
         self.recorder.trail(alloc, self.leading_pair())
     }

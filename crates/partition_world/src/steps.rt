@@ -7,6 +7,7 @@ ghost use Rattle.partition_world.specs.Answers.{released_at};
 ghost use Rattle.partition_world.specs.Worlds.{StandsFor, Comes, HasRun, IsKept, KeepsSetup, run_of, next_of, setup_of, steps_of, waiting};
 
 use crate::event::{Event, Happened};
+use crate::records::Records;
 use crate::world::World;
 use grid_base::{Executes, Memory, Shelf};
 use std::alloc::Global;
@@ -14,7 +15,7 @@ use std::alloc::Global;
 /// A world takes at most so many events.
 pub const MOST_EVENTS: u32 = 4_294_967_294;
 
-impl<S: Shelf> World<S> {
+impl<S: Shelf, R: Records<S::Call>> World<S, R> {
     /// Runs one event. No event looks through the history but a reopening, which tells it.
     ///
     /// A call costs its execution, and a copy of its effect for each backup. A delivery costs the reading of the message,
@@ -29,23 +30,23 @@ impl<S: Shelf> World<S> {
     where
         S: Executes<N>,
         S::Call: Drop,
-        requires { (events : List (ProtocolEvent S.Call)) × Comes (meaning S.model (S.plan_of env.now)) S.model.within_limits self.old events (event_of event) }
+        requires { (events : List (ProtocolEvent S.Call)) × Comes (meaning S.model (S.plan_of env.now)) R.records S.model.within_limits self.old events (event_of event) }
 
         // The outcome is the protocol's, and the world then stands for one event more.
         ensures outcome { (events : List (ProtocolEvent S.Call)) → let k = meaning S.model (S.plan_of env.now) in
-            Comes k S.model.within_limits self.old events (event_of event) → IfOk result (λ happened. happened_of happened ≡ (next_of k self.old events (event_of event)).outcome) }
+            Comes k R.records S.model.within_limits self.old events (event_of event) → IfOk result (λ happened. happened_of happened ≡ (next_of k self.old events (event_of event)).outcome) }
         ensures stands { (events : List (ProtocolEvent S.Call)) → let k = meaning S.model (S.plan_of env.now) in
-            Comes k S.model.within_limits self.old events (event_of event) → OnOk result (StandsFor k S.model.within_limits self.new (events ++ event_of event ∷ [])) }
+            Comes k R.records S.model.within_limits self.old events (event_of event) → OnOk result (StandsFor k R.records S.model.within_limits self.new (events ++ event_of event ∷ [])) }
         ensures steps { OnOk result (steps_of self.new ≡ steps_of self.old + 1) }
 
         // What it releases comes last among the answers that wait at its member.
         ensures waiting { (events : List (ProtocolEvent S.Call)) → let k = meaning S.model (S.plan_of env.now) in
-            Comes k S.model.within_limits self.old events (event_of event)
+            Comes k R.records S.model.within_limits self.old events (event_of event)
             → OnOk result ((member : ℕ) → waiting self.new member ≡ waiting self.old member ++ released_at k.object k.change_of (run_of k self.old events) (event_of event) member) }
 
         // Want of memory is no event, and changes nothing.
         ensures err { (events : List (ProtocolEvent S.Call)) → let k = meaning S.model (S.plan_of env.now) in
-            Comes k S.model.within_limits self.old events (event_of event) → OnErr result (StandsFor k S.model.within_limits self.new events) }
+            Comes k R.records S.model.within_limits self.old events (event_of event) → OnErr result (StandsFor k R.records S.model.within_limits self.new events) }
         ensures err_waiting { OnErr result ((member : ℕ) → waiting self.new member ≡ waiting self.old member) }
         ensures err_steps { OnErr result (steps_of self.new ≡ steps_of self.old) }
 
@@ -66,11 +67,11 @@ impl<S: Shelf> World<S> {
     where
         S: Executes<N>,
         S::Call: Drop,
-        requires { (events : List (ProtocolEvent S.Call)) × Comes (meaning S.model (S.plan_of env.now)) S.model.within_limits self.old events (event_of event) }
+        requires { (events : List (ProtocolEvent S.Call)) × Comes (meaning S.model (S.plan_of env.now)) R.records S.model.within_limits self.old events (event_of event) }
         ensures ok { (events : List (ProtocolEvent S.Call)) → let k = meaning S.model (S.plan_of env.now) in
-            Comes k S.model.within_limits self.old events (event_of event) → IfOk result (HasRun k self.old self.new events (event_of event)) }
+            Comes k R.records S.model.within_limits self.old events (event_of event) → IfOk result (HasRun k R.records self.old self.new events (event_of event)) }
         ensures err { (events : List (ProtocolEvent S.Call)) → let k = meaning S.model (S.plan_of env.now) in
-            Comes k S.model.within_limits self.old events (event_of event) → OnErr result (IsKept k self.old self.new events) }
+            Comes k R.records S.model.within_limits self.old events (event_of event) → OnErr result (IsKept k R.records self.old self.new events) }
         ensures keeps { KeepsSetup self.old self.new }
     {
         match event {
@@ -97,7 +98,7 @@ impl<S: Shelf> World<S> {
 
 /// What the protocol claims of its every run holds of a world: its history is that of one thread, it has every answer
 /// that was released, and it has calls that were made, in order, each at most once.
-pub fn every_world_is_safe<S: Shelf>(world: &World<S>)
+pub fn every_world_is_safe<S: Shelf, R: Records<S::Call>>(world: &World<S, R>)
     ensures { (plan : S.Plan) (events : List (ProtocolEvent S.Call)) → let k = meaning S.model plan in
-        StandsFor k S.model.within_limits world.now events → IsSafe k.object (run_of k world.now events) × IsFaithful events (run_of k world.now events) }
+        StandsFor k R.records S.model.within_limits world.now events → IsSafe k.object (run_of k world.now events) × IsFaithful events (run_of k world.now events) }
 {}

@@ -7,7 +7,7 @@ ghost use Rattle.partition_world.specs.Events.{event_of};
 ghost use Rattle.partition_world.specs.Registers.{put_effect, put_alike, put_anew, put_made};
 ghost use Rattle.partition_world.specs.Worlds.{StandsFor, steps_of};
 
-use crate::{CallOutcome, Entry, Event, Happened, World};
+use crate::{CallOutcome, Entry, Event, Happened, Recorder, Records, StandingRow, World};
 use grid_base::{Bytes, CallId, Executed, Executes, MemberId, Memory, Moment, Shelf};
 use member_wire::Took;
 use std::alloc::Global;
@@ -102,15 +102,15 @@ impl Executes<()> for Register {
 }
 
 /// The one call of a test reaches a member.
-fn call(
+fn call<R: Records<Option<u8>>>(
     rt: &impl Abort,
     alloc: Global,
-    world: &mut World<Register>,
+    world: &mut World<Register, R>,
     member: MemberId,
     expected: CallOutcome,
 ) -> Result<(), Fail>
-    requires stands { let S = ⟦<Register as Shelf>⟧ in StandsFor (meaning S.model tt) S.model.within_limits world.old [] }
-    ensures stands { let S = ⟦<Register as Shelf>⟧ in OnOk result ((events : List (ProtocolEvent (Option ℕ))) × StandsFor (meaning S.model tt) S.model.within_limits world.new events) }
+    requires stands { let S = ⟦<Register as Shelf>⟧ in StandsFor (meaning S.model tt) R.records S.model.within_limits world.old [] }
+    ensures stands { let S = ⟦<Register as Shelf>⟧ in OnOk result ((events : List (ProtocolEvent (Option ℕ))) × StandsFor (meaning S.model tt) R.records S.model.within_limits world.new events) }
     ensures steps { OnOk result (steps_of world.new ≡ 1) }
 {
     let event = Event::Call {
@@ -124,17 +124,17 @@ fn call(
 }
 
 /// Something else happens.
-fn happen(
+fn happen<R: Records<Option<u8>>>(
     rt: &impl Abort,
     alloc: Global,
-    world: &mut World<Register>,
+    world: &mut World<Register, R>,
     event: Event<Option<u8>>,
     expected: Happened,
 ) -> Result<(), Fail>
     requires quiet { asked_by (event_of event) ≡ [] }
     requires few { steps_of world.old < 1000 }
-    requires stands { let S = ⟦<Register as Shelf>⟧ in (events : List (ProtocolEvent (Option ℕ))) × StandsFor (meaning S.model tt) S.model.within_limits world.old events }
-    ensures stands { let S = ⟦<Register as Shelf>⟧ in OnOk result ((events : List (ProtocolEvent (Option ℕ))) × StandsFor (meaning S.model tt) S.model.within_limits world.new events) }
+    requires stands { let S = ⟦<Register as Shelf>⟧ in (events : List (ProtocolEvent (Option ℕ))) × StandsFor (meaning S.model tt) R.records S.model.within_limits world.old events }
+    ensures stands { let S = ⟦<Register as Shelf>⟧ in OnOk result ((events : List (ProtocolEvent (Option ℕ))) × StandsFor (meaning S.model tt) R.records S.model.within_limits world.new events) }
     ensures steps { OnOk result (steps_of world.new ≡ steps_of world.old + 1) }
 {
     assert_eq!(rt; world.step(alloc, &(), event)?, expected);
@@ -142,17 +142,17 @@ fn happen(
 }
 
 /// The first message of a link is handed over.
-fn deliver(
+fn deliver<R: Records<Option<u8>>>(
     rt: &impl Abort,
     alloc: Global,
-    world: &mut World<Register>,
+    world: &mut World<Register, R>,
     from: u8,
     to: u8,
     took: Took,
 ) -> Result<(), Fail>
     requires few { steps_of world.old < 1000 }
-    requires stands { let S = ⟦<Register as Shelf>⟧ in (events : List (ProtocolEvent (Option ℕ))) × StandsFor (meaning S.model tt) S.model.within_limits world.old events }
-    ensures stands { let S = ⟦<Register as Shelf>⟧ in OnOk result ((events : List (ProtocolEvent (Option ℕ))) × StandsFor (meaning S.model tt) S.model.within_limits world.new events) }
+    requires stands { let S = ⟦<Register as Shelf>⟧ in (events : List (ProtocolEvent (Option ℕ))) × StandsFor (meaning S.model tt) R.records S.model.within_limits world.old events }
+    ensures stands { let S = ⟦<Register as Shelf>⟧ in OnOk result ((events : List (ProtocolEvent (Option ℕ))) × StandsFor (meaning S.model tt) R.records S.model.within_limits world.new events) }
     ensures steps { OnOk result (steps_of world.new ≡ steps_of world.old + 1) }
 {
     let event = Event::Deliver { from, to, place: 0 };
@@ -163,7 +163,7 @@ fn deliver(
 fn assert_trail(
     rt: &impl Abort,
     alloc: Global,
-    world: &World<Register>,
+    world: &World<Register, Recorder<Option<u8>>>,
     entries: usize,
 ) -> Result<(), Fail> {
     assert_eq!(rt; world.trail(alloc)?.len(), entries);
@@ -174,7 +174,7 @@ fn assert_trail(
 fn an_answer_waits_for_its_backup(rt: HostRuntime) -> Result<(), Fail> {
     let alloc = rt.alloc();
     // Member 2 leads, and 0 is its backup; the table service has the number 3.
-    let mut world: World<Register> = World::new(alloc, 5, 3, 1)?;
+    let mut world: World<Register, Recorder<Option<u8>>> = World::new(alloc, 5, 3, 1)?;
     call(&rt, alloc, &mut world, 2, CallOutcome::Held { seen: 1 })?;
     deliver(&rt, alloc, &mut world, 2, 0, Took::Applied)?;
     deliver(&rt, alloc, &mut world, 0, 2, Took::Acked)?;
@@ -187,7 +187,7 @@ fn an_answer_waits_for_its_backup(rt: HostRuntime) -> Result<(), Fail> {
 #[test]
 fn an_answered_write_survives_its_primary(rt: HostRuntime) -> Result<(), Fail> {
     let alloc = rt.alloc();
-    let mut world: World<Register> = World::new(alloc, 5, 3, 1)?;
+    let mut world: World<Register, Recorder<Option<u8>>> = World::new(alloc, 5, 3, 1)?;
     call(&rt, alloc, &mut world, 2, CallOutcome::Held { seen: 1 })?;
     deliver(&rt, alloc, &mut world, 2, 0, Took::Applied)?;
     deliver(&rt, alloc, &mut world, 0, 2, Took::Acked)?;
@@ -203,7 +203,7 @@ fn an_answered_write_survives_its_primary(rt: HostRuntime) -> Result<(), Fail> {
 #[test]
 fn what_was_lost_is_sent_again(rt: HostRuntime) -> Result<(), Fail> {
     let alloc = rt.alloc();
-    let mut world: World<Register> = World::new(alloc, 5, 3, 1)?;
+    let mut world: World<Register, StandingRow> = World::new(alloc, 5, 3, 1)?;
     call(&rt, alloc, &mut world, 2, CallOutcome::Held { seen: 1 })?;
     let lose = Event::Lose {
         from: 2,
@@ -237,7 +237,7 @@ fn what_was_lost_is_sent_again(rt: HostRuntime) -> Result<(), Fail> {
 fn a_lost_partition_goes_on_empty(rt: HostRuntime) -> Result<(), Fail> {
     let alloc = rt.alloc();
     // Member 1 leads alone; the table service has the number 2.
-    let mut world: World<Register> = World::new(alloc, 5, 2, 0)?;
+    let mut world: World<Register, Recorder<Option<u8>>> = World::new(alloc, 5, 2, 0)?;
     call(&rt, alloc, &mut world, 1, CallOutcome::Released { seen: 1 })?;
     let crash = Event::Crash { member: 1 };
     happen(&rt, alloc, &mut world, crash, Happened::Done)?;

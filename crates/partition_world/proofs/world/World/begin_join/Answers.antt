@@ -13,7 +13,7 @@ pub begin_join-requires : goal.begin_join-requires
 begin_join-requires g c =
     let sh = g.S.Shelf in
     let k = meaning sh.model c.requires.0 in
-    row_room k sh.model.within_limits c.args.self.now c.requires.1 _ c.requires.2
+    row_room k g.R.Records.records sh.model.within_limits c.args.self.now c.requires.1 _ c.requires.2
 
 pub stand-requires : goal.stand-requires
 stand-requires g c =
@@ -22,8 +22,8 @@ stand-requires g c =
     let old = c.args.self.now in
     let ok = c.in-Ok.ensures in
     let made = service_of c.begin_join.new.self in
-    let served = served_join k sh.model.within_limits old c.requires.1 c.args.to c.requires.2 made ok.refused ok.service in
-    few_sent k sh.model.within_limits old c.requires.1 (BeginJoin c.args.to) c.requires.2 _ _ _ _ served c.new-out.result c.begin_join.new.out c.new-out.ensures ok.told (tells_few (service_number old.service) made)
+    let served = served_join k g.R.Records.records sh.model.within_limits old c.requires.1 c.args.to c.requires.2 made ok.refused ok.service in
+    few_sent k g.R.Records.records sh.model.within_limits old c.requires.1 (BeginJoin c.args.to) c.requires.2 _ _ _ _ served c.new-out.result c.begin_join.new.out c.new-out.ensures ok.told (tells_few (service_number old.service) made)
     c.reserve.new.self c.reserve.ensures.ends c.in_ok-reserve.ensures.ok
 
 pub returns-in-Ok-clause-ok : goal.returns-in-Ok-clause-ok
@@ -34,8 +34,8 @@ returns-in-Ok-clause-ok g c plan events comes =
     let shelf = shelf_of sh.model law.begins_empty law.changes_by_effect law.same_without_effect law.made_by_effect law.begins_within law.grows_within law.widens law.one_spelling plan in
     let old = c.args.self.now in
     let ok = c.in-Ok.ensures in
-    let served = served_join k sh.model.within_limits old events c.args.to comes (service_of c.begin_join.new.self) ok.refused ok.service in
-    stands_run k sh.model.within_limits old events (BeginJoin c.args.to) comes _ _ _ _ served c.new-out.result c.begin_join.new.out c.new-out.ensures ok.told sh.model.within sh.model.applied shelf ok.fits
+    let served = served_join k g.R.Records.records sh.model.within_limits old events c.args.to comes (service_of c.begin_join.new.self) ok.refused ok.service in
+    stands_run k g.R.Records.records sh.model.within_limits old events (BeginJoin c.args.to) comes _ _ _ _ served c.new-out.result c.begin_join.new.out c.new-out.ensures ok.told sh.model.within sh.model.applied shelf ok.fits
     c.reserve.new.self c.reserve.ensures.ends c.reserve.ensures.lists c.begin_join.new.self ok.setup refl old.recorder (run_of k old events).recorded comes.stands.agrees.recorded refl
     c.stand.new.self c.stand.ensures.recorder c.stand.ensures.links c.stand.ensures.ends c.stand.ensures.rest (RowMade c.in-Ok.version) (ap RowMadeAt ok.version)
 
@@ -48,7 +48,7 @@ returns g c = record {
       let shelf = shelf_of sh.model law.begins_empty law.changes_by_effect law.same_without_effect law.made_by_effect law.begins_within law.grows_within law.widens law.one_spelling plan in
       let old = c.args.self.now in
       let no = c.in-Err.ensures in
-      refused_join k sh.model.within_limits old events c.args.to comes sh.model.within sh.model.applied shelf c.begin_join.new.self c.reserve.new.self no.setup no.err c.reserve.ensures.ends c.reserve.ensures.lists
+      refused_join k g.R.Records.records sh.model.within_limits old events c.args.to comes sh.model.within sh.model.applied shelf c.begin_join.new.self c.reserve.new.self no.setup no.err c.reserve.ensures.ends c.reserve.ensures.lists
       c.in-Err.refused c.in_default.not-Memory no.refused;
   err = λ plan events comes. tt;
   keeps = record { setup = c.in-Err.ensures.setup; steps = refl };

@@ -12,7 +12,7 @@ returns-clause-pair g c plan events stands =
     let k = meaning S.model plan in
     let world = c.args.self.now in
     let there : slice_get world.nodes.items c.args.member ≡ Some c.index.result.now = stands_there world.nodes.items c.args.member c.from.result c.index.result.now c.from.ensures (omega (arith, c.requires)) c.index.ensures in
-    c.contents.ensures.pair ∙ pair_is k world (run_of k world events) stands.agrees c.args.member c.index.result.now there
+    c.contents.ensures.pair ∙ pair_is k g.R.Records.records world (run_of k world events) stands.agrees c.args.member c.index.result.now there
 
 pub returns-clause-state : goal.returns-clause-state
 returns-clause-state g c plan events stands =
@@ -20,4 +20,4 @@ returns-clause-state g c plan events stands =
     let k = meaning S.model plan in
     let world = c.args.self.now in
     let there : slice_get world.nodes.items c.args.member ≡ Some c.index.result.now = stands_there world.nodes.items c.args.member c.from.result c.index.result.now c.from.ensures (omega (arith, c.requires)) c.index.ensures in
-    ap S.model.state c.contents.ensures.shelf ∙ contents_is k world (run_of k world events) stands.agrees c.args.member c.index.result.now there
+    ap S.model.state c.contents.ensures.shelf ∙ contents_is k g.R.Records.records world (run_of k world events) stands.agrees c.args.member c.index.result.now there

@@ -12,7 +12,7 @@ returns-then-place-list-clause-ok g c plan events comes =
     let met = g.met.S.Shelf in
     let shelf = shelf_of S.model
     met.begins_empty met.changes_by_effect met.same_without_effect met.made_by_effect met.begins_within met.grows_within met.widens met.one_spelling plan in
-    none_there _ S.model.within_limits S.model.within S.model.applied shelf c.args.self.now events c.args.from c.args.to c.args.place comes c.list.result.now c.list.ensures c.if-place-list.true
+    none_there _ _ S.model.within_limits S.model.within S.model.applied shelf c.args.self.now events c.args.from c.args.to c.args.place comes c.list.result.now c.list.ensures c.if-place-list.true
 
 pub returns-then-not-is_live-clause-ok : goal.returns-then-not-is_live-clause-ok
 returns-then-not-is_live-clause-ok g c plan events comes =
@@ -22,7 +22,7 @@ returns-then-not-is_live-clause-ok g c plan events comes =
     met.begins_empty met.changes_by_effect met.same_without_effect met.made_by_effect met.begins_within met.grows_within met.widens met.one_spelling plan in
     let old = c.args.self.now in
     let members = (run_of (meaning S.model plan) old events).members in
-    let msg = message_at _ S.model.within_limits S.model.within S.model.applied shelf old events c.args.from c.args.to c.args.place comes c.list.result.now c.list.ensures c.if-place-list.false in
-    dropped _ S.model.within_limits S.model.within S.model.applied shelf old events c.args.from c.args.to c.args.place comes msg.0 msg.1 _ c.lose.ensures.lists c.lose.ensures.ends
+    let msg = message_at _ _ S.model.within_limits S.model.within S.model.applied shelf old events c.args.from c.args.to c.args.place comes c.list.result.now c.list.ensures c.if-place-list.false in
+    dropped _ _ S.model.within_limits S.model.within S.model.applied shelf old events c.args.from c.args.to c.args.place comes msg.0 msg.1 _ c.lose.ensures.lists c.lose.ensures.ends
     (number_other c.args.to members (λ e. c.if-to-self.false (e ∙ sym comes.stands.agrees.members)))
     (sym (c.is_live.ensures plan events comes.stands) ∙ c.if-not-is_live.true) refl refl refl refl refl refl

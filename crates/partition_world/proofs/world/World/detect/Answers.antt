@@ -15,15 +15,15 @@ pub detect-requires : goal.detect-requires
 detect-requires g c =
     let sh = g.S.Shelf in
     let k = meaning sh.model c.requires.0 in
-    row_room k sh.model.within_limits c.args.self.now c.requires.1 _ c.requires.2
+    row_room k g.R.Records.records sh.model.within_limits c.args.self.now c.requires.1 _ c.requires.2
 
 pub stand-requires : goal.stand-requires
 stand-requires g c =
     let sh = g.S.Shelf in
     let k = meaning sh.model c.requires.0 in
     let old = c.args.self.now in
-    let served = served_loss k sh.model.within_limits old c.requires.1 c.args.member c.requires.2 c.is_unnoticed.result c.is_unnoticed.ensures c.if-not-is_unnoticed.false in
-    few_sent k sh.model.within_limits old c.requires.1 (Detect c.args.member) c.requires.2 _ _ _ _ served c.new-out.result c.detect.new.out c.new-out.ensures c.in_ok-made.ensures.told
+    let served = served_loss k g.R.Records.records sh.model.within_limits old c.requires.1 c.args.member c.requires.2 c.is_unnoticed.result c.is_unnoticed.ensures c.if-not-is_unnoticed.false in
+    few_sent k g.R.Records.records sh.model.within_limits old c.requires.1 (Detect c.args.member) c.requires.2 _ _ _ _ served c.new-out.result c.detect.new.out c.new-out.ensures c.in_ok-made.ensures.told
     (loss_few (service_number old.service) c.args.member (service_of old.service)) c.reserve.new.self c.reserve.ensures.ends c.in_ok-reserve.ensures.ok
 
 pub returns-in-Some-clause-ok : goal.returns-in-Some-clause-ok
@@ -35,8 +35,8 @@ returns-in-Some-clause-ok g c plan events comes =
     let old = c.args.self.now in
     let s = service_of old.service in
     let ok = c.in_ok-made.ensures in
-    let served = served_loss k sh.model.within_limits old events c.args.member comes c.is_unnoticed.result c.is_unnoticed.ensures c.if-not-is_unnoticed.false in
-    stands_run k sh.model.within_limits old events (Detect c.args.member) comes _ _ _ _ served c.new-out.result c.detect.new.out c.new-out.ensures ok.told sh.model.within sh.model.applied shelf ok.fits
+    let served = served_loss k g.R.Records.records sh.model.within_limits old events c.args.member comes c.is_unnoticed.result c.is_unnoticed.ensures c.if-not-is_unnoticed.false in
+    stands_run k g.R.Records.records sh.model.within_limits old events (Detect c.args.member) comes _ _ _ _ served c.new-out.result c.detect.new.out c.new-out.ensures ok.told sh.model.within sh.model.applied shelf ok.fits
     c.reserve.new.self c.reserve.ensures.ends c.reserve.ensures.lists c.detect.new.self ok.setup ok.service old.recorder (run_of k old events).recorded comes.stands.agrees.recorded refl
     c.stand.new.self c.stand.ensures.recorder c.stand.ensures.links c.stand.ensures.ends c.stand.ensures.rest (RowMade c.in-Some.version)
     (loss_made c.in_ok-made.made c.in-Some.version (detecting c.args.member s).row.version (is_in s.row c.args.member) ok.version c.in-Some.is)
@@ -50,8 +50,8 @@ returns-in-None-clause-ok g c plan events comes =
     let old = c.args.self.now in
     let s = service_of old.service in
     let ok = c.in_ok-made.ensures in
-    let served = served_loss k sh.model.within_limits old events c.args.member comes c.is_unnoticed.result c.is_unnoticed.ensures c.if-not-is_unnoticed.false in
-    stands_run k sh.model.within_limits old events (Detect c.args.member) comes _ _ _ _ served c.new-out.result c.detect.new.out c.new-out.ensures ok.told sh.model.within sh.model.applied shelf ok.fits
+    let served = served_loss k g.R.Records.records sh.model.within_limits old events c.args.member comes c.is_unnoticed.result c.is_unnoticed.ensures c.if-not-is_unnoticed.false in
+    stands_run k g.R.Records.records sh.model.within_limits old events (Detect c.args.member) comes _ _ _ _ served c.new-out.result c.detect.new.out c.new-out.ensures ok.told sh.model.within sh.model.applied shelf ok.fits
     c.reserve.new.self c.reserve.ensures.ends c.reserve.ensures.lists c.detect.new.self ok.setup ok.service old.recorder (run_of k old events).recorded comes.stands.agrees.recorded refl
     c.stand.new.self c.stand.ensures.recorder c.stand.ensures.links c.stand.ensures.ends c.stand.ensures.rest Done
     (loss_done c.in_ok-made.made (detecting c.args.member s).row.version (is_in s.row c.args.member) ok.version c.in-None.is)

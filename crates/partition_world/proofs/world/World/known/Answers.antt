@@ -13,4 +13,4 @@ returns g c plan events stands node at =
     let k = meaning S.model plan in
     let world = c.args.self.now in
     let there : slice_get world.nodes.items c.args.member ≡ Some c.index.result.now = stands_there world.nodes.items c.args.member c.from.result c.index.result.now c.from.ensures (omega (arith, c.requires)) c.index.ensures in
-    c.known.ensures ∙ ap (λ (n : Node). n.known) (node_is k world (run_of k world events) stands.agrees c.args.member c.index.result.now there node at)
+    c.known.ensures ∙ ap (λ (n : Node). n.known) (node_is k g.R.Records.records world (run_of k world events) stands.agrees c.args.member c.index.result.now there node at)

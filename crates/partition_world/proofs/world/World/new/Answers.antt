@@ -8,7 +8,7 @@ use Rattle.partition_world.proofs.world.World.new.Goals as goal
 pub returns-clause-stands : goal.returns-clause-stands
 returns-clause-stands g c plan =
     let S = g.S.Shelf in
-    let world : World _ _ _ = record {
+    let world : World _ _ _ _ = record {
       members = c.args.members;
       nodes = c.in_ok-nodes.nodes;
       crashed = c.new-4.result;
@@ -19,7 +19,7 @@ returns-clause-stands g c plan =
     } in
     let opened = c.in_ok-nodes.ensures in
     let k = meaning S.model plan in
-    let is : IsNew k world c.args.partition c.args.members c.args.backups = record {
+    let is : IsNew k g.R.Records.records world c.args.partition c.args.members c.args.backups = record {
       first = c.row.result.now;
       standing = c.row-2.result.now;
       nothing = S.model.empty_state;
@@ -41,11 +41,11 @@ returns-clause-stands g c plan =
       recorded = c.in_ok-recorder.ensures;
       steps = refl;
     } in
-    starts k S.model.within_limits world c.args.partition c.args.members c.args.backups is c.requires.some c.requires.most
+    starts k g.R.Records.records S.model.within_limits world c.args.partition c.args.members c.args.backups is c.requires.some c.requires.most
 
 pub returns-clause-waiting : goal.returns-clause-waiting
 returns-clause-waiting g c m =
-    let world : World _ g.row.S-Plan.Denot _ = record {
+    let world : World _ _ g.row.S-Plan.Denot g.row.S-Call.Denot = record {
       members = c.args.members;
       nodes = c.in_ok-nodes.nodes;
       crashed = c.new-4.result;

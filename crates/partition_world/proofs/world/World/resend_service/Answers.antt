@@ -12,9 +12,9 @@ send_all-requires g c =
     let sh = g.S.Shelf in
     let k = meaning sh.model c.requires.0 in
     let old = c.args.self.now in
-    let served = served_again k sh.model.within_limits old c.requires.1 c.requires.2 in
-    few_sent k sh.model.within_limits old c.requires.1 (Resend old.members) c.requires.2 _ _ _ _ served c.new-out.result c.into_vec.result.items c.new-out.ensures (sends_same c.new-out.result c.resend.new.out c.into_vec.result.items _ c.into_vec.ensures c.in_ok-resend.ensures.told)
-    (again_few k sh.model.within_limits old c.requires.1 c.requires.2) c.reserve.new.self c.reserve.ensures.ends c.in_ok-reserve.ensures.ok
+    let served = served_again k g.R.Records.records sh.model.within_limits old c.requires.1 c.requires.2 in
+    few_sent k g.R.Records.records sh.model.within_limits old c.requires.1 (Resend old.members) c.requires.2 _ _ _ _ served c.new-out.result c.into_vec.result.items c.new-out.ensures (sends_same c.new-out.result c.resend.new.out c.into_vec.result.items _ c.into_vec.ensures c.in_ok-resend.ensures.told)
+    (again_few k g.R.Records.records sh.model.within_limits old c.requires.1 c.requires.2) c.reserve.new.self c.reserve.ensures.ends c.in_ok-reserve.ensures.ok
 
 pub returns-clause-ok : goal.returns-clause-ok
 returns-clause-ok g c plan events comes =
@@ -23,7 +23,7 @@ returns-clause-ok g c plan events comes =
     let k = meaning sh.model plan in
     let shelf = shelf_of sh.model law.begins_empty law.changes_by_effect law.same_without_effect law.made_by_effect law.begins_within law.grows_within law.widens law.one_spelling plan in
     let old = c.args.self.now in
-    let served = served_again k sh.model.within_limits old events comes in
-    served_run k sh.model.within_limits old events (Resend old.members) comes _ _ _ _ served c.new-out.result c.into_vec.result.items c.new-out.ensures (sends_same c.new-out.result c.resend.new.out c.into_vec.result.items _ c.into_vec.ensures c.in_ok-resend.ensures.told)
+    let served = served_again k g.R.Records.records sh.model.within_limits old events comes in
+    served_run k g.R.Records.records sh.model.within_limits old events (Resend old.members) comes _ _ _ _ served c.new-out.result c.into_vec.result.items c.new-out.ensures (sends_same c.new-out.result c.resend.new.out c.into_vec.result.items _ c.into_vec.ensures c.in_ok-resend.ensures.told)
     sh.model.within sh.model.applied shelf c.in_ok-resend.ensures.fits c.reserve.new.self c.reserve.ensures.ends c.reserve.ensures.lists old.service refl refl
     (record old { links = c.send_all.new.self }) refl comes.stands.agrees.recorded c.send_all.ensures.lists c.send_all.ensures.ends Done refl
