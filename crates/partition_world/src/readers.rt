@@ -5,7 +5,7 @@ ghost use Rattle.partition_protocol.specs.Service.{is_idle};
 ghost use Rattle.partition_protocol.specs.World.{is_live, trail};
 ghost use Rattle.partition_protocol.specs.Events.{Event as ProtocolEvent};
 ghost use Rattle.replica_node.specs.Contents.{pair_of};
-ghost use Rattle.partition_world.specs.ContentsOf.{pair_at, contents_at};
+ghost use Rattle.partition_world.specs.ContentsOf.{pair_at, contents_at, holds_at};
 ghost use Rattle.grid_base.specs.Shelves.{meaning};
 ghost use Rattle.partition_world.specs.RecordedEntries.{entry_of};
 ghost use Rattle.partition_world.specs.Recorders.{KeepsAll};
@@ -16,7 +16,7 @@ use crate::history::Trail;
 use crate::recorder::Recorder;
 use crate::records::Records;
 use crate::world::World;
-use grid_base::{Bytes, MemberId, Memory, Shelf};
+use grid_base::{Bytes, CallId, MemberId, Memory, Shelf};
 use partition_table::Row;
 use replica_node::Contents;
 use std::alloc::Global;
@@ -88,6 +88,18 @@ impl<S: Shelf, R: Records<S::Call>> World<S, R> {
             StandsFor k R.records S.model.within_limits self.now events → S.model.state result.shelf.now ≡ contents_at k.object (run_of k self.now events) member }
     {
         self.nodes[usize::from(member)].contents()
+    }
+
+    /// Whether a member holds the answer of that call until its backups have what the call saw, at the cost of the
+    /// member's answers. Another number is no member's. Takes no memory.
+    pub fn holds(&self, member: MemberId, id: CallId) -> bool
+        ensures { (plan : S.Plan) (events : List (ProtocolEvent S.Call)) → let k = meaning S.model plan in
+            StandsFor k R.records S.model.within_limits self.now events → result ≡ holds_at (run_of k self.now events) member id }
+    {
+        match self.nodes.get(usize::from(member)) {
+            Some(node) => node.holds(id),
+            None => false,
+        }
     }
 
     /// The messages in flight from one end to another, in the order in which they were sent. Takes no memory.

@@ -176,8 +176,13 @@ fn an_answer_waits_for_its_backup(rt: HostRuntime) -> Result<(), Fail> {
     // Member 2 leads, and 0 is its backup; the table service has the number 3.
     let mut world: World<Register, Recorder<Option<u8>>> = World::new(alloc, 5, 3, 1)?;
     call(&rt, alloc, &mut world, 2, CallOutcome::Held { seen: 1 })?;
+    let id = CallId { conn: 3, number: 0 };
+    assert!(rt; world.holds(2, id));
+    assert!(rt; !world.holds(0, id));
+    assert!(rt; !world.holds(3, id));
     deliver(&rt, alloc, &mut world, 2, 0, Took::Applied)?;
     deliver(&rt, alloc, &mut world, 0, 2, Took::Acked)?;
+    assert!(rt; !world.holds(2, id));
     let answer = world.pop_released(2).ok_or("the answer was released")?;
     assert_eq!(rt; answer.reply.as_slice(), [0].as_slice());
     assert!(rt; world.pop_released(2).is_none());
