@@ -1,16 +1,15 @@
 -- What goes on as an event happens: each member's part, and each answer that waits; and the world of the code that agrees then.
-use Rattle.std.proofs.Common.{◌≡◌, ◌≢◌, ℕ, ◌+◌, true, List, [], ◌∷◌, ◌++◌, map, length, drop, Option, Some, None, slice_get, slice_set, vec_len, Contains, refl, ap, sym, ◌∙◌, subst, ◌⊎◌, inl, inr, append-nil, arith}
-use Rattle.std.specs.List.{filter_map}
+use Rattle.std.proofs.Common.{◌≡◌, ◌≢◌, ℕ, ◌+◌, List, [], map, Option, Some, None, slice_get, slice_set, vec_len, Contains, refl, ap, sym, ◌∙◌, subst, ◌⊎◌, inl, inr, arith}
 use Rattle.std.proofs.lemmas.List.Elements.{Contains-append_left}
 use Rattle.grid_base.specs.Objects.{Object}
 use Rattle.partition_table.specs.Rows.{is_primary}
-use Rattle.partition_protocol.specs.Node.{Node as ProtocolNode, Held}
-use Rattle.partition_protocol.specs.History.{Executed, Entry, Called}
+use Rattle.partition_protocol.specs.Node.{Node as ProtocolNode}
+use Rattle.partition_protocol.specs.History.{Called}
 use Rattle.partition_protocol.specs.Sequences.{IsFrontOf}
 use Rattle.partition_protocol.specs.World.{World as Machine, pair_state}
 use Rattle.partition_protocol.specs.Events.{Event, happens}
 use Rattle.partition_protocol.specs.Claims.{IsLawful}
-use Rattle.partition_protocol.proofs.Lists.{In, Every, every_from_in, get_set, set_get_same, set_get_other, set_itself}
+use Rattle.partition_protocol.proofs.Lists.{every_from_in, get_set, set_get_same, set_get_other, set_itself}
 use Rattle.partition_protocol.proofs.Invariant.{NodeAt}
 use Rattle.partition_protocol.proofs.Answers.{Single}
 use Rattle.partition_protocol.proofs.Extends.{extends}
@@ -20,30 +19,28 @@ use Rattle.link_net.specs.Links.{HasLists, list_of}
 use Rattle.primary_hold.specs.declared.released.Released.{Released}
 use Rattle.primary_hold.specs.Rings.{kept}
 use Rattle.replica_node.specs.declared.node.Node.{Node}
-use Rattle.replica_node.specs.Nodes.{node_of, contents_of, waiting as node_waiting, held_answers, ring_of, ends_of, Ends, IsUnchanged}
+use Rattle.replica_node.specs.Nodes.{node_of, waiting as node_waiting, ring_of, ends_of, Ends, IsUnchanged}
 use Rattle.table_service.specs.Services.{Setup, service_of}
 use Rattle.partition_world.specs.declared.world.World.{World}
-use Rattle.partition_world.specs.declared.event.Happened.{Happened}
-use Rattle.partition_world.specs.Meanings.{Meaning}
+use Rattle.grid_base.specs.Shelves.{Meaning}
 use Rattle.partition_world.specs.Shelves.{IsShelf}
-use Rattle.partition_world.specs.Events.{happened_of}
-use Rattle.partition_world.specs.Answers.{held_answer, released_by, released_at, is_at}
+use Rattle.partition_world.specs.Answers.{held_answer}
 use Rattle.partition_world.specs.InFlight.{IsRing}
 use Rattle.partition_world.specs.Sending.{HasNewest, HasFit, flying}
-use Rattle.partition_world.specs.Recorders.{Records}
 use Rattle.partition_world.specs.Worlds.{setup_of, waiting, IsReleased, IsMember, Agrees}
 use Rattle.partition_world.proofs.EffectsLead.{lawful, Stood}
 use Rattle.partition_world.proofs.HeldAnswers.{IsNewlyNamed, node_answer_stays}
 use Rattle.partition_world.proofs.LinkBytes.{map_same}
 use Rattle.partition_world.proofs.Places.{get_map, map_set}
 use Rattle.partition_world.proofs.Rings.{ring_stays}
-
 -- the answers that wait at a node, if there is one
+use Rattle.partition_protocol.specs.Recorded.{Recorded}
+
 abbrev pub waits_in : {S : Type 0} → Option (Node S) → List Released
 waits_in None = []
 waits_in (Some node) = node_waiting node
 
-pub waiting_in : {S Env C : Type 0} (world : World S Env C) (m : ℕ) → waiting world m ≡ waits_in (slice_get world.nodes.items m)
+pub waiting_in : {S R Plan C : Type 0} (world : World S R Plan C) (m : ℕ) → waiting world m ≡ waits_in (slice_get world.nodes.items m)
 waiting_in {S = S} world m = go (slice_get world.nodes.items m) refl
   where
     go : (node : Option (Node S)) → slice_get world.nodes.items m ≡ node → waiting world m ≡ waits_in node
@@ -51,7 +48,7 @@ waiting_in {S = S} world m = go (slice_get world.nodes.items m) refl
     go (Some node) e = rw e refl
 
 -- the same nodes have the same answers
-pub same_waiting : {S Env C : Type 0} (old new : World S Env C) → new.nodes.items ≡ old.nodes.items → (m : ℕ) → waiting new m ≡ waiting old m
+pub same_waiting : {S R Plan C : Type 0} (old new : World S R Plan C) → new.nodes.items ≡ old.nodes.items → (m : ℕ) → waiting new m ≡ waiting old m
 same_waiting old new same m = waiting_in new m ∙ ap (λ ns. waits_in (slice_get ns m)) same ∙ sym (waiting_in old m)
 
 -- a member's number, the partition's and that of the backups never change
@@ -65,15 +62,15 @@ same_grid o w = walk o w (λ e u. SameGrid w u) (λ e ps. record { partition = r
     (λ e s st ps. record { partition = refl; members = refl; backups = refl }) (λ e s st ps. record { partition = refl; members = refl; backups = refl })
     (λ e f t i q n j at l. record { partition = refl; members = refl; backups = refl }) (λ m conn number call now n at l p f. record { partition = refl; members = refl; backups = refl })
 
-module _ {S Env C State : Type 0} (k : Meaning S C State) (limits : C → Type 0) (within : ℕ → State → Type 0) (applied : List ℕ → State → Option State) (shelf : IsShelf k limits within applied)
-    (world : World S Env C) (w : Machine C) (stood : Stood k.object limits within w) (agrees : Agrees k world w) where
+module _ {S R Plan C State : Type 0} (k : Meaning S C State) (records : R → Recorded C → Type 0) (limits : C → Type 0) (within : ℕ → State → Type 0) (applied : List ℕ → State → Option State) (shelf : IsShelf k limits within applied)
+    (world : World S R Plan C) (w : Machine C) (stood : Stood k.object limits within w) (agrees : Agrees k records world w) where
   -- what a member knows is the protocol's node
   pub node_at : (m : ℕ) (node : Node S) → slice_get world.nodes.items m ≡ Some node → NodeAt w.nodes m (node_of node)
   node_at m node there = ap (λ ns. slice_get ns m) (sym agrees.nodes) ∙ get_map node_of world.nodes.items m node there
 
   -- no event, and at most one node that is another one and says the same
 
-  pub record IsQuiet (new : World S Env C) : Type 0 where
+  pub record IsQuiet (new : World S R Plan C) : Type 0 where
     pub setup : setup_of new ≡ setup_of world
     pub members : new.members ≡ world.members
     pub size : vec_len new.nodes ≡ vec_len world.nodes
@@ -81,12 +78,12 @@ module _ {S Env C State : Type 0} (k : Meaning S C State) (limits : C → Type 0
     pub service : service_of new.service ≡ service_of world.service
     pub ends : new.links.ends ≡ world.links.ends
     pub links : HasLists new.links (list_of world.links)
-    pub recorded : Records new.recorder w.recorded
+    pub recorded : records new.recorder w.recorded
 
-  pub same_lists : (new : World S Env C) → HasLists new.links (list_of world.links) → HasLists new.links (flying k w)
+  pub same_lists : (new : World S R Plan C) → HasLists new.links (list_of world.links) → HasLists new.links (flying k w)
   same_lists new links f t = links f t ∙ agrees.links f t
 
-  pub agrees_still : (new : World S Env C) → IsQuiet new → new.nodes.items ≡ world.nodes.items → Agrees k new w
+  pub agrees_still : (new : World S R Plan C) → IsQuiet new → new.nodes.items ≡ world.nodes.items → Agrees k records new w
   agrees_still new quiet nodes = record {
     setup = quiet.setup ∙ agrees.setup;
     members = quiet.members ∙ agrees.members;
@@ -124,7 +121,7 @@ module _ {S Env C State : Type 0} (k : Meaning S C State) (limits : C → Type 0
             subst (λ (n : ProtocolNode). HasNewest n (kept (ring_of kin) n.pair.count)) (sym same.node)
             (subst (λ r. HasNewest (node_of node) (kept r (node_of node).pair.count)) (sym same.ring) has)
 
-    pub kin_waiting : (new : World S Env C) → new.nodes.items ≡ slice_set world.nodes.items m kin → (q : ℕ) → waiting new q ≡ waiting world q
+    pub kin_waiting : (new : World S R Plan C) → new.nodes.items ≡ slice_set world.nodes.items m kin → (q : ℕ) → waiting new q ≡ waiting world q
     kin_waiting new nodes q = waiting_in new q ∙ ap (λ ns. waits_in (slice_get ns q)) nodes ∙ go (numbers q m) ∙ sym (waiting_in world q)
       where
         numbers : (a b : ℕ) → (a ≡ b) ⊎ (a ≢ b)
@@ -136,7 +133,7 @@ module _ {S Env C State : Type 0} (k : Meaning S C State) (limits : C → Type 0
             ∙ ap waits_in (sym there) ∙ ap (λ j. waits_in (slice_get world.nodes.items j)) (sym e)
         go (inr d) = ap waits_in (set_get_other world.nodes.items m q kin d)
 
-    pub agrees_with_kin : (new : World S Env C) → IsQuiet new → new.nodes.items ≡ slice_set world.nodes.items m kin → Agrees k new w
+    pub agrees_with_kin : (new : World S R Plan C) → IsQuiet new → new.nodes.items ≡ slice_set world.nodes.items m kin → Agrees k records new w
     agrees_with_kin new quiet nodes = record {
       setup = quiet.setup ∙ agrees.setup;
       members = quiet.members ∙ agrees.members;
@@ -212,7 +209,7 @@ module _ {S Env C State : Type 0} (k : Meaning S C State) (limits : C → Type 0
         longer = extends k.object w event
 
     -- all but the nodes is that of the next world
-    pub record IsRest (new : World S Env C) : Type 0 where
+    pub record IsRest (new : World S R Plan C) : Type 0 where
       pub setup : setup_of new ≡ setup_of world
       pub members : new.members ≡ world.members
       pub size : vec_len new.nodes ≡ vec_len world.nodes
@@ -221,16 +218,16 @@ module _ {S Env C State : Type 0} (k : Meaning S C State) (limits : C → Type 0
       pub ends : new.links.ends ≡ world.links.ends
       pub links : HasLists new.links (flying k next)
       pub fit : HasFit k next
-      pub recorded : Records new.recorder next.recorded
+      pub recorded : records new.recorder next.recorded
 
-    pub setup_next : (new : World S Env C) → setup_of new ≡ setup_of world → setup_of new ≡ record { partition = next.partition; members = next.members; backups = next.backups }
+    pub setup_next : (new : World S R Plan C) → setup_of new ≡ setup_of world → setup_of new ≡ record { partition = next.partition; members = next.members; backups = next.backups }
     setup_next new same =
         same ∙ agrees.setup ∙ ap (λ p. let s : Setup = record { partition = p; members = w.members; backups = w.backups } in s) (sym grid.partition)
         ∙ ap (λ m. let s : Setup = record { partition = next.partition; members = m; backups = w.backups } in s) (sym grid.members)
         ∙ ap (λ b. let s : Setup = record { partition = next.partition; members = next.members; backups = b } in s) (sym grid.backups)
 
     -- where no member takes a step
-    pub agrees_same : (new : World S Env C) → IsRest new → new.nodes.items ≡ world.nodes.items → next.nodes ≡ w.nodes → Agrees k new next
+    pub agrees_same : (new : World S R Plan C) → IsRest new → new.nodes.items ≡ world.nodes.items → next.nodes ≡ w.nodes → Agrees k records new next
     agrees_same new rest nodes same = record {
       setup = setup_next new rest.setup;
       members = rest.members ∙ agrees.members ∙ sym grid.members;
@@ -249,7 +246,7 @@ module _ {S Env C State : Type 0} (k : Meaning S C State) (limits : C → Type 0
     -- and where one does
     module _ (m : ℕ) (node moved : Node S) (there : slice_get world.nodes.items m ≡ Some node) (is : IsMember k next m moved)
         (answers : (answer : Released) → Contains (node_waiting moved) answer → Contains (node_waiting node) answer ⊎ IsReleased next answer) where
-      pub agrees_moved : (new : World S Env C) → IsRest new → new.nodes.items ≡ slice_set world.nodes.items m moved → next.nodes ≡ slice_set w.nodes m (node_of moved) → Agrees k new next
+      pub agrees_moved : (new : World S R Plan C) → IsRest new → new.nodes.items ≡ slice_set world.nodes.items m moved → next.nodes ≡ slice_set w.nodes m (node_of moved) → Agrees k records new next
       agrees_moved new rest nodes set = record {
         setup = setup_next new rest.setup;
         members = rest.members ∙ agrees.members ∙ sym grid.members;

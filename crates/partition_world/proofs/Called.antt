@@ -43,13 +43,12 @@ use Rattle.partition_world.specs.declared.event.Happened.{Happened}
 use Rattle.partition_world.specs.declared.event.Happened.TheVariants as happened
 use Rattle.partition_world.specs.declared.event.CallOutcome.{CallOutcome}
 use Rattle.partition_world.specs.declared.event.CallOutcome.TheVariants as call_outcome
-use Rattle.partition_world.specs.Meanings.{Meaning}
+use Rattle.grid_base.specs.Shelves.{Meaning}
 use Rattle.partition_world.specs.Shelves.{IsShelf}
 use Rattle.partition_world.specs.Events.{happened_of}
 use Rattle.partition_world.specs.Answers.{newest_call, answer_of, held_answer, released_by, released_at}
 use Rattle.partition_world.specs.InFlight.{contents_in, effect_bytes, IsRing}
 use Rattle.partition_world.specs.Sending.{HasNewest, IsNamed, flying}
-use Rattle.partition_world.specs.Recorders.{Records}
 use Rattle.partition_world.specs.Worlds.{setup_of, run_of, waiting, IsReleased, IsMember, Agrees, Comes, HasRun, IsKept, HasRefused}
 use Rattle.partition_world.proofs.EffectsLead.{lawful, Stood}
 use Rattle.partition_world.proofs.SmallStates.{every_of_all}
@@ -65,10 +64,11 @@ use Rattle.partition_world.proofs.Agreement.{waits_in, waiting_in, same_grid}
 use Rattle.partition_world.proofs.Places.{set_get_same, set_get_other}
 use Rattle.partition_world.proofs.Comings as comings
 use Rattle.partition_world.proofs.Quiet as quiet
-
 -- lists
 
 -- of two splits of a list, the one whose end is no longer than the other's
+use Rattle.partition_protocol.specs.Recorded.{Recorded}
+
 pub split_longer : {X : Type 0} (xs ys zs ws : List X) → xs ++ ys ≡ zs ++ ws → length ys ≤ length ws → (rs : List X) × (xs ≡ zs ++ rs) × (rs ++ ys ≡ ws)
 split_longer xs ys [] ws e l = (xs, refl, e)
 split_longer [] ys (z ∷ zs) ws e l =
@@ -258,8 +258,8 @@ abbrev pub came_to : Called → CallOutcome × ℕ × List ℕ
 came_to (came.Released seen reply) = (call_outcome.Released seen, seen, reply)
 came_to (came.Held seen reply) = (call_outcome.Held seen, seen, reply)
 
-module _ {S Env C State : Type 0} (k : Meaning S C State) (limits : C → Type 0) (within : ℕ → State → Type 0) (applied : List ℕ → State → Option State) (shelf : IsShelf k limits within applied)
-    (world : World S Env C) (events : List (Event C)) (m conn number : ℕ) (call : C) (now : ℕ) (comes : Comes k limits world events (Call m conn number call now)) where
+module _ {S R Plan C State : Type 0} (k : Meaning S C State) (records : R → Recorded C → Type 0) (limits : C → Type 0) (within : ℕ → State → Type 0) (applied : List ℕ → State → Option State) (shelf : IsShelf k limits within applied)
+    (world : World S R Plan C) (events : List (Event C)) (m conn number : ℕ) (call : C) (now : ℕ) (comes : Comes k records limits world events (Call m conn number call now)) where
   abbrev pub event : Event C
   event = Call m conn number call now
 
@@ -273,13 +273,13 @@ module _ {S Env C State : Type 0} (k : Meaning S C State) (limits : C → Type 0
   setup = setup_of world
 
   pub stood : Stood k.object limits within w
-  stood = comings.stood k limits within applied shelf world events event comes
+  stood = comings.stood k records limits within applied shelf world events event comes
 
-  pub agrees : Agrees k world w
+  pub agrees : Agrees k records world w
   agrees = comes.stands.agrees
 
-  abbrev pub IsQuiet : World S Env C → Type 0
-  IsQuiet new = agreement.IsQuiet k limits within applied shelf world w stood agrees new
+  abbrev pub IsQuiet : World S R Plan C → Type 0
+  IsQuiet new = agreement.IsQuiet k records limits within applied shelf world w stood agrees new
 
   -- a live member has a node
   pub inside : is_live w m ≡ true → m < length world.nodes.items
@@ -294,7 +294,7 @@ module _ {S Env C State : Type 0} (k : Meaning S C State) (limits : C → Type 0
     n = node_of node
 
     pub at : NodeAt w.nodes m n
-    at = agreement.node_at k limits within applied shelf world w stood agrees m node there
+    at = agreement.node_at k records limits within applied shelf world w stood agrees m node there
 
     pub was : IsMember k w m node
     was = agrees.each m node there
@@ -313,25 +313,25 @@ module _ {S Env C State : Type 0} (k : Meaning S C State) (limits : C → Type 0
     number_is = ap (λ (e : Ends). e.member) was.ends
 
     -- A node that says the same stands in its place
-    module _ (kin : Node S) (same : IsUnchanged k.state node kin) (ends : ends_of kin ≡ ends_of node) (new : World S Env C) (is_quiet : IsQuiet new) (nodes : new.nodes.items ≡ slice_set world.nodes.items m kin) where
-      pub kept_kin : IsKept k world new events
+    module _ (kin : Node S) (same : IsUnchanged k.state node kin) (ends : ends_of kin ≡ ends_of node) (new : World S R Plan C) (is_quiet : IsQuiet new) (nodes : new.nodes.items ≡ slice_set world.nodes.items m kin) where
+      pub kept_kin : IsKept k records world new events
       kept_kin = record {
-        agrees = agreement.agrees_with_kin k limits within applied shelf world w stood agrees m node kin there same ends new is_quiet nodes;
-        waits = agreement.kin_waiting k limits within applied shelf world w stood agrees m node kin there same ends new nodes;
+        agrees = agreement.agrees_with_kin k records limits within applied shelf world w stood agrees m node kin there same ends new is_quiet nodes;
+        waits = agreement.kin_waiting k records limits within applied shelf world w stood agrees m node kin there same ends new nodes;
       }
 
       -- and the event finds its condition false, or is refused
-      pub unmoved_kin : (out : Outcome) (happened : Happened) → happens k.object w event ≡ record { world = w; outcome = out } → happened_of happened ≡ out → HasRun k world new events event happened
+      pub unmoved_kin : (out : Outcome) (happened : Happened) → happens k.object w event ≡ record { world = w; outcome = out } → happened_of happened ≡ out → HasRun k records world new events event happened
       unmoved_kin out happened h outcome =
           let same_next : next ≡ w = ap (λ (x : HappenedThere C). x.world) h in
           record {
             outcome = outcome ∙ sym (ap (λ (x : HappenedThere C). x.outcome) h);
-            agrees = subst (λ (u : Machine C). Agrees k new u) (sym same_next) kept_kin.agrees;
+            agrees = subst (λ (u : Machine C). Agrees k records new u) (sym same_next) kept_kin.agrees;
             waits = λ q. kept_kin.waits q ∙ sym (append-nil (waiting world q))
-                ∙ ap (λ rs. waiting world q ++ rs) (sym (quiet.none_released k limits within applied shelf world events event comes (ap (λ (u : Machine C). u.released) same_next) q));
+                ∙ ap (λ rs. waiting world q ++ rs) (sym (quiet.none_released k records limits within applied shelf world events event comes (ap (λ (u : Machine C). u.released) same_next) q));
           }
 
-      pub refused_run : (lives : is_live w m ≡ true) (why : NodeRefused) → RefusedAs (reached (member_of node) n) why → HasRefused k world new events event why
+      pub refused_run : (lives : is_live w m ≡ true) (why : NodeRefused) → RefusedAs (reached (member_of node) n) why → HasRefused k records world new events event why
       refused_run lives (refused.PartitionLost version) e =
           unmoved_kin (Refused (IsLost version)) (happened.Called (call_outcome.PartitionLost version)) (call_refused k.object w m conn number call now n (IsLost version) lives at (ap (λ j. reached j n) (sym number_is) ∙ e) (λ z. absurd cc)) refl
       refused_run lives (refused.WrongTarget version) e =
@@ -385,8 +385,8 @@ module _ {S Env C State : Type 0} (k : Meaning S C State) (limits : C → Type 0
         where
           stays : map (held_answer k.object k.change_of next) n.held ≡ map (held_answer k.object k.change_of w) n.held
           stays =
-              agreement.held_stay k limits within applied shelf world w stood agrees event (comings.new k limits within applied shelf world events event comes)
-              (comings.single k limits within applied shelf world events event comes) m node there
+              agreement.held_stay k records limits within applied shelf world w stood agrees event (comings.new k records limits within applied shelf world events event comes)
+              (comings.single k records limits within applied shelf world events event comes) m node there
 
           old : Every HasAnswer (held_answers node)
           old = same_each (held_answer k.object k.change_of next) held_of (held_answers node) (ap (map (held_answer k.object k.change_of next)) (sym (held_named node)) ∙ stays ∙ was.held)
@@ -515,10 +515,10 @@ module _ {S Env C State : Type 0} (k : Meaning S C State) (limits : C → Type 0
           go true = refl
           go false = refl
 
-      module _ (new : World S Env C) (setup_stays : setup_of new ≡ setup_of world) (members : new.members ≡ world.members) (size : vec_len new.nodes ≡ vec_len world.nodes) (crashed : new.crashed.items ≡ world.crashed.items)
+      module _ (new : World S R Plan C) (setup_stays : setup_of new ≡ setup_of world) (members : new.members ≡ world.members) (size : vec_len new.nodes ≡ vec_len world.nodes) (crashed : new.crashed.items ≡ world.crashed.items)
           (service : service_of new.service ≡ service_of world.service) (ends : new.links.ends ≡ world.links.ends) (links : HasLists new.links (with_sent m out (list_of world.links)))
           (version : ℕ) (version_is : version ≡ (node_of moved).pair.version) (told : CallOutcome × ℕ × List ℕ) (told_is : told ≡ came_to called)
-          (recorded : Records new.recorder (record w.recorded { log = w.recorded.log ++ CalledEntry (entry version told) ∷ [] }))
+          (recorded : records new.recorder (record w.recorded { log = w.recorded.log ++ CalledEntry (entry version told) ∷ [] }))
           (nodes : new.nodes.items ≡ slice_set world.nodes.items m moved) where
         pub packets_next : next.packets ≡ w.packets ++ packets_from m sent
         packets_next = ap (λ (u : Machine C). u.packets) next_is
@@ -526,7 +526,7 @@ module _ {S Env C State : Type 0} (k : Meaning S C State) (limits : C → Type 0
         pub named : Every (IsNamed k next contents) sent
         named = every_from_in (IsNamed k next contents) sent (λ s i. refl)
 
-        pub rest : agreement.IsRest k limits within applied shelf world w stood agrees event (comings.new k limits within applied shelf world events event comes) (comings.single k limits within applied shelf world events event comes) new
+        pub rest : agreement.IsRest k records limits within applied shelf world w stood agrees event (comings.new k records limits within applied shelf world events event comes) (comings.single k records limits within applied shelf world events event comes) new
         rest = record {
           setup = setup_stays;
           members = members;
@@ -537,7 +537,7 @@ module _ {S Env C State : Type 0} (k : Meaning S C State) (limits : C → Type 0
           links = λ f t. links f t ∙ ap (λ bs. bs ++ cond (f == m) (sent_to t out) []) (agrees.links f t) ∙ ap (λ ms. flying k w f t ++ cond (f == m) (sent_to t ms) []) sent_is
               ∙ sym (bytes.sent_lists k (lawful k limits within applied shelf) w stood.good stood.led event m contents sent packets_next named f t);
           fit = bytes.fits_next k (lawful k limits within applied shelf) w stood.good stood.led event agrees.fit w.packets m contents sent (λ p i. i) packets_next named sent_fits;
-          recorded = subst (Records new.recorder)
+          recorded = subst (records new.recorder)
               (ap (λ (x : Executed C). record w.recorded { log = w.recorded.log ++ CalledEntry x ∷ [] }) (ap (entry version) told_is ∙ entry_is version version_is) ∙ sym (ap (λ (u : Machine C). u.recorded) next_is)) recorded;
         }
 
@@ -548,9 +548,9 @@ module _ {S Env C State : Type 0} (k : Meaning S C State) (limits : C → Type 0
             go (inl i) = inl (contains_in a (node_waiting node) i)
             go (inr i) = inr (each_released a i)
 
-        pub agrees_next : Agrees k new next
+        pub agrees_next : Agrees k records new next
         agrees_next =
-            agreement.agrees_moved k limits within applied shelf world w stood agrees event (comings.new k limits within applied shelf world events event comes) (comings.single k limits within applied shelf world events event comes)
+            agreement.agrees_moved k records limits within applied shelf world w stood agrees event (comings.new k records limits within applied shelf world events event comes) (comings.single k records limits within applied shelf world events event comes)
             m node moved there member_next answers_come new rest nodes (ap (λ (u : Machine C). u.nodes) next_is ∙ ap (slice_set w.nodes m) (sym facts.says))
 
         pub waits_next : (q : ℕ) → waiting new q ≡ waiting world q ++ released_at k.object k.change_of w event q
@@ -567,5 +567,5 @@ module _ {S Env C State : Type 0} (k : Meaning S C State) (limits : C → Type 0
                 ap waits_in (set_get_other world.nodes.items m q moved d) ∙ sym (append-nil (waits_in (slice_get world.nodes.items q)))
                 ∙ ap (λ rs. waits_in (slice_get world.nodes.items q) ++ rs) (sym none)
 
-        pub executed_run : HasRun k world new events event (happened.Called told.0)
+        pub executed_run : HasRun k records world new events event (happened.Called told.0)
         executed_run = record { outcome = ap (λ x. happened_of (happened.Called x.0)) told_is ∙ outcome_is; agrees = agrees_next; waits = waits_next }

@@ -1,22 +1,21 @@
 -- What is known where an event may come next.
-use Rattle.std.proofs.Common.{◌≡◌, ℕ, ◌+◌, ◌<◌, ◌≤◌, ◌^◌, List, [], ◌∷◌, ◌++◌, length, Option, refl, sym, ◌∙◌, subst, arith}
+use Rattle.std.proofs.Common.{ℕ, ◌+◌, ◌<◌, ◌^◌, List, length, Option, arith}
 use Rattle.partition_protocol.specs.World.{World as Machine}
 use Rattle.partition_protocol.specs.Events.{Event, happens}
-use Rattle.partition_protocol.specs.Bounds.{IsNodeWithin, IsRowWithin}
 use Rattle.partition_protocol.specs.WellFormed.{IsWellFormed}
-use Rattle.partition_protocol.proofs.Bounds.{every_run_is_within}
 use Rattle.partition_protocol.proofs.WellFormed.{every_run_is_well_formed}
 use Rattle.partition_protocol.proofs.Answers.{Single}
 use Rattle.table_service.specs.Services.{Setup}
 use Rattle.partition_world.specs.declared.world.World.{World}
-use Rattle.partition_world.specs.Meanings.{Meaning}
+use Rattle.grid_base.specs.Shelves.{Meaning}
 use Rattle.partition_world.specs.Shelves.{IsShelf}
 use Rattle.partition_world.specs.Worlds.{setup_of, run_of, Agrees, Comes}
 use Rattle.partition_world.proofs.EffectsLead.{Stood, run_stood, next_stood}
 use Rattle.partition_world.proofs.HeldAnswers.{IsNewlyNamed, newly_named, answers_single}
+use Rattle.partition_protocol.specs.Recorded.{Recorded}
 
-module _ {S Env C State : Type 0} (k : Meaning S C State) (limits : C → Type 0) (within : ℕ → State → Type 0) (applied : List ℕ → State → Option State) (shelf : IsShelf k limits within applied)
-    (world : World S Env C) (events : List (Event C)) (event : Event C) (comes : Comes k limits world events event) where
+module _ {S R Plan C State : Type 0} (k : Meaning S C State) (records : R → Recorded C → Type 0) (limits : C → Type 0) (within : ℕ → State → Type 0) (applied : List ℕ → State → Option State) (shelf : IsShelf k limits within applied)
+    (world : World S R Plan C) (events : List (Event C)) (event : Event C) (comes : Comes k records limits world events event) where
   abbrev pub w : Machine C
   w = run_of k world events
 
@@ -26,7 +25,7 @@ module _ {S Env C State : Type 0} (k : Meaning S C State) (limits : C → Type 0
   abbrev pub setup : Setup
   setup = setup_of world
 
-  pub agrees : Agrees k world w
+  pub agrees : Agrees k records world w
   agrees = comes.stands.agrees
 
   pub few : length events + 2 < 2 ^ 32

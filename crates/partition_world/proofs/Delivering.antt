@@ -44,15 +44,13 @@ use Rattle.replica_node.specs.Sending.{Fits}
 use Rattle.replica_node.specs.Takings.{Leaves, IsFit, row_in, ring_after_taking, answers_left}
 use Rattle.replica_node.specs.Roles.{role_node, role_held, role_ring}
 use Rattle.table_service.specs.Services.{Setup, service_of}
-use Rattle.partition_world.specs.declared.recorder.Recorder.{Recorder}
 use Rattle.partition_world.specs.declared.world.World.{World}
 use Rattle.partition_world.specs.declared.event.Happened.TheVariants as happened
-use Rattle.partition_world.specs.Meanings.{Meaning}
+use Rattle.grid_base.specs.Shelves.{Meaning}
 use Rattle.partition_world.specs.Shelves.{IsShelf}
 use Rattle.partition_world.specs.Answers.{newest_call, answer_of, held_answer, released_by, released_at}
 use Rattle.partition_world.specs.InFlight.{contents_in, IsRing}
 use Rattle.partition_world.specs.Sending.{carried_of, most_of, HasNewest, IsNamed, HasFit, flying}
-use Rattle.partition_world.specs.Recorders.{Records}
 use Rattle.partition_world.specs.Worlds.{setup_of, run_of, waiting, IsReleased, IsMember, StandsFor, Comes, HasRun, IsKept}
 use Rattle.partition_world.proofs.Agreement as agreement
 use Rattle.partition_world.proofs.Comings as comings
@@ -71,7 +69,7 @@ use Rattle.partition_world.proofs.Spelled.{flying_spelled}
 use Rattle.partition_world.proofs.Taking as takings
 
 -- what stands at a place of a link are the bytes of the message there, which has its spelling
-module _ {S Env C State : Type 0} (k : Meaning S C State) (limits : C → Type 0) (world : World S Env C) (events : List (Event C)) (f t i : ℕ) (comes : Comes k limits world events (Deliver f t i)) where
+module _ {S R Plan C State : Type 0} (k : Meaning S C State) (records : R → Recorded C → Type 0) (limits : C → Type 0) (world : World S R Plan C) (events : List (Event C)) (f t i : ℕ) (comes : Comes k records limits world events (Deliver f t i)) where
   abbrev pub w : Machine C
   w = run_of k world events
 
@@ -90,8 +88,8 @@ module _ {S Env C State : Type 0} (k : Meaning S C State) (limits : C → Type 0
         (ap (λ bs. slice_get bs i) (same ∙ comes.stands.agrees.links f t) ∙ link_at k w f t i msg at) e
 
 -- a live member has a node
-pub inside : {S Env C State : Type 0} (k : Meaning S C State) (limits : C → Type 0) (world : World S Env C) (events : List (Event C)) → StandsFor k limits world events → (m : ℕ) → is_live (run_of k world events) m ≡ true → m < length world.nodes.items
-inside k limits world events stands m lives =
+pub inside : {S R Plan C State : Type 0} (k : Meaning S C State) (records : R → Recorded C → Type 0) (limits : C → Type 0) (world : World S R Plan C) (events : List (Event C)) → StandsFor k records limits world events → (m : ℕ) → is_live (run_of k world events) m ≡ true → m < length world.nodes.items
+inside k records limits world events stands m lives =
     let below = less m (run_of k world events).members (both_left (nat_lt m (run_of k world events).members) (not _) lives) in
     let formed = every_run_is_well_formed k.object (setup_of world).partition (setup_of world).members (setup_of world).backups events in
     let size = formed.nodes in
@@ -198,8 +196,8 @@ pub record HasTaken {S C State : Type 0} (k : Meaning S C State) (within : ℕ �
   pub ring : ring_of moved ≡ ring_after_taking (member_of old) (node_of old) (row_in message) (ring_of old)
   pub ends : ends_of moved ≡ ends_of old
 
-module _ {S Env C State : Type 0} (k : Meaning S C State) (limits : C → Type 0) (within : ℕ → State → Type 0) (applied : List ℕ → State → Option State) (shelf : IsShelf k limits within applied)
-    (world : World S Env C) (events : List (Event C)) (f m i : ℕ) (comes : Comes k limits world events (Deliver f m i)) (node : Node S) (there : slice_get world.nodes.items m ≡ Some node) where
+module _ {S R Plan C State : Type 0} (k : Meaning S C State) (records : R → Recorded C → Type 0) (limits : C → Type 0) (within : ℕ → State → Type 0) (applied : List ℕ → State → Option State) (shelf : IsShelf k limits within applied)
+    (world : World S R Plan C) (events : List (Event C)) (f m i : ℕ) (comes : Comes k records limits world events (Deliver f m i)) (node : Node S) (there : slice_get world.nodes.items m ≡ Some node) where
   abbrev pub at_first : Machine C
   at_first = run_of k world events
 
@@ -213,10 +211,10 @@ module _ {S Env C State : Type 0} (k : Meaning S C State) (limits : C → Type 0
   n = node_of node
 
   pub stood : Stood k.object limits within at_first
-  stood = comings.stood k limits within applied shelf world events event comes
+  stood = comings.stood k records limits within applied shelf world events event comes
 
   pub stood_next : Stood k.object limits within next
-  stood_next = comings.stood_next k limits within applied shelf world events event comes
+  stood_next = comings.stood_next k records limits within applied shelf world events event comes
 
   pub law : IsLawful k.object
   law = lawful k limits within applied shelf
@@ -225,19 +223,19 @@ module _ {S Env C State : Type 0} (k : Meaning S C State) (limits : C → Type 0
   was = comes.stands.agrees.each m node there
 
   pub node_there : NodeAt at_first.nodes m n
-  node_there = agreement.node_at k limits within applied shelf world at_first stood comes.stands.agrees m node there
+  node_there = agreement.node_at k records limits within applied shelf world at_first stood comes.stands.agrees m node there
 
   pub small : IsSmall within (k.state (contents_of node))
   small = subst (IsSmall within) (sym was.contents) (stood.small n.pair)
 
   -- the member is as it was
-  abbrev pub IsQuiet : World S Env C → Type 0
-  IsQuiet new = agreement.IsQuiet k limits within applied shelf world at_first stood comes.stands.agrees new
+  abbrev pub IsQuiet : World S R Plan C → Type 0
+  IsQuiet new = agreement.IsQuiet k records limits within applied shelf world at_first stood comes.stands.agrees new
 
-  pub kept_so : (kin : Node S) → IsUnchanged k.state node kin → ends_of kin ≡ ends_of node → (new : World S Env C) → IsQuiet new → new.nodes.items ≡ slice_set world.nodes.items m kin → IsKept k world new events
+  pub kept_so : (kin : Node S) → IsUnchanged k.state node kin → ends_of kin ≡ ends_of node → (new : World S R Plan C) → IsQuiet new → new.nodes.items ≡ slice_set world.nodes.items m kin → IsKept k records world new events
   kept_so kin same ends new quiet nodes = record {
-    agrees = agreement.agrees_with_kin k limits within applied shelf world at_first stood comes.stands.agrees m node kin there same ends new quiet nodes;
-    waits = agreement.kin_waiting k limits within applied shelf world at_first stood comes.stands.agrees m node kin there same ends new nodes;
+    agrees = agreement.agrees_with_kin k records limits within applied shelf world at_first stood comes.stands.agrees m node kin there same ends new quiet nodes;
+    waits = agreement.kin_waiting k records limits within applied shelf world at_first stood comes.stands.agrees m node kin there same ends new nodes;
   }
 
   module _ (msg : Message) (at : slice_get (link f m at_first.packets) i ≡ Some (packet f m msg)) (lives : is_live at_first m ≡ true) (message : MemberMessage) (says : message ≡ said_with (contents_in k at_first) msg) where
@@ -395,16 +393,16 @@ module _ {S Env C State : Type 0} (k : Meaning S C State) (limits : C → Type 0
           packets_next named sent_fits
 
       -- what is recorded: a primary that adopts a newer row begins its version
-      pub recorded_then : (reserved new : Recorder C) (begins : Bool) (base : Base) → Records reserved at_first.recorded
-          → ((r : Recorded C) → Records reserved r → Records new (record r { bases = cond begins (base ∷ r.bases) r.bases }))
+      pub recorded_then : (reserved new : R) (begins : Bool) (base : Base) → records reserved at_first.recorded
+          → ((r : Recorded C) → records reserved r → records new (record r { bases = cond begins (base ∷ r.bases) r.bases }))
           → begins ≡ (nat_lt n.known.version (node_of moved).known.version && is_primary (node_of moved).known m)
           → base ≡ base_in (node_of moved).known n.pair
-          → Records new next.recorded
+          → records new next.recorded
       recorded_then reserved new begins base before then begins_is base_is =
-          subst (λ (u : Machine C). Records new u.recorded) (sym next_is)
-          (subst (λ (a : ProtocolNode). Records new (record at_first.recorded { bases = bases_after m n a at_first.recorded.bases })) node_is
-          (subst (λ b. Records new (record at_first.recorded { bases = cond (nat_lt n.known.version (node_of moved).known.version && is_primary (node_of moved).known m) (b ∷ at_first.recorded.bases) at_first.recorded.bases })) base_is
-          (subst (λ b. Records new (record at_first.recorded { bases = cond b (base ∷ at_first.recorded.bases) at_first.recorded.bases })) begins_is (then at_first.recorded before))))
+          subst (λ (u : Machine C). records new u.recorded) (sym next_is)
+          (subst (λ (a : ProtocolNode). records new (record at_first.recorded { bases = bases_after m n a at_first.recorded.bases })) node_is
+          (subst (λ b. records new (record at_first.recorded { bases = cond (nat_lt n.known.version (node_of moved).known.version && is_primary (node_of moved).known m) (b ∷ at_first.recorded.bases) at_first.recorded.bases })) base_is
+          (subst (λ b. records new (record at_first.recorded { bases = cond b (base ∷ at_first.recorded.bases) at_first.recorded.bases })) begins_is (then at_first.recorded before))))
 
       -- its answers
 
@@ -443,7 +441,7 @@ module _ {S Env C State : Type 0} (k : Meaning S C State) (limits : C → Type 0
       held_right =
           each_some (held_answer k.object k.change_of next) held_of (held_answers node)
           (ap (map (held_answer k.object k.change_of next)) (sym (held_is node))
-          ∙ agreement.held_stay k limits within applied shelf world at_first stood comes.stands.agrees event (comings.new k limits within applied shelf world events event comes) (comings.single k limits within applied shelf world events event comes) m node there
+          ∙ agreement.held_stay k records limits within applied shelf world at_first stood comes.stands.agrees event (comings.new k records limits within applied shelf world events event comes) (comings.single k records limits within applied shelf world events event comes) m node there
           ∙ was.held)
 
       -- what it holds then, and what has been released at it
@@ -558,12 +556,12 @@ module _ {S Env C State : Type 0} (k : Meaning S C State) (limits : C → Type 0
       }
 
       -- and the world has run
-      abbrev pub IsRest : World S Env C → Type 0
+      abbrev pub IsRest : World S R Plan C → Type 0
       IsRest new =
-          agreement.IsRest k limits within applied shelf world at_first stood comes.stands.agrees event (comings.new k limits within applied shelf world events event comes) (comings.single k limits within applied shelf world events event comes) new
+          agreement.IsRest k records limits within applied shelf world at_first stood comes.stands.agrees event (comings.new k records limits within applied shelf world events event comes) (comings.single k records limits within applied shelf world events event comes) new
 
-      pub rest_then : (new : World S Env C) → setup_of new ≡ setup_of world → new.members ≡ world.members → vec_len new.nodes ≡ vec_len world.nodes → new.crashed.items ≡ world.crashed.items → service_of new.service ≡ service_of world.service
-          → new.links.ends ≡ world.links.ends → HasLists new.links (flying k next) → Records new.recorder next.recorded → IsRest new
+      pub rest_then : (new : World S R Plan C) → setup_of new ≡ setup_of world → new.members ≡ world.members → vec_len new.nodes ≡ vec_len world.nodes → new.crashed.items ≡ world.crashed.items → service_of new.service ≡ service_of world.service
+          → new.links.ends ≡ world.links.ends → HasLists new.links (flying k next) → records new.recorder next.recorded → IsRest new
       rest_then new setup members size crashed service ends links recorded = record {
         setup = setup;
         members = members;
@@ -576,7 +574,7 @@ module _ {S Env C State : Type 0} (k : Meaning S C State) (limits : C → Type 0
         recorded = recorded;
       }
 
-      pub waits_then : (new : World S Env C) → new.nodes.items ≡ slice_set world.nodes.items m moved → (q : ℕ) → waiting new q ≡ waiting world q ++ released_at k.object k.change_of at_first event q
+      pub waits_then : (new : World S R Plan C) → new.nodes.items ≡ slice_set world.nodes.items m moved → (q : ℕ) → waiting new q ≡ waiting world q ++ released_at k.object k.change_of at_first event q
       waits_then new nodes q = agreement.waiting_in new q ∙ ap (λ ns. agreement.waits_in (slice_get ns q)) nodes ∙ go (number_cases q m)
         where
           go : (q ≡ m) ⊎ (q ≢ m) → agreement.waits_in (slice_get (slice_set world.nodes.items m moved) q) ≡ waiting world q ++ released_at k.object k.change_of at_first event q
@@ -589,11 +587,11 @@ module _ {S Env C State : Type 0} (k : Meaning S C State) (limits : C → Type 0
               ap agreement.waits_in (set_get_other world.nodes.items m q moved d) ∙ sym (agreement.waiting_in world q) ∙ sym (append-nil (waiting world q))
               ∙ ap (λ rs. waiting world q ++ rs) (sym (rw (number_other m q (λ e. d (sym e))) refl))
 
-      pub member_run : (new : World S Env C) (word : Took) → took_of word ≡ took → IsRest new → new.nodes.items ≡ slice_set world.nodes.items m moved → HasRun k world new events event (happened.Took word)
+      pub member_run : (new : World S R Plan C) (word : Took) → took_of word ≡ took → IsRest new → new.nodes.items ≡ slice_set world.nodes.items m moved → HasRun k records world new events event (happened.Took word)
       member_run new word took_word rest nodes = record {
         outcome = ap TookMessage (took_word ∙ taken.took_is ∙ ap (λ (s : Step). s.took) step_is) ∙ sym (ap (λ (h : HappenedThere C). h.outcome) happens_so);
         agrees =
-            agreement.agrees_moved k limits within applied shelf world at_first stood comes.stands.agrees event (comings.new k limits within applied shelf world events event comes) (comings.single k limits within applied shelf world events event comes)
+            agreement.agrees_moved k records limits within applied shelf world at_first stood comes.stands.agrees event (comings.new k records limits within applied shelf world events event comes) (comings.single k records limits within applied shelf world events event comes)
             m node moved there member_then answers_right new rest nodes
             (ap (λ (u : Machine C). u.nodes) next_is ∙ ap (slice_set at_first.nodes m) (sym node_is));
         waits = waits_then new nodes;

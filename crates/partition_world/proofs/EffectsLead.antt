@@ -22,7 +22,7 @@ use Rattle.partition_protocol.proofs.NamedStates.{grid_bridged}
 use Rattle.partition_protocol.proofs.Effects.{MessageLed, PacketLed, Led, grid_led}
 use Rattle.partition_protocol.proofs.HistorySizes.{every_logged_call_arrived}
 use Rattle.partition_protocol.proofs.Theorem.{grid_good}
-use Rattle.partition_world.specs.Meanings.{Meaning}
+use Rattle.grid_base.specs.Shelves.{Meaning}
 use Rattle.partition_world.specs.InFlight.{state_at, bytes_by, effect_bytes}
 use Rattle.partition_world.specs.Events.{EventWithin}
 use Rattle.partition_world.proofs.Newest.{all_one}

@@ -17,7 +17,7 @@ use Rattle.partition_protocol.proofs.Lists.{In, Every, every_in}
 use Rattle.partition_protocol.proofs.Invariant.{NodeAt}
 use Rattle.partition_protocol.proofs.RowFacts.{number_same}
 use Rattle.partition_protocol.proofs.LinkFacts.{packet}
-use Rattle.partition_world.specs.Meanings.{Meaning}
+use Rattle.grid_base.specs.Shelves.{Meaning}
 use Rattle.partition_world.specs.InFlight.{IsRing}
 use Rattle.partition_world.proofs.SmallStates.{every_of_all}
 use Rattle.partition_world.specs.Shelves.{IsShelf}

@@ -20,7 +20,7 @@ use Rattle.partition_protocol.proofs.EffectCalls.{first_called}
 use Rattle.partition_protocol.proofs.States.{state_executed}
 use Rattle.partition_protocol.proofs.NamedStates.{node_known, state_after_event}
 use Rattle.member_wire.specs.Said.{said_with}
-use Rattle.partition_world.specs.Meanings.{Meaning}
+use Rattle.grid_base.specs.Shelves.{Meaning}
 use Rattle.partition_world.specs.InFlight.{state_at, bytes_by, effect_bytes, IsRing}
 use Rattle.partition_world.proofs.Effects.{state_called}
 use Rattle.partition_world.specs.Shelves.{IsShelf}

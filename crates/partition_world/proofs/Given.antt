@@ -1,5 +1,5 @@
 -- The oldest answer that waits at a member is given out, and all else stays.
-use Rattle.std.proofs.Common.{◌≡◌, ◌≢◌, ℕ, ◌≤◌, true, List, ◌∷◌, ◌++◌, map, Option, Some, None, IfSome, slice_get, slice_set, vec_len, Contains, refl, ap, sym, ◌∙◌, subst, ◌⊎◌, inl, inr, arith}
+use Rattle.std.proofs.Common.{◌≡◌, ◌≢◌, ℕ, ◌≤◌, List, ◌++◌, map, Option, Some, None, IfSome, slice_get, slice_set, vec_len, Contains, refl, ap, sym, ◌∙◌, subst, ◌⊎◌, inl, inr, arith}
 use Rattle.std.specs.Option.{option_to_list}
 use Rattle.std.proofs.lemmas.List.Elements.{Contains-append_right}
 use Rattle.partition_table.specs.Rows.{is_primary}
@@ -13,16 +13,16 @@ use Rattle.replica_node.specs.declared.node.Node.{Node}
 use Rattle.replica_node.specs.Nodes.{node_of, contents_of, waiting as node_waiting, held_answers, ring_of, ends_of}
 use Rattle.table_service.specs.Services.{Setup, service_of}
 use Rattle.partition_world.specs.declared.world.World.{World}
-use Rattle.partition_world.specs.Meanings.{Meaning}
+use Rattle.grid_base.specs.Shelves.{Meaning}
 use Rattle.partition_world.specs.Answers.{held_answer}
 use Rattle.partition_world.specs.InFlight.{IsRing}
 use Rattle.partition_world.specs.Sending.{HasNewest}
-use Rattle.partition_world.specs.Recorders.{Records}
-use Rattle.partition_world.specs.Worlds.{setup_of, run_of, waiting, steps_of, IsReleased, IsMember, Agrees, StandsFor}
+use Rattle.partition_world.specs.Worlds.{setup_of, run_of, steps_of, IsReleased, IsMember, Agrees, StandsFor}
 use Rattle.partition_world.proofs.Agreement.{waits_in, waiting_in}
 use Rattle.partition_world.proofs.Places.{get_map, map_set, set_itself, get_set, set_get_same, set_get_other, same_or_not}
-
 -- what a node gives out and keeps
+use Rattle.partition_protocol.specs.Recorded.{Recorded}
+
 pub record Gives {S State : Type 0} (state : S → State) (node next : Node S) (given : Option Released) : Type 0 where
   pub answers : node_waiting node ≡ option_to_list given ++ node_waiting next
   pub held : held_answers next ≡ held_answers node
@@ -31,12 +31,12 @@ pub record Gives {S State : Type 0} (state : S → State) (node next : Node S) (
   pub ring : ring_of next ≡ ring_of node
   pub ends : ends_of next ≡ ends_of node
 
-module _ {S Env C State : Type 0} (k : Meaning S C State) (limits : C → Type 0) (old : World S Env C) (events : List (Event C)) (stands : StandsFor k limits old events) (m : ℕ) (node next : Node S)
+module _ {S R Plan C State : Type 0} (k : Meaning S C State) (records : R → Recorded C → Type 0) (limits : C → Type 0) (old : World S R Plan C) (events : List (Event C)) (stands : StandsFor k records limits old events) (m : ℕ) (node next : Node S)
     (there : slice_get old.nodes.items m ≡ Some node) (given : Option Released) (gives : Gives k.state node next given) where
   abbrev pub w : Machine C
   w = run_of k old events
 
-  agrees : Agrees k old w
+  agrees : Agrees k records old w
   agrees = stands.agrees
 
   was_released : (answer : Released) → Contains (node_waiting node) answer → IsReleased w answer
@@ -71,20 +71,20 @@ module _ {S Env C State : Type 0} (k : Meaning S C State) (limits : C → Type 0
           subst (λ (n : ProtocolNode). HasNewest n (kept (ring_of next) n.pair.count)) (sym gives.same)
           (subst (λ r. HasNewest (node_of node) (kept r (node_of node).pair.count)) (sym gives.ring) has)
 
-  module _ (new : World S Env C) (rest : new ≡ record old { nodes = new.nodes }) (size : vec_len new.nodes ≡ vec_len old.nodes) (nodes : new.nodes.items ≡ slice_set old.nodes.items m next) where
-    new_agrees : Agrees k new w
+  module _ (new : World S R Plan C) (rest : new ≡ record old { nodes = new.nodes }) (size : vec_len new.nodes ≡ vec_len old.nodes) (nodes : new.nodes.items ≡ slice_set old.nodes.items m next) where
+    new_agrees : Agrees k records new w
     new_agrees = record {
-      setup = ap (λ (v : World S Env C). setup_of v) rest ∙ agrees.setup;
-      members = ap (λ (v : World S Env C). v.members) rest ∙ agrees.members;
+      setup = ap (λ (v : World S R Plan C). setup_of v) rest ∙ agrees.setup;
+      members = ap (λ (v : World S R Plan C). v.members) rest ∙ agrees.members;
       size = size ∙ agrees.size;
       nodes = ap (map node_of) nodes ∙ map_set node_of old.nodes.items m next ∙ ap (slice_set (map node_of old.nodes.items) m) gives.same ∙ unset ∙ agrees.nodes;
       each = λ q x at. each q x (get_set old.nodes.items m q next x (ap (λ ns. slice_get ns q) (sym nodes) ∙ at));
-      crashed = ap (λ (v : World S Env C). v.crashed.items) rest ∙ agrees.crashed;
-      service = ap (λ (v : World S Env C). service_of v.service) rest ∙ agrees.service;
-      ends = ap (λ (v : World S Env C). v.links.ends) rest ∙ agrees.ends;
-      links = λ f t. ap (λ (v : World S Env C). list_of v.links f t) rest ∙ agrees.links f t;
+      crashed = ap (λ (v : World S R Plan C). v.crashed.items) rest ∙ agrees.crashed;
+      service = ap (λ (v : World S R Plan C). service_of v.service) rest ∙ agrees.service;
+      ends = ap (λ (v : World S R Plan C). v.links.ends) rest ∙ agrees.ends;
+      links = λ f t. ap (λ (v : World S R Plan C). list_of v.links f t) rest ∙ agrees.links f t;
       fit = agrees.fit;
-      recorded = subst (λ (v : World S Env C). Records v.recorder w.recorded) (sym rest) agrees.recorded;
+      recorded = subst (λ (v : World S R Plan C). records v.recorder w.recorded) (sym rest) agrees.recorded;
       waiting = λ q answer c. waits q answer (subst (λ rs. Contains rs answer) (waiting_in new q ∙ ap (λ ns. waits_in (slice_get ns q)) nodes) c);
     }
       where
@@ -107,15 +107,15 @@ module _ {S Env C State : Type 0} (k : Meaning S C State) (limits : C → Type 0
                 agrees.waiting q answer (subst (λ rs. Contains rs answer) (sym (waiting_in old q)) (subst (λ x. Contains (waits_in x) answer) (set_get_other old.nodes.items m q next d) c))
 
     -- it is no event
-    pub still_stands : StandsFor k limits new events
+    pub still_stands : StandsFor k records limits new events
     still_stands = record {
       some = subst (λ (s : Setup). 1 ≤ s.members) (sym setup) stands.some;
       most = subst (λ (s : Setup). s.members ≤ 8) (sym setup) stands.most;
-      agrees = subst (λ (u : Machine C). Agrees k new u) (sym (ap (λ (s : Setup). run k.object (start s.partition s.members s.backups) events) setup)) new_agrees;
-      steps = ap (λ (v : World S Env C). steps_of v) rest ∙ stands.steps;
+      agrees = subst (λ (u : Machine C). Agrees k records new u) (sym (ap (λ (s : Setup). run k.object (start s.partition s.members s.backups) events) setup)) new_agrees;
+      steps = ap (λ (v : World S R Plan C). steps_of v) rest ∙ stands.steps;
       within = stands.within;
       once = stands.once;
     }
       where
         setup : setup_of new ≡ setup_of old
-        setup = ap (λ (v : World S Env C). setup_of v) rest
+        setup = ap (λ (v : World S R Plan C). setup_of v) rest

@@ -16,7 +16,7 @@ use Rattle.partition_protocol.proofs.EffectCalls.{first_longer}
 use Rattle.member_wire.specs.Said.{said_with}
 use Rattle.member_wire.specs.declared.message.MemberMessage.TheVariants as said
 use Rattle.member_wire.specs.Spelling.{spelling}
-use Rattle.partition_world.specs.Meanings.{Meaning}
+use Rattle.grid_base.specs.Shelves.{Meaning}
 use Rattle.partition_world.specs.InFlight.{state_at, bytes_by, effect_bytes, contents_in, bytes_of}
 
 module _ {S C State : Type 0} (k : Meaning S C State) (law : IsLawful k.object) (w : Machine C) (good : Good k.object w) (event : Event C) where

@@ -1,5 +1,5 @@
 -- A message is lost, or in flight once more, where there is one.
-use Rattle.std.proofs.Common.{◌≡◌, ℕ, zero, suc, ◌<◌, ◌≤◌, ◌↔◌, Bool, IsTrue, true, false, cond, ◌&&◌, ◌==◌, List, [], ◌∷◌, ◌++◌, length, remove, Option, Some, slice_get, Contains, refl, ap, sym, ◌∙◌, subst, arith, inl, inr, ◌⊎◌, append-nil}
+use Rattle.std.proofs.Common.{◌≡◌, ℕ, zero, suc, ◌<◌, ◌≤◌, ◌↔◌, Bool, IsTrue, true, false, cond, ◌&&◌, ◌==◌, List, [], ◌∷◌, ◌++◌, length, remove, Option, Some, slice_get, refl, ap, sym, ◌∙◌, subst, arith, inl, inr, ◌⊎◌, append-nil}
 use Rattle.std.specs.Option.{option_to_list}
 use Rattle.std.proofs.lemmas.List.{length-map}
 use Rattle.std.proofs.lemmas.Option.{slice_get_past}
@@ -17,16 +17,17 @@ use Rattle.partition_protocol.proofs.LinkFacts.{packet}
 use Rattle.link_net.specs.Links.{Net, HasLists, list_of, except}
 use Rattle.partition_world.specs.declared.world.World.{World}
 use Rattle.partition_world.specs.declared.event.Happened.TheVariants as happened
-use Rattle.partition_world.specs.Meanings.{Meaning}
+use Rattle.grid_base.specs.Shelves.{Meaning}
 use Rattle.partition_world.specs.Shelves.{IsShelf}
 use Rattle.partition_world.specs.InFlight.{bytes_of}
 use Rattle.partition_world.specs.Sending.{HasFit, flying}
-use Rattle.partition_world.specs.Worlds.{run_of, Comes, HasRun, IsKept}
+use Rattle.partition_world.specs.Worlds.{run_of, Comes, HasRun}
 use Rattle.partition_world.proofs.Comings as comings
 use Rattle.partition_world.proofs.EffectsLead.{lawful, Stood}
 use Rattle.partition_world.proofs.LinkBytes as bytes
 use Rattle.partition_world.proofs.Places.{there_at}
 use Rattle.partition_world.proofs.Quiet as quiet
+use Rattle.partition_protocol.specs.Recorded.{Recorded}
 
 pub remove_past : {X : Type 0} (xs : List X) (i : ℕ) → length xs ≤ i → remove xs i ≡ xs
 remove_past [] zero past = refl
@@ -55,16 +56,16 @@ except_itself {X = X} f t x a e g h = go (cases ((g == f) && (h == t)))
         ∙ ap (a g) (sym (same_number h t (both_right (g == f) (h == t) on)))
     go (inr off) = ap (λ b. cond b x (a g h)) off
 
-module _ {S Env C State : Type 0} (k : Meaning S C State) (limits : C → Type 0) (within : ℕ → State → Type 0) (applied : List ℕ → State → Option State) (shelf : IsShelf k limits within applied)
-    (world : World S Env C) (events : List (Event C)) (f t i : ℕ) where
+module _ {S R Plan C State : Type 0} (k : Meaning S C State) (records : R → Recorded C → Type 0) (limits : C → Type 0) (within : ℕ → State → Type 0) (applied : List ℕ → State → Option State) (shelf : IsShelf k limits within applied)
+    (world : World S R Plan C) (events : List (Event C)) (f t i : ℕ) where
   abbrev pub w : Machine C
   w = run_of k world events
 
   -- with other links
-  abbrev pub over : Net → World S Env C
+  abbrev pub over : Net → World S R Plan C
   over net = record world { links = net }
 
-  module _ (event : Event C) (comes : Comes k limits world events event) (net : Net) (ends : net.ends ≡ world.links.ends) where
+  module _ (event : Event C) (comes : Comes k records limits world events event) (net : Net) (ends : net.ends ≡ world.links.ends) where
     abbrev pub next : Machine C
     next = (happens k.object w event).world
 
@@ -72,7 +73,7 @@ module _ {S Env C State : Type 0} (k : Meaning S C State) (limits : C → Type 0
     law = lawful k limits within applied shelf
 
     stood : Stood k.object limits within w
-    stood = comings.stood k limits within applied shelf world events event comes
+    stood = comings.stood k records limits within applied shelf world events event comes
 
     -- the code's lists are those in flight
     pub in_flight : (g h : ℕ) → list_of world.links g h ≡ flying k w g h
@@ -85,25 +86,25 @@ module _ {S Env C State : Type 0} (k : Meaning S C State) (limits : C → Type 0
     still_fits old p c = bytes.fits_stay k law w stood.good stood.led event comes.stands.agrees.fit p (old p (in_contains p next.packets c))
 
     -- where there is none, nothing happens
-    pub still : happens k.object w event ≡ nothing w → HasLists net (list_of world.links) → HasRun k world (over net) events event happened.Nothing
+    pub still : happens k.object w event ≡ nothing w → HasLists net (list_of world.links) → HasRun k records world (over net) events event happened.Nothing
     still h lists =
-        quiet.unmoved k limits within applied shelf world events event comes NothingDone h (over net) happened.Nothing refl
+        quiet.unmoved k records limits within applied shelf world events event comes NothingDone h (over net) happened.Nothing refl
         (record { setup = refl; members = refl; size = refl; crashed = refl; service = refl; ends = ends; links = lists; recorded = comes.stands.agrees.recorded }) refl
 
-    pub with_others : (ps : List Packet) → happens k.object w event ≡ done (with_packets w ps) → HasLists net (flying k next) → HasFit k next → HasRun k world (over net) events event happened.Done
+    pub with_others : (ps : List Packet) → happens k.object w event ≡ done (with_packets w ps) → HasLists net (flying k next) → HasFit k next → HasRun k records world (over net) events event happened.Done
     with_others ps h lists fit =
-        quiet.packets_run k limits within applied shelf world events event comes ps Done h (over net) happened.Done refl refl refl refl refl refl ends comes.stands.agrees.recorded lists fit refl
+        quiet.packets_run k records limits within applied shelf world events event comes ps Done h (over net) happened.Done refl refl refl refl refl refl ends comes.stands.agrees.recorded lists fit refl
 
   -- the message at a place that the code's list has
-  pub there : (event : Event C) (comes : Comes k limits world events event) → i < length (list_of world.links f t) → (msg : Message) × (slice_get (link f t w.packets) i ≡ Some (packet f t msg))
+  pub there : (event : Event C) (comes : Comes k records limits world events event) → i < length (list_of world.links f t) → (msg : Message) × (slice_get (link f t w.packets) i ≡ Some (packet f t msg))
   there event comes l =
       let inside : i < length (flying k w f t) = subst (λ n. i < n) (ap (λ xs. length xs) (comes.stands.agrees.links f t)) l in
       let read = there_at (flying k w f t) i inside in
       let at = bytes.at_link k w f t i read.0 read.1 in
       (at.0, at.1)
 
-  module _ (comes : Comes k limits world events (Lose f t i)) (net : Net) (ends : net.ends ≡ world.links.ends) (lists : HasLists net (except f t (remove (list_of world.links f t) i) (list_of world.links))) where
-    pub lost : i < length (list_of world.links f t) → HasRun k world (over net) events (Lose f t i) happened.Done
+  module _ (comes : Comes k records limits world events (Lose f t i)) (net : Net) (ends : net.ends ≡ world.links.ends) (lists : HasLists net (except f t (remove (list_of world.links f t) i) (list_of world.links))) where
+    pub lost : i < length (list_of world.links f t) → HasRun k records world (over net) events (Lose f t i) happened.Done
     lost l =
         let m = there (Lose f t i) comes l in
         let h = lose_there k.object w f t i m.0 m.1 in
@@ -115,15 +116,15 @@ module _ {S Env C State : Type 0} (k : Meaning S C State) (limits : C → Type 0
         (still_fits (Lose f t i) comes net ends
         (λ p j. bytes.taken_in k (law (Lose f t i) comes net ends) w (stood (Lose f t i) comes net ends).good (stood (Lose f t i) comes net ends).led (Lose f t i) f t i w.packets p (subst (In p) others j)))
 
-    pub not_lost : length (list_of world.links f t) ≤ i → HasRun k world (over net) events (Lose f t i) happened.Nothing
+    pub not_lost : length (list_of world.links f t) ≤ i → HasRun k records world (over net) events (Lose f t i) happened.Nothing
     not_lost past =
         still (Lose f t i) comes net ends
         (no_packet w f t i (λ p. done (with_packets w (taken_out f t i w.packets))) (subst (λ n. n ≤ i) (many (Lose f t i) comes net ends) past))
         (λ g h. lists g h ∙ except_itself f t (remove (list_of world.links f t) i) (list_of world.links) (remove_past (list_of world.links f t) i past) g h)
 
-  module _ (comes : Comes k limits world events (Repeat f t i)) (net : Net) (ends : net.ends ≡ world.links.ends)
+  module _ (comes : Comes k records limits world events (Repeat f t i)) (net : Net) (ends : net.ends ≡ world.links.ends)
       (lists : HasLists net (except f t (list_of world.links f t ++ option_to_list (slice_get (list_of world.links f t) i)) (list_of world.links))) where
-    pub repeated : i < length (list_of world.links f t) → HasRun k world (over net) events (Repeat f t i) happened.Done
+    pub repeated : i < length (list_of world.links f t) → HasRun k records world (over net) events (Repeat f t i) happened.Done
     repeated l =
         let m = there (Repeat f t i) comes l in
         let h = repeat_there k.object w f t i m.0 m.1 in
@@ -140,7 +141,7 @@ module _ {S Env C State : Type 0} (k : Meaning S C State) (limits : C → Type 0
         old msg at p (inr (inl e)) = subst (λ q. In q w.packets) e (filter_in (is_on f t) w.packets (packet f t msg) (get_in (link f t w.packets) i (packet f t msg) at)).0
         old msg at p (inr (inr j)) = absurd j
 
-    pub not_repeated : length (list_of world.links f t) ≤ i → HasRun k world (over net) events (Repeat f t i) happened.Nothing
+    pub not_repeated : length (list_of world.links f t) ≤ i → HasRun k records world (over net) events (Repeat f t i) happened.Nothing
     not_repeated past =
         still (Repeat f t i) comes net ends (no_packet w f t i (λ p. done (with_packets w (w.packets ++ p ∷ []))) (subst (λ n. n ≤ i) (many (Repeat f t i) comes net ends) past))
         (λ g h. lists g h

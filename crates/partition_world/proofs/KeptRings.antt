@@ -17,7 +17,7 @@ use Rattle.partition_protocol.proofs.RowFacts.{not_both}
 use Rattle.partition_protocol.proofs.Takings.{brought, IsUnmoved, unmoved_old, backup_not_primary, every_taking}
 use Rattle.partition_protocol.proofs.Theorem.{get_front}
 use Rattle.member_wire.specs.Said.{Contents, said_with}
-use Rattle.partition_world.specs.Meanings.{Meaning}
+use Rattle.grid_base.specs.Shelves.{Meaning}
 use Rattle.partition_world.specs.Shelves.{IsShelf}
 use Rattle.partition_world.specs.Sending.{HasNewest}
 use Rattle.replica_node.specs.Takings.{goes_on, ring_after_taking, row_in}

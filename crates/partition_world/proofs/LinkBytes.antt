@@ -18,7 +18,7 @@ use Rattle.partition_protocol.proofs.Theorem.{get_map, map_get}
 use Rattle.partition_protocol.proofs.LinkFacts.{packet, messages_to, link_append, link_on, link_off, link_taken, link_taken_other, link_sent_other, on_ends, off_others}
 use Rattle.member_wire.specs.Said.{Contents, said_with, written}
 use Rattle.member_wire.specs.Spelling.{spelling, LengthsFit}
-use Rattle.partition_world.specs.Meanings.{Meaning}
+use Rattle.grid_base.specs.Shelves.{Meaning}
 use Rattle.partition_world.specs.InFlight.{contents_in, bytes_of}
 use Rattle.partition_world.specs.Sending.{IsNamed, flying, HasFit}
 use Rattle.partition_world.proofs.InFlight.{bytes_stay, said_stays}

@@ -1,5 +1,5 @@
 -- The newest call of a name, and what stands before it.
-use Rattle.std.proofs.Common.{◌≡◌, ℕ, zero, suc, ◌-◌, not, true, List, [], ◌∷◌, ◌++◌, length, take, Some, All, refl, ap, ◌∙◌, arith, length-append, eq-eqb}
+use Rattle.std.proofs.Common.{◌≡◌, zero, suc, ◌-◌, not, true, List, [], ◌∷◌, ◌++◌, length, take, Some, All, refl, ap, ◌∙◌, arith, length-append, eq-eqb}
 use Rattle.std.specs.List.{before_last, suffix_len}
 use Rattle.std.proofs.lemmas.List.{reverse-append}
 use Rattle.std.proofs.Math.Seq.{take-append_seam}

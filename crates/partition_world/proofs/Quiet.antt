@@ -1,45 +1,39 @@
 -- Events at which no member takes a step: nothing is released.
-use Rattle.std.proofs.Common.{◌≡◌, ℕ, ◌+◌, ◌<◌, ◌≤◌, Bool, true, false, cond, not, ◌&&◌, ◌∷◌, nat_lt, List, [], ◌++◌, map, length, drop, remove, Option, Some, None, slice_get, vec_len, refl, ap, sym, ◌∙◌, subst, append-nil}
+use Rattle.std.proofs.Common.{◌≡◌, ℕ, Bool, true, false, cond, List, [], ◌++◌, length, drop, Option, vec_len, refl, ap, sym, ◌∙◌, subst, append-nil}
 use Rattle.std.specs.List.{filter_map}
-use Rattle.std.specs.Option.{option_to_list}
 use Rattle.std.proofs.Math.Seq.{drop-append_seam}
-use Rattle.partition_protocol.specs.Messages.{Message, Packet}
-use Rattle.partition_protocol.specs.World.{World as Machine, is_live}
-use Rattle.partition_protocol.specs.Links.{link, taken_out, with_packets, packets_from}
-use Rattle.partition_protocol.specs.Events.{Event, Happened as HappenedThere, Outcome, NothingDone, Done, Lose, Repeat, Crash, nothing, done, happens}
-use Rattle.partition_protocol.proofs.Lists.{In, Every}
-use Rattle.partition_protocol.proofs.LinkFacts.{packet}
-use Rattle.link_net.specs.Links.{HasLists, list_of, except}
+use Rattle.partition_protocol.specs.Messages.{Packet}
+use Rattle.partition_protocol.specs.World.{World as Machine}
+use Rattle.partition_protocol.specs.Links.{with_packets}
+use Rattle.partition_protocol.specs.Events.{Event, Happened as HappenedThere, Outcome, happens}
+use Rattle.link_net.specs.Links.{HasLists}
 use Rattle.table_service.specs.Services.{service_of}
 use Rattle.partition_world.specs.declared.world.World.{World}
 use Rattle.partition_world.specs.declared.event.Happened.{Happened}
-use Rattle.partition_world.specs.Meanings.{Meaning}
+use Rattle.grid_base.specs.Shelves.{Meaning}
 use Rattle.partition_world.specs.Shelves.{IsShelf}
 use Rattle.partition_world.specs.Events.{happened_of}
 use Rattle.partition_world.specs.Answers.{held_answer, released_by, released_at, is_at}
-use Rattle.partition_world.specs.InFlight.{contents_in}
 use Rattle.partition_world.specs.Sending.{HasFit, flying}
-use Rattle.partition_world.specs.Recorders.{Records}
 use Rattle.partition_world.specs.Worlds.{setup_of, run_of, waiting, Agrees, Comes, HasRun, IsKept}
 use Rattle.partition_world.proofs.Comings as comings
 use Rattle.partition_world.proofs.Agreement as agreement
 use Rattle.partition_world.proofs.Agreement.{same_waiting}
-use Rattle.partition_world.proofs.EffectsLead.{lawful}
-use Rattle.partition_world.proofs.LinkBytes as bytes
+use Rattle.partition_protocol.specs.Recorded.{Recorded}
 
-module _ {S Env C State : Type 0} (k : Meaning S C State) (limits : C → Type 0) (within : ℕ → State → Type 0) (applied : List ℕ → State → Option State) (shelf : IsShelf k limits within applied)
-    (world : World S Env C) (events : List (Event C)) (event : Event C) (comes : Comes k limits world events event) where
+module _ {S R Plan C State : Type 0} (k : Meaning S C State) (records : R → Recorded C → Type 0) (limits : C → Type 0) (within : ℕ → State → Type 0) (applied : List ℕ → State → Option State) (shelf : IsShelf k limits within applied)
+    (world : World S R Plan C) (events : List (Event C)) (event : Event C) (comes : Comes k records limits world events event) where
   abbrev pub w : Machine C
   w = run_of k world events
 
   abbrev pub next : Machine C
   next = (happens k.object w event).world
 
-  abbrev pub IsRest : World S Env C → Type 0
-  IsRest new = agreement.IsRest k limits within applied shelf world w (comings.stood k limits within applied shelf world events event comes) comes.stands.agrees event (comings.new k limits within applied shelf world events event comes) (comings.single k limits within applied shelf world events event comes) new
+  abbrev pub IsRest : World S R Plan C → Type 0
+  IsRest new = agreement.IsRest k records limits within applied shelf world w (comings.stood k records limits within applied shelf world events event comes) comes.stands.agrees event (comings.new k records limits within applied shelf world events event comes) (comings.single k records limits within applied shelf world events event comes) new
 
-  abbrev pub IsQuiet : World S Env C → Type 0
-  IsQuiet new = agreement.IsQuiet k limits within applied shelf world w (comings.stood k limits within applied shelf world events event comes) comes.stands.agrees new
+  abbrev pub IsQuiet : World S R Plan C → Type 0
+  IsQuiet new = agreement.IsQuiet k records limits within applied shelf world w (comings.stood k records limits within applied shelf world events event comes) comes.stands.agrees new
 
   -- nothing is released at any member
   pub none_released : next.released ≡ w.released → (m : ℕ) → released_at k.object k.change_of w event m ≡ []
@@ -52,20 +46,20 @@ module _ {S Env C State : Type 0} (k : Meaning S C State) (limits : C → Type 0
       go true = none
       go false = refl
 
-  pub quiet_run : (new : World S Env C) (happened : Happened) → happened_of happened ≡ (happens k.object w event).outcome → IsRest new → new.nodes.items ≡ world.nodes.items
-      → next.nodes ≡ w.nodes → next.released ≡ w.released → HasRun k world new events event happened
+  pub quiet_run : (new : World S R Plan C) (happened : Happened) → happened_of happened ≡ (happens k.object w event).outcome → IsRest new → new.nodes.items ≡ world.nodes.items
+      → next.nodes ≡ w.nodes → next.released ≡ w.released → HasRun k records world new events event happened
   quiet_run new happened outcome rest nodes same released = record {
     outcome = outcome;
     agrees =
-        agreement.agrees_same k limits within applied shelf world w (comings.stood k limits within applied shelf world events event comes) comes.stands.agrees event
-        (comings.new k limits within applied shelf world events event comes) (comings.single k limits within applied shelf world events event comes) new rest nodes same;
+        agreement.agrees_same k records limits within applied shelf world w (comings.stood k records limits within applied shelf world events event comes) comes.stands.agrees event
+        (comings.new k records limits within applied shelf world events event comes) (comings.single k records limits within applied shelf world events event comes) new rest nodes same;
     waits = λ m. same_waiting world new nodes m ∙ sym (append-nil (waiting world m)) ∙ ap (λ rs. waiting world m ++ rs) (sym (none_released released m));
   }
 
   -- not even an event
-  pub kept : (new : World S Env C) → IsQuiet new → new.nodes.items ≡ world.nodes.items → IsKept k world new events
+  pub kept : (new : World S R Plan C) → IsQuiet new → new.nodes.items ≡ world.nodes.items → IsKept k records world new events
   kept new quiet nodes = record {
-    agrees = agreement.agrees_still k limits within applied shelf world w (comings.stood k limits within applied shelf world events event comes) comes.stands.agrees new quiet nodes;
+    agrees = agreement.agrees_still k records limits within applied shelf world w (comings.stood k records limits within applied shelf world events event comes) comes.stands.agrees new quiet nodes;
     waits = λ m. same_waiting world new nodes m;
   }
 
@@ -74,10 +68,10 @@ module _ {S Env C State : Type 0} (k : Meaning S C State) (limits : C → Type 0
     pub same_next : next ≡ w
     same_next = ap (λ (x : HappenedThere C). x.world) h
 
-    pub unmoved : (new : World S Env C) (happened : Happened) → happened_of happened ≡ out → IsQuiet new → new.nodes.items ≡ world.nodes.items → HasRun k world new events event happened
+    pub unmoved : (new : World S R Plan C) (happened : Happened) → happened_of happened ≡ out → IsQuiet new → new.nodes.items ≡ world.nodes.items → HasRun k records world new events event happened
     unmoved new happened outcome quiet nodes = record {
       outcome = outcome ∙ sym (ap (λ (x : HappenedThere C). x.outcome) h);
-      agrees = subst (λ (u : Machine C). Agrees k new u) (sym same_next) (kept new quiet nodes).agrees;
+      agrees = subst (λ (u : Machine C). Agrees k records new u) (sym same_next) (kept new quiet nodes).agrees;
       waits = λ m. same_waiting world new nodes m ∙ sym (append-nil (waiting world m)) ∙ ap (λ rs. waiting world m ++ rs) (sym (none_released (ap (λ (u : Machine C). u.released) same_next) m));
     }
 
@@ -86,9 +80,9 @@ module _ {S Env C State : Type 0} (k : Meaning S C State) (limits : C → Type 0
     pub next_is : next ≡ with_packets w ps
     next_is = ap (λ (x : HappenedThere C). x.world) h
 
-    pub packets_run : (new : World S Env C) (happened : Happened) → happened_of happened ≡ out → setup_of new ≡ setup_of world → new.members ≡ world.members → vec_len new.nodes ≡ vec_len world.nodes
-        → new.crashed.items ≡ world.crashed.items → service_of new.service ≡ service_of world.service → new.links.ends ≡ world.links.ends → Records new.recorder w.recorded
-        → HasLists new.links (flying k next) → HasFit k next → new.nodes.items ≡ world.nodes.items → HasRun k world new events event happened
+    pub packets_run : (new : World S R Plan C) (happened : Happened) → happened_of happened ≡ out → setup_of new ≡ setup_of world → new.members ≡ world.members → vec_len new.nodes ≡ vec_len world.nodes
+        → new.crashed.items ≡ world.crashed.items → service_of new.service ≡ service_of world.service → new.links.ends ≡ world.links.ends → records new.recorder w.recorded
+        → HasLists new.links (flying k next) → HasFit k next → new.nodes.items ≡ world.nodes.items → HasRun k records world new events event happened
     packets_run new happened outcome setup members size crashed service ends recorded links fit nodes =
         quiet_run new happened (outcome ∙ sym (ap (λ (x : HappenedThere C). x.outcome) h))
         (record {
@@ -100,6 +94,6 @@ module _ {S Env C State : Type 0} (k : Meaning S C State) (limits : C → Type 0
           ends = ends;
           links = links;
           fit = fit;
-          recorded = subst (Records new.recorder) (sym (ap (λ (u : Machine C). u.recorded) next_is)) recorded;
+          recorded = subst (records new.recorder) (sym (ap (λ (u : Machine C). u.recorded) next_is)) recorded;
         })
         nodes (ap (λ (u : Machine C). u.nodes) next_is) (ap (λ (u : Machine C). u.released) next_is)

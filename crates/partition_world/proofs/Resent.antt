@@ -1,14 +1,14 @@
 -- A primary sends again what may have been lost: its node stays, and the messages come last on its links.
-use Rattle.std.proofs.Common.{◌≡◌, ◌≢◌, ℕ, ◌+◌, ◌<◌, ◌≤◌, Bool, true, false, cond, not, ◌&&◌, ◌==◌, nat_lt, List, [], ◌∷◌, ◌++◌, map, length, get_or, Option, Some, slice_get, Contains, All, refl, ap, sym, ◌∙◌, subst, ◌⊎◌, inl, inr, arith, length-append}
+use Rattle.std.proofs.Common.{◌≡◌, ℕ, ◌+◌, ◌<◌, ◌≤◌, true, false, cond, not, ◌==◌, nat_lt, List, [], ◌∷◌, ◌++◌, map, length, get_or, Option, Some, slice_get, All, refl, ap, sym, ◌∙◌, subst, ◌⊎◌, inl, inr, arith}
 use Rattle.std.proofs.lemmas.List.{length-map}
 use Rattle.grid_base.specs.Objects.{Object, IsSmall}
 use Rattle.partition_table.specs.Rows.{is_primary}
-use Rattle.partition_protocol.specs.Messages.{Message, Packet, Sent}
+use Rattle.partition_protocol.specs.Messages.{Sent}
 use Rattle.partition_protocol.specs.Node.{Node as ProtocolNode}
 use Rattle.partition_protocol.specs.Replica.{sent_again}
 use Rattle.partition_protocol.specs.World.{World as Machine, is_live}
 use Rattle.partition_protocol.specs.Links.{with_packets, packets_from}
-use Rattle.partition_protocol.specs.Events.{Event, Happened as HappenedThere, NothingDone, Done, Resend, nothing, done, happens, run}
+use Rattle.partition_protocol.specs.Events.{Event, Happened as HappenedThere, NothingDone, Done, Resend, nothing, done, happens}
 use Rattle.partition_protocol.specs.Claims.{IsLawful}
 use Rattle.partition_protocol.specs.WellFormed.{IsWellFormed}
 use Rattle.partition_protocol.proofs.Lists.{In, in_right, contains_in, Every, every_from_in}
@@ -26,9 +26,9 @@ use Rattle.replica_node.specs.Nodes.{node_of, contents_of, member_of, service_of
 use Rattle.replica_node.specs.Sending.{Fits}
 use Rattle.partition_world.specs.declared.world.World.{World}
 use Rattle.partition_world.specs.declared.event.Happened.TheVariants as happened
-use Rattle.partition_world.specs.Meanings.{Meaning}
+use Rattle.grid_base.specs.Shelves.{Meaning}
 use Rattle.partition_world.specs.Shelves.{IsShelf}
-use Rattle.partition_world.specs.Sending.{IsNamed, HasFit, flying}
+use Rattle.partition_world.specs.Sending.{IsNamed, flying}
 use Rattle.partition_world.specs.Worlds.{setup_of, run_of, IsMember, Comes, HasRun}
 use Rattle.partition_world.proofs.Comings as comings
 use Rattle.partition_world.proofs.Agreement.{node_at}
@@ -40,8 +40,9 @@ use Rattle.partition_world.proofs.Places.{stands_there}
 use Rattle.partition_world.proofs.Quiet as quiet
 use Rattle.partition_world.proofs.SmallStates.{every_of_all}
 use Rattle.partition_world.proofs.Taking.{member_apart}
-
 -- nothing goes to an end past all to which something goes
+use Rattle.partition_protocol.specs.Recorded.{Recorded}
+
 pub none_past : (h n : ℕ) (ss : List Sent) → n < h → Every (λ (s : Sent). s.to ≤ n) ss → count_to h ss ≡ 0
 none_past h n [] l every = refl
 none_past h n (s ∷ ss) l every =
@@ -52,8 +53,8 @@ none_past h n (s ∷ ss) l every =
 pub resend_other : {C State : Type 0} (o : Object C State) (w : Machine C) (m : ℕ) (node : ProtocolNode) → is_live w m ≡ true → NodeAt w.nodes m node → is_primary node.known m ≡ false → happens o w (Resend m) ≡ nothing w
 resend_other o w m node lives there follows = let apart = member_apart w m lives in rw (apart, lives, there, follows) refl
 
-module _ {S Env C State : Type 0} (k : Meaning S C State) (limits : C → Type 0) (within : ℕ → State → Type 0) (applied : List ℕ → State → Option State) (shelf : IsShelf k limits within applied)
-    (world : World S Env C) (events : List (Event C)) (m : ℕ) (comes : Comes k limits world events (Resend m)) (lives : is_live (run_of k world events) m ≡ true)
+module _ {S R Plan C State : Type 0} (k : Meaning S C State) (records : R → Recorded C → Type 0) (limits : C → Type 0) (within : ℕ → State → Type 0) (applied : List ℕ → State → Option State) (shelf : IsShelf k limits within applied)
+    (world : World S R Plan C) (events : List (Event C)) (m : ℕ) (comes : Comes k records limits world events (Resend m)) (lives : is_live (run_of k world events) m ≡ true)
     (place : ℕ) (node : Node S) (at_place : place ≡ m) (read : node ≡ get_or world.nodes.items place node) where
   abbrev pub w : Machine C
   w = run_of k world events
@@ -62,20 +63,20 @@ module _ {S Env C State : Type 0} (k : Meaning S C State) (limits : C → Type 0
   next = (happens k.object w (Resend m)).world
 
   -- with other links
-  abbrev pub over : Net → World S Env C
+  abbrev pub over : Net → World S R Plan C
   over net = record world { links = net }
 
   law : IsLawful k.object
   law = lawful k limits within applied shelf
 
   stood : Stood k.object limits within w
-  stood = comings.stood k limits within applied shelf world events (Resend m) comes
+  stood = comings.stood k records limits within applied shelf world events (Resend m) comes
 
   stood_next : Stood k.object limits within next
-  stood_next = comings.stood_next k limits within applied shelf world events (Resend m) comes
+  stood_next = comings.stood_next k records limits within applied shelf world events (Resend m) comes
 
   formed : IsWellFormed (setup_of world).partition (setup_of world).members (setup_of world).backups w
-  formed = comings.formed k limits within applied shelf world events (Resend m) comes
+  formed = comings.formed k records limits within applied shelf world events (Resend m) comes
 
   below : m < w.members
   below = less m w.members (both_left (nat_lt m w.members) (not _) lives)
@@ -86,7 +87,7 @@ module _ {S Env C State : Type 0} (k : Meaning S C State) (limits : C → Type 0
       stands_there world.nodes.items m place node at_place (let l = below in omega (arith, same, l)) read
 
   at : NodeAt w.nodes m (node_of node)
-  at = node_at k limits within applied shelf world w stood comes.stands.agrees m node there
+  at = node_at k records limits within applied shelf world w stood comes.stands.agrees m node there
 
   is : IsMember k w m node
   is = comes.stands.agrees.each m node there
@@ -101,9 +102,9 @@ module _ {S Env C State : Type 0} (k : Meaning S C State) (limits : C → Type 0
   pub small : IsSmall within (k.state (contents_of node))
   small = subst (IsSmall within) (sym is.contents) (stood.small (node_of node).pair)
 
-  pub not_resent : is_primary (node_of node).known (member_of node) ≡ false → (net : Net) → net.ends ≡ world.links.ends → HasLists net (list_of world.links) → HasRun k world (over net) events (Resend m) happened.Nothing
+  pub not_resent : is_primary (node_of node).known (member_of node) ≡ false → (net : Net) → net.ends ≡ world.links.ends → HasLists net (list_of world.links) → HasRun k records world (over net) events (Resend m) happened.Nothing
   not_resent follows net ends lists =
-      quiet.unmoved k limits within applied shelf world events (Resend m) comes NothingDone
+      quiet.unmoved k records limits within applied shelf world events (Resend m) comes NothingDone
       (resend_other k.object w m (node_of node) lives at (ap (λ j. is_primary (node_of node).known j) (sym member_is) ∙ follows)) (over net) happened.Nothing refl
       (record { setup = refl; members = refl; size = refl; crashed = refl; service = refl; ends = ends; links = lists; recorded = comes.stands.agrees.recorded }) refl
 
@@ -172,9 +173,9 @@ module _ {S Env C State : Type 0} (k : Meaning S C State) (limits : C → Type 0
         again_named k limits within applied shelf w stood m (node_of node) lives at leads stood_next (kept (ring_of node) (node_of node).pair.count) (is.ring leads) (is.newest leads) (k.state (contents_of node)) is.contents
 
     pub resent : All (Fits contents) (cond (is_primary (node_of node).known (member_of node)) (sent_again (service_of node) (node_of node)) []) → (reserved net : Net) → HasLists reserved (list_of world.links) → net.ends ≡ world.links.ends
-        → HasLists net (with_sent m items (list_of reserved)) → HasRun k world (over net) events (Resend m) happened.Done
+        → HasLists net (with_sent m items (list_of reserved)) → HasRun k records world (over net) events (Resend m) happened.Done
     resent fits reserved net kept_lists ends lists =
-        quiet.packets_run k limits within applied shelf world events (Resend m) comes (w.packets ++ packets_from m again) Done so (over net) happened.Done refl refl refl refl refl refl ends comes.stands.agrees.recorded flown
+        quiet.packets_run k records limits within applied shelf world events (Resend m) comes (w.packets ++ packets_from m again) Done so (over net) happened.Done refl refl refl refl refl refl ends comes.stands.agrees.recorded flown
         (bytes.fits_next k law w stood.good stood.led (Resend m) comes.stands.agrees.fit w.packets m contents again (λ p j. j) packets named
         (every_of_all (λ (s : Sent). LengthsFit (said_with contents s.message)) again (subst (All (Fits contents)) said fits)))
         refl

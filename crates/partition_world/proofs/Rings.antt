@@ -23,7 +23,7 @@ use Rattle.partition_protocol.proofs.States.{Grows, grown}
 use Rattle.partition_protocol.proofs.NamedStates.{node_known, base_known, part_known}
 use Rattle.partition_protocol.proofs.Takings.{backup_not_primary, every_taking}
 use Rattle.partition_protocol.proofs.Beginnings.{counts_are_effects, knows_beginning}
-use Rattle.partition_world.specs.Meanings.{Meaning}
+use Rattle.grid_base.specs.Shelves.{Meaning}
 use Rattle.partition_world.specs.InFlight.{effect_bytes, IsRing}
 use Rattle.partition_world.proofs.InFlight.{effect_bytes_stay}
 use Rattle.partition_world.specs.Shelves.{IsShelf}

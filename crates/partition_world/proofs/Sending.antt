@@ -21,7 +21,7 @@ use Rattle.partition_protocol.proofs.Effects.{heard_from}
 use Rattle.partition_protocol.proofs.Beginnings.{knows_beginning, IsRecent, from_catch_up}
 use Rattle.member_wire.specs.Said.{Contents, said_with, written}
 use Rattle.member_wire.specs.Spelling.{spelling}
-use Rattle.partition_world.specs.Meanings.{Meaning}
+use Rattle.grid_base.specs.Shelves.{Meaning}
 use Rattle.partition_world.specs.InFlight.{state_at, effect_bytes, contents_in, IsRing}
 use Rattle.partition_world.specs.Shelves.{IsShelf}
 use Rattle.partition_world.specs.Sending.{carried_of, HasNewest, IsNamed}

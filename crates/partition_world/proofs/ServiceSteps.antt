@@ -1,13 +1,13 @@
 -- Events at which the table service takes a step, or sends again: no member does, and what the service sends comes last on its links.
 use Rattle.std.proofs.Common.{◌≡◌, ◌≢◌, ℕ, ◌+◌, ◌<◌, ◌≤◌, Bool, true, false, cond, not, ◌&&◌, ◌==◌, nat_lt, List, [], ◌∷◌, ◌++◌, map, length, Contains, Option, Some, None, vec_len, refl, ap, sym, ◌∙◌, subst, append-nil, arith, ◌⊎◌, inl, inr}
-use Rattle.partition_table.specs.Rows.{is_in, is_among}
+use Rattle.partition_table.specs.Rows.{is_in, is_among, first_of}
 use Rattle.partition_protocol.specs.Messages.{Sent, Freeze}
 use Rattle.partition_protocol.specs.Service.{Service, telling, detecting, beginning, handing_over, move_refused, join_refused, handover_refused, MoveRefused as WhyNotMoved, Lost as IsLost, NotIdle as IsNotIdle, NotThere as IsNotThere, AlreadyThere as IsAlreadyThere, NotLive as IsNotLive, NotEligible as IsNotEligible, AdvanceStep, Nothing, Freezes, MakesRow, advance_of, freezing_again, ReopenRefused as WhyNotReopened, NotLost as IsNotLost, NoMember as HasNoMember, reopen_refused, reopening}
 use Rattle.partition_protocol.specs.Recorded.{Recorded}
 use Rattle.partition_protocol.specs.WellFormed.{IsWellFormed}
 use Rattle.partition_protocol.specs.Claims.{IsLawful}
 use Rattle.partition_protocol.specs.World.{World as Machine, start, with_service, trail}
-use Rattle.partition_protocol.specs.History.{Entry, Reset}
+use Rattle.partition_protocol.specs.History.{Reset}
 use Rattle.partition_protocol.specs.Links.{packets_from, sending}
 use Rattle.partition_protocol.specs.Events.{Event, Happened as HappenedThere, Outcome, NothingDone, Done, RowMadeAt, MoveIsRefused, ReopenIsRefused, Resend, Detect, BeginMove, BeginJoin, BeginHandover, Advance, Reopen, done, row_made, unless_move_refused, unless_reopen_refused, with_reset, happens}
 use Rattle.partition_protocol.specs.Events as there
@@ -32,15 +32,14 @@ use Rattle.table_service.specs.Steps.{told_on_loss, advancing, told_on_advance, 
 use Rattle.table_service.specs.declared.moves.Advanced.{Advanced}
 use Rattle.table_service.specs.declared.moves.Advanced.TheVariants as did_step
 use Rattle.partition_world.specs.declared.world.World.{World}
-use Rattle.partition_world.specs.declared.recorder.Recorder.{Recorder}
 use Rattle.partition_world.specs.declared.event.Happened.{Happened}
 use Rattle.partition_world.specs.declared.event.Happened.TheVariants as happened
-use Rattle.partition_world.specs.Meanings.{Meaning}
+use Rattle.grid_base.specs.Shelves.{Meaning}
 use Rattle.partition_world.specs.Shelves.{IsShelf}
 use Rattle.partition_world.specs.Events.{move_outcome, reopen_outcome, happened_of}
 use Rattle.partition_world.specs.InFlight.{contents_in}
 use Rattle.partition_world.specs.Sending.{HasFit, flying}
-use Rattle.partition_world.specs.Recorders.{Records, leader_pair, trail_by}
+use Rattle.partition_world.specs.Recorders.{leader_pair, trail_by, with_reopening}
 use Rattle.partition_world.specs.Worlds.{setup_of, run_of, leading_pair, Comes, HasRun}
 use Rattle.partition_world.proofs.Comings as comings
 use Rattle.partition_world.proofs.Quiet as quiet
@@ -62,7 +61,7 @@ count_none h n (s ∷ ss) below over = let l = below.0 in rw (messages_to, numbe
 abbrev pub standing_by : {C : Type 0} → Recorded C → Service → Recorded C
 standing_by r s = record r { standing = cond s.row.lost r.standing s.row }
 
-module _ {S Env C State : Type 0} (k : Meaning S C State) (limits : C → Type 0) (world : World S Env C) (events : List (Event C)) (event : Event C) (comes : Comes k limits world events event) where
+module _ {S R Plan C State : Type 0} (k : Meaning S C State) (records : R → Recorded C → Type 0) (limits : C → Type 0) (world : World S R Plan C) (events : List (Event C)) (event : Event C) (comes : Comes k records limits world events event) where
   abbrev pub w : Machine C
   w = run_of k world events
 
@@ -164,7 +163,7 @@ module _ {S Env C State : Type 0} (k : Meaning S C State) (limits : C → Type 0
     module _ (within : ℕ → State → Type 0) (applied : List ℕ → State → Option State) (shelf : IsShelf k limits within applied) (fits : AllFit ss) (links : Net) (ends : links.ends ≡ world.links.ends)
         (lists : HasLists links (list_of world.links)) where
       stood : Stood k.object limits within w
-      stood = comings.stood k limits within applied shelf world events event comes
+      stood = comings.stood k records limits within applied shelf world events event comes
 
       law : IsLawful k.object
       law = lawful k limits within applied shelf
@@ -183,29 +182,29 @@ module _ {S Env C State : Type 0} (k : Meaning S C State) (limits : C → Type 0
           (every_of_all (λ (x : Sent). LengthsFit (said_with (contents_in k next) x.message)) ss (fits (contents_in k next)))
 
       module _ (service : TableService) (setup : service_setup service ≡ setup_of world) (serves : service_of service ≡ s) where
-        pub served_run : (new : World S Env C) → new ≡ record world { service = service; links = new.links; recorder = new.recorder } → Records new.recorder r
-            → HasLists new.links (with_sent world.members out (list_of links)) → new.links.ends ≡ links.ends → (happened : Happened) → happened_of happened ≡ outcome → HasRun k world new events event happened
+        pub served_run : (new : World S R Plan C) → new ≡ record world { service = service; links = new.links; recorder = new.recorder } → records new.recorder r
+            → HasLists new.links (with_sent world.members out (list_of links)) → new.links.ends ≡ links.ends → (happened : Happened) → happened_of happened ≡ outcome → HasRun k records world new events event happened
         served_run new rest recorded sent size happened same =
-            quiet.quiet_run k limits within applied shelf world events event comes new happened (same ∙ sym served.outcome)
+            quiet.quiet_run k records limits within applied shelf world events event comes new happened (same ∙ sym served.outcome)
             (record {
-              setup = ap (λ (x : World S Env C). setup_of x) rest ∙ setup;
-              members = ap (λ (x : World S Env C). x.members) rest;
-              size = ap (λ (x : World S Env C). vec_len x.nodes) rest;
-              crashed = ap (λ (x : World S Env C). x.crashed.items) rest ∙ comes.stands.agrees.crashed ∙ sym served.crashed;
-              service = ap (λ (x : World S Env C). service_of x.service) rest ∙ serves ∙ sym served.service;
+              setup = ap (λ (x : World S R Plan C). setup_of x) rest ∙ setup;
+              members = ap (λ (x : World S R Plan C). x.members) rest;
+              size = ap (λ (x : World S R Plan C). vec_len x.nodes) rest;
+              crashed = ap (λ (x : World S R Plan C). x.crashed.items) rest ∙ comes.stands.agrees.crashed ∙ sym served.crashed;
+              service = ap (λ (x : World S R Plan C). service_of x.service) rest ∙ serves ∙ sym served.service;
               ends = size ∙ ends;
               links = links_next new.links sent;
               fit = fits_next;
-              recorded = subst (Records new.recorder) (sym served.recorded) recorded;
+              recorded = subst (records new.recorder) (sym served.recorded) recorded;
             })
-            (ap (λ (x : World S Env C). x.nodes.items) rest) served.nodes served.released
+            (ap (λ (x : World S R Plan C). x.nodes.items) rest) served.nodes served.released
 
         -- the partition stands by the service's row, where this was recorded before
-        pub stands_run : (recorder : Recorder C) (before : Recorded C) → Records recorder before → r ≡ standing_by before s → (new : World S Env C)
-            → ((x : Recorded C) → Records recorder x → Records new.recorder (standing_by x (service_of service))) → HasLists new.links (with_sent world.members out (list_of links)) → new.links.ends ≡ links.ends
-            → new ≡ record world { service = service; links = new.links; recorder = new.recorder } → (happened : Happened) → happened_of happened ≡ outcome → HasRun k world new events event happened
+        pub stands_run : (recorder : R) (before : Recorded C) → records recorder before → r ≡ standing_by before s → (new : World S R Plan C)
+            → ((x : Recorded C) → records recorder x → records new.recorder (standing_by x (service_of service))) → HasLists new.links (with_sent world.members out (list_of links)) → new.links.ends ≡ links.ends
+            → new ≡ record world { service = service; links = new.links; recorder = new.recorder } → (happened : Happened) → happened_of happened ≡ outcome → HasRun k records world new events event happened
         stands_run recorder before keeps is new stands sent size rest happened same =
-            served_run new rest (subst (Records new.recorder) (ap (standing_by before) serves ∙ sym is) (stands before keeps)) sent size happened same
+            served_run new rest (subst (records new.recorder) (ap (standing_by before) serves ∙ sym is) (stands before keeps)) sent size happened same
 
 -- a member is told to have crashed
 
@@ -222,13 +221,13 @@ loss_done made x false is e = refl
 pub loss_few : (members m : ℕ) (s : Service) (h : ℕ) → count_to h (told_on_loss members m s) ≤ 2
 loss_few members m s h = on_if (λ ss. count_to h ss ≤ 2) (is_in s.row m) (telling members (detecting m s)) [] (let one = telling_few h m members (detecting m s) in omega (arith, one)) (omega arith)
 
-module _ {S Env C State : Type 0} (k : Meaning S C State) (limits : C → Type 0) (world : World S Env C) (events : List (Event C)) (m : ℕ) (comes : Comes k limits world events (Detect m)) where
+module _ {S R Plan C State : Type 0} (k : Meaning S C State) (records : R → Recorded C → Type 0) (limits : C → Type 0) (world : World S R Plan C) (events : List (Event C)) (m : ℕ) (comes : Comes k records limits world events (Detect m)) where
   abbrev now : Machine C
   now = run_of k world events
 
   abbrev IsLoss : ℕ → Service → Type 0
   IsLoss n s =
-      IsServed k limits world events (Detect m) comes (detecting m s) (standing_by now.recorded (detecting m s)) (told_on_loss n m s)
+      IsServed k records limits world events (Detect m) comes (detecting m s) (standing_by now.recorded (detecting m s)) (told_on_loss n m s)
       (cond (is_in s.row m) (RowMadeAt (detecting m s).row.version) Done)
 
   module _ (unnoticed : Bool) (is : unnoticed ≡ (nat_lt m world.members && is_among world.crashed.items m && not (is_among (service_of world.service).detected m))) (e : unnoticed ≡ true) where
@@ -243,15 +242,15 @@ module _ {S Env C State : Type 0} (k : Meaning S C State) (limits : C → Type 0
 
     -- with a new row, or none
     served_by : (b : Bool) → happens k.object now (Detect m) ≡ cond b (row_made now (detecting m now.service)) (done (with_service now (detecting m now.service)))
-        → IsServed k limits world events (Detect m) comes (detecting m now.service) (standing_by now.recorded (detecting m now.service)) (cond b (telling now.members (detecting m now.service)) [])
+        → IsServed k records limits world events (Detect m) comes (detecting m now.service) (standing_by now.recorded (detecting m now.service)) (cond b (telling now.members (detecting m now.service)) [])
         (cond b (RowMadeAt (detecting m now.service).row.version) Done)
     served_by true h =
-        served_sending k limits world events (Detect m) comes (detecting m now.service) (standing_by now.recorded (detecting m now.service)) (telling now.members (detecting m now.service))
+        served_sending k records limits world events (Detect m) comes (detecting m now.service) (standing_by now.recorded (detecting m now.service)) (telling now.members (detecting m now.service))
         (RowMadeAt (detecting m now.service).row.version) h
-    served_by false h = served_silent k limits world events (Detect m) comes (detecting m now.service) (standing_by now.recorded (detecting m now.service)) Done h
+    served_by false h = served_silent k records limits world events (Detect m) comes (detecting m now.service) (standing_by now.recorded (detecting m now.service)) Done h
 
     pub served_loss : IsLoss (service_number world.service) (service_of world.service)
-    served_loss = of_code k limits world events (Detect m) comes IsLoss (served_by (is_in now.service.row m) detects)
+    served_loss = of_code k records limits world events (Detect m) comes IsLoss (served_by (is_in now.service.row m) detects)
 
 -- a row is told
 
@@ -276,25 +275,25 @@ refused_why no_move.NotLive other = (IsNotLive, refl)
 refused_why no_move.NotEligible other = (IsNotEligible, refl)
 refused_why no_move.Memory other = absurd (other refl)
 
-module _ {S Env C State : Type 0} (k : Meaning S C State) (limits : C → Type 0) (world : World S Env C) (events : List (Event C)) (event : Event C) (comes : Comes k limits world events event) where
+module _ {S R Plan C State : Type 0} (k : Meaning S C State) (records : R → Recorded C → Type 0) (limits : C → Type 0) (world : World S R Plan C) (events : List (Event C)) (event : Event C) (comes : Comes k records limits world events event) where
   abbrev here : Machine C
   here = run_of k world events
 
   -- the row of this service is new, and told
   abbrev pub IsRowMade : Recorded C → ℕ → Service → Type 0
-  IsRowMade r n s = IsServed k limits world events event comes s (standing_by r s) (telling n s) (RowMadeAt s.row.version)
+  IsRowMade r n s = IsServed k records limits world events event comes s (standing_by r s) (telling n s) (RowMadeAt s.row.version)
 
   pub row_served : (r : Recorded C) (s : Service) → happens k.object here event ≡ row_made (record here { recorded = r }) s → IsRowMade r here.members s
-  row_served r s h = served_sending k limits world events event comes s (standing_by r s) (telling here.members s) (RowMadeAt s.row.version) h
+  row_served r s h = served_sending k records limits world events event comes s (standing_by r s) (telling here.members s) (RowMadeAt s.row.version) h
 
   -- what was refused leaves all as it was
 
   module _ (within : ℕ → State → Type 0) (applied : List ℕ → State → Option State) (shelf : IsShelf k limits within applied) (service : TableService) (links : Net)
       (setup : service_setup service ≡ setup_of world) (same : service_of service ≡ service_of world.service) (ends : links.ends ≡ world.links.ends) (lists : HasLists links (list_of world.links)) where
-    pub unmoved_run : (recorder : Recorder C) → Records recorder here.recorded → (out : Outcome) → happens k.object here event ≡ record { world = here; outcome = out } → (happened : Happened)
-        → happened_of happened ≡ out → HasRun k world (record world { service = service; links = links; recorder = recorder }) events event happened
+    pub unmoved_run : (recorder : R) → records recorder here.recorded → (out : Outcome) → happens k.object here event ≡ record { world = here; outcome = out } → (happened : Happened)
+        → happened_of happened ≡ out → HasRun k records world (record world { service = service; links = links; recorder = recorder }) events event happened
     unmoved_run recorder recorded out h happened outcome =
-        quiet.unmoved k limits within applied shelf world events event comes out h (record world { service = service; links = links; recorder = recorder }) happened outcome
+        quiet.unmoved k records limits within applied shelf world events event comes out h (record world { service = service; links = links; recorder = recorder }) happened outcome
         (record {
           setup = setup;
           members = refl;
@@ -308,7 +307,7 @@ module _ {S Env C State : Type 0} (k : Meaning S C State) (limits : C → Type 0
         refl
 
     pub refused_run : (refused : MoveRefused) → refused ≢ no_move.Memory → (test : Option WhyNotMoved) (otherwise : HappenedThere C) → happens k.object here event ≡ unless_move_refused here test otherwise
-        → why_not_moved refused ≡ test → HasRun k world (record world { service = service; links = links }) events event (happened.MoveRefused refused)
+        → why_not_moved refused ≡ test → HasRun k records world (record world { service = service; links = links }) events event (happened.MoveRefused refused)
     refused_run refused other test otherwise h e =
         let why = refused_why refused other in
         let there : test ≡ Some why.0 = sym e ∙ why.1 in
@@ -316,77 +315,77 @@ module _ {S Env C State : Type 0} (k : Meaning S C State) (limits : C → Type 0
 
 -- a member is to take another's place
 
-module _ {S Env C State : Type 0} (k : Meaning S C State) (limits : C → Type 0) (world : World S Env C) (events : List (Event C)) (from to : ℕ) (comes : Comes k limits world events (BeginMove from to)) where
+module _ {S R Plan C State : Type 0} (k : Meaning S C State) (records : R → Recorded C → Type 0) (limits : C → Type 0) (world : World S R Plan C) (events : List (Event C)) (from to : ℕ) (comes : Comes k records limits world events (BeginMove from to)) where
   abbrev moves_at : Machine C
   moves_at = run_of k world events
 
   pub served_move : (made : Service) → None ≡ move_refused (service_number world.service) from to (service_of world.service) → made ≡ beginning (Some from) to (service_of world.service)
-      → IsRowMade k limits world events (BeginMove from to) comes moves_at.recorded (service_number world.service) made
+      → IsRowMade k records limits world events (BeginMove from to) comes moves_at.recorded (service_number world.service) made
   served_move made none is =
-      subst (IsRowMade k limits world events (BeginMove from to) comes moves_at.recorded (service_number world.service)) (sym is)
-      (of_code k limits world events (BeginMove from to) comes
-      (λ n s. None ≡ move_refused n from to s → IsRowMade k limits world events (BeginMove from to) comes moves_at.recorded n (beginning (Some from) to s))
-      (λ e. row_served k limits world events (BeginMove from to) comes moves_at.recorded (beginning (Some from) to moves_at.service)
+      subst (IsRowMade k records limits world events (BeginMove from to) comes moves_at.recorded (service_number world.service)) (sym is)
+      (of_code k records limits world events (BeginMove from to) comes
+      (λ n s. None ≡ move_refused n from to s → IsRowMade k records limits world events (BeginMove from to) comes moves_at.recorded n (beginning (Some from) to s))
+      (λ e. row_served k records limits world events (BeginMove from to) comes moves_at.recorded (beginning (Some from) to moves_at.service)
       (ap (λ x. unless_move_refused moves_at x (row_made moves_at (beginning (Some from) to moves_at.service))) (sym e)))
       none)
 
   pub refused_move : (within : ℕ → State → Type 0) (applied : List ℕ → State → Option State) (shelf : IsShelf k limits within applied) (service : TableService) (links : Net) → service_setup service ≡ setup_of world
       → service_of service ≡ service_of world.service → links.ends ≡ world.links.ends → HasLists links (list_of world.links) → (refused : MoveRefused) → refused ≢ no_move.Memory
       → why_not_moved refused ≡ move_refused (service_number world.service) from to (service_of world.service)
-      → HasRun k world (record world { service = service; links = links }) events (BeginMove from to) (happened.MoveRefused refused)
+      → HasRun k records world (record world { service = service; links = links }) events (BeginMove from to) (happened.MoveRefused refused)
   refused_move within applied shelf service links setup same ends lists refused other e =
-      refused_run k limits world events (BeginMove from to) comes within applied shelf service links setup same ends lists refused other (move_refused moves_at.members from to moves_at.service)
+      refused_run k records limits world events (BeginMove from to) comes within applied shelf service links setup same ends lists refused other (move_refused moves_at.members from to moves_at.service)
       (row_made moves_at (beginning (Some from) to moves_at.service)) refl
-      (e ∙ of_code k limits world events (BeginMove from to) comes (λ n s. move_refused n from to s ≡ move_refused moves_at.members from to moves_at.service) refl)
+      (e ∙ of_code k records limits world events (BeginMove from to) comes (λ n s. move_refused n from to s ≡ move_refused moves_at.members from to moves_at.service) refl)
 
 -- a member is to join
 
-module _ {S Env C State : Type 0} (k : Meaning S C State) (limits : C → Type 0) (world : World S Env C) (events : List (Event C)) (to : ℕ) (comes : Comes k limits world events (BeginJoin to)) where
+module _ {S R Plan C State : Type 0} (k : Meaning S C State) (records : R → Recorded C → Type 0) (limits : C → Type 0) (world : World S R Plan C) (events : List (Event C)) (to : ℕ) (comes : Comes k records limits world events (BeginJoin to)) where
   abbrev joins_at : Machine C
   joins_at = run_of k world events
 
   pub served_join : (made : Service) → None ≡ join_refused (service_number world.service) to (service_of world.service) → made ≡ beginning None to (service_of world.service)
-      → IsRowMade k limits world events (BeginJoin to) comes joins_at.recorded (service_number world.service) made
+      → IsRowMade k records limits world events (BeginJoin to) comes joins_at.recorded (service_number world.service) made
   served_join made none is =
-      subst (IsRowMade k limits world events (BeginJoin to) comes joins_at.recorded (service_number world.service)) (sym is)
-      (of_code k limits world events (BeginJoin to) comes
-      (λ n s. None ≡ join_refused n to s → IsRowMade k limits world events (BeginJoin to) comes joins_at.recorded n (beginning None to s))
-      (λ e. row_served k limits world events (BeginJoin to) comes joins_at.recorded (beginning None to joins_at.service)
+      subst (IsRowMade k records limits world events (BeginJoin to) comes joins_at.recorded (service_number world.service)) (sym is)
+      (of_code k records limits world events (BeginJoin to) comes
+      (λ n s. None ≡ join_refused n to s → IsRowMade k records limits world events (BeginJoin to) comes joins_at.recorded n (beginning None to s))
+      (λ e. row_served k records limits world events (BeginJoin to) comes joins_at.recorded (beginning None to joins_at.service)
       (ap (λ x. unless_move_refused joins_at x (row_made joins_at (beginning None to joins_at.service))) (sym e)))
       none)
 
   pub refused_join : (within : ℕ → State → Type 0) (applied : List ℕ → State → Option State) (shelf : IsShelf k limits within applied) (service : TableService) (links : Net) → service_setup service ≡ setup_of world
       → service_of service ≡ service_of world.service → links.ends ≡ world.links.ends → HasLists links (list_of world.links) → (refused : MoveRefused) → refused ≢ no_move.Memory
       → why_not_moved refused ≡ join_refused (service_number world.service) to (service_of world.service)
-      → HasRun k world (record world { service = service; links = links }) events (BeginJoin to) (happened.MoveRefused refused)
+      → HasRun k records world (record world { service = service; links = links }) events (BeginJoin to) (happened.MoveRefused refused)
   refused_join within applied shelf service links setup same ends lists refused other e =
-      refused_run k limits world events (BeginJoin to) comes within applied shelf service links setup same ends lists refused other (join_refused joins_at.members to joins_at.service)
+      refused_run k records limits world events (BeginJoin to) comes within applied shelf service links setup same ends lists refused other (join_refused joins_at.members to joins_at.service)
       (row_made joins_at (beginning None to joins_at.service)) refl
-      (e ∙ of_code k limits world events (BeginJoin to) comes (λ n s. join_refused n to s ≡ join_refused joins_at.members to joins_at.service) refl)
+      (e ∙ of_code k records limits world events (BeginJoin to) comes (λ n s. join_refused n to s ≡ join_refused joins_at.members to joins_at.service) refl)
 
 -- a backup is to lead
 
-module _ {S Env C State : Type 0} (k : Meaning S C State) (limits : C → Type 0) (world : World S Env C) (events : List (Event C)) (from to : ℕ) (comes : Comes k limits world events (BeginHandover from to)) where
+module _ {S R Plan C State : Type 0} (k : Meaning S C State) (records : R → Recorded C → Type 0) (limits : C → Type 0) (world : World S R Plan C) (events : List (Event C)) (from to : ℕ) (comes : Comes k records limits world events (BeginHandover from to)) where
   abbrev hands_at : Machine C
   hands_at = run_of k world events
 
   abbrev IsHanded : ℕ → Service → Type 0
-  IsHanded n s = IsServed k limits world events (BeginHandover from to) comes (handing_over from to s) (standing_by hands_at.recorded (handing_over from to s)) [] Done
+  IsHanded n s = IsServed k records limits world events (BeginHandover from to) comes (handing_over from to s) (standing_by hands_at.recorded (handing_over from to s)) [] Done
 
   pub served_handover : None ≡ handover_refused from to (service_of world.service) → IsHanded (service_number world.service) (service_of world.service)
   served_handover none =
-      of_code k limits world events (BeginHandover from to) comes (λ n s. None ≡ handover_refused from to s → IsHanded n s)
-      (λ e. served_silent k limits world events (BeginHandover from to) comes (handing_over from to hands_at.service) (standing_by hands_at.recorded (handing_over from to hands_at.service)) Done
+      of_code k records limits world events (BeginHandover from to) comes (λ n s. None ≡ handover_refused from to s → IsHanded n s)
+      (λ e. served_silent k records limits world events (BeginHandover from to) comes (handing_over from to hands_at.service) (standing_by hands_at.recorded (handing_over from to hands_at.service)) Done
       (ap (λ x. unless_move_refused hands_at x (done (with_service hands_at (handing_over from to hands_at.service)))) (sym e)))
       none
 
   pub refused_handover : (within : ℕ → State → Type 0) (applied : List ℕ → State → Option State) (shelf : IsShelf k limits within applied) (service : TableService) → service_setup service ≡ setup_of world
       → service_of service ≡ service_of world.service → (refused : MoveRefused) → refused ≢ no_move.Memory → why_not_moved refused ≡ handover_refused from to (service_of world.service)
-      → HasRun k world (record world { service = service }) events (BeginHandover from to) (happened.MoveRefused refused)
+      → HasRun k records world (record world { service = service }) events (BeginHandover from to) (happened.MoveRefused refused)
   refused_handover within applied shelf service setup same refused other e =
-      refused_run k limits world events (BeginHandover from to) comes within applied shelf service world.links setup same refl (λ f t. refl) refused other (handover_refused from to hands_at.service)
+      refused_run k records limits world events (BeginHandover from to) comes within applied shelf service world.links setup same refl (λ f t. refl) refused other (handover_refused from to hands_at.service)
       (done (with_service hands_at (handing_over from to hands_at.service))) refl
-      (e ∙ of_code k limits world events (BeginHandover from to) comes (λ n s. handover_refused from to s ≡ handover_refused from to hands_at.service) refl)
+      (e ∙ of_code k records limits world events (BeginHandover from to) comes (λ n s. handover_refused from to s ≡ handover_refused from to hands_at.service) refl)
 
 -- the move under way takes its next step
 
@@ -422,33 +421,33 @@ step_few members Nothing s h = omega arith
 step_few members (Freezes source target) s h = let one = count_all h (record { to = source; message = Freeze s.row.version } ∷ []) in omega (arith, one)
 step_few members (MakesRow row) s h = tells_few members (advancing (MakesRow row) s) h
 
-module _ {S Env C State : Type 0} (k : Meaning S C State) (limits : C → Type 0) (world : World S Env C) (events : List (Event C)) (comes : Comes k limits world events Advance) where
+module _ {S R Plan C State : Type 0} (k : Meaning S C State) (records : R → Recorded C → Type 0) (limits : C → Type 0) (world : World S R Plan C) (events : List (Event C)) (comes : Comes k records limits world events Advance) where
   abbrev steps_at : Machine C
   steps_at = run_of k world events
 
   abbrev IsStep : AdvanceStep → ℕ → Service → Type 0
-  IsStep step n s = IsServed k limits world events Advance comes (advancing step s) (standing_by steps_at.recorded (advancing step s)) (told_on_advance n step s) (step_outcome step)
+  IsStep step n s = IsServed k records limits world events Advance comes (advancing step s) (standing_by steps_at.recorded (advancing step s)) (told_on_advance n step s) (step_outcome step)
 
   step_served : (step : AdvanceStep) → happens k.object steps_at Advance ≡ there.advanced_by steps_at step → step ≢ Nothing → IsStep step steps_at.members steps_at.service
   step_served Nothing h other = absurd (other refl)
   step_served (Freezes source target) h other =
       let s : Service = advancing (Freezes source target) steps_at.service in
-      served_sending k limits world events Advance comes s (standing_by steps_at.recorded s) (told_on_advance steps_at.members (Freezes source target) steps_at.service) Done h
+      served_sending k records limits world events Advance comes s (standing_by steps_at.recorded s) (told_on_advance steps_at.members (Freezes source target) steps_at.service) Done h
   step_served (MakesRow row) h other =
       let s : Service = advancing (MakesRow row) steps_at.service in
-      served_sending k limits world events Advance comes s (standing_by steps_at.recorded s) (telling steps_at.members s) (RowMadeAt row.version) h
+      served_sending k records limits world events Advance comes s (standing_by steps_at.recorded s) (telling steps_at.members s) (RowMadeAt row.version) h
 
   pub served_step : advance_of (service_of world.service) ≢ Nothing → IsStep (advance_of (service_of world.service)) (service_number world.service) (service_of world.service)
   served_step other =
-      of_code k limits world events Advance comes (λ n s. advance_of s ≢ Nothing → IsStep (advance_of s) n s) (λ moves. step_served (advance_of steps_at.service) refl moves) other
+      of_code k records limits world events Advance comes (λ n s. advance_of s ≢ Nothing → IsStep (advance_of s) n s) (λ moves. step_served (advance_of steps_at.service) refl moves) other
 
   -- no step is due
   pub no_step : (within : ℕ → State → Type 0) (applied : List ℕ → State → Option State) (shelf : IsShelf k limits within applied) (service : TableService) (links : Net) → service_setup service ≡ setup_of world
       → service_of service ≡ advancing (advance_of (service_of world.service)) (service_of world.service) → links.ends ≡ world.links.ends → HasLists links (list_of world.links)
-      → advance_of (service_of world.service) ≡ Nothing → HasRun k world (record world { service = service; links = links }) events Advance happened.Nothing
+      → advance_of (service_of world.service) ≡ Nothing → HasRun k records world (record world { service = service; links = links }) events Advance happened.Nothing
   no_step within applied shelf service links setup same ends lists none =
-      unmoved_run k limits world events Advance comes within applied shelf service links setup (same ∙ ap (λ step. advancing step (service_of world.service)) none) ends lists world.recorder comes.stands.agrees.recorded NothingDone
-      (ap (there.advanced_by steps_at) (of_code k limits world events Advance comes (λ n s. advance_of steps_at.service ≡ advance_of s) refl ∙ none)) happened.Nothing refl
+      unmoved_run k records limits world events Advance comes within applied shelf service links setup (same ∙ ap (λ step. advancing step (service_of world.service)) none) ends lists world.recorder comes.stands.agrees.recorded NothingDone
+      (ap (there.advanced_by steps_at) (of_code k records limits world events Advance comes (λ n s. advance_of steps_at.service ≡ advance_of s) refl ∙ none)) happened.Nothing refl
 
 -- a lost partition is reopened
 
@@ -457,7 +456,7 @@ reopen_why no_reopening.NotLost other = (IsNotLost, refl)
 reopen_why no_reopening.NoMember other = (HasNoMember, refl)
 reopen_why no_reopening.Memory other = absurd (other refl)
 
-module _ {S Env C State : Type 0} (k : Meaning S C State) (limits : C → Type 0) (world : World S Env C) (events : List (Event C)) (comes : Comes k limits world events Reopen) where
+module _ {S R Plan C State : Type 0} (k : Meaning S C State) (records : R → Recorded C → Type 0) (limits : C → Type 0) (world : World S R Plan C) (events : List (Event C)) (comes : Comes k records limits world events Reopen) where
   abbrev opens_at : Machine C
   opens_at = run_of k world events
 
@@ -473,37 +472,34 @@ module _ {S Env C State : Type 0} (k : Meaning S C State) (limits : C → Type 0
       (subst (P opens_at.partition opens_at.members opens_at.backups) (sym comes.stands.agrees.service) p)
 
   pub served_opening : (made : Service) → None ≡ reopen_refused (setup_of world).partition (setup_of world).members (service_of world.service)
-      → made ≡ reopening (setup_of world).partition (setup_of world).members (setup_of world).backups (service_of world.service) → IsRowMade k limits world events Reopen comes with_opening (service_number world.service) made
+      → made ≡ reopening (setup_of world).partition (setup_of world).members (setup_of world).backups (service_of world.service) → IsRowMade k records limits world events Reopen comes with_opening (service_number world.service) made
   served_opening made none is =
-      subst (IsRowMade k limits world events Reopen comes with_opening (service_number world.service)) (sym is)
-      (of_setup (λ p n b s. None ≡ reopen_refused p n s → IsRowMade k limits world events Reopen comes with_opening n (reopening p n b s))
-      (λ e. row_served k limits world events Reopen comes with_opening (reopening opens_at.partition opens_at.members opens_at.backups opens_at.service)
+      subst (IsRowMade k records limits world events Reopen comes with_opening (service_number world.service)) (sym is)
+      (of_setup (λ p n b s. None ≡ reopen_refused p n s → IsRowMade k records limits world events Reopen comes with_opening n (reopening p n b s))
+      (λ e. row_served k records limits world events Reopen comes with_opening (reopening opens_at.partition opens_at.members opens_at.backups opens_at.service)
       (ap (λ x. unless_reopen_refused opens_at x (row_made (with_reset opens_at (opens_at.service.row.version + 1)) (reopening opens_at.partition opens_at.members opens_at.backups opens_at.service))) (sym e)))
       none)
 
   -- the code's recorder has the reset then
-  pub opening_recorded : (recorder : Recorder C) (version : ℕ) (made : Service) (entries : List (Entry C)) (leader : Option (ℕ × ℕ)) → version ≡ made.row.version
-      → made ≡ reopening (setup_of world).partition (setup_of world).members (setup_of world).backups (service_of world.service) → leader ≡ leading_pair world
-      → entries ≡ trail_by opens_at.recorded (leader_pair leader) ++ Reset version ∷ []
-      → Records recorder (record opens_at.recorded { log = opens_at.recorded.log ++ Reset version ∷ []; openings = record { reset = version; entries = entries } ∷ opens_at.recorded.openings }) → Records recorder with_opening
-  opening_recorded recorder version made entries leader numbered is found told recorded =
-      subst (λ r. Records recorder (with_reset opens_at r).recorded) same
-      (subst (λ es. Records recorder (record opens_at.recorded { log = opens_at.recorded.log ++ Reset version ∷ []; openings = record { reset = version; entries = es } ∷ opens_at.recorded.openings })) trails recorded)
+  pub opening_recorded : (recorder : R) (version : ℕ) (made : Service) (leader : Option (ℕ × ℕ)) → version ≡ made.row.version
+      → made ≡ reopening (setup_of world).partition (setup_of world).members (setup_of world).backups (service_of world.service)
+      → leader ≡ leading_pair world (first_of opens_at.recorded.standing.members) → records recorder (with_reopening version leader opens_at.recorded) → records recorder with_opening
+  opening_recorded recorder version made leader numbered is found recorded =
+      subst (λ r. records recorder (with_reset opens_at r).recorded) same
+      (subst (λ es. records recorder (record opens_at.recorded { log = opens_at.recorded.log ++ Reset version ∷ []; openings = record { reset = version; entries = es ++ Reset version ∷ [] } ∷ opens_at.recorded.openings })) trails recorded)
     where
       same : version ≡ opens_at.service.row.version + 1
       same = numbered ∙ ap (λ (s : Service). s.row.version) is ∙ ap (λ (s : Service). s.row.version + 1) comes.stands.agrees.service
 
-      trails : entries ≡ trail opens_at ++ Reset version ∷ []
-      trails =
-          told ∙ ap (λ x. trail_by opens_at.recorded (leader_pair x) ++ Reset version ∷ []) found
-          ∙ ap (λ es. es ++ Reset version ∷ []) (sym (trail_found k world opens_at comes.stands.agrees))
+      trails : trail_by opens_at.recorded (leader_pair leader) ≡ trail opens_at
+      trails = ap (λ x. trail_by opens_at.recorded (leader_pair x)) found ∙ sym (trail_found k records world opens_at comes.stands.agrees)
 
   pub refused_opening : (within : ℕ → State → Type 0) (applied : List ℕ → State → Option State) (shelf : IsShelf k limits within applied) (service : TableService) (links : Net) → service_setup service ≡ setup_of world
-      → service_of service ≡ service_of world.service → links.ends ≡ world.links.ends → HasLists links (list_of world.links) → (recorder : Recorder C) → Records recorder opens_at.recorded → (refused : ReopenRefused)
+      → service_of service ≡ service_of world.service → links.ends ≡ world.links.ends → HasLists links (list_of world.links) → (recorder : R) → records recorder opens_at.recorded → (refused : ReopenRefused)
       → refused ≢ no_reopening.Memory → why_not_reopened refused ≡ reopen_refused (setup_of world).partition (setup_of world).members (service_of world.service)
-      → HasRun k world (record world { service = service; links = links; recorder = recorder }) events Reopen (happened.ReopenRefused refused)
+      → HasRun k records world (record world { service = service; links = links; recorder = recorder }) events Reopen (happened.ReopenRefused refused)
   refused_opening within applied shelf service links setup same ends lists recorder recorded refused other e =
-      unmoved_run k limits world events Reopen comes within applied shelf service links setup same ends lists recorder recorded (ReopenIsRefused why.0)
+      unmoved_run k records limits world events Reopen comes within applied shelf service links setup same ends lists recorder recorded (ReopenIsRefused why.0)
       (ap (λ x. unless_reopen_refused opens_at x (row_made (with_reset opens_at (opens_at.service.row.version + 1)) (reopening opens_at.partition opens_at.members opens_at.backups opens_at.service))) there)
       (happened.ReopenRefused refused) (ap reopen_outcome why.1)
     where
@@ -519,15 +515,15 @@ module _ {S Env C State : Type 0} (k : Meaning S C State) (limits : C → Type 0
 pub sends_same : (first out items : List (ℕ × List ℕ)) (ss : List Sent) → items ≡ out → Sends first out ss → Sends first items ss
 sends_same first out items ss e sends contents = e ∙ sends contents
 
-module _ {S Env C State : Type 0} (k : Meaning S C State) (limits : C → Type 0) (world : World S Env C) (events : List (Event C)) (comes : Comes k limits world events (Resend world.members)) where
+module _ {S R Plan C State : Type 0} (k : Meaning S C State) (records : R → Recorded C → Type 0) (limits : C → Type 0) (world : World S R Plan C) (events : List (Event C)) (comes : Comes k records limits world events (Resend world.members)) where
   abbrev sends_at : Machine C
   sends_at = run_of k world events
 
   pub served_again :
-      IsServed k limits world events (Resend world.members) comes (service_of world.service) sends_at.recorded (telling (service_number world.service) (service_of world.service) ++ freezing_again (service_of world.service)) Done
+      IsServed k records limits world events (Resend world.members) comes (service_of world.service) sends_at.recorded (telling (service_number world.service) (service_of world.service) ++ freezing_again (service_of world.service)) Done
   served_again =
-      of_code k limits world events (Resend world.members) comes (λ n s. IsServed k limits world events (Resend world.members) comes s sends_at.recorded (telling n s ++ freezing_again s) Done)
-      (served_sending k limits world events (Resend world.members) comes sends_at.service sends_at.recorded (telling sends_at.members sends_at.service ++ freezing_again sends_at.service) Done
+      of_code k records limits world events (Resend world.members) comes (λ n s. IsServed k records limits world events (Resend world.members) comes s sends_at.recorded (telling n s ++ freezing_again s) Done)
+      (served_sending k records limits world events (Resend world.members) comes sends_at.service sends_at.recorded (telling sends_at.members sends_at.service ++ freezing_again sends_at.service) Done
       (subst (λ m. happens k.object sends_at (Resend m) ≡ done (sending sends_at sends_at.members (telling sends_at.members sends_at.service ++ freezing_again sends_at.service))) (sym comes.stands.agrees.members)
       (resend_service k.object sends_at)))
 

@@ -22,7 +22,7 @@ use Rattle.partition_protocol.proofs.WellFormed.{every_run_is_well_formed}
 use Rattle.member_wire.specs.Said.{Contents, said_with}
 use Rattle.member_wire.specs.Spelling.{is_count, IsSpelledRow, IsSpelled, LengthsFit}
 use Rattle.wire_parts.specs.Parts.{IsByte, IsNumber}
-use Rattle.partition_world.specs.Meanings.{Meaning}
+use Rattle.grid_base.specs.Shelves.{Meaning}
 use Rattle.partition_world.specs.InFlight.{contents_in}
 use Rattle.partition_world.proofs.SmallStates.{every_of_all}
 

@@ -1,35 +1,29 @@
 -- A world in which nothing has happened.
-use Rattle.std.proofs.Common.{◌≡◌, ℕ, ◌+◌, ◌<◌, ◌≤◌, ◌==◌, Bool, true, false, cond, List, [], ◌∷◌, ◌++◌, map, length, Option, Some, None, slice_get, vec_len, Contains, All, refl, ap, sym, ◌∙◌, subst, arith, add-one}
+use Rattle.std.proofs.Common.{◌≡◌, ℕ, ◌+◌, ◌≤◌, ◌==◌, Bool, true, false, cond, List, [], ◌∷◌, ◌++◌, map, Option, Some, None, slice_get, vec_len, Contains, All, refl, ap, sym, ◌∙◌, subst, arith, add-one}
 use Rattle.std.proofs.lemmas.List.Elements.{All-append}
 use Rattle.std.proofs.lemmas.Option.{slice_get_within}
 use Rattle.grid_base.specs.Objects.{Object}
 use Rattle.partition_table.specs.declared.Row.{Row}
 use Rattle.partition_table.specs.Rows.{initial_row, is_in}
-use Rattle.partition_protocol.specs.Messages.{Packet}
 use Rattle.partition_protocol.specs.Node.{Node as ProtocolNode, Pair, opening_node, opening_pair, no_pair}
 use Rattle.partition_protocol.specs.Service.{Service as ProtocolService, NoMove, numbers_below}
 use Rattle.partition_protocol.specs.History.{Entry, state_after}
 use Rattle.partition_protocol.specs.Recorded.{Recorded}
 use Rattle.partition_protocol.specs.World.{World as Machine, start, pair_state}
-use Rattle.partition_protocol.specs.CatchUp.{recent_limit}
 use Rattle.partition_protocol.proofs.Lists.{on_if}
 use Rattle.partition_protocol.proofs.Answers.{map_append}
 use Rattle.partition_protocol.proofs.Theorem.{length-numbers_below, get-numbers_below, get_map, map_get}
-use Rattle.member_wire.specs.Said.{said_with}
-use Rattle.member_wire.specs.Spelling.{LengthsFit}
 use Rattle.link_net.specs.Links.{HasLists}
-use Rattle.primary_hold.specs.declared.released.Released.{Released}
 use Rattle.primary_hold.specs.Rings.{kept}
 use Rattle.replica_node.specs.declared.node.Node.{Node}
 use Rattle.replica_node.specs.Nodes.{node_of, contents_of, waiting as node_waiting, held_answers, ring_of, ends_of, Ends}
 use Rattle.table_service.specs.Services.{Setup, service_of}
 use Rattle.partition_world.specs.declared.world.World.{World}
-use Rattle.partition_world.specs.Meanings.{Meaning}
+use Rattle.grid_base.specs.Shelves.{Meaning}
 use Rattle.partition_world.specs.Answers.{held_answer}
-use Rattle.partition_world.specs.InFlight.{IsRing, contents_in}
+use Rattle.partition_world.specs.InFlight.{IsRing}
 use Rattle.partition_world.specs.Sending.{HasNewest}
-use Rattle.partition_world.specs.Recorders.{Records}
-use Rattle.partition_world.specs.Worlds.{setup_of, steps_of, waiting, IsReleased, IsMember, Agrees, StandsFor}
+use Rattle.partition_world.specs.Worlds.{setup_of, steps_of, waiting, IsMember, Agrees, StandsFor}
 use Rattle.partition_world.proofs.Agreement.{waits_in, waiting_in}
 use Rattle.partition_world.proofs.Places.{all_at, all_one}
 use Rattle.partition_world.proofs.Rings.{ring_opened}
@@ -71,7 +65,7 @@ newest_opened row m kept i l r = absurd (let z = none in omega (arith, l, r, z))
     none = on_if (λ (p : Pair). p.count ≡ 0) (is_in row m) (record { version = 1; count = 0 }) no_pair refl refl
 
 -- nothing waits anywhere
-pub none_waits : {S Env C : Type 0} (world : World S Env C) → All (λ (node : Node S). node_waiting node ≡ []) world.nodes.items → (m : ℕ) → waiting world m ≡ []
+pub none_waits : {S R Plan C : Type 0} (world : World S R Plan C) → All (λ (node : Node S). node_waiting node ≡ []) world.nodes.items → (m : ℕ) → waiting world m ≡ []
 none_waits {S = S} world none m = waiting_in world m ∙ go (slice_get world.nodes.items m) refl
   where
     go : (node : Option (Node S)) → slice_get world.nodes.items m ≡ node → waits_in node ≡ []
@@ -79,7 +73,7 @@ none_waits {S = S} world none m = waiting_in world m ∙ go (slice_get world.nod
     go (Some node) at = all_at (λ (node : Node S). node_waiting node ≡ []) world.nodes.items m node none at
 
 -- What a world is made of: the first row of its service, as it is read for the nodes and for the recorder, and empty shelves
-pub record IsNew {S Env C State : Type 0} (k : Meaning S C State) (world : World S Env C) (partition members backups : ℕ) : Type 0 where
+pub record IsNew {S R Plan C State : Type 0} (k : Meaning S C State) (records : R → Recorded C → Type 0) (world : World S R Plan C) (partition members backups : ℕ) : Type 0 where
   pub first : Row
   pub standing : Row
   pub nothing : State
@@ -98,10 +92,10 @@ pub record IsNew {S Env C State : Type 0} (k : Meaning S C State) (world : World
   pub links : HasLists world.links (λ _ _. [])
   pub first_row : first ≡ (service_of world.service).row
   pub standing_row : standing ≡ (service_of world.service).row
-  pub recorded : Records world.recorder (record { standing = standing; log = []; bases = record { version = 1; reset = 0; pair = no_pair } ∷ []; openings = [] })
+  pub recorded : records world.recorder (record { standing = standing; log = []; bases = record { version = 1; reset = 0; pair = no_pair } ∷ []; openings = [] })
   pub steps : steps_of world ≡ 0
 
-module _ {S Env C State : Type 0} (k : Meaning S C State) (limits : C → Type 0) (world : World S Env C) (partition members backups : ℕ) (is : IsNew k world partition members backups) where
+module _ {S R Plan C State : Type 0} (k : Meaning S C State) (records : R → Recorded C → Type 0) (limits : C → Type 0) (world : World S R Plan C) (partition members backups : ℕ) (is : IsNew k records world partition members backups) where
   abbrev pub w : Machine C
   w = start partition members backups
 
@@ -134,7 +128,7 @@ module _ {S Env C State : Type 0} (k : Meaning S C State) (limits : C → Type 0
   nobody : {X : Type 0} (x : X) → Contains [] x → ⊥
   nobody x (j, inside, e) = absurd (omega (arith, inside))
 
-  starts_agrees : Agrees k world w
+  starts_agrees : Agrees k records world w
   starts_agrees = record {
     setup = is.setup;
     members = is.number;
@@ -146,15 +140,15 @@ module _ {S Env C State : Type 0} (k : Meaning S C State) (limits : C → Type 0
     ends = is.links_ends;
     links = is.links;
     fit = λ p c. absurd (nobody p c);
-    recorded = subst (λ (r : Row). Records world.recorder (record { standing = r; log = []; bases = record { version = 1; reset = 0; pair = no_pair } ∷ []; openings = [] })) (is.standing_row ∙ service_row) is.recorded;
+    recorded = subst (λ (r : Row). records world.recorder (record { standing = r; log = []; bases = record { version = 1; reset = 0; pair = no_pair } ∷ []; openings = [] })) (is.standing_row ∙ service_row) is.recorded;
     waiting = λ m answer c. absurd (nobody answer (subst (λ rs. Contains rs answer) (none_waits world is.waiting m) c));
   }
 
-  pub starts : 1 ≤ members → members ≤ 8 → StandsFor k limits world []
+  pub starts : 1 ≤ members → members ≤ 8 → StandsFor k records limits world []
   starts some most = record {
     some = subst (λ (s : Setup). 1 ≤ s.members) (sym is.setup) some;
     most = subst (λ (s : Setup). s.members ≤ 8) (sym is.setup) most;
-    agrees = subst (λ (s : Setup). Agrees k world (start s.partition s.members s.backups)) (sym is.setup) starts_agrees;
+    agrees = subst (λ (s : Setup). Agrees k records world (start s.partition s.members s.backups)) (sym is.setup) starts_agrees;
     steps = is.steps;
     within = λ j d l. absurd (omega (arith, l));
     once = tt;

@@ -28,7 +28,7 @@ use Rattle.partition_protocol.proofs.Takings.{brought, taking_known}
 use Rattle.partition_protocol.proofs.Safe.{base_positive, history_none}
 use Rattle.member_wire.specs.Said.{said_with}
 use Rattle.member_wire.specs.declared.message.MemberMessage.{MemberMessage}
-use Rattle.partition_world.specs.Meanings.{Meaning}
+use Rattle.grid_base.specs.Shelves.{Meaning}
 use Rattle.partition_world.specs.InFlight.{state_at, effect_bytes, contents_in}
 use Rattle.partition_world.specs.Shelves.{IsShelf, IsLeading}
 use Rattle.replica_node.specs.Takings.{state_in, state_after_row, Leaves, IsFit}

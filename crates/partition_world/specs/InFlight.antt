@@ -7,7 +7,7 @@ use Rattle.partition_protocol.specs.World.{World as Machine, pair_state}
 use Rattle.partition_protocol.specs.NamedStates.{effect_call}
 use Rattle.member_wire.specs.Said.{Contents, said_with}
 use Rattle.member_wire.specs.Spelling.{spelling}
-use Rattle.partition_world.specs.Meanings.{Meaning}
+use Rattle.grid_base.specs.Shelves.{Meaning}
 
 -- the state that a version has after so many effects
 abbrev pub state_at : {S C State : Type 0} → Meaning S C State → Machine C → ℕ → ℕ → State

@@ -3,11 +3,11 @@ pub mod Chains
 pub mod ContentsOf
 pub mod Events
 pub mod InFlight
-pub mod Meanings
 pub mod Openings
 pub mod Places
 pub mod RecordedEntries
 pub mod Recorders
+pub mod Registers
 pub mod Sending
 pub mod Shelves
 pub mod Worlds

@@ -7,7 +7,7 @@ use Rattle.partition_protocol.specs.World.{World as Machine}
 use Rattle.partition_protocol.specs.Links.{link}
 use Rattle.member_wire.specs.Said.{Contents, said_with}
 use Rattle.member_wire.specs.Spelling.{LengthsFit}
-use Rattle.partition_world.specs.Meanings.{Meaning}
+use Rattle.grid_base.specs.Shelves.{Meaning}
 use Rattle.partition_world.specs.InFlight.{contents_in, bytes_of}
 
 -- a snapshot is of the state at hand, whatever names it, and an effect is one of those that are kept

@@ -4,7 +4,7 @@ use Rattle.grid_base.specs.Objects.{IsSmall}
 use Rattle.partition_protocol.specs.History.{Executed}
 use Rattle.partition_protocol.specs.World.{World as Machine}
 use Rattle.partition_protocol.specs.NamedStates.{effect_call}
-use Rattle.partition_world.specs.Meanings.{Meaning}
+use Rattle.grid_base.specs.Shelves.{Meaning}
 use Rattle.partition_world.specs.InFlight.{state_at, effect_bytes}
 
 pub record IsShelf {S C State : Type 0} (k : Meaning S C State) (limits : C → Type 0) (within : ℕ → State → Type 0) (applied : List ℕ → State → Option State) : Type 0 where

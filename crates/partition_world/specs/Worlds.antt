@@ -3,10 +3,10 @@ use Rattle.std.specs.Prelude.{◌≡◌, ℕ, ◌+◌, ◌<◌, ◌≤◌, ◌^�
 use Rattle.std.specs.Option.{option_and_then}
 use Rattle.partition_table.specs.Rows.{is_primary}
 use Rattle.partition_protocol.specs.History.{Executed, Called}
+use Rattle.partition_protocol.specs.Recorded.{Recorded}
 use Rattle.partition_protocol.specs.World.{World as Machine, map_or, start, pair_state}
-use Rattle.partition_protocol.specs.Events.{Event, Outcome, Happened as HappenedThere, happens, run}
+use Rattle.partition_protocol.specs.Events.{Event, Happened as HappenedThere, happens, run}
 use Rattle.partition_protocol.specs.Arrivals.{NamedOnce, arrivals, name}
-use Rattle.member_wire.specs.Said.{Contents}
 use Rattle.link_net.specs.Links.{HasLists}
 use Rattle.primary_hold.specs.declared.released.Released.{Released}
 use Rattle.primary_hold.specs.Rings.{kept}
@@ -19,27 +19,27 @@ use Rattle.partition_world.specs.declared.world.World.{World}
 use Rattle.partition_world.specs.declared.event.Happened.{Happened}
 use Rattle.partition_world.specs.declared.event.Happened.TheVariants as happened
 use Rattle.partition_world.specs.declared.event.CallOutcome.TheVariants as called
-use Rattle.partition_world.specs.Meanings.{Meaning}
+use Rattle.grid_base.specs.Shelves.{Meaning}
 use Rattle.partition_world.specs.Events.{EventWithin, happened_of}
 use Rattle.partition_world.specs.Answers.{held_answer, released_at}
 use Rattle.partition_world.specs.InFlight.{IsRing}
 use Rattle.partition_world.specs.Sending.{HasNewest, HasFit, flying}
-use Rattle.partition_world.specs.Recorders.{Records}
 
 -- what a world is made for, and keeps: the partition, its members, and how many backups a row has at most
-abbrev pub setup_of : {S Env C : Type 0} → World S Env C → Setup
+
+abbrev pub setup_of : {S R Plan C : Type 0} → World S R Plan C → Setup
 setup_of world = service_setup world.service
 
 -- how many events were run
-abbrev pub steps_of : {S Env C : Type 0} → World S Env C → ℕ
+abbrev pub steps_of : {S R Plan C : Type 0} → World S R Plan C → ℕ
 steps_of world = world.steps
 
 -- how many nodes it has: one of each member
-abbrev pub node_count : {S Env C : Type 0} → World S Env C → ℕ
+abbrev pub node_count : {S R Plan C : Type 0} → World S R Plan C → ℕ
 node_count world = vec_len world.nodes
 
 -- the answers that were released at a member and weren't given out yet, the oldest first
-abbrev pub waiting : {S Env C : Type 0} → World S Env C → ℕ → List Released
+abbrev pub waiting : {S R Plan C : Type 0} → World S R Plan C → ℕ → List Released
 waiting {S = S} world member = map_or (slice_get world.nodes.items member) [] (λ (node : Node S). node_waiting node)
 
 -- The answer was released, and is that of a call in the log
@@ -64,7 +64,7 @@ pub record IsMember {S C State : Type 0} (k : Meaning S C State) (w : Machine C)
   pub newest : is_primary (node_of node).known m ≡ true → HasNewest (node_of node) (kept (ring_of node) (node_of node).pair.count)
 
 -- The code has what the protocol has, with the contents that the protocol only names
-pub record Agrees {S Env C State : Type 0} (k : Meaning S C State) (world : World S Env C) (w : Machine C) : Type 0 where
+pub record Agrees {S R Plan C State : Type 0} (k : Meaning S C State) (records : R → Recorded C → Type 0) (world : World S R Plan C) (w : Machine C) : Type 0 where
   pub setup : setup_of world ≡ record { partition = w.partition; members = w.members; backups = w.backups }
   pub members : world.members ≡ w.members
   pub size : vec_len world.nodes ≡ w.members
@@ -76,18 +76,18 @@ pub record Agrees {S Env C State : Type 0} (k : Meaning S C State) (world : Worl
   -- the messages on each link are the bytes of those in flight there, whose lengths fit
   pub links : HasLists world.links (flying k w)
   pub fit : HasFit k w
-  pub recorded : Records world.recorder w.recorded
+  pub recorded : records world.recorder w.recorded
   pub waiting : (m : ℕ) (answer : Released) → Contains (waiting world m) answer → IsReleased w answer
 
 -- the protocol's world after these events
-abbrev pub run_of : {S Env C State : Type 0} → Meaning S C State → World S Env C → List (Event C) → Machine C
+abbrev pub run_of : {S R Plan C State : Type 0} → Meaning S C State → World S R Plan C → List (Event C) → Machine C
 run_of k world events = let s = setup_of world in run k.object (start s.partition s.members s.backups) events
 
 -- The world is that of these events, where the shelves have this meaning, no call broke its limits, and no two have one name
-pub record StandsFor {S Env C State : Type 0} (k : Meaning S C State) (limits : C → Type 0) (world : World S Env C) (events : List (Event C)) : Type 0 where
+pub record StandsFor {S R Plan C State : Type 0} (k : Meaning S C State) (records : R → Recorded C → Type 0) (limits : C → Type 0) (world : World S R Plan C) (events : List (Event C)) : Type 0 where
   pub some : 1 ≤ (setup_of world).members
   pub most : (setup_of world).members ≤ 8
-  pub agrees : Agrees k world (run_of k world events)
+  pub agrees : Agrees k records world (run_of k world events)
   pub steps : steps_of world ≡ length events
   pub within : All (EventWithin limits) events
   pub once : NamedOnce (map name (arrivals events))
@@ -99,41 +99,41 @@ pub record MayCome {C : Type 0} (limits : C → Type 0) (events : List (Event C)
   pub once : NamedOnce (map name (arrivals (events ++ event ∷ [])))
 
 -- the world is that of these events, and this one may come next
-pub record Comes {S Env C State : Type 0} (k : Meaning S C State) (limits : C → Type 0) (world : World S Env C) (events : List (Event C)) (event : Event C) : Type 0 where
-  pub stands : StandsFor k limits world events
+pub record Comes {S R Plan C State : Type 0} (k : Meaning S C State) (records : R → Recorded C → Type 0) (limits : C → Type 0) (world : World S R Plan C) (events : List (Event C)) (event : Event C) : Type 0 where
+  pub stands : StandsFor k records limits world events
   pub may : MayCome limits events event
 
 -- what an event does after these
-abbrev pub next_of : {S Env C State : Type 0} → Meaning S C State → World S Env C → List (Event C) → Event C → HappenedThere C
+abbrev pub next_of : {S R Plan C State : Type 0} → Meaning S C State → World S R Plan C → List (Event C) → Event C → HappenedThere C
 next_of k world events event = happens k.object (run_of k world events) event
 
 -- The event has run: its outcome is the protocol's, and what it released comes last among what waits
-pub record HasRun {S Env C State : Type 0} (k : Meaning S C State) (old new : World S Env C) (events : List (Event C)) (event : Event C) (happened : Happened) : Type 0 where
+pub record HasRun {S R Plan C State : Type 0} (k : Meaning S C State) (records : R → Recorded C → Type 0) (old new : World S R Plan C) (events : List (Event C)) (event : Event C) (happened : Happened) : Type 0 where
   pub outcome : happened_of happened ≡ (next_of k old events event).outcome
-  pub agrees : Agrees k new (next_of k old events event).world
+  pub agrees : Agrees k records new (next_of k old events event).world
   pub waits : (m : ℕ) → waiting new m ≡ waiting old m ++ released_at k.object k.change_of (run_of k old events) event m
 
 -- It has not run, and nothing that can be told has changed
-pub record IsKept {S Env C State : Type 0} (k : Meaning S C State) (old new : World S Env C) (events : List (Event C)) : Type 0 where
-  pub agrees : Agrees k new (run_of k old events)
+pub record IsKept {S R Plan C State : Type 0} (k : Meaning S C State) (records : R → Recorded C → Type 0) (old new : World S R Plan C) (events : List (Event C)) : Type 0 where
+  pub agrees : Agrees k records new (run_of k old events)
   pub waits : (m : ℕ) → waiting new m ≡ waiting old m
 
 -- what the world was made for stays, and the number of its steps is counted elsewhere
-pub record KeepsSetup {S Env C : Type 0} (old new : World S Env C) : Type 0 where
+pub record KeepsSetup {S R Plan C : Type 0} (old new : World S R Plan C) : Type 0 where
   pub setup : setup_of new ≡ setup_of old
   pub steps : steps_of new ≡ steps_of old
 
 -- the pair of a member's contents
-abbrev pub pair_of_member : {S Env C : Type 0} → World S Env C → ℕ → Option (ℕ × ℕ)
+abbrev pub pair_of_member : {S R Plan C : Type 0} → World S R Plan C → ℕ → Option (ℕ × ℕ)
 pair_of_member {S = S} world m = option_map (λ (node : Node S). ((node_of node).pair.version, (node_of node).pair.count)) (slice_get world.nodes.items m)
 
--- and that of the first member of the standing row, if there is one
-abbrev pub leading_pair : {S Env C : Type 0} → World S Env C → Option (ℕ × ℕ)
-leading_pair world = option_and_then (pair_of_member world) world.recorder.leader
+-- and that of the member that leads, if there is one
+abbrev pub leading_pair : {S R Plan C : Type 0} → World S R Plan C → Option ℕ → Option (ℕ × ℕ)
+leading_pair world leader = option_and_then (pair_of_member world) leader
 
 -- What a call came to that a member didn't execute, where it isn't for want of memory
-abbrev pub HasRefused : {S Env C State : Type 0} → Meaning S C State → World S Env C → World S Env C → List (Event C) → Event C → NodeRefused → Type 0
-HasRefused k old new events event (refused.PartitionLost version) = HasRun k old new events event (happened.Called (called.PartitionLost version))
-HasRefused k old new events event (refused.WrongTarget version) = HasRun k old new events event (happened.Called (called.WrongTarget version))
-HasRefused k old new events event (refused.Migrating version) = HasRun k old new events event (happened.Called (called.Migrating version))
-HasRefused k old new events event refused.Memory = IsKept k old new events
+abbrev pub HasRefused : {S R Plan C State : Type 0} → Meaning S C State → (R → Recorded C → Type 0) → World S R Plan C → World S R Plan C → List (Event C) → Event C → NodeRefused → Type 0
+HasRefused k records old new events event (refused.PartitionLost version) = HasRun k records old new events event (happened.Called (called.PartitionLost version))
+HasRefused k records old new events event (refused.WrongTarget version) = HasRun k records old new events event (happened.Called (called.WrongTarget version))
+HasRefused k records old new events event (refused.Migrating version) = HasRun k records old new events event (happened.Called (called.Migrating version))
+HasRefused k records old new events event refused.Memory = IsKept k records old new events

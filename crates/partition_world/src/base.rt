@@ -24,11 +24,11 @@ impl Model for Pair {
 
 /// The pair with which the primary of a version began it, and the reset of that version's row.
 #[derive(Clone, Copy)]
-pub(crate) struct Base {
-    pub(crate) version: u32,
-    pub(crate) reset: u32,
-    pub(crate) base_version: u32,
-    pub(crate) base_count: u32,
+pub struct Base {
+    pub version: u32,
+    pub reset: u32,
+    pub base_version: u32,
+    pub base_count: u32,
 }
 
 impl Model for Base {

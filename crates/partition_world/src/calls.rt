@@ -1,36 +1,38 @@
 ghost use Rattle.std.specs.Prelude.{◌≡◌, List, true, IfOk, IfErr, OnErr};
 ghost use Rattle.partition_protocol.specs.World.{is_live};
 ghost use Rattle.partition_protocol.specs.Events.{Event as ProtocolEvent, Call as CallEvent};
-ghost use Rattle.partition_world.specs.Meanings.{meaning};
+ghost use Rattle.grid_base.specs.Shelves.{meaning};
 ghost use Rattle.partition_world.specs.Worlds.{Comes, HasRun, IsKept, KeepsSetup, HasRefused, run_of};
 
 use crate::entry::Entry;
 use crate::event::{CallOutcome, Happened};
+use crate::records::Records;
 use crate::world::World;
-use grid_base::{CallId, MemberId, Memory, Moment, Shelf};
+use grid_base::{CallId, Executes, MemberId, Memory, Moment, Shelf};
 use member_wire::Outbox;
 use primary_hold::Called;
 use replica_node::NodeRefused;
 use std::alloc::{AllocError, Global};
 
-impl<S: Shelf> World<S> {
+impl<S: Shelf, R: Records<S::Call>> World<S, R> {
     /// A call reaches a member.
-    pub(crate) fn call(
+    pub(crate) fn call<N>(
         &mut self,
         alloc: Global,
-        env: &S::Env,
+        env: &N,
         member: MemberId,
         id: CallId,
         call: S::Call,
         now: Moment,
     ) -> Result<Happened, Memory>
     where
+        S: Executes<N>,
         S::Call: Drop,
-        requires { (events : List (ProtocolEvent S.Call)) × Comes (meaning S.object S.state S.effect_of S.change_of S.snapshot_of env.now) S.within_limits self.old events (CallEvent member id.conn id.number call now) }
-        ensures ok { (events : List (ProtocolEvent S.Call)) → let k = meaning S.object S.state S.effect_of S.change_of S.snapshot_of env.now in let e = CallEvent member id.conn id.number call now in
-            Comes k S.within_limits self.old events e → IfOk result (HasRun k self.old self.new events e) }
-        ensures err { (events : List (ProtocolEvent S.Call)) → let k = meaning S.object S.state S.effect_of S.change_of S.snapshot_of env.now in
-            Comes k S.within_limits self.old events (CallEvent member id.conn id.number call now) → OnErr result (IsKept k self.old self.new events) }
+        requires { (events : List (ProtocolEvent S.Call)) × Comes (meaning S.model (S.plan_of env.now)) R.records S.model.within_limits self.old events (CallEvent member id.conn id.number call now) }
+        ensures ok { (events : List (ProtocolEvent S.Call)) → let k = meaning S.model (S.plan_of env.now) in let e = CallEvent member id.conn id.number call now in
+            Comes k R.records S.model.within_limits self.old events e → IfOk result (HasRun k R.records self.old self.new events e) }
+        ensures err { (events : List (ProtocolEvent S.Call)) → let k = meaning S.model (S.plan_of env.now) in
+            Comes k R.records S.model.within_limits self.old events (CallEvent member id.conn id.number call now) → OnErr result (IsKept k R.records self.old self.new events) }
         ensures keeps { KeepsSetup self.old self.new }
     {
         if !self.is_live(member) {
@@ -53,24 +55,25 @@ impl<S: Shelf> World<S> {
 
     /// A live member executes a call, which is recorded, and whose effect is sent. All memory is taken before anything
     /// changes.
-    fn execute(
+    fn execute<N>(
         &mut self,
         alloc: Global,
-        env: &S::Env,
+        env: &N,
         member: MemberId,
         id: CallId,
         call: S::Call,
         now: Moment,
     ) -> Result<CallOutcome, NodeRefused>
     where
+        S: Executes<N>,
         S::Call: Drop,
-        requires comes { (events : List (ProtocolEvent S.Call)) × Comes (meaning S.object S.state S.effect_of S.change_of S.snapshot_of env.now) S.within_limits self.old events (CallEvent member id.conn id.number call now) }
-        requires lives { (events : List (ProtocolEvent S.Call)) → let k = meaning S.object S.state S.effect_of S.change_of S.snapshot_of env.now in
-            Comes k S.within_limits self.old events (CallEvent member id.conn id.number call now) → is_live (run_of k self.old events) member ≡ true }
-        ensures ok { (events : List (ProtocolEvent S.Call)) → let k = meaning S.object S.state S.effect_of S.change_of S.snapshot_of env.now in let e = CallEvent member id.conn id.number call now in
-            Comes k S.within_limits self.old events e → IfOk result (λ outcome. HasRun k self.old self.new events e (Happened.Called outcome)) }
-        ensures err { (events : List (ProtocolEvent S.Call)) → let k = meaning S.object S.state S.effect_of S.change_of S.snapshot_of env.now in let e = CallEvent member id.conn id.number call now in
-            Comes k S.within_limits self.old events e → IfErr result (HasRefused k self.old self.new events e) }
+        requires comes { (events : List (ProtocolEvent S.Call)) × Comes (meaning S.model (S.plan_of env.now)) R.records S.model.within_limits self.old events (CallEvent member id.conn id.number call now) }
+        requires lives { (events : List (ProtocolEvent S.Call)) → let k = meaning S.model (S.plan_of env.now) in
+            Comes k R.records S.model.within_limits self.old events (CallEvent member id.conn id.number call now) → is_live (run_of k self.old events) member ≡ true }
+        ensures ok { (events : List (ProtocolEvent S.Call)) → let k = meaning S.model (S.plan_of env.now) in let e = CallEvent member id.conn id.number call now in
+            Comes k R.records S.model.within_limits self.old events e → IfOk result (λ outcome. HasRun k R.records self.old self.new events e (Happened.Called outcome)) }
+        ensures err { (events : List (ProtocolEvent S.Call)) → let k = meaning S.model (S.plan_of env.now) in let e = CallEvent member id.conn id.number call now in
+            Comes k R.records S.model.within_limits self.old events e → IfErr result (HasRefused k R.records self.old self.new events e) }
         ensures keeps { KeepsSetup self.old self.new }
     {
         self.recorder.reserve()?;

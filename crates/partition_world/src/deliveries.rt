@@ -5,7 +5,7 @@ ghost use Rattle.partition_protocol.specs.World.{is_live};
 ghost use Rattle.partition_protocol.specs.Events.{Event as ProtocolEvent, Deliver};
 ghost use Rattle.link_net.specs.Links.{list_of};
 ghost use Rattle.member_wire.specs.Said.{message_of, said_with};
-ghost use Rattle.partition_world.specs.Meanings.{meaning};
+ghost use Rattle.grid_base.specs.Shelves.{meaning};
 ghost use Rattle.partition_world.specs.InFlight.{contents_in};
 ghost use Rattle.partition_world.specs.Sending.{most_of};
 ghost use Rattle.partition_world.specs.Worlds.{Comes, HasRun, IsKept, KeepsSetup, run_of};
@@ -13,6 +13,7 @@ ghost use Rattle.partition_world.specs.Worlds.{Comes, HasRun, IsKept, KeepsSetup
 use crate::base::Base;
 use crate::event::Happened;
 use crate::in_flight::{MOST_SENT, MOST_TOLD};
+use crate::records::Records;
 use crate::world::World;
 use grid_base::{Memory, Shelf};
 use member_wire::{MemberMessage, Outbox, Took, read_member};
@@ -32,7 +33,7 @@ fn most_sent(message: &MemberMessage) -> usize
     }
 }
 
-impl<S: Shelf> World<S> {
+impl<S: Shelf, R: Records<S::Call>> World<S, R> {
     /// The message at that place of a link is handed over: to the table service, to a live member, or to a crashed one,
     /// where it is dropped.
     pub(crate) fn deliver(
@@ -42,11 +43,11 @@ impl<S: Shelf> World<S> {
         to: u8,
         place: usize,
     ) -> Result<Happened, Memory>
-        requires { (env : S.Env) × (events : List (ProtocolEvent S.Call)) × Comes (meaning S.object S.state S.effect_of S.change_of S.snapshot_of env) S.within_limits self.old events (Deliver from to place) }
-        ensures ok { (env : S.Env) (events : List (ProtocolEvent S.Call)) → let k = meaning S.object S.state S.effect_of S.change_of S.snapshot_of env in
-            Comes k S.within_limits self.old events (Deliver from to place) → IfOk result (HasRun k self.old self.new events (Deliver from to place)) }
-        ensures err { (env : S.Env) (events : List (ProtocolEvent S.Call)) → let k = meaning S.object S.state S.effect_of S.change_of S.snapshot_of env in
-            Comes k S.within_limits self.old events (Deliver from to place) → OnErr result (IsKept k self.old self.new events) }
+        requires { (plan : S.Plan) × (events : List (ProtocolEvent S.Call)) × Comes (meaning S.model plan) R.records S.model.within_limits self.old events (Deliver from to place) }
+        ensures ok { (plan : S.Plan) (events : List (ProtocolEvent S.Call)) → let k = meaning S.model plan in
+            Comes k R.records S.model.within_limits self.old events (Deliver from to place) → IfOk result (HasRun k R.records self.old self.new events (Deliver from to place)) }
+        ensures err { (plan : S.Plan) (events : List (ProtocolEvent S.Call)) → let k = meaning S.model plan in
+            Comes k R.records S.model.within_limits self.old events (Deliver from to place) → OnErr result (IsKept k R.records self.old self.new events) }
         ensures keeps { KeepsSetup self.old self.new }
     {
         if place >= self.links.list(from, to).len() {
@@ -68,12 +69,12 @@ impl<S: Shelf> World<S> {
         from: u8,
         place: usize,
     ) -> Result<Happened, Memory>
-        requires comes { (env : S.Env) × (events : List (ProtocolEvent S.Call)) × Comes (meaning S.object S.state S.effect_of S.change_of S.snapshot_of env) S.within_limits self.old events (Deliver from self.old.members place) }
+        requires comes { (plan : S.Plan) × (events : List (ProtocolEvent S.Call)) × Comes (meaning S.model plan) R.records S.model.within_limits self.old events (Deliver from self.old.members place) }
         requires there { place < length (list_of self.old.links from self.old.members) }
-        ensures ok { (env : S.Env) (events : List (ProtocolEvent S.Call)) → let k = meaning S.object S.state S.effect_of S.change_of S.snapshot_of env in let e = Deliver from self.old.members place in
-            Comes k S.within_limits self.old events e → IfOk result (HasRun k self.old self.new events e) }
-        ensures err { (env : S.Env) (events : List (ProtocolEvent S.Call)) → let k = meaning S.object S.state S.effect_of S.change_of S.snapshot_of env in
-            Comes k S.within_limits self.old events (Deliver from self.old.members place) → OnErr result (IsKept k self.old self.new events) }
+        ensures ok { (plan : S.Plan) (events : List (ProtocolEvent S.Call)) → let k = meaning S.model plan in let e = Deliver from self.old.members place in
+            Comes k R.records S.model.within_limits self.old events e → IfOk result (HasRun k R.records self.old self.new events e) }
+        ensures err { (plan : S.Plan) (events : List (ProtocolEvent S.Call)) → let k = meaning S.model plan in
+            Comes k R.records S.model.within_limits self.old events (Deliver from self.old.members place) → OnErr result (IsKept k R.records self.old self.new events) }
         ensures keeps { KeepsSetup self.old self.new }
     {
         let message = self.message(alloc, from, self.members, place)?;
@@ -93,14 +94,14 @@ impl<S: Shelf> World<S> {
         to: u8,
         place: usize,
     ) -> Result<Happened, Memory>
-        requires comes { (env : S.Env) × (events : List (ProtocolEvent S.Call)) × Comes (meaning S.object S.state S.effect_of S.change_of S.snapshot_of env) S.within_limits self.old events (Deliver from to place) }
-        requires lives { (env : S.Env) (events : List (ProtocolEvent S.Call)) → let k = meaning S.object S.state S.effect_of S.change_of S.snapshot_of env in
-            Comes k S.within_limits self.old events (Deliver from to place) → is_live (run_of k self.old events) to ≡ true }
+        requires comes { (plan : S.Plan) × (events : List (ProtocolEvent S.Call)) × Comes (meaning S.model plan) R.records S.model.within_limits self.old events (Deliver from to place) }
+        requires lives { (plan : S.Plan) (events : List (ProtocolEvent S.Call)) → let k = meaning S.model plan in
+            Comes k R.records S.model.within_limits self.old events (Deliver from to place) → is_live (run_of k self.old events) to ≡ true }
         requires there { place < length (list_of self.old.links from to) }
-        ensures ok { (env : S.Env) (events : List (ProtocolEvent S.Call)) → let k = meaning S.object S.state S.effect_of S.change_of S.snapshot_of env in
-            Comes k S.within_limits self.old events (Deliver from to place) → IfOk result (HasRun k self.old self.new events (Deliver from to place)) }
-        ensures err { (env : S.Env) (events : List (ProtocolEvent S.Call)) → let k = meaning S.object S.state S.effect_of S.change_of S.snapshot_of env in
-            Comes k S.within_limits self.old events (Deliver from to place) → OnErr result (IsKept k self.old self.new events) }
+        ensures ok { (plan : S.Plan) (events : List (ProtocolEvent S.Call)) → let k = meaning S.model plan in
+            Comes k R.records S.model.within_limits self.old events (Deliver from to place) → IfOk result (HasRun k R.records self.old self.new events (Deliver from to place)) }
+        ensures err { (plan : S.Plan) (events : List (ProtocolEvent S.Call)) → let k = meaning S.model plan in
+            Comes k R.records S.model.within_limits self.old events (Deliver from to place) → OnErr result (IsKept k R.records self.old self.new events) }
         ensures keeps { KeepsSetup self.old self.new }
     {
         let message = self.message(alloc, from, to, place)?;
@@ -128,8 +129,8 @@ impl<S: Shelf> World<S> {
         place: usize,
     ) -> Result<MemberMessage, Memory>
         requires { place < length (list_of self.now.links from to) }
-        ensures { (env : S.Env) (events : List (ProtocolEvent S.Call)) → let k = meaning S.object S.state S.effect_of S.change_of S.snapshot_of env in
-            Comes k S.within_limits self.now events (Deliver from to place) → let w = run_of k self.now events in
+        ensures { (plan : S.Plan) (events : List (ProtocolEvent S.Call)) → let k = meaning S.model plan in
+            Comes k R.records S.model.within_limits self.now events (Deliver from to place) → let w = run_of k self.now events in
             (msg : Message) → slice_get (link from to w.packets) place ≡ Some (record { from = from; to = to; message = msg }) → IfOk result (λ message. message ≡ said_with (contents_in k w) msg) }
     {
         match read_member(alloc, self.links.list(from, to)[place].as_slice()) {

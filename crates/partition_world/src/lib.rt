@@ -15,12 +15,18 @@ mod moves;
 mod opening;
 mod readers;
 mod recorder;
+mod records;
+mod standing_row;
 mod steps;
 mod world;
 
+pub use base::Base;
 pub use entry::Entry;
 pub use event::{CallOutcome, Event, Happened};
 pub use history::Trail;
+pub use recorder::Recorder;
+pub use records::Records;
+pub use standing_row::StandingRow;
 pub use steps::{MOST_EVENTS, every_world_is_safe};
 pub use world::World;
 

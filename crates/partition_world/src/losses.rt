@@ -4,25 +4,25 @@ ghost use Rattle.partition_protocol.specs.Recorded.{Recorded};
 ghost use Rattle.partition_protocol.specs.Events.{Event as ProtocolEvent, Crash, Detect};
 ghost use Rattle.link_net.specs.Links.{HasLists, list_of, spare_of, sent_to, with_sent};
 ghost use Rattle.table_service.specs.Services.{service_of};
-ghost use Rattle.partition_world.specs.Meanings.{meaning};
-ghost use Rattle.partition_world.specs.Recorders.{Records};
+ghost use Rattle.grid_base.specs.Shelves.{meaning};
 ghost use Rattle.partition_world.specs.Worlds.{Comes, HasRun, IsKept, KeepsSetup};
 
 use crate::event::Happened;
 use crate::in_flight::MOST_TOLD;
+use crate::records::Records;
 use crate::world::World;
 use grid_base::{MemberId, Memory, Shelf};
 use member_wire::Outbox;
 use std::alloc::Global;
 
-impl<S: Shelf> World<S> {
+impl<S: Shelf, R: Records<S::Call>> World<S, R> {
     /// A member takes no further step.
     pub(crate) fn crash(&mut self, member: MemberId) -> Result<Happened, Memory>
-        requires { (env : S.Env) × (events : List (ProtocolEvent S.Call)) × Comes (meaning S.object S.state S.effect_of S.change_of S.snapshot_of env) S.within_limits self.old events (Crash member) }
-        ensures ok { (env : S.Env) (events : List (ProtocolEvent S.Call)) → let k = meaning S.object S.state S.effect_of S.change_of S.snapshot_of env in
-            Comes k S.within_limits self.old events (Crash member) → IfOk result (HasRun k self.old self.new events (Crash member)) }
-        ensures err { (env : S.Env) (events : List (ProtocolEvent S.Call)) → let k = meaning S.object S.state S.effect_of S.change_of S.snapshot_of env in
-            Comes k S.within_limits self.old events (Crash member) → OnErr result (IsKept k self.old self.new events) }
+        requires { (plan : S.Plan) × (events : List (ProtocolEvent S.Call)) × Comes (meaning S.model plan) R.records S.model.within_limits self.old events (Crash member) }
+        ensures ok { (plan : S.Plan) (events : List (ProtocolEvent S.Call)) → let k = meaning S.model plan in
+            Comes k R.records S.model.within_limits self.old events (Crash member) → IfOk result (HasRun k R.records self.old self.new events (Crash member)) }
+        ensures err { (plan : S.Plan) (events : List (ProtocolEvent S.Call)) → let k = meaning S.model plan in
+            Comes k R.records S.model.within_limits self.old events (Crash member) → OnErr result (IsKept k R.records self.old self.new events) }
         ensures keeps { KeepsSetup self.old self.new }
     {
         if !self.is_live(member) {
@@ -34,11 +34,11 @@ impl<S: Shelf> World<S> {
 
     /// The table service is told that a member has crashed, if it has and the service wasn't told.
     pub(crate) fn detect(&mut self, alloc: Global, member: MemberId) -> Result<Happened, Memory>
-        requires { (env : S.Env) × (events : List (ProtocolEvent S.Call)) × Comes (meaning S.object S.state S.effect_of S.change_of S.snapshot_of env) S.within_limits self.old events (Detect member) }
-        ensures ok { (env : S.Env) (events : List (ProtocolEvent S.Call)) → let k = meaning S.object S.state S.effect_of S.change_of S.snapshot_of env in
-            Comes k S.within_limits self.old events (Detect member) → IfOk result (HasRun k self.old self.new events (Detect member)) }
-        ensures err { (env : S.Env) (events : List (ProtocolEvent S.Call)) → let k = meaning S.object S.state S.effect_of S.change_of S.snapshot_of env in
-            Comes k S.within_limits self.old events (Detect member) → OnErr result (IsKept k self.old self.new events) }
+        requires { (plan : S.Plan) × (events : List (ProtocolEvent S.Call)) × Comes (meaning S.model plan) R.records S.model.within_limits self.old events (Detect member) }
+        ensures ok { (plan : S.Plan) (events : List (ProtocolEvent S.Call)) → let k = meaning S.model plan in
+            Comes k R.records S.model.within_limits self.old events (Detect member) → IfOk result (HasRun k R.records self.old self.new events (Detect member)) }
+        ensures err { (plan : S.Plan) (events : List (ProtocolEvent S.Call)) → let k = meaning S.model plan in
+            Comes k R.records S.model.within_limits self.old events (Detect member) → OnErr result (IsKept k R.records self.old self.new events) }
         ensures keeps { KeepsSetup self.old self.new }
     {
         if !self.is_unnoticed(member) {
@@ -64,8 +64,8 @@ impl<S: Shelf> World<S> {
     /// The partition stands by the service's row, and what the service wrote is sent. Takes no memory.
     pub(crate) fn stand(&mut self, out: Outbox)
         requires { (to : ℕ) → length (sent_to to out) ≤ spare_of self.old.links self.old.members to }
-        ensures recorder { (r : Recorded S.Call) → Records self.old.recorder r → let row = (service_of self.old.service).row in
-            Records self.new.recorder (record r { standing = if row.lost then r.standing else row }) }
+        ensures recorder { (r : Recorded S.Call) → R.records self.old.recorder r → let row = (service_of self.old.service).row in
+            R.records self.new.recorder (record r { standing = if row.lost then r.standing else row }) }
         ensures links { HasLists self.new.links (with_sent self.old.members out (list_of self.old.links)) }
         ensures ends { self.new.links.ends ≡ self.old.links.ends }
         ensures rest { self.new ≡ record self.old { recorder = self.new.recorder; links = self.new.links } }

@@ -1,10 +1,13 @@
 ghost use Rattle.std.specs.Prelude.{◌≡◌, List, IfOk, OnErr};
+ghost use Rattle.partition_table.specs.Rows.{first_of};
+ghost use Rattle.partition_protocol.specs.Recorded.{Recorded};
 ghost use Rattle.partition_protocol.specs.Events.{Event as ProtocolEvent, BeginMove, BeginJoin, BeginHandover, Advance, Reopen};
-ghost use Rattle.partition_world.specs.Meanings.{meaning};
+ghost use Rattle.grid_base.specs.Shelves.{meaning};
 ghost use Rattle.partition_world.specs.Worlds.{Comes, HasRun, IsKept, KeepsSetup, leading_pair};
 
 use crate::event::Happened;
 use crate::in_flight::MOST_TOLD;
+use crate::records::Records;
 use crate::world::World;
 use grid_base::{MemberId, Memory, Shelf};
 use member_wire::Outbox;
@@ -12,7 +15,7 @@ use replica_node::Contents;
 use std::alloc::{AllocError, Global};
 use table_service::{Advanced, MoveRefused, ReopenRefused};
 
-impl<S: Shelf> World<S> {
+impl<S: Shelf, R: Records<S::Call>> World<S, R> {
     /// A member is to take another's place in the row.
     pub(crate) fn begin_move(
         &mut self,
@@ -20,11 +23,11 @@ impl<S: Shelf> World<S> {
         from: MemberId,
         to: MemberId,
     ) -> Result<Happened, Memory>
-        requires { (env : S.Env) × (events : List (ProtocolEvent S.Call)) × Comes (meaning S.object S.state S.effect_of S.change_of S.snapshot_of env) S.within_limits self.old events (BeginMove from to) }
-        ensures ok { (env : S.Env) (events : List (ProtocolEvent S.Call)) → let k = meaning S.object S.state S.effect_of S.change_of S.snapshot_of env in
-            Comes k S.within_limits self.old events (BeginMove from to) → IfOk result (HasRun k self.old self.new events (BeginMove from to)) }
-        ensures err { (env : S.Env) (events : List (ProtocolEvent S.Call)) → let k = meaning S.object S.state S.effect_of S.change_of S.snapshot_of env in
-            Comes k S.within_limits self.old events (BeginMove from to) → OnErr result (IsKept k self.old self.new events) }
+        requires { (plan : S.Plan) × (events : List (ProtocolEvent S.Call)) × Comes (meaning S.model plan) R.records S.model.within_limits self.old events (BeginMove from to) }
+        ensures ok { (plan : S.Plan) (events : List (ProtocolEvent S.Call)) → let k = meaning S.model plan in
+            Comes k R.records S.model.within_limits self.old events (BeginMove from to) → IfOk result (HasRun k R.records self.old self.new events (BeginMove from to)) }
+        ensures err { (plan : S.Plan) (events : List (ProtocolEvent S.Call)) → let k = meaning S.model plan in
+            Comes k R.records S.model.within_limits self.old events (BeginMove from to) → OnErr result (IsKept k R.records self.old self.new events) }
         ensures keeps { KeepsSetup self.old self.new }
     {
         self.links.reserve(self.members, MOST_TOLD)?;
@@ -43,11 +46,11 @@ impl<S: Shelf> World<S> {
 
     /// A member is to join the row.
     pub(crate) fn begin_join(&mut self, alloc: Global, to: MemberId) -> Result<Happened, Memory>
-        requires { (env : S.Env) × (events : List (ProtocolEvent S.Call)) × Comes (meaning S.object S.state S.effect_of S.change_of S.snapshot_of env) S.within_limits self.old events (BeginJoin to) }
-        ensures ok { (env : S.Env) (events : List (ProtocolEvent S.Call)) → let k = meaning S.object S.state S.effect_of S.change_of S.snapshot_of env in
-            Comes k S.within_limits self.old events (BeginJoin to) → IfOk result (HasRun k self.old self.new events (BeginJoin to)) }
-        ensures err { (env : S.Env) (events : List (ProtocolEvent S.Call)) → let k = meaning S.object S.state S.effect_of S.change_of S.snapshot_of env in
-            Comes k S.within_limits self.old events (BeginJoin to) → OnErr result (IsKept k self.old self.new events) }
+        requires { (plan : S.Plan) × (events : List (ProtocolEvent S.Call)) × Comes (meaning S.model plan) R.records S.model.within_limits self.old events (BeginJoin to) }
+        ensures ok { (plan : S.Plan) (events : List (ProtocolEvent S.Call)) → let k = meaning S.model plan in
+            Comes k R.records S.model.within_limits self.old events (BeginJoin to) → IfOk result (HasRun k R.records self.old self.new events (BeginJoin to)) }
+        ensures err { (plan : S.Plan) (events : List (ProtocolEvent S.Call)) → let k = meaning S.model plan in
+            Comes k R.records S.model.within_limits self.old events (BeginJoin to) → OnErr result (IsKept k R.records self.old self.new events) }
         ensures keeps { KeepsSetup self.old self.new }
     {
         self.links.reserve(self.members, MOST_TOLD)?;
@@ -66,9 +69,9 @@ impl<S: Shelf> World<S> {
 
     /// A backup is to lead in place of the primary, which leaves the row. Takes no memory.
     pub(crate) fn begin_handover(&mut self, from: MemberId, to: MemberId) -> Happened
-        requires { (env : S.Env) × (events : List (ProtocolEvent S.Call)) × Comes (meaning S.object S.state S.effect_of S.change_of S.snapshot_of env) S.within_limits self.old events (BeginHandover from to) }
-        ensures ok { (env : S.Env) (events : List (ProtocolEvent S.Call)) → let k = meaning S.object S.state S.effect_of S.change_of S.snapshot_of env in
-            Comes k S.within_limits self.old events (BeginHandover from to) → HasRun k self.old self.new events (BeginHandover from to) result }
+        requires { (plan : S.Plan) × (events : List (ProtocolEvent S.Call)) × Comes (meaning S.model plan) R.records S.model.within_limits self.old events (BeginHandover from to) }
+        ensures ok { (plan : S.Plan) (events : List (ProtocolEvent S.Call)) → let k = meaning S.model plan in
+            Comes k R.records S.model.within_limits self.old events (BeginHandover from to) → HasRun k R.records self.old self.new events (BeginHandover from to) result }
         ensures keeps { KeepsSetup self.old self.new }
     {
         match self.service.begin_handover(from, to) {
@@ -82,11 +85,11 @@ impl<S: Shelf> World<S> {
 
     /// The move under way takes its next step.
     pub(crate) fn advance(&mut self, alloc: Global) -> Result<Happened, Memory>
-        requires { (env : S.Env) × (events : List (ProtocolEvent S.Call)) × Comes (meaning S.object S.state S.effect_of S.change_of S.snapshot_of env) S.within_limits self.old events Advance }
-        ensures ok { (env : S.Env) (events : List (ProtocolEvent S.Call)) → let k = meaning S.object S.state S.effect_of S.change_of S.snapshot_of env in
-            Comes k S.within_limits self.old events Advance → IfOk result (HasRun k self.old self.new events Advance) }
-        ensures err { (env : S.Env) (events : List (ProtocolEvent S.Call)) → let k = meaning S.object S.state S.effect_of S.change_of S.snapshot_of env in
-            Comes k S.within_limits self.old events Advance → OnErr result (IsKept k self.old self.new events) }
+        requires { (plan : S.Plan) × (events : List (ProtocolEvent S.Call)) × Comes (meaning S.model plan) R.records S.model.within_limits self.old events Advance }
+        ensures ok { (plan : S.Plan) (events : List (ProtocolEvent S.Call)) → let k = meaning S.model plan in
+            Comes k R.records S.model.within_limits self.old events Advance → IfOk result (HasRun k R.records self.old self.new events Advance) }
+        ensures err { (plan : S.Plan) (events : List (ProtocolEvent S.Call)) → let k = meaning S.model plan in
+            Comes k R.records S.model.within_limits self.old events Advance → OnErr result (IsKept k R.records self.old self.new events) }
         ensures keeps { KeepsSetup self.old self.new }
     {
         self.links.reserve(self.members, MOST_TOLD)?;
@@ -106,11 +109,11 @@ impl<S: Shelf> World<S> {
 
     /// The loss of a lost partition is accepted, and it goes on empty.
     pub(crate) fn reopen(&mut self, alloc: Global) -> Result<Happened, Memory>
-        requires { (env : S.Env) × (events : List (ProtocolEvent S.Call)) × Comes (meaning S.object S.state S.effect_of S.change_of S.snapshot_of env) S.within_limits self.old events Reopen }
-        ensures ok { (env : S.Env) (events : List (ProtocolEvent S.Call)) → let k = meaning S.object S.state S.effect_of S.change_of S.snapshot_of env in
-            Comes k S.within_limits self.old events Reopen → IfOk result (HasRun k self.old self.new events Reopen) }
-        ensures err { (env : S.Env) (events : List (ProtocolEvent S.Call)) → let k = meaning S.object S.state S.effect_of S.change_of S.snapshot_of env in
-            Comes k S.within_limits self.old events Reopen → OnErr result (IsKept k self.old self.new events) }
+        requires { (plan : S.Plan) × (events : List (ProtocolEvent S.Call)) × Comes (meaning S.model plan) R.records S.model.within_limits self.old events Reopen }
+        ensures ok { (plan : S.Plan) (events : List (ProtocolEvent S.Call)) → let k = meaning S.model plan in
+            Comes k R.records S.model.within_limits self.old events Reopen → IfOk result (HasRun k R.records self.old self.new events Reopen) }
+        ensures err { (plan : S.Plan) (events : List (ProtocolEvent S.Call)) → let k = meaning S.model plan in
+            Comes k R.records S.model.within_limits self.old events Reopen → OnErr result (IsKept k R.records self.old self.new events) }
         ensures keeps { KeepsSetup self.old self.new }
     {
         if !self.service.row().lost {
@@ -135,7 +138,7 @@ impl<S: Shelf> World<S> {
 
     /// The version and the count of the contents of the standing row's first member, if there is one.
     pub(crate) fn leading_pair(&self) -> Option<(u32, u32)>
-        ensures { result ≡ leading_pair self.now }
+        ensures { (r : Recorded S.Call) → R.records self.now.recorder r → result ≡ leading_pair self.now (first_of r.standing.members) }
     {
         let leader = self.recorder.leader()?;
         let node = self.nodes.get(usize::from(leader))?;

@@ -1,8 +1,6 @@
 ghost use Rattle.std.specs.Prelude.{◌≡◌, ℕ, ◌+◌, ◌++◌, ◌∷◌, [], length, map, reverse, if◌then◌else◌, IfSome, IfOk, OnOk};
 ghost use Rattle.std.specs.List.{find};
 ghost use Rattle.std.specs.Option.{option_copied};
-ghost use Rattle.partition_table.specs.Rows.{first_of};
-ghost use Rattle.partition_protocol.specs.Node.{no_pair};
 ghost use Rattle.partition_protocol.specs.History.{Reset as HasReset, entries_in, opening_at, history};
 ghost use Rattle.partition_protocol.specs.Recorded.{Recorded};
 ghost use Rattle.partition_world.specs.Places.{at_places, AreBelow};
@@ -15,38 +13,38 @@ use crate::chain::Chain;
 use crate::entry::Entry;
 use crate::history::Trail;
 use crate::opening::Opening;
+use crate::records::Records;
+use crate::standing_row::StandingRow;
 use grid_base::{MemberId, Memory};
 use partition_table::Row;
 use std::alloc::Global;
 
-/// What is recorded of a partition, so that its histories can be told. No member looks at it.
+/// What is recorded of a partition, so that its histories can be told.
+///
+/// It grows with each executed call, whose arguments and answer it keeps, with each version that a primary begins, and
+/// with each reopening, of which it keeps the places of the whole history so far.
 #[derive(Drop)]
-pub(crate) struct Recorder<C> {
+pub struct Recorder<C> {
     /// The calls that were executed and the reopenings, in order.
     log: Vec<Entry<C>>,
     /// The oldest first.
     bases: Vec<Base>,
     /// The oldest first.
     openings: Vec<Opening>,
-    /// The first member of the newest row that isn't lost.
-    leader: Option<MemberId>,
-    /// The reset of that row.
-    reset: u32,
+    standing: StandingRow,
     ghost within: { AreWithin (length log.items) openings.items },
 }
 
-impl<C> Recorder<C> {
-    ghost use Rattle.partition_world.specs.Recorders.{Records, HasEntryRoom, HasBaseRoom, HasReopeningRoom, HasRoom, log_of, bases_of, openings_of, leader_pair, trail_by};
+impl<C: Drop> Records<C> for Recorder<C> {
+    ghost use Rattle.partition_world.specs.Recorders.{KeepsAll, HasRoom, IsReopening};
 
-    /// Nothing has happened since this row, which is the first one of the partition.
-    pub(crate) fn new(alloc: Global, row: &Row) -> Result<Self, Memory>
-        ensures { IfOk result (λ recorder. Records recorder (record {
-          standing = row.now;
-          log = [];
-          bases = record { version = 1; reset = 0; pair = no_pair } ∷ [];
-          openings = [];
-        })) }
-    {
+    ghost records = { KeepsAll };
+
+    ghost has_room = { HasRoom };
+
+    ghost reopens = { IsReopening };
+
+    fn new(alloc: Global, row: &Row) -> Result<Self, Memory> {
         let mut bases = Vec::new(alloc);
         bases.push(Base {
             version: 1,
@@ -58,95 +56,60 @@ impl<C> Recorder<C> {
             log: Vec::new(alloc),
             bases,
             openings: Vec::new(alloc),
-            leader: row.primary(),
-            reset: row.reset,
+            standing: StandingRow::of(row),
         })
     }
 
-    /// The first member of the newest row that isn't lost. Takes no memory.
-    pub(crate) fn leader(&self) -> Option<MemberId>
-        ensures first { (r : Recorded C) → Records self.now r → result ≡ first_of r.standing.members }
-        ensures leader { result ≡ self.now.leader }
-    {
-        self.leader
+    fn leader(&self) -> Option<MemberId> {
+        self.standing.first
     }
 
-    /// Room for one entry more and one base more.
-    pub(crate) fn reserve(&mut self) -> Result<(), Memory>
-        ensures records { (r : Recorded C) → Records self.old r → Records self.new r }
-        ensures room { OnOk result (HasRoom self.new) }
-    {
+    fn reserve(&mut self) -> Result<(), Memory> {
         self.log.reserve(1)?;
         self.bases.reserve(1)
     }
 
-    /// An entry comes last in the log. Takes no memory.
-    pub(crate) fn record(&mut self, entry: Entry<C>)
-        requires { HasEntryRoom self.old }
-        ensures records { (r : Recorded C) → Records self.old r → Records self.new (record r { log = r.log ++ entry_of entry ∷ [] }) }
-        ensures room { HasBaseRoom self.old → HasBaseRoom self.new }
+    fn record(&mut self, entry: Entry<C>)
+    where
+        C: Drop,
+        requires { HasRoom self.old }
+        ensures { (r : Recorded C) → KeepsAll self.old r → KeepsAll self.new (record r { log = r.log ++ entry_of entry ∷ [] }) }
     {
         self.log.push_reserved(entry);
     }
 
-    /// The primary of a version has begun it, if it has. Takes no memory.
-    pub(crate) fn begin_if(&mut self, begins: bool, base: Base)
-        requires { HasBaseRoom self.old }
-        ensures { (r : Recorded C) → Records self.old r → Records self.new (record r { bases = if begins then base ∷ r.bases else r.bases }) }
-    {
+    fn begin_if(&mut self, begins: bool, base: Base) {
         if begins {
             self.bases.push_reserved(base);
         }
     }
 
-    /// The partition stands by that row from now on, unless it is lost. Takes no memory.
-    pub(crate) fn stand(&mut self, row: &Row)
-        ensures records { (r : Recorded C) → Records self.old r → Records self.new (record r { standing = if row.now.lost then r.standing else row.now }) }
-        ensures room { HasRoom self.old → HasRoom self.new }
-    {
-        if !row.lost {
-            self.leader = row.primary();
-            self.reset = row.reset;
-        }
+    fn stand(&mut self, row: &Row) {
+        self.standing.stand_by(row);
     }
 
-    /// Where the entries of the history at a reopening stand in the log, its reset last, where `leader` is the version and
-    /// the count of the contents of the standing row's first member. Makes room for the reopening, and costs what the trail
-    /// does.
-    pub(crate) fn reopening_places(
+    /// Costs what the trail does.
+    fn reopening_places(
         &mut self,
         alloc: Global,
         leader: Option<(u32, u32)>,
-    ) -> Result<Vec<usize>, Memory>
-        ensures records { (r : Recorded C) → Records self.old r → Records self.new r }
-        ensures places { (r : Recorded C) → Records self.old r → IfOk result (λ places. (version : ℕ) →
-            at_places (r.log ++ HasReset version ∷ []) places.items ≡ trail_by r (leader_pair leader) ++ HasReset version ∷ []) }
-        ensures within { IfOk result (λ places. AreBelow (length self.new.log.items + 1) places.items) }
-        ensures room { OnOk result (HasReopeningRoom self.new) }
-    {
-        let mut places = self.places(alloc, leader)?;
-        places.push(self.log.len())?;
+    ) -> Result<Vec<usize>, Memory> {
         self.log.reserve(1)?;
         self.openings.reserve(1)?;
-        Ok(places)
+        self.reset_places(alloc, leader)
     }
 
-    /// The partition is reopened by the row of that version, with the history at these places of the log that has the reset
-    /// last. Takes no memory.
-    pub(crate) fn reopen(&mut self, version: u32, places: Vec<usize>)
-        requires room { HasReopeningRoom self.old }
-        requires within { AreBelow (length self.old.log.items + 1) places.items }
-        ensures { (r : Recorded C) → Records self.old r → Records self.new (record r {
-          log = r.log ++ HasReset version ∷ [];
-          openings = record { reset = version; entries = at_places (r.log ++ HasReset version ∷ []) places.items } ∷ r.openings;
-        }) }
-    {
+    fn reopen(&mut self, version: u32, places: Vec<usize>) {
         self.log.push_reserved(Entry::Reset { version });
         self.openings.push_reserved(Opening {
             reset: version,
             places,
         });
     }
+}
+
+impl<C> Recorder<C> {
+    ghost use Rattle.partition_world.specs.Recorders.{KeepsAll, log_of, bases_of, openings_of, leader_pair, trail_by};
 
     /// The history by which the partition stands, where `leader` is the version and the count of the
     /// contents of the standing row's first member, if there is one. Costs a pass over the bases and
@@ -157,7 +120,7 @@ impl<C> Recorder<C> {
         alloc: Global,
         leader: Option<(u32, u32)>,
     ) -> Result<Trail<'_, C>, Memory>
-        ensures { (r : Recorded C) → Records self.now r → IfOk result (λ trail. map entry_of trail ≡ trail_by r (leader_pair leader)) }
+        ensures { (r : Recorded C) → KeepsAll self.now r → IfOk result (λ trail. map entry_of trail ≡ trail_by r (leader_pair leader)) }
     {
         let places = self.places(alloc, leader)?;
         Ok(Trail {
@@ -166,14 +129,27 @@ impl<C> Recorder<C> {
         })
     }
 
+    /// Where the entries of the trail stand in the log, and the reset of a reopening that comes next.
+    fn reset_places(&self, alloc: Global, leader: Option<(u32, u32)>) -> Result<Vec<usize>, Memory>
+        ensures places { (r : Recorded C) → KeepsAll self.now r → IfOk result (λ places. (version : ℕ) →
+            at_places (r.log ++ HasReset version ∷ []) places.items ≡ trail_by r (leader_pair leader) ++ HasReset version ∷ []) }
+        ensures within { IfOk result (λ places. AreBelow (length self.now.log.items + 1) places.items) }
+    {
+        let mut places = self.places(alloc, leader)?;
+        places.push(self.log.len())?;
+        Ok(places)
+    }
+
     /// Where the entries of the trail stand in the log.
     fn places(&self, alloc: Global, leader: Option<(u32, u32)>) -> Result<Vec<usize>, Memory>
-        ensures places { (r : Recorded C) → Records self.now r → IfOk result (λ places. at_places (log_of self.now) places.items ≡ trail_by r (leader_pair leader)) }
+        ensures places { (r : Recorded C) → KeepsAll self.now r → IfOk result (λ places. at_places (log_of self.now) places.items ≡ trail_by r (leader_pair leader)) }
         ensures within { IfOk result (λ places. AreBelow (length self.now.log.items) places.items) }
     {
         match leader {
             None => Ok(Vec::new(alloc)),
-            Some((version, _)) if version < self.reset => self.opening_places(alloc, self.reset),
+            Some((version, _)) if version < self.standing.reset => {
+                self.opening_places(alloc, self.standing.reset)
+            },
             Some((version, count)) => self.history_places(alloc, Pair { version, count }),
         }
     }

@@ -1,6 +1,8 @@
 use crate::base::Base;
 use crate::entry::Entry;
 use crate::recorder::Recorder;
+use crate::records::Records;
+use crate::standing_row::StandingRow;
 use grid_base::{Bytes, CallId};
 use partition_table::{Row, RowMember, RowMembers};
 use std::alloc::Global;
@@ -182,4 +184,25 @@ fn a_reopening_with_no_leader_has_no_history(rt: HostRuntime) -> Result<(), Fail
     reopen(rt.alloc(), &mut recorder, 4, None)?;
     recorder.stand(&row(rt.alloc(), 4, 4)?);
     assert_trail(&rt, rt.alloc(), &recorder, Some((0, 0)), &[104])
+}
+
+#[test]
+fn a_standing_row_keeps_no_history(rt: HostRuntime) -> Result<(), Fail> {
+    let alloc = rt.alloc();
+    let mut standing = <StandingRow as Records<u8>>::new(alloc, &row(alloc, 1, 0)?)?;
+    let lost = Row {
+        version: 2,
+        reset: 0,
+        lost: true,
+        members: RowMembers::copied_from(alloc, &[])?,
+    };
+    <StandingRow as Records<u8>>::stand(&mut standing, &lost);
+    assert_eq!(rt; <StandingRow as Records<u8>>::leader(&standing), Some(1));
+    let places = <StandingRow as Records<u8>>::reopening_places(
+        &mut standing,
+        alloc,
+        Some((1, 3)),
+    )?;
+    assert_eq!(rt; places.len(), 0);
+    Ok(())
 }

@@ -1,70 +1,48 @@
-ghost use Rattle.std.specs.Prelude.{◌≡◌, ◌+◌, ◌<◌, ◌^◌, ℕ, IfSome, OnOk, List, [], ◌∷◌, Option, Some, None, is_some, option_map, unwrap_or, slice_get, refl};
-ghost use Rattle.std.proofs.Common.{ap, sym, zero-lt-suc};
+ghost use Rattle.std.specs.Prelude.{◌≡◌, ◌+◌, ◌<◌, ◌^◌, ℕ, IfSome, OnOk, List, [], ◌∷◌, Option, Some, None, is_some, unwrap_or, slice_get, refl};
+ghost use Rattle.std.proofs.Common.{ap, zero-lt-suc};
+ghost use Rattle.grid_base.specs.Shelves.{meaning};
 ghost use Rattle.partition_protocol.specs.Arrivals.{asked_by};
 ghost use Rattle.partition_protocol.specs.Events.{Event as ProtocolEvent};
 ghost use Rattle.partition_world.specs.Events.{event_of};
-ghost use Rattle.partition_world.specs.Meanings.{meaning};
+ghost use Rattle.partition_world.specs.Registers.{put_effect, put_alike, put_anew, put_made};
 ghost use Rattle.partition_world.specs.Worlds.{StandsFor, steps_of};
 
-use crate::{CallOutcome, Entry, Event, Happened, World};
-use grid_base::{Bytes, CallId, Executed, MemberId, Memory, Moment, Shelf};
+use crate::{CallOutcome, Entry, Event, Happened, Recorder, Records, StandingRow, World};
+use grid_base::{Bytes, CallId, Executed, Executes, MemberId, Memory, Moment, Shelf};
 use member_wire::Took;
 use std::alloc::Global;
 use std::process::Abort;
 use std::test::Fail;
 use table_service::{MoveRefused, ReopenRefused};
 
-/// Keeps one byte. A call of `Some` puts a byte and one of `None` reads; both answer the byte before.
+/// Keeps one byte. A call of `Some` puts a byte, which has an effect where it is another, and one of `None` reads; both
+/// answer the byte before.
 #[derive(Drop)]
 struct Register {
     value: u8,
 }
 
 impl Shelf for Register {
-    type Env = ();
+    type Plan = ();
 
     type Call = Option<u8>;
 
     ghost State = { ℕ };
 
-    ghost state = { λ register. register.value };
-
-    ghost empty_state = { 0 };
-
-    ghost object = { λ env. record { empty = 0; reply = λ s call now. s ∷ []; after = λ s call now. unwrap_or call s; changes = λ s call now. is_some call } };
-
-    ghost effect_of = { λ env s call now. option_map (λ v. v ∷ []) call };
-
-    ghost change_of = { λ env s call now. None };
-
-    ghost within_limits = { λ call. IfSome call (λ v. v < 2 ^ 8) };
-
-    ghost within = { λ calls s. s < 2 ^ 8 };
-
-    ghost applied = { λ bytes s. slice_get bytes 0 };
-
-    ghost snapshot_of = { λ s. s ∷ [] };
+    ghost model = { record {
+      state = λ register. register.value;
+      empty_state = 0;
+      object = λ plan. record { empty = 0; reply = λ s call now. s ∷ []; after = λ s call now. unwrap_or call s; changes = λ s call now. is_some (put_effect s call) };
+      effect_of = λ plan s call now. put_effect s call;
+      change_of = λ plan s call now. None;
+      within_limits = λ call. IfSome call (λ v. v < 2 ^ 8);
+      within = λ calls s. s < 2 ^ 8;
+      applied = λ bytes s. slice_get bytes 0;
+      snapshot_of = λ s. s ∷ [];
+    } };
 
     fn empty(_alloc: Global) -> Self {
         Register { value: 0 }
-    }
-
-    fn execute(
-        &self,
-        alloc: Global,
-        _env: &(),
-        call: &Option<u8>,
-        _now: Moment,
-    ) -> Result<Executed, Memory> {
-        let effect = match call {
-            None => None,
-            Some(value) => Some(Bytes::copied_from(alloc, &[*value])?),
-        };
-        Ok(Executed {
-            reply: Bytes::copied_from(alloc, &[self.value])?,
-            effect,
-            change: None,
-        })
     }
 
     fn apply(&mut self, _alloc: Global, effect: &Bytes) -> Result<(), Memory> {
@@ -82,33 +60,57 @@ impl Shelf for Register {
         })
     }
 
-    ghost begins_empty = { λ env. refl };
+    ghost begins_empty = { λ plan. refl };
 
-    ghost changes_by_effect = { λ env s call now. elim call as (λ c. is_some c ≡ is_some (option_map (λ v. v ∷ []) c)) [ None ↦ refl | Some v ↦ refl ] };
+    ghost changes_by_effect = { λ plan s call now. refl };
 
-    ghost same_without_effect = { λ env s call now. elim call as (λ c. option_map (λ v. v ∷ []) c ≡ None → unwrap_or c s ≡ s) [ None ↦ λ none. refl | Some v ↦ λ none. Prim.cc none ] };
+    ghost same_without_effect = { λ plan s call now none. put_alike s call none };
 
-    ghost made_by_effect = { λ env s call now effect small limits. elim call as (λ c. option_map (λ v. v ∷ []) c ≡ Some effect → slice_get effect 0 ≡ Some (unwrap_or c s)) [ None ↦ λ made. Prim.cc made | Some v ↦ λ made. ap (λ o. slice_get (unwrap_or o []) 0) (sym made) ] };
+    ghost differs_by_effect = { λ plan s call now effect made. put_anew s call effect made };
+
+    ghost made_by_effect = { λ plan s call now effect small limits made. put_made s call effect made };
 
     ghost begins_within = { zero-lt-suc 255 };
 
-    ghost grows_within = { λ env n s call now. elim call as (λ c. IfSome c (λ v. v < 2 ^ 8) → s < 2 ^ 8 → unwrap_or c s < 2 ^ 8) [ None ↦ λ limits small. small | Some v ↦ λ limits small. limits ] };
+    ghost grows_within = { λ plan n s call now. elim call as (λ c. IfSome c (λ v. v < 2 ^ 8) → s < 2 ^ 8 → unwrap_or c s < 2 ^ 8) [ None ↦ λ limits small. small | Some v ↦ λ limits small. limits ] };
 
     ghost widens = { λ m n s le small. small };
 
     ghost one_spelling = { λ s t small also same. ap (λ bytes. unwrap_or (slice_get bytes 0) 0) same };
 }
 
+impl Executes<()> for Register {
+    ghost plan_of = { λ env. env };
+
+    fn execute(
+        &self,
+        alloc: Global,
+        _env: &(),
+        call: &Option<u8>,
+        _now: Moment,
+    ) -> Result<Executed, Memory> {
+        let effect = match call {
+            Some(value) if *value != self.value => Some(Bytes::copied_from(alloc, &[*value])?),
+            _ => None,
+        };
+        Ok(Executed {
+            reply: Bytes::copied_from(alloc, &[self.value])?,
+            effect,
+            change: None,
+        })
+    }
+}
+
 /// The one call of a test reaches a member.
-fn call(
+fn call<R: Records<Option<u8>>>(
     rt: &impl Abort,
     alloc: Global,
-    world: &mut World<Register>,
+    world: &mut World<Register, R>,
     member: MemberId,
     expected: CallOutcome,
 ) -> Result<(), Fail>
-    requires stands { let S = ⟦<Register as Shelf>⟧ in StandsFor (meaning S.object S.state S.effect_of S.change_of S.snapshot_of tt) S.within_limits world.old [] }
-    ensures stands { let S = ⟦<Register as Shelf>⟧ in OnOk result ((events : List (ProtocolEvent (Option ℕ))) × StandsFor (meaning S.object S.state S.effect_of S.change_of S.snapshot_of tt) S.within_limits world.new events) }
+    requires stands { let S = ⟦<Register as Shelf>⟧ in StandsFor (meaning S.model tt) R.records S.model.within_limits world.old [] }
+    ensures stands { let S = ⟦<Register as Shelf>⟧ in OnOk result ((events : List (ProtocolEvent (Option ℕ))) × StandsFor (meaning S.model tt) R.records S.model.within_limits world.new events) }
     ensures steps { OnOk result (steps_of world.new ≡ 1) }
 {
     let event = Event::Call {
@@ -122,17 +124,17 @@ fn call(
 }
 
 /// Something else happens.
-fn happen(
+fn happen<R: Records<Option<u8>>>(
     rt: &impl Abort,
     alloc: Global,
-    world: &mut World<Register>,
+    world: &mut World<Register, R>,
     event: Event<Option<u8>>,
     expected: Happened,
 ) -> Result<(), Fail>
     requires quiet { asked_by (event_of event) ≡ [] }
     requires few { steps_of world.old < 1000 }
-    requires stands { let S = ⟦<Register as Shelf>⟧ in (events : List (ProtocolEvent (Option ℕ))) × StandsFor (meaning S.object S.state S.effect_of S.change_of S.snapshot_of tt) S.within_limits world.old events }
-    ensures stands { let S = ⟦<Register as Shelf>⟧ in OnOk result ((events : List (ProtocolEvent (Option ℕ))) × StandsFor (meaning S.object S.state S.effect_of S.change_of S.snapshot_of tt) S.within_limits world.new events) }
+    requires stands { let S = ⟦<Register as Shelf>⟧ in (events : List (ProtocolEvent (Option ℕ))) × StandsFor (meaning S.model tt) R.records S.model.within_limits world.old events }
+    ensures stands { let S = ⟦<Register as Shelf>⟧ in OnOk result ((events : List (ProtocolEvent (Option ℕ))) × StandsFor (meaning S.model tt) R.records S.model.within_limits world.new events) }
     ensures steps { OnOk result (steps_of world.new ≡ steps_of world.old + 1) }
 {
     assert_eq!(rt; world.step(alloc, &(), event)?, expected);
@@ -140,17 +142,17 @@ fn happen(
 }
 
 /// The first message of a link is handed over.
-fn deliver(
+fn deliver<R: Records<Option<u8>>>(
     rt: &impl Abort,
     alloc: Global,
-    world: &mut World<Register>,
+    world: &mut World<Register, R>,
     from: u8,
     to: u8,
     took: Took,
 ) -> Result<(), Fail>
     requires few { steps_of world.old < 1000 }
-    requires stands { let S = ⟦<Register as Shelf>⟧ in (events : List (ProtocolEvent (Option ℕ))) × StandsFor (meaning S.object S.state S.effect_of S.change_of S.snapshot_of tt) S.within_limits world.old events }
-    ensures stands { let S = ⟦<Register as Shelf>⟧ in OnOk result ((events : List (ProtocolEvent (Option ℕ))) × StandsFor (meaning S.object S.state S.effect_of S.change_of S.snapshot_of tt) S.within_limits world.new events) }
+    requires stands { let S = ⟦<Register as Shelf>⟧ in (events : List (ProtocolEvent (Option ℕ))) × StandsFor (meaning S.model tt) R.records S.model.within_limits world.old events }
+    ensures stands { let S = ⟦<Register as Shelf>⟧ in OnOk result ((events : List (ProtocolEvent (Option ℕ))) × StandsFor (meaning S.model tt) R.records S.model.within_limits world.new events) }
     ensures steps { OnOk result (steps_of world.new ≡ steps_of world.old + 1) }
 {
     let event = Event::Deliver { from, to, place: 0 };
@@ -161,7 +163,7 @@ fn deliver(
 fn assert_trail(
     rt: &impl Abort,
     alloc: Global,
-    world: &World<Register>,
+    world: &World<Register, Recorder<Option<u8>>>,
     entries: usize,
 ) -> Result<(), Fail> {
     assert_eq!(rt; world.trail(alloc)?.len(), entries);
@@ -172,10 +174,15 @@ fn assert_trail(
 fn an_answer_waits_for_its_backup(rt: HostRuntime) -> Result<(), Fail> {
     let alloc = rt.alloc();
     // Member 2 leads, and 0 is its backup; the table service has the number 3.
-    let mut world: World<Register> = World::new(alloc, 5, 3, 1)?;
+    let mut world: World<Register, Recorder<Option<u8>>> = World::new(alloc, 5, 3, 1)?;
     call(&rt, alloc, &mut world, 2, CallOutcome::Held { seen: 1 })?;
+    let id = CallId { conn: 3, number: 0 };
+    assert!(rt; world.holds(2, id));
+    assert!(rt; !world.holds(0, id));
+    assert!(rt; !world.holds(3, id));
     deliver(&rt, alloc, &mut world, 2, 0, Took::Applied)?;
     deliver(&rt, alloc, &mut world, 0, 2, Took::Acked)?;
+    assert!(rt; !world.holds(2, id));
     let answer = world.pop_released(2).ok_or("the answer was released")?;
     assert_eq!(rt; answer.reply.as_slice(), [0].as_slice());
     assert!(rt; world.pop_released(2).is_none());
@@ -185,7 +192,7 @@ fn an_answer_waits_for_its_backup(rt: HostRuntime) -> Result<(), Fail> {
 #[test]
 fn an_answered_write_survives_its_primary(rt: HostRuntime) -> Result<(), Fail> {
     let alloc = rt.alloc();
-    let mut world: World<Register> = World::new(alloc, 5, 3, 1)?;
+    let mut world: World<Register, Recorder<Option<u8>>> = World::new(alloc, 5, 3, 1)?;
     call(&rt, alloc, &mut world, 2, CallOutcome::Held { seen: 1 })?;
     deliver(&rt, alloc, &mut world, 2, 0, Took::Applied)?;
     deliver(&rt, alloc, &mut world, 0, 2, Took::Acked)?;
@@ -201,7 +208,7 @@ fn an_answered_write_survives_its_primary(rt: HostRuntime) -> Result<(), Fail> {
 #[test]
 fn what_was_lost_is_sent_again(rt: HostRuntime) -> Result<(), Fail> {
     let alloc = rt.alloc();
-    let mut world: World<Register> = World::new(alloc, 5, 3, 1)?;
+    let mut world: World<Register, StandingRow> = World::new(alloc, 5, 3, 1)?;
     call(&rt, alloc, &mut world, 2, CallOutcome::Held { seen: 1 })?;
     let lose = Event::Lose {
         from: 2,
@@ -235,7 +242,7 @@ fn what_was_lost_is_sent_again(rt: HostRuntime) -> Result<(), Fail> {
 fn a_lost_partition_goes_on_empty(rt: HostRuntime) -> Result<(), Fail> {
     let alloc = rt.alloc();
     // Member 1 leads alone; the table service has the number 2.
-    let mut world: World<Register> = World::new(alloc, 5, 2, 0)?;
+    let mut world: World<Register, Recorder<Option<u8>>> = World::new(alloc, 5, 2, 0)?;
     call(&rt, alloc, &mut world, 1, CallOutcome::Released { seen: 1 })?;
     let crash = Event::Crash { member: 1 };
     happen(&rt, alloc, &mut world, crash, Happened::Done)?;

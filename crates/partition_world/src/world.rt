@@ -3,10 +3,10 @@ ghost use Rattle.partition_protocol.specs.Node.{opening_node};
 ghost use Rattle.partition_protocol.specs.Service.{numbers_below};
 ghost use Rattle.partition_protocol.specs.Events.{Event as ProtocolEvent};
 ghost use Rattle.replica_node.specs.Nodes.{node_of, contents_of, waiting as node_waiting, held_answers, ring_of, ends_of};
-ghost use Rattle.partition_world.specs.Meanings.{meaning};
+ghost use Rattle.grid_base.specs.Shelves.{meaning};
 ghost use Rattle.partition_world.specs.Worlds.{StandsFor, IsReleased, run_of, setup_of, steps_of, waiting};
 
-use crate::recorder::Recorder;
+use crate::records::Records;
 use grid_base::{MemberId, Memory, PartitionId, Shelf};
 use link_net::Links;
 use partition_table::Row;
@@ -15,12 +15,17 @@ use replica_node::Node;
 use std::alloc::Global;
 use table_service::Service;
 
-/// One partition: its members' nodes, the table service's part of it, the messages in flight, and its recorded history.
+/// One partition: its members' nodes, the table service's part of it, the messages in flight, and what it records of its
+/// history.
+///
+/// Its nodes keep each member's contents, the answers that are held or wait to be given out, and of a primary its 64
+/// newest effects. Its links keep each message until it is delivered or lost. With `StandingRow` as its recorder nothing
+/// else of it grows; with `Recorder` it also keeps every call that was executed.
 ///
 /// To contracts a world stands for a list of events, whose calls keep to their limits and have names of their own: it is
 /// as the protocol's run of them.
 #[derive(Drop)]
-pub struct World<S: Shelf> {
+pub struct World<S: Shelf, R: Records<S::Call>> {
     /// How many there are. At the ends of links this is the table service's number.
     pub(crate) members: u8,
     /// One of each member.
@@ -29,11 +34,11 @@ pub struct World<S: Shelf> {
     pub(crate) crashed: Vec<MemberId>,
     pub(crate) service: Service,
     pub(crate) links: Links,
-    pub(crate) recorder: Recorder<S::Call>,
+    pub(crate) recorder: R,
     pub(crate) steps: u32,
 }
 
-impl<S: Shelf> World<S> {
+impl<S: Shelf, R: Records<S::Call>> World<S, R> {
     /// A partition in its initial row, where nothing has happened. Takes memory for each member's node and for a link
     /// from each end to each.
     pub fn new(
@@ -41,10 +46,10 @@ impl<S: Shelf> World<S> {
         partition: PartitionId,
         members: u8,
         backups: u8,
-    ) -> Result<World<S>, Memory>
+    ) -> Result<World<S, R>, Memory>
         requires some { 1 ≤ members }
         requires most { members ≤ 8 }
-        ensures stands { IfOk result (λ world. (env : S.Env) → StandsFor (meaning S.object S.state S.effect_of S.change_of S.snapshot_of env) S.within_limits world []) }
+        ensures stands { IfOk result (λ world. (plan : S.Plan) → StandsFor (meaning S.model plan) R.records S.model.within_limits world []) }
         ensures setup { IfOk result (λ world. setup_of world ≡ record { partition = partition; members = members; backups = backups }) }
         ensures waiting { IfOk result (λ world. (member : ℕ) → waiting world member ≡ []) }
         ensures steps { IfOk result (λ world. steps_of world ≡ 0) }
@@ -52,7 +57,7 @@ impl<S: Shelf> World<S> {
         let service = Service::new(alloc, partition, members, backups)?;
         let nodes = opening_nodes(alloc, members, service.row())?;
         let links = Links::new(alloc, members + 1)?;
-        let recorder = Recorder::new(alloc, service.row())?;
+        let recorder = R::new(alloc, service.row())?;
         Ok(World {
             members,
             nodes,
@@ -70,12 +75,12 @@ impl<S: Shelf> World<S> {
         ensures none { IsNone result ↔ (waiting self.old member ≡ []) }
         ensures kept { IfNone result (waiting self.new member ≡ waiting self.old member) }
         ensures others { (other : ℕ) → other ≢ member → waiting self.new other ≡ waiting self.old other }
-        ensures released { (env : S.Env) (events : List (ProtocolEvent S.Call)) → let k = meaning S.object S.state S.effect_of S.change_of S.snapshot_of env in
-            StandsFor k S.within_limits self.old events → IfSome result (IsReleased (run_of k self.old events)) }
+        ensures released { (plan : S.Plan) (events : List (ProtocolEvent S.Call)) → let k = meaning S.model plan in
+            StandsFor k R.records S.model.within_limits self.old events → IfSome result (IsReleased (run_of k self.old events)) }
 
         // It is no event.
-        ensures stands { (env : S.Env) (events : List (ProtocolEvent S.Call)) → let k = meaning S.object S.state S.effect_of S.change_of S.snapshot_of env in
-            StandsFor k S.within_limits self.old events → StandsFor k S.within_limits self.new events }
+        ensures stands { (plan : S.Plan) (events : List (ProtocolEvent S.Call)) → let k = meaning S.model plan in
+            StandsFor k R.records S.model.within_limits self.old events → StandsFor k R.records S.model.within_limits self.new events }
         ensures steps { steps_of self.new ≡ steps_of self.old }
         ensures setup { setup_of self.new ≡ setup_of self.old }
     {
@@ -88,7 +93,7 @@ fn opening_nodes<S: Shelf>(alloc: Global, members: u8, row: &Row) -> Result<Vec<
     requires { row.now.version ≡ 1 }
     ensures len { IfOk result (λ nodes. vec_len nodes ≡ members) }
     ensures nodes { IfOk result (λ nodes. map node_of nodes.items ≡ map (opening_node row.now) (numbers_below members)) }
-    ensures empty { IfOk result (λ nodes. All (λ node. S.state (contents_of node) ≡ S.empty_state) nodes.items) }
+    ensures empty { IfOk result (λ nodes. All (λ node. S.model.state (contents_of node) ≡ S.model.empty_state) nodes.items) }
     ensures waiting { IfOk result (λ nodes. All (λ node. node_waiting node ≡ []) nodes.items) }
     ensures held { IfOk result (λ nodes. All (λ node. held_answers node ≡ []) nodes.items) }
     ensures ring { IfOk result (λ nodes. All (λ node. ring_of node ≡ []) nodes.items) }

@@ -4,6 +4,6 @@ use Rattle.partition_world.specs.Worlds.{setup_of}
 use Rattle.partition_world.proofs.steps.every_world_is_safe.Goals as goal
 
 pub returns : goal.returns
-returns g c env events stands =
+returns g c plan events stands =
     let setup = setup_of c.args.world.now in
-    every_run_is_safe (g.S.Shelf.object env) setup.partition setup.members setup.backups events stands.some stands.once
+    every_run_is_safe (g.S.Shelf.model.object plan) setup.partition setup.members setup.backups events stands.some stands.once

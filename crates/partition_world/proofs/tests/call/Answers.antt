@@ -5,7 +5,7 @@ use Rattle.partition_world.proofs.ComingNext.{first_comes}
 use Rattle.partition_world.proofs.tests.call.Goals as goal
 
 pub step-requires : goal.step-requires
-step-requires g c = ([], first_comes _ _ _ c.args.member 3 0 (Some 7) 10 c.requires.stands (omega arith))
+step-requires g c = ([], first_comes _ _ _ _ c.args.member 3 0 (Some 7) 10 c.requires.stands (omega arith))
 
 pub returns-clause-stands : goal.returns-clause-stands
-returns-clause-stands g c = (Call c.args.member 3 0 (Some 7) 10 ∷ [], c.in_ok-step.ensures.stands [] (first_comes _ _ _ c.args.member 3 0 (Some 7) 10 c.requires.stands (omega arith)))
+returns-clause-stands g c = (Call c.args.member 3 0 (Some 7) 10 ∷ [], c.in_ok-step.ensures.stands [] (first_comes _ _ _ _ c.args.member 3 0 (Some 7) 10 c.requires.stands (omega arith)))

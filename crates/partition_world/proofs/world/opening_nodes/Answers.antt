@@ -20,7 +20,7 @@ loop-member-preserved g c =
     record {
       len = omega (arith, c.in_ok-push.ensures.len, was.len);
       nodes = map_more node_of (opening_node c.args.row.now) before after node k gains was.nodes (begins.node c.requires);
-      empty = all_more (λ (node : Node _). S.state (contents_of node) ≡ S.empty_state) before after node gains was.empty begins.contents;
+      empty = all_more (λ (node : Node _). S.model.state (contents_of node) ≡ S.model.empty_state) before after node gains was.empty begins.contents;
       waiting = all_more (λ (node : Node _). waiting node ≡ []) before after node gains was.waiting begins.waiting;
       held = all_more (λ (node : Node _). held_answers node ≡ []) before after node gains was.held begins.held;
       ring = all_more (λ (node : Node _). ring_of node ≡ []) before after node gains was.ring begins.ring;

@@ -10,7 +10,7 @@ abbrev pub invariant-loop-member : goal.invariant-loop-member
 invariant-loop-member g l = record {
   len : vec_len l.nodes ≡ l.member;
   nodes : map node_of l.nodes.items ≡ map (opening_node l.row) (numbers_below l.member);
-  empty : All (λ (node : Node _). g.S.Shelf.state (contents_of node) ≡ g.S.Shelf.empty_state) l.nodes.items;
+  empty : All (λ (node : Node _). g.S.Shelf.model.state (contents_of node) ≡ g.S.Shelf.model.empty_state) l.nodes.items;
   waiting : All (λ (node : Node _). waiting node ≡ []) l.nodes.items;
   held : All (λ (node : Node _). held_answers node ≡ []) l.nodes.items;
   ring : All (λ (node : Node _). ring_of node ≡ []) l.nodes.items;

@@ -4,34 +4,33 @@ use Rattle.partition_table.specs.declared.Row.{Row}
 use Rattle.partition_protocol.specs.Events.{BeginHandover}
 use Rattle.partition_world.specs.declared.event.Happened.TheVariants.{Done}
 use Rattle.partition_world.specs.declared.world.World.{World}
-use Rattle.partition_world.specs.Meanings.{meaning}
-use Rattle.partition_world.specs.Recorders.{Records}
+use Rattle.grid_base.specs.Shelves.{meaning}
 use Rattle.partition_world.specs.Worlds.{run_of}
 use Rattle.partition_world.proofs.ShelfLaws.{shelf_of}
 use Rattle.partition_world.proofs.ServiceSteps.{stands_run, silent_lists, none_fit, served_handover, refused_handover}
 use Rattle.partition_world.proofs.world.World.begin_handover.Goals as goal
 
 pub returns-in-Ok-clause-ok : goal.returns-in-Ok-clause-ok
-returns-in-Ok-clause-ok g c env events comes =
+returns-in-Ok-clause-ok g c plan events comes =
     let sh = g.S.Shelf in
     let law = g.met.S.Shelf in
-    let k = meaning sh.object sh.state sh.effect_of sh.change_of sh.snapshot_of env in
-    let shelf = shelf_of sh.object sh.state sh.effect_of sh.change_of sh.snapshot_of sh.within_limits sh.within sh.applied sh.empty_state law.begins_empty law.changes_by_effect law.same_without_effect law.made_by_effect law.begins_within law.grows_within law.widens law.one_spelling env in
+    let k = meaning sh.model plan in
+    let shelf = shelf_of sh.model law.begins_empty law.changes_by_effect law.same_without_effect law.made_by_effect law.begins_within law.grows_within law.widens law.one_spelling plan in
     let old = c.args.self.now in
     let ok = c.in-Ok.ensures in
-    let new : World _ _ _ = record old { service = c.begin_handover.new.self; recorder = c.stand.new.self } in
-    let served = served_handover k sh.within_limits old events c.args.from c.args.to comes ok.refused in
-    stands_run k sh.within_limits old events (BeginHandover c.args.from c.args.to) comes _ _ _ _ served [] [] refl (λ contents. refl) sh.within sh.applied shelf none_fit
+    let new : World _ _ _ _ = record old { service = c.begin_handover.new.self; recorder = c.stand.new.self } in
+    let served = served_handover k g.R.Records.records sh.model.within_limits old events c.args.from c.args.to comes ok.refused in
+    stands_run k g.R.Records.records sh.model.within_limits old events (BeginHandover c.args.from c.args.to) comes _ _ _ _ served [] [] refl (λ contents. refl) sh.model.within sh.model.applied shelf none_fit
     old.links refl (λ f t. refl) c.begin_handover.new.self ok.setup ok.service old.recorder (run_of k old events).recorded comes.stands.agrees.recorded refl
-    new (λ r kept. subst (λ (row : Row). Records new.recorder (record r { standing = cond row.lost r.standing row })) c.row.ensures (c.stand.ensures.records r kept))
+    new (λ r kept. subst (λ (row : Row). g.R.Records.records new.recorder (record r { standing = cond row.lost r.standing row })) c.row.ensures (c.stand.ensures r kept))
     (silent_lists old.links old.members) refl refl Done refl
 
 pub returns-in-Err-clause-ok : goal.returns-in-Err-clause-ok
-returns-in-Err-clause-ok g c env events comes =
+returns-in-Err-clause-ok g c plan events comes =
     let sh = g.S.Shelf in
     let law = g.met.S.Shelf in
-    let k = meaning sh.object sh.state sh.effect_of sh.change_of sh.snapshot_of env in
-    let shelf = shelf_of sh.object sh.state sh.effect_of sh.change_of sh.snapshot_of sh.within_limits sh.within sh.applied sh.empty_state law.begins_empty law.changes_by_effect law.same_without_effect law.made_by_effect law.begins_within law.grows_within law.widens law.one_spelling env in
+    let k = meaning sh.model plan in
+    let shelf = shelf_of sh.model law.begins_empty law.changes_by_effect law.same_without_effect law.made_by_effect law.begins_within law.grows_within law.widens law.one_spelling plan in
     let no = c.in-Err.ensures in
-    refused_handover k sh.within_limits c.args.self.now events c.args.from c.args.to comes sh.within sh.applied shelf c.begin_handover.new.self no.setup no.err
+    refused_handover k g.R.Records.records sh.model.within_limits c.args.self.now events c.args.from c.args.to comes sh.model.within sh.model.applied shelf c.begin_handover.new.self no.setup no.err
     c.in-Err.refused (λ e. c.begin_handover.ensures.memory (c.in-Err.is ∙ ap Err e)) no.refused

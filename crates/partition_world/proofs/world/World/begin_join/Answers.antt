@@ -3,7 +3,7 @@ use Rattle.std.proofs.Common.{refl, ap}
 use Rattle.partition_protocol.specs.Events.{BeginJoin, RowMadeAt}
 use Rattle.table_service.specs.Services.{service_of, service_number}
 use Rattle.partition_world.specs.declared.event.Happened.TheVariants.{RowMade}
-use Rattle.partition_world.specs.Meanings.{meaning}
+use Rattle.grid_base.specs.Shelves.{meaning}
 use Rattle.partition_world.specs.Worlds.{run_of}
 use Rattle.partition_world.proofs.ShelfLaws.{shelf_of}
 use Rattle.partition_world.proofs.ServiceSteps.{row_room, few_sent, tells_few, stands_run, served_join, refused_join}
@@ -12,44 +12,44 @@ use Rattle.partition_world.proofs.world.World.begin_join.Goals as goal
 pub begin_join-requires : goal.begin_join-requires
 begin_join-requires g c =
     let sh = g.S.Shelf in
-    let k = meaning sh.object sh.state sh.effect_of sh.change_of sh.snapshot_of c.requires.0 in
-    row_room k sh.within_limits c.args.self.now c.requires.1 _ c.requires.2
+    let k = meaning sh.model c.requires.0 in
+    row_room k g.R.Records.records sh.model.within_limits c.args.self.now c.requires.1 _ c.requires.2
 
 pub stand-requires : goal.stand-requires
 stand-requires g c =
     let sh = g.S.Shelf in
-    let k = meaning sh.object sh.state sh.effect_of sh.change_of sh.snapshot_of c.requires.0 in
+    let k = meaning sh.model c.requires.0 in
     let old = c.args.self.now in
     let ok = c.in-Ok.ensures in
     let made = service_of c.begin_join.new.self in
-    let served = served_join k sh.within_limits old c.requires.1 c.args.to c.requires.2 made ok.refused ok.service in
-    few_sent k sh.within_limits old c.requires.1 (BeginJoin c.args.to) c.requires.2 _ _ _ _ served c.new-out.result c.begin_join.new.out c.new-out.ensures ok.told (tells_few (service_number old.service) made)
+    let served = served_join k g.R.Records.records sh.model.within_limits old c.requires.1 c.args.to c.requires.2 made ok.refused ok.service in
+    few_sent k g.R.Records.records sh.model.within_limits old c.requires.1 (BeginJoin c.args.to) c.requires.2 _ _ _ _ served c.new-out.result c.begin_join.new.out c.new-out.ensures ok.told (tells_few (service_number old.service) made)
     c.reserve.new.self c.reserve.ensures.ends c.in_ok-reserve.ensures.ok
 
 pub returns-in-Ok-clause-ok : goal.returns-in-Ok-clause-ok
-returns-in-Ok-clause-ok g c env events comes =
+returns-in-Ok-clause-ok g c plan events comes =
     let sh = g.S.Shelf in
     let law = g.met.S.Shelf in
-    let k = meaning sh.object sh.state sh.effect_of sh.change_of sh.snapshot_of env in
-    let shelf = shelf_of sh.object sh.state sh.effect_of sh.change_of sh.snapshot_of sh.within_limits sh.within sh.applied sh.empty_state law.begins_empty law.changes_by_effect law.same_without_effect law.made_by_effect law.begins_within law.grows_within law.widens law.one_spelling env in
+    let k = meaning sh.model plan in
+    let shelf = shelf_of sh.model law.begins_empty law.changes_by_effect law.same_without_effect law.made_by_effect law.begins_within law.grows_within law.widens law.one_spelling plan in
     let old = c.args.self.now in
     let ok = c.in-Ok.ensures in
-    let served = served_join k sh.within_limits old events c.args.to comes (service_of c.begin_join.new.self) ok.refused ok.service in
-    stands_run k sh.within_limits old events (BeginJoin c.args.to) comes _ _ _ _ served c.new-out.result c.begin_join.new.out c.new-out.ensures ok.told sh.within sh.applied shelf ok.fits
+    let served = served_join k g.R.Records.records sh.model.within_limits old events c.args.to comes (service_of c.begin_join.new.self) ok.refused ok.service in
+    stands_run k g.R.Records.records sh.model.within_limits old events (BeginJoin c.args.to) comes _ _ _ _ served c.new-out.result c.begin_join.new.out c.new-out.ensures ok.told sh.model.within sh.model.applied shelf ok.fits
     c.reserve.new.self c.reserve.ensures.ends c.reserve.ensures.lists c.begin_join.new.self ok.setup refl old.recorder (run_of k old events).recorded comes.stands.agrees.recorded refl
     c.stand.new.self c.stand.ensures.recorder c.stand.ensures.links c.stand.ensures.ends c.stand.ensures.rest (RowMade c.in-Ok.version) (ap RowMadeAt ok.version)
 
 pub returns : goal.returns
 returns g c = record {
-  ok = λ env events comes.
+  ok = λ plan events comes.
       let sh = g.S.Shelf in
       let law = g.met.S.Shelf in
-      let k = meaning sh.object sh.state sh.effect_of sh.change_of sh.snapshot_of env in
-      let shelf = shelf_of sh.object sh.state sh.effect_of sh.change_of sh.snapshot_of sh.within_limits sh.within sh.applied sh.empty_state law.begins_empty law.changes_by_effect law.same_without_effect law.made_by_effect law.begins_within law.grows_within law.widens law.one_spelling env in
+      let k = meaning sh.model plan in
+      let shelf = shelf_of sh.model law.begins_empty law.changes_by_effect law.same_without_effect law.made_by_effect law.begins_within law.grows_within law.widens law.one_spelling plan in
       let old = c.args.self.now in
       let no = c.in-Err.ensures in
-      refused_join k sh.within_limits old events c.args.to comes sh.within sh.applied shelf c.begin_join.new.self c.reserve.new.self no.setup no.err c.reserve.ensures.ends c.reserve.ensures.lists
+      refused_join k g.R.Records.records sh.model.within_limits old events c.args.to comes sh.model.within sh.model.applied shelf c.begin_join.new.self c.reserve.new.self no.setup no.err c.reserve.ensures.ends c.reserve.ensures.lists
       c.in-Err.refused c.in_default.not-Memory no.refused;
-  err = λ env events comes. tt;
+  err = λ plan events comes. tt;
   keeps = record { setup = c.in-Err.ensures.setup; steps = refl };
 }

@@ -7,7 +7,7 @@ use Rattle.partition_protocol.specs.Node.{Pair}
 use Rattle.link_net.specs.Links.{sent_to, list_of, spare_of}
 use Rattle.replica_node.specs.declared.refused.NodeRefused.TheVariants.{Memory}
 use Rattle.replica_node.specs.Nodes.{node_of, contents_of}
-use Rattle.partition_world.specs.Meanings.{meaning}
+use Rattle.grid_base.specs.Shelves.{meaning}
 use Rattle.partition_world.specs.Worlds.{HasRefused}
 use Rattle.partition_world.proofs.Effects.{if_err}
 use Rattle.partition_world.proofs.Places.{stands_there}
@@ -20,77 +20,77 @@ pub returns-in_err-reserve-2-clause-err : goal.returns-in_err-reserve-2-clause-e
 returns-in_err-reserve-2-clause-err g c events comes =
     let S = g.S.Shelf in
     let met = g.met.S.Shelf in
-    let shelf = shelf_of S.object S.state S.effect_of S.change_of S.snapshot_of S.within_limits S.within S.applied S.empty_state
-    met.begins_empty met.changes_by_effect met.same_without_effect met.made_by_effect met.begins_within met.grows_within met.widens met.one_spelling c.args.env.now in
+    let shelf = shelf_of S.model
+    met.begins_empty met.changes_by_effect met.same_without_effect met.made_by_effect met.begins_within met.grows_within met.widens met.one_spelling (g.S.Executes.plan_of c.args.env.now) in
     let old = c.args.self.now in
     let new = record old { links = c.reserve-2.new.self; recorder = c.reserve.new.self } in
     let said = c.in_err-reserve-2.ensures in
-    let stays = kept _ S.within_limits S.within S.applied shelf old events (Call c.args.member c.args.id.conn c.args.id.number c.args.call c.args.now) comes new
+    let stays = kept _ _ S.model.within_limits S.model.within S.model.applied shelf old events (Call c.args.member c.args.id.conn c.args.id.number c.args.call c.args.now) comes new
     (record { setup = refl; members = refl; size = refl; crashed = refl; service = refl; ends = said.ends; links = said.lists; recorded = c.in_ok-reserve.ensures.records _ comes.stands.agrees.recorded }) refl in
-    if_err _ (λ why. why ≡ Memory) (HasRefused (meaning S.object S.state S.effect_of S.change_of S.snapshot_of c.args.env.now) old new events (Call c.args.member c.args.id.conn c.args.id.number c.args.call c.args.now)) c.from_residual-in_err-reserve-2.ensures.1
-    (λ why e. subst (HasRefused (meaning S.object S.state S.effect_of S.change_of S.snapshot_of c.args.env.now) old new events (Call c.args.member c.args.id.conn c.args.id.number c.args.call c.args.now)) (sym e) stays)
+    if_err _ (λ why. why ≡ Memory) (HasRefused (meaning S.model (g.S.Executes.plan_of c.args.env.now)) g.R.Records.records old new events (Call c.args.member c.args.id.conn c.args.id.number c.args.call c.args.now)) c.from_residual-in_err-reserve-2.ensures.1
+    (λ why e. subst (HasRefused (meaning S.model (g.S.Executes.plan_of c.args.env.now)) g.R.Records.records old new events (Call c.args.member c.args.id.conn c.args.id.number c.args.call c.args.now)) (sym e) stays)
 
 pub call-requires-clause-small : goal.call-requires-clause-small
 call-requires-clause-small g c =
     let S = g.S.Shelf in
     let met = g.met.S.Shelf in
-    let shelf = shelf_of S.object S.state S.effect_of S.change_of S.snapshot_of S.within_limits S.within S.applied S.empty_state
-    met.begins_empty met.changes_by_effect met.same_without_effect met.made_by_effect met.begins_within met.grows_within met.widens met.one_spelling c.args.env.now in
+    let shelf = shelf_of S.model
+    met.begins_empty met.changes_by_effect met.same_without_effect met.made_by_effect met.begins_within met.grows_within met.widens met.one_spelling (g.S.Executes.plan_of c.args.env.now) in
     let old = c.args.self.now in
     let events = c.requires.comes.0 in
     let comes = c.requires.comes.1 in
     let lives = c.requires.lives events comes in
     let node = c.index_mut-node.result.now in
-    let there = stands_there old.nodes.items c.args.member c.from.result node c.from.ensures (inside _ S.within_limits S.within S.applied shelf old events c.args.member c.args.id.conn c.args.id.number c.args.call c.args.now comes lives) c.index_mut-node.ensures.value in
-    small _ S.within_limits S.within S.applied shelf old events c.args.member c.args.id.conn c.args.id.number c.args.call c.args.now comes node there
+    let there = stands_there old.nodes.items c.args.member c.from.result node c.from.ensures (inside _ _ S.model.within_limits S.model.within S.model.applied shelf old events c.args.member c.args.id.conn c.args.id.number c.args.call c.args.now comes lives) c.index_mut-node.ensures.value in
+    small _ _ S.model.within_limits S.model.within S.model.applied shelf old events c.args.member c.args.id.conn c.args.id.number c.args.call c.args.now comes node there
 
 pub call-requires-clause-fits : goal.call-requires-clause-fits
 call-requires-clause-fits g c =
     let S = g.S.Shelf in
     let met = g.met.S.Shelf in
-    let shelf = shelf_of S.object S.state S.effect_of S.change_of S.snapshot_of S.within_limits S.within S.applied S.empty_state
-    met.begins_empty met.changes_by_effect met.same_without_effect met.made_by_effect met.begins_within met.grows_within met.widens met.one_spelling c.args.env.now in
+    let shelf = shelf_of S.model
+    met.begins_empty met.changes_by_effect met.same_without_effect met.made_by_effect met.begins_within met.grows_within met.widens met.one_spelling (g.S.Executes.plan_of c.args.env.now) in
     let old = c.args.self.now in
     let events = c.requires.comes.0 in
     let comes = c.requires.comes.1 in
     let lives = c.requires.lives events comes in
     let node = c.index_mut-node.result.now in
-    let there = stands_there old.nodes.items c.args.member c.from.result node c.from.ensures (inside _ S.within_limits S.within S.applied shelf old events c.args.member c.args.id.conn c.args.id.number c.args.call c.args.now comes lives) c.index_mut-node.ensures.value in
-    few _ S.within_limits S.within S.applied shelf old events c.args.member c.args.id.conn c.args.id.number c.args.call c.args.now comes node there
+    let there = stands_there old.nodes.items c.args.member c.from.result node c.from.ensures (inside _ _ S.model.within_limits S.model.within S.model.applied shelf old events c.args.member c.args.id.conn c.args.id.number c.args.call c.args.now comes lives) c.index_mut-node.ensures.value in
+    few _ _ S.model.within_limits S.model.within S.model.applied shelf old events c.args.member c.args.id.conn c.args.id.number c.args.call c.args.now comes node there
 
 pub returns-in_err-called-clause-err : goal.returns-in_err-called-clause-err
 returns-in_err-called-clause-err g c events comes =
     let S = g.S.Shelf in
     let met = g.met.S.Shelf in
-    let shelf = shelf_of S.object S.state S.effect_of S.change_of S.snapshot_of S.within_limits S.within S.applied S.empty_state
-    met.begins_empty met.changes_by_effect met.same_without_effect met.made_by_effect met.begins_within met.grows_within met.widens met.one_spelling c.args.env.now in
+    let shelf = shelf_of S.model
+    met.begins_empty met.changes_by_effect met.same_without_effect met.made_by_effect met.begins_within met.grows_within met.widens met.one_spelling (g.S.Executes.plan_of c.args.env.now) in
     let old = c.args.self.now in
     let lives = c.requires.lives events comes in
     let node = c.index_mut-node.result.now in
-    let there = stands_there old.nodes.items c.args.member c.from.result node c.from.ensures (inside _ S.within_limits S.within S.applied shelf old events c.args.member c.args.id.conn c.args.id.number c.args.call c.args.now comes lives) c.index_mut-node.ensures.value in
+    let there = stands_there old.nodes.items c.args.member c.from.result node c.from.ensures (inside _ _ S.model.within_limits S.model.within S.model.applied shelf old events c.args.member c.args.id.conn c.args.id.number c.args.call c.args.now comes lives) c.index_mut-node.ensures.value in
     let new = record old { nodes = with_item old.nodes c.from.result c.call.new.self; links = c.reserve-2.new.self; recorder = c.reserve.new.self } in
     let room = c.in_ok-reserve-2.ensures in
     let said = c.in_err-called.ensures in
-    let ran = refused_run _ S.within_limits S.within S.applied shelf old events c.args.member c.args.id.conn c.args.id.number c.args.call c.args.now comes node there c.call.new.self said.err said.ends new
+    let ran = refused_run _ _ S.model.within_limits S.model.within S.model.applied shelf old events c.args.member c.args.id.conn c.args.id.number c.args.call c.args.now comes node there c.call.new.self said.err said.ends new
     (record { setup = refl; members = refl; size = refl; crashed = refl; service = refl; ends = room.ends; links = room.lists; recorded = c.in_ok-reserve.ensures.records _ comes.stands.agrees.recorded })
     (ap (λ i. slice_set old.nodes.items i c.call.new.self) c.from.ensures) lives c.in_err-called.field-0.0 said.refused in
-    if_err _ (λ why. why ≡ c.in_err-called.field-0.0) (HasRefused (meaning S.object S.state S.effect_of S.change_of S.snapshot_of c.args.env.now) old new events (Call c.args.member c.args.id.conn c.args.id.number c.args.call c.args.now)) c.from_residual-in_err-called.ensures.1
-    (λ why e. subst (HasRefused (meaning S.object S.state S.effect_of S.change_of S.snapshot_of c.args.env.now) old new events (Call c.args.member c.args.id.conn c.args.id.number c.args.call c.args.now)) (sym e) ran)
+    if_err _ (λ why. why ≡ c.in_err-called.field-0.0) (HasRefused (meaning S.model (g.S.Executes.plan_of c.args.env.now)) g.R.Records.records old new events (Call c.args.member c.args.id.conn c.args.id.number c.args.call c.args.now)) c.from_residual-in_err-called.ensures.1
+    (λ why e. subst (HasRefused (meaning S.model (g.S.Executes.plan_of c.args.env.now)) g.R.Records.records old new events (Call c.args.member c.args.id.conn c.args.id.number c.args.call c.args.now)) (sym e) ran)
 
 pub send_all-requires : goal.send_all-requires
 send_all-requires g c to =
     let S = g.S.Shelf in
     let met = g.met.S.Shelf in
-    let shelf = shelf_of S.object S.state S.effect_of S.change_of S.snapshot_of S.within_limits S.within S.applied S.empty_state
-    met.begins_empty met.changes_by_effect met.same_without_effect met.made_by_effect met.begins_within met.grows_within met.widens met.one_spelling c.args.env.now in
+    let shelf = shelf_of S.model
+    met.begins_empty met.changes_by_effect met.same_without_effect met.made_by_effect met.begins_within met.grows_within met.widens met.one_spelling (g.S.Executes.plan_of c.args.env.now) in
     let old = c.args.self.now in
     let events = c.requires.comes.0 in
     let comes = c.requires.comes.1 in
     let lives = c.requires.lives events comes in
     let node = c.index_mut-node.result.now in
-    let there = stands_there old.nodes.items c.args.member c.from.result node c.from.ensures (inside _ S.within_limits S.within S.applied shelf old events c.args.member c.args.id.conn c.args.id.number c.args.call c.args.now comes lives) c.index_mut-node.ensures.value in
+    let there = stands_there old.nodes.items c.args.member c.from.result node c.from.ensures (inside _ _ S.model.within_limits S.model.within S.model.applied shelf old events c.args.member c.args.id.conn c.args.id.number c.args.call c.args.now comes lives) c.index_mut-node.ensures.value in
     let facts = c.in_ok-called.ensures in
-    let said : IsCalled (meaning S.object S.state S.effect_of S.change_of S.snapshot_of c.args.env.now) c.args.id.conn c.args.id.number c.args.call c.args.now node c.call.new.self c.call.new.out c.in_ok-called.called (S.state (contents_of node)) = record {
+    let said : IsCalled (meaning S.model (g.S.Executes.plan_of c.args.env.now)) c.args.id.conn c.args.id.number c.args.call c.args.now node c.call.new.self c.call.new.out c.in_ok-called.called (S.model.state (contents_of node)) = record {
       says = facts.node;
       contents = facts.contents;
       sent = facts.sent;
@@ -101,23 +101,23 @@ send_all-requires g c to =
       outcome = facts.called;
       ends = facts.ends;
     } in
-    let runs = ap (λ m. reached m (node_of node)) (sym (number_is _ S.within_limits S.within S.applied shelf old events c.args.member c.args.id.conn c.args.id.number c.args.call c.args.now comes node there)) ∙ facts.reached in
+    let runs = ap (λ m. reached m (node_of node)) (sym (number_is _ _ S.model.within_limits S.model.within S.model.applied shelf old events c.args.member c.args.id.conn c.args.id.number c.args.call c.args.now comes node there)) ∙ facts.reached in
     subst (λ ms. length (sent_to to ms) ≤ spare_of c.reserve-2.new.self c.args.member to) (sym c.into_vec.ensures)
-    (room _ S.within_limits S.within S.applied shelf old events c.args.member c.args.id.conn c.args.id.number c.args.call c.args.now comes node there lives runs c.call.new.self c.call.new.out c.in_ok-called.called said
+    (room _ _ S.model.within_limits S.model.within S.model.applied shelf old events c.args.member c.args.id.conn c.args.id.number c.args.call c.args.now comes node there lives runs c.call.new.self c.call.new.out c.in_ok-called.called said
     c.reserve-2.new.self c.in_ok-reserve-2.ensures.ok (c.in_ok-reserve-2.ensures.ends ∙ comes.stands.agrees.ends) to)
 
 pub returns-clause-ok : goal.returns-clause-ok
 returns-clause-ok g c events comes =
     let S = g.S.Shelf in
     let met = g.met.S.Shelf in
-    let shelf = shelf_of S.object S.state S.effect_of S.change_of S.snapshot_of S.within_limits S.within S.applied S.empty_state
-    met.begins_empty met.changes_by_effect met.same_without_effect met.made_by_effect met.begins_within met.grows_within met.widens met.one_spelling c.args.env.now in
+    let shelf = shelf_of S.model
+    met.begins_empty met.changes_by_effect met.same_without_effect met.made_by_effect met.begins_within met.grows_within met.widens met.one_spelling (g.S.Executes.plan_of c.args.env.now) in
     let old = c.args.self.now in
     let lives = c.requires.lives events comes in
     let node = c.index_mut-node.result.now in
-    let there = stands_there old.nodes.items c.args.member c.from.result node c.from.ensures (inside _ S.within_limits S.within S.applied shelf old events c.args.member c.args.id.conn c.args.id.number c.args.call c.args.now comes lives) c.index_mut-node.ensures.value in
+    let there = stands_there old.nodes.items c.args.member c.from.result node c.from.ensures (inside _ _ S.model.within_limits S.model.within S.model.applied shelf old events c.args.member c.args.id.conn c.args.id.number c.args.call c.args.now comes lives) c.index_mut-node.ensures.value in
     let facts = c.in_ok-called.ensures in
-    let said : IsCalled (meaning S.object S.state S.effect_of S.change_of S.snapshot_of c.args.env.now) c.args.id.conn c.args.id.number c.args.call c.args.now node c.call.new.self c.call.new.out c.in_ok-called.called (S.state (contents_of node)) = record {
+    let said : IsCalled (meaning S.model (g.S.Executes.plan_of c.args.env.now)) c.args.id.conn c.args.id.number c.args.call c.args.now node c.call.new.self c.call.new.out c.in_ok-called.called (S.model.state (contents_of node)) = record {
       says = facts.node;
       contents = facts.contents;
       sent = facts.sent;
@@ -128,16 +128,16 @@ returns-clause-ok g c events comes =
       outcome = facts.called;
       ends = facts.ends;
     } in
-    let runs = ap (λ m. reached m (node_of node)) (sym (number_is _ S.within_limits S.within S.applied shelf old events c.args.member c.args.id.conn c.args.id.number c.args.call c.args.now comes node there)) ∙ facts.reached in
+    let runs = ap (λ m. reached m (node_of node)) (sym (number_is _ _ S.model.within_limits S.model.within S.model.applied shelf old events c.args.member c.args.id.conn c.args.id.number c.args.call c.args.now comes node there)) ∙ facts.reached in
     let new = record old { nodes = with_item old.nodes c.from.result c.call.new.self; links = c.send_all.new.self; recorder = c.record.new.self } in
     let room = c.in_ok-reserve-2.ensures in
     let told : c.match-called.outcome ≡ came_to c.in_ok-called.called = elim c.match-called.branch [
       | goal.in-Released v ↦ v.outcome-is ∙ ap came_to (sym v.in-Released.is)
       | goal.in-Held v ↦ v.outcome-is ∙ ap came_to (sym v.in-Held.is)
     ] in
-    executed_run _ S.within_limits S.within S.applied shelf old events c.args.member c.args.id.conn c.args.id.number c.args.call c.args.now comes node there lives runs c.call.new.self c.call.new.out c.in_ok-called.called said new
+    executed_run _ _ S.model.within_limits S.model.within S.model.applied shelf old events c.args.member c.args.id.conn c.args.id.number c.args.call c.args.now comes node there lives runs c.call.new.self c.call.new.out c.in_ok-called.called said new
     refl refl refl refl refl (c.send_all.ensures.ends ∙ room.ends)
     (λ f t. c.send_all.ensures.lists f t ∙ ap (λ bs. bs ++ cond (f == c.args.member) (sent_to t c.into_vec.result.items) []) (room.lists f t) ∙ ap (λ ms. list_of old.links f t ++ cond (f == c.args.member) (sent_to t ms) []) c.into_vec.ensures)
     c.contents-version.result.version (ap (λ (p : Pair). p.version) c.contents-version.ensures.pair) c.match-called.outcome told
-    (c.record.ensures.records _ (c.in_ok-reserve.ensures.records _ comes.stands.agrees.recorded))
+    (c.record.ensures _ (c.in_ok-reserve.ensures.records _ comes.stands.agrees.recorded))
     (ap (λ i. slice_set old.nodes.items i c.call.new.self) c.from.ensures)

@@ -1,14 +1,14 @@
 -- The members' nodes are those of the initial row, and nothing has happened.
 use Rattle.std.proofs.Common.{refl}
 use Rattle.partition_world.specs.declared.world.World.{World}
-use Rattle.partition_world.specs.Meanings.{meaning}
+use Rattle.grid_base.specs.Shelves.{meaning}
 use Rattle.partition_world.proofs.Starts.{IsNew, starts, none_waits}
 use Rattle.partition_world.proofs.world.World.new.Goals as goal
 
 pub returns-clause-stands : goal.returns-clause-stands
-returns-clause-stands g c env =
+returns-clause-stands g c plan =
     let S = g.S.Shelf in
-    let world : World _ _ _ = record {
+    let world : World _ _ _ _ = record {
       members = c.args.members;
       nodes = c.in_ok-nodes.nodes;
       crashed = c.new-4.result;
@@ -18,16 +18,16 @@ returns-clause-stands g c env =
       steps = 0;
     } in
     let opened = c.in_ok-nodes.ensures in
-    let k = meaning S.object S.state S.effect_of S.change_of S.snapshot_of env in
-    let is : IsNew k world c.args.partition c.args.members c.args.backups = record {
+    let k = meaning S.model plan in
+    let is : IsNew k g.R.Records.records world c.args.partition c.args.members c.args.backups = record {
       first = c.row.result.now;
       standing = c.row-2.result.now;
-      nothing = S.empty_state;
+      nothing = S.model.empty_state;
       setup = c.in_ok-service.ensures.setup;
       number = refl;
       size = opened.len;
       nodes = opened.nodes;
-      begins = g.met.S.Shelf.begins_empty env;
+      begins = g.met.S.Shelf.begins_empty plan;
       empty = opened.empty;
       waiting = opened.waiting;
       held = opened.held;
@@ -41,11 +41,11 @@ returns-clause-stands g c env =
       recorded = c.in_ok-recorder.ensures;
       steps = refl;
     } in
-    starts k S.within_limits world c.args.partition c.args.members c.args.backups is c.requires.some c.requires.most
+    starts k g.R.Records.records S.model.within_limits world c.args.partition c.args.members c.args.backups is c.requires.some c.requires.most
 
 pub returns-clause-waiting : goal.returns-clause-waiting
 returns-clause-waiting g c m =
-    let world : World _ g.row.S-Env.Denot _ = record {
+    let world : World _ _ g.row.S-Plan.Denot g.row.S-Call.Denot = record {
       members = c.args.members;
       nodes = c.in_ok-nodes.nodes;
       crashed = c.new-4.result;

@@ -1,6 +1,6 @@
 -- A live primary sends again, and another live member doesn't.
-use Rattle.std.proofs.Common.{List, sym, ◌∙◌}
-use Rattle.partition_world.specs.Meanings.{meaning}
+use Rattle.std.proofs.Common.{sym, ◌∙◌}
+use Rattle.grid_base.specs.Shelves.{meaning}
 use Rattle.partition_world.proofs.ShelfLaws.{shelf_of}
 use Rattle.partition_world.proofs.Resent.{small, not_resent, room, resent}
 use Rattle.partition_world.proofs.world.World.resend.Goals as goal
@@ -9,46 +9,46 @@ pub resend-requires : goal.resend-requires
 resend-requires g c =
     let S = g.S.Shelf in
     let laws = g.met.S.Shelf in
-    let env = c.requires.0 in
+    let plan = c.requires.0 in
     let events = c.requires.1 in
     let comes = c.requires.2 in
     let shelf =
-    shelf_of S.object S.state S.effect_of S.change_of S.snapshot_of S.within_limits S.within S.applied S.empty_state laws.begins_empty laws.changes_by_effect laws.same_without_effect laws.made_by_effect laws.begins_within laws.grows_within
-    laws.widens laws.one_spelling env in
-    small (meaning S.object S.state S.effect_of S.change_of S.snapshot_of env) S.within_limits S.within S.applied shelf c.args.self.now events c.args.end comes (sym (c.is_live.ensures env events comes.stands) ∙ c.if-not-is_live.false)
+    shelf_of S.model laws.begins_empty laws.changes_by_effect laws.same_without_effect laws.made_by_effect laws.begins_within laws.grows_within
+    laws.widens laws.one_spelling plan in
+    small (meaning S.model plan) g.R.Records.records S.model.within_limits S.model.within S.model.applied shelf c.args.self.now events c.args.end comes (sym (c.is_live.ensures plan events comes.stands) ∙ c.if-not-is_live.false)
     c.from.result c.index.result.now c.from.ensures c.index.ensures
 
 pub returns-then-not-branch-clause-ok : goal.returns-then-not-branch-clause-ok
-returns-then-not-branch-clause-ok g c env events comes =
+returns-then-not-branch-clause-ok g c plan events comes =
     let S = g.S.Shelf in
     let laws = g.met.S.Shelf in
     let shelf =
-    shelf_of S.object S.state S.effect_of S.change_of S.snapshot_of S.within_limits S.within S.applied S.empty_state laws.begins_empty laws.changes_by_effect laws.same_without_effect laws.made_by_effect laws.begins_within laws.grows_within
-    laws.widens laws.one_spelling env in
-    not_resent (meaning S.object S.state S.effect_of S.change_of S.snapshot_of env) S.within_limits S.within S.applied shelf c.args.self.now events c.args.end comes (sym (c.is_live.ensures env events comes.stands) ∙ c.if-not-is_live.false)
+    shelf_of S.model laws.begins_empty laws.changes_by_effect laws.same_without_effect laws.made_by_effect laws.begins_within laws.grows_within
+    laws.widens laws.one_spelling plan in
+    not_resent (meaning S.model plan) g.R.Records.records S.model.within_limits S.model.within S.model.applied shelf c.args.self.now events c.args.end comes (sym (c.is_live.ensures plan events comes.stands) ∙ c.if-not-is_live.false)
     c.from.result c.index.result.now c.from.ensures c.index.ensures (sym c.in_ok-resend.ensures.leads ∙ c.if-not-branch.true) c.reserve.new.self c.in_ok-reserve.ensures.ends c.in_ok-reserve.ensures.lists
 
 pub send_all-requires : goal.send_all-requires
 send_all-requires g c =
     let S = g.S.Shelf in
     let laws = g.met.S.Shelf in
-    let env = c.requires.0 in
+    let plan = c.requires.0 in
     let events = c.requires.1 in
     let comes = c.requires.2 in
     let shelf =
-    shelf_of S.object S.state S.effect_of S.change_of S.snapshot_of S.within_limits S.within S.applied S.empty_state laws.begins_empty laws.changes_by_effect laws.same_without_effect laws.made_by_effect laws.begins_within laws.grows_within
-    laws.widens laws.one_spelling env in
-    room (meaning S.object S.state S.effect_of S.change_of S.snapshot_of env) S.within_limits S.within S.applied shelf c.args.self.now events c.args.end comes (sym (c.is_live.ensures env events comes.stands) ∙ c.if-not-is_live.false)
+    shelf_of S.model laws.begins_empty laws.changes_by_effect laws.same_without_effect laws.made_by_effect laws.begins_within laws.grows_within
+    laws.widens laws.one_spelling plan in
+    room (meaning S.model plan) g.R.Records.records S.model.within_limits S.model.within S.model.applied shelf c.args.self.now events c.args.end comes (sym (c.is_live.ensures plan events comes.stands) ∙ c.if-not-is_live.false)
     c.from.result c.index.result.now c.from.ensures c.index.ensures (sym c.in_ok-resend.ensures.leads ∙ c.if-not-branch.false) c.into_vec.result.items c.resend.new.out c.new-out.result c.into_vec.ensures c.new-out.ensures
     c.in_ok-resend.ensures.sent c.reserve.new.self c.in_ok-reserve.ensures.ends c.in_ok-reserve.ensures.ok
 
 pub returns-clause-ok : goal.returns-clause-ok
-returns-clause-ok g c env events comes =
+returns-clause-ok g c plan events comes =
     let S = g.S.Shelf in
     let laws = g.met.S.Shelf in
     let shelf =
-    shelf_of S.object S.state S.effect_of S.change_of S.snapshot_of S.within_limits S.within S.applied S.empty_state laws.begins_empty laws.changes_by_effect laws.same_without_effect laws.made_by_effect laws.begins_within laws.grows_within
-    laws.widens laws.one_spelling env in
-    resent (meaning S.object S.state S.effect_of S.change_of S.snapshot_of env) S.within_limits S.within S.applied shelf c.args.self.now events c.args.end comes (sym (c.is_live.ensures env events comes.stands) ∙ c.if-not-is_live.false)
+    shelf_of S.model laws.begins_empty laws.changes_by_effect laws.same_without_effect laws.made_by_effect laws.begins_within laws.grows_within
+    laws.widens laws.one_spelling plan in
+    resent (meaning S.model plan) g.R.Records.records S.model.within_limits S.model.within S.model.applied shelf c.args.self.now events c.args.end comes (sym (c.is_live.ensures plan events comes.stands) ∙ c.if-not-is_live.false)
     c.from.result c.index.result.now c.from.ensures c.index.ensures (sym c.in_ok-resend.ensures.leads ∙ c.if-not-branch.false) c.into_vec.result.items c.resend.new.out c.new-out.result c.into_vec.ensures c.new-out.ensures
     c.in_ok-resend.ensures.sent c.in_ok-resend.ensures.fits c.reserve.new.self c.send_all.new.self c.in_ok-reserve.ensures.lists (c.send_all.ensures.ends ∙ c.in_ok-reserve.ensures.ends) c.send_all.ensures.lists

@@ -2,7 +2,7 @@
 use Rattle.std.proofs.Common.{refl}
 use Rattle.partition_protocol.specs.Events.{Resend}
 use Rattle.partition_world.specs.declared.event.Happened.TheVariants.{Done}
-use Rattle.partition_world.specs.Meanings.{meaning}
+use Rattle.grid_base.specs.Shelves.{meaning}
 use Rattle.partition_world.proofs.ShelfLaws.{shelf_of}
 use Rattle.partition_world.proofs.ServiceSteps.{few_sent, served_run, served_again, again_few, sends_same}
 use Rattle.partition_world.proofs.world.World.resend_service.Goals as goal
@@ -10,20 +10,20 @@ use Rattle.partition_world.proofs.world.World.resend_service.Goals as goal
 pub send_all-requires : goal.send_all-requires
 send_all-requires g c =
     let sh = g.S.Shelf in
-    let k = meaning sh.object sh.state sh.effect_of sh.change_of sh.snapshot_of c.requires.0 in
+    let k = meaning sh.model c.requires.0 in
     let old = c.args.self.now in
-    let served = served_again k sh.within_limits old c.requires.1 c.requires.2 in
-    few_sent k sh.within_limits old c.requires.1 (Resend old.members) c.requires.2 _ _ _ _ served c.new-out.result c.into_vec.result.items c.new-out.ensures (sends_same c.new-out.result c.resend.new.out c.into_vec.result.items _ c.into_vec.ensures c.in_ok-resend.ensures.told)
-    (again_few k sh.within_limits old c.requires.1 c.requires.2) c.reserve.new.self c.reserve.ensures.ends c.in_ok-reserve.ensures.ok
+    let served = served_again k g.R.Records.records sh.model.within_limits old c.requires.1 c.requires.2 in
+    few_sent k g.R.Records.records sh.model.within_limits old c.requires.1 (Resend old.members) c.requires.2 _ _ _ _ served c.new-out.result c.into_vec.result.items c.new-out.ensures (sends_same c.new-out.result c.resend.new.out c.into_vec.result.items _ c.into_vec.ensures c.in_ok-resend.ensures.told)
+    (again_few k g.R.Records.records sh.model.within_limits old c.requires.1 c.requires.2) c.reserve.new.self c.reserve.ensures.ends c.in_ok-reserve.ensures.ok
 
 pub returns-clause-ok : goal.returns-clause-ok
-returns-clause-ok g c env events comes =
+returns-clause-ok g c plan events comes =
     let sh = g.S.Shelf in
     let law = g.met.S.Shelf in
-    let k = meaning sh.object sh.state sh.effect_of sh.change_of sh.snapshot_of env in
-    let shelf = shelf_of sh.object sh.state sh.effect_of sh.change_of sh.snapshot_of sh.within_limits sh.within sh.applied sh.empty_state law.begins_empty law.changes_by_effect law.same_without_effect law.made_by_effect law.begins_within law.grows_within law.widens law.one_spelling env in
+    let k = meaning sh.model plan in
+    let shelf = shelf_of sh.model law.begins_empty law.changes_by_effect law.same_without_effect law.made_by_effect law.begins_within law.grows_within law.widens law.one_spelling plan in
     let old = c.args.self.now in
-    let served = served_again k sh.within_limits old events comes in
-    served_run k sh.within_limits old events (Resend old.members) comes _ _ _ _ served c.new-out.result c.into_vec.result.items c.new-out.ensures (sends_same c.new-out.result c.resend.new.out c.into_vec.result.items _ c.into_vec.ensures c.in_ok-resend.ensures.told)
-    sh.within sh.applied shelf c.in_ok-resend.ensures.fits c.reserve.new.self c.reserve.ensures.ends c.reserve.ensures.lists old.service refl refl
+    let served = served_again k g.R.Records.records sh.model.within_limits old events comes in
+    served_run k g.R.Records.records sh.model.within_limits old events (Resend old.members) comes _ _ _ _ served c.new-out.result c.into_vec.result.items c.new-out.ensures (sends_same c.new-out.result c.resend.new.out c.into_vec.result.items _ c.into_vec.ensures c.in_ok-resend.ensures.told)
+    sh.model.within sh.model.applied shelf c.in_ok-resend.ensures.fits c.reserve.new.self c.reserve.ensures.ends c.reserve.ensures.lists old.service refl refl
     (record old { links = c.send_all.new.self }) refl comes.stands.agrees.recorded c.send_all.ensures.lists c.send_all.ensures.ends Done refl

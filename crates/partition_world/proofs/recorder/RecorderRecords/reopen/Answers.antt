@@ -9,10 +9,10 @@ use Rattle.partition_world.specs.Openings.{opening_of, AreWithin}
 use Rattle.partition_world.specs.RecordedEntries.{entry_of}
 use Rattle.partition_world.specs.Recorders.{log_of}
 use Rattle.partition_world.proofs.RecordedOpenings.{openings_grown}
-use Rattle.partition_world.proofs.recorder.Recorder.reopen.Goals as goal
+use Rattle.partition_world.proofs.recorder.RecorderRecords.reopen.Goals as goal
 
 pub returns : goal.returns
-returns g c r kept =
+returns g c r leader opens kept =
     let entries = c.args.self.now.log.items in
     let openings = c.args.self.now.openings.items in
     let log = log_of c.args.self.now in
@@ -29,7 +29,7 @@ returns g c r kept =
           ∙ ap (λ os. map (opening_of (log ++ more)) (reverse os)) c.push_reserved-2.ensures.items
           ∙ ap (map (opening_of (log ++ more))) (reverse-append openings (new ∷ []))
           ∙ ap (λ os. opening_of (log ++ more) new ∷ os) (openings_grown log more openings within ∙ kept.openings)
-          ∙ ap (λ es. let o : ProtocolOpening _ = record { reset = c.args.version; entries = at_places (es ++ more) c.args.places.items } in o ∷ r.openings) kept.log;
-      leader = kept.leader;
-      reset = kept.reset;
+          ∙ ap (λ es. let o : ProtocolOpening _ = record { reset = c.args.version; entries = at_places (es ++ more) c.args.places.items } in o ∷ r.openings) kept.log
+          ∙ ap (λ es. let o : ProtocolOpening _ = record { reset = c.args.version; entries = es } in o ∷ r.openings) (opens.told r kept c.args.version);
+      standing = kept.standing;
     }

@@ -5,10 +5,10 @@ use Rattle.partition_world.specs.Openings.{opening_of, AreWithin}
 use Rattle.partition_world.specs.RecordedEntries.{entry_of}
 use Rattle.partition_world.specs.Recorders.{log_of}
 use Rattle.partition_world.proofs.RecordedOpenings.{openings_grown}
-use Rattle.partition_world.proofs.recorder.Recorder.record.Goals as goal
+use Rattle.partition_world.proofs.recorder.RecorderRecords.record.Goals as goal
 
-pub returns-clause-records : goal.returns-clause-records
-returns-clause-records g c r kept =
+pub returns : goal.returns
+returns g c r kept =
     let log = log_of c.args.self.now in
     let openings = c.args.self.now.openings.items in
     let more = entry_of c.args.entry ∷ [] in
@@ -18,6 +18,5 @@ returns-clause-records g c r kept =
       log = longer ∙ ap (λ es. es ++ more) kept.log;
       bases = kept.bases;
       openings = ap (λ es. map (opening_of es) (reverse openings)) longer ∙ openings_grown log more openings within ∙ kept.openings;
-      leader = kept.leader;
-      reset = kept.reset;
+      standing = kept.standing;
     }

@@ -6,7 +6,7 @@ use Rattle.partition_world.specs.Places.{at_places, AreBelow}
 use Rattle.partition_world.specs.RecordedEntries.{entry_of}
 use Rattle.partition_world.specs.Recorders.{log_of}
 use Rattle.partition_world.proofs.RecordedOpenings.{reopened}
-use Rattle.partition_world.proofs.recorder.Recorder.reopening_places.Goals as goal
+use Rattle.partition_world.proofs.recorder.Recorder.reset_places.Goals as goal
 
 pub returns-clause-places : goal.returns-clause-places
 returns-clause-places g c r kept version =
