@@ -1,5 +1,6 @@
 pub mod Calls
 pub mod Changes
+pub mod EffectFacts
 pub mod EffectLaws
 pub mod Effects
 pub mod Env
@@ -9,4 +10,5 @@ pub mod Limits
 pub mod Objects
 pub mod SameEntries
 pub mod ShelfLaws
+pub mod Shelves
 pub mod Within
