@@ -1,4 +1,5 @@
--- A call's effect makes the partition after it, and a call without an effect leaves it as it was.
+-- A call's effect makes the partition after it, which differs, and a call without an effect leaves it as it was.
+-- It stands here for the laws of `ShelfLaws`.
 use Rattle.std.proofs.Common.{◌≡◌, ◌≢◌, ℕ, Bool, true, false, not, ◌||◌, List, [], ◌∷◌, ◌++◌, drop, Option, Some, None, is_some, refl, ap, sym, ◌∙◌, subst, true≢false}
 use Rattle.std.proofs.lemmas.List.Elements.{All-head}
 use Rattle.std.specs.Prelude.{if◌then◌else◌}
@@ -15,6 +16,8 @@ use Rattle.map_records.specs.declared.records.Idle.{Idle}
 use Rattle.map_records.specs.declared.records.MapRecord.{MapRecord}
 use Rattle.map_records.specs.MapEntries.{empty_entry}
 use Rattle.map_records.specs.MapTable as entries
+use Rattle.map_records.specs.SameEntries.{is_same_entry}
+use Rattle.map_records.proofs.SameEntries.{entry_decides}
 use Rattle.queue_records.specs.declared.queues.QueueStep.TheVariants as step
 use Rattle.queue_records.specs.Queues.{has_room, after as queue_after, step as queue_step}
 use Rattle.queue_records.proofs.Calls.{steps_where_it_changes}
@@ -25,9 +28,8 @@ use Rattle.object_store.specs.Partitions.{Partition, record_at, with_record}
 use Rattle.object_store.specs.Effects.{fits, after_effect}
 use Rattle.object_store.specs.Spelling.{IsSpelledEffect}
 use Rattle.call_engine.specs.Calls.{Settings, after}
-use Rattle.call_engine.specs.Effects.{is_same_entry, entry_effect, map_effect, step_effect, queue_effect, effect_on}
+use Rattle.call_engine.specs.Effects.{entry_effect, map_effect, step_effect, queue_effect, effect_on}
 use Rattle.call_engine.specs.Limits.{IsWhole, EntryFits, RecordFits}
-use Rattle.call_engine.specs.SameEntries.{entry_decides}
 use Rattle.call_engine.specs.Within.{sized, entry_in_fits, entry_after_fits}
 
 -- without an effect

@@ -8,7 +8,6 @@ pub mod Executions
 pub mod Fitting
 pub mod Limits
 pub mod Objects
-pub mod SameEntries
 pub mod ShelfLaws
 pub mod Shelves
 pub mod Within

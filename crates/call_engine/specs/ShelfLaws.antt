@@ -1,18 +1,16 @@
 -- The laws of a shelf, for the partition of a grid.
-use Rattle.std.proofs.Common.{◌≡◌, ◌≢◌, ℕ, true, List, Option, Some, None, is_some, Result, Ok, refl, ap, sym, ◌∙◌, true≢false}
-use Rattle.std.specs.Prelude.{◌↔◌, option_map, if◌then◌else◌}
+-- They stand here since an `impl` takes the proofs of its laws from specs/ alone; so do the lemmas that they need.
+use Rattle.std.proofs.Common.{◌≡◌, ◌≢◌, ℕ, true, List, Option, Some, None, is_some, Result, Ok, refl, ap, sym, ◌∙◌}
+use Rattle.std.specs.Prelude.{option_map, if◌then◌else◌}
 use Rattle.grid_base.specs.Objects.{IsSmall}
 use Rattle.grid_base.specs.Names.{object_of}
 use Rattle.grid_base.specs.declared.calls.GridCall.{GridCall}
 use Rattle.grid_base.specs.declared.calls.GridCall.TheVariants as call
-use Rattle.grid_base.specs.declared.calls.MapCall.{MapCall}
-use Rattle.grid_base.specs.declared.calls.QueueCall.{QueueCall}
 use Rattle.grid_base.specs.declared.calls.Request.{Request}
-use Rattle.map_records.specs.declared.records.MapRecord.{MapRecord}
 use Rattle.wire_parts.specs.declared.refusal.WireRefused.{WireRefused}
 use Rattle.object_store.specs.declared.effects.Effect.{Effect}
 use Rattle.object_store.specs.Records.{Record, suits}
-use Rattle.object_store.specs.Partitions.{Partition, record_at, with_record, nothing_stored}
+use Rattle.object_store.specs.Partitions.{Partition, record_at, with_record}
 use Rattle.object_store.specs.Effects.{after_effect}
 use Rattle.object_store.specs.Spelling.{effect_bytes, snapshot_bytes}
 use Rattle.object_store.specs.Reading.{effect_in, snapshot_in}
@@ -20,15 +18,11 @@ use Rattle.object_store.proofs.EffectLaws.{effect_again}
 use Rattle.object_store.proofs.SnapshotLaws.{snapshot_again}
 use Rattle.object_store.proofs.PartitionLaws.{record_at-suits, record_at-with, with_same_record}
 use Rattle.call_engine.specs.Calls.{Settings, after}
-use Rattle.call_engine.specs.EffectFacts.{EntryEffectIsChange, QueueEffectIsChange, RequestEffectIsChange}
-use Rattle.call_engine.specs.Effects.{map_effect, queue_effect, effect_on, effect_of, applied, applied_to}
+use Rattle.call_engine.specs.Effects.{effect_on, effect_of, applied, applied_to}
 use Rattle.call_engine.specs.Limits.{RequestFits, IsWithin}
 use Rattle.call_engine.specs.Objects.{target_of, partition_object}
-use Rattle.call_engine.specs.EffectLaws.{same_without_map_effect, same_without_queue_effect, map_effect_differs, queue_effect_differs, same_on, differs_on, Makes, made_on}
+use Rattle.call_engine.specs.EffectLaws.{same_on, differs_on, Makes, made_on}
 use Rattle.call_engine.specs.Within.{record_fits, is_spelled}
-
-pub begins_empty : (settings : Settings) → (partition_object settings).empty ≡ nothing_stored
-begins_empty settings = refl
 
 some_mapped : {X Y : Type 0} (f : X → Y) (o : Option X) → is_some o ≡ is_some (option_map f o)
 some_mapped f None = refl
@@ -85,18 +79,3 @@ pub one_spelling : (s t : Partition) → IsSmall IsWithin s → IsSmall IsWithin
 one_spelling s t s_small t_small e =
     let read : Ok s ≡ Ok t = sym (snapshot_again s (is_spelled s s_small)) ∙ ap snapshot_in e ∙ snapshot_again t (is_spelled t t_small) in
     cc
-
--- both directions in one
-
-some_exactly : {X P : Type 0} (o : Option X) → (o ≡ None → P) → ((x : X) → o ≡ Some x → ¬ P) → (is_some o ≡ true) ↔ (¬ P)
-some_exactly None same differs = (λ e. absurd (true≢false (sym e)), λ other. absurd (other (same refl)))
-some_exactly (Some x) same differs = (λ e. differs x refl, λ other. refl)
-
-pub entry_effect_is_change : (settings : Settings) (entry : MapRecord) (c : MapCall) (now : ℕ) → EntryEffectIsChange settings entry c now
-entry_effect_is_change settings entry c now = some_exactly (map_effect settings entry c now) (same_without_map_effect settings entry c now) (map_effect_differs settings entry c now)
-
-pub queue_effect_is_change : (settings : Settings) (items : List (List ℕ)) (c : QueueCall) → QueueEffectIsChange settings items c
-queue_effect_is_change settings items c = some_exactly (queue_effect settings items c) (same_without_queue_effect settings items c) (queue_effect_differs settings items c)
-
-pub request_effect_is_change : (settings : Settings) (s : Partition) (r : Request) (now : ℕ) → RequestEffectIsChange settings s r now
-request_effect_is_change settings s r now = some_exactly (effect_of settings s r now) (same_without_effect settings s r now) (differs_by_effect settings s r now)

@@ -1,4 +1,4 @@
-use Rattle.call_engine.specs.ShelfLaws.{entry_effect_is_change, queue_effect_is_change, request_effect_is_change}
+use Rattle.call_engine.proofs.EffectChanges.{entry_effect_is_change, queue_effect_is_change, request_effect_is_change}
 use Rattle.call_engine.proofs.laws.every_effect_is_a_change.Goals as goal
 
 pub returns-clause-entry : goal.returns-clause-entry
