@@ -16,7 +16,7 @@ use Rattle.partition_protocol.proofs.Extends.{extends}
 use Rattle.partition_protocol.proofs.Walk.{walk}
 use Rattle.partition_protocol.proofs.NamedStates.{node_known, state_after_event}
 use Rattle.link_net.specs.Links.{HasLists, list_of}
-use Rattle.primary_hold.specs.declared.released.Released.{Released}
+use Rattle.primary_hold.specs.declared.answer.CallAnswer.{CallAnswer}
 use Rattle.primary_hold.specs.Rings.{kept}
 use Rattle.replica_node.specs.declared.node.Node.{Node}
 use Rattle.replica_node.specs.Nodes.{node_of, waiting as node_waiting, ring_of, ends_of, Ends, IsUnchanged}
@@ -36,7 +36,7 @@ use Rattle.partition_world.proofs.Rings.{ring_stays}
 -- the answers that wait at a node, if there is one
 use Rattle.partition_protocol.specs.Recorded.{Recorded}
 
-abbrev pub waits_in : {S : Type 0} → Option (Node S) → List Released
+abbrev pub waits_in : {S : Type 0} → Option (Node S) → List CallAnswer
 waits_in None = []
 waits_in (Some node) = node_waiting node
 
@@ -194,7 +194,7 @@ module _ {S R Plan C State : Type 0} (k : Meaning S C State) (records : R → Re
     in_front xs ys x front c = subst (λ zs. Contains zs x) front.1 (Contains-append_left xs front.0 x c)
 
     -- an answer that waits
-    pub answer_stays : (answer : Released) → IsReleased w answer → IsReleased next answer
+    pub answer_stays : (answer : CallAnswer) → IsReleased w answer → IsReleased next answer
     answer_stays answer was = record {
       released = in_front w.released next.released _ longer.1 was.released;
       call = was.call;
@@ -245,7 +245,7 @@ module _ {S R Plan C State : Type 0} (k : Meaning S C State) (records : R → Re
 
     -- and where one does
     module _ (m : ℕ) (node moved : Node S) (there : slice_get world.nodes.items m ≡ Some node) (is : IsMember k next m moved)
-        (answers : (answer : Released) → Contains (node_waiting moved) answer → Contains (node_waiting node) answer ⊎ IsReleased next answer) where
+        (answers : (answer : CallAnswer) → Contains (node_waiting moved) answer → Contains (node_waiting node) answer ⊎ IsReleased next answer) where
       pub agrees_moved : (new : World S R Plan C) → IsRest new → new.nodes.items ≡ slice_set world.nodes.items m moved → next.nodes ≡ slice_set w.nodes m (node_of moved) → Agrees k records new next
       agrees_moved new rest nodes set = record {
         setup = setup_next new rest.setup;
@@ -266,17 +266,17 @@ module _ {S R Plan C State : Type 0} (k : Meaning S C State) (records : R → Re
           each q x (inl (e, same)) = subst (λ j. IsMember k next j x) (sym e) (subst (λ y. IsMember k next m y) same is)
           each q x (inr (d, at)) = member_stays q x at
 
-          old_one : (q : ℕ) (answer : Released) → Contains (waits_in (slice_get world.nodes.items q)) answer → IsReleased next answer
+          old_one : (q : ℕ) (answer : CallAnswer) → Contains (waits_in (slice_get world.nodes.items q)) answer → IsReleased next answer
           old_one q answer c = answer_stays answer (agrees.waiting q answer (subst (λ rs. Contains rs answer) (sym (waiting_in world q)) c))
 
-          moved_one : (answer : Released) → Contains (node_waiting node) answer ⊎ IsReleased next answer → IsReleased next answer
+          moved_one : (answer : CallAnswer) → Contains (node_waiting node) answer ⊎ IsReleased next answer → IsReleased next answer
           moved_one answer (inl c) = old_one m answer (subst (λ x. Contains (waits_in x) answer) (sym there) c)
           moved_one answer (inr r) = r
 
           numbers : (a b : ℕ) → (a ≡ b) ⊎ (a ≢ b)
           numbers a b = grind arith
 
-          waits : (q : ℕ) (answer : Released) → waits_in (slice_get new.nodes.items q) ≡ waits_in (slice_get (slice_set world.nodes.items m moved) q) → Contains (waits_in (slice_get new.nodes.items q)) answer → IsReleased next answer
+          waits : (q : ℕ) (answer : CallAnswer) → waits_in (slice_get new.nodes.items q) ≡ waits_in (slice_get (slice_set world.nodes.items m moved) q) → Contains (waits_in (slice_get new.nodes.items q)) answer → IsReleased next answer
           waits q answer same c = go (numbers q m) (subst (λ rs. Contains rs answer) same c)
             where
               go : (q ≡ m) ⊎ (q ≢ m) → Contains (waits_in (slice_get (slice_set world.nodes.items m moved) q)) answer → IsReleased next answer

@@ -22,11 +22,11 @@ use Rattle.partition_protocol.proofs.EventFacts.{call_refused, call_executed, re
 use Rattle.member_wire.specs.Said.{Contents, said_with, written}
 use Rattle.member_wire.specs.Spelling.{LengthsFit}
 use Rattle.link_net.specs.Links.{Net, HasLists, HasRoom, list_of, spare_of, sent_to, with_sent}
-use Rattle.primary_hold.specs.declared.released.Released.{Released}
+use Rattle.primary_hold.specs.declared.answer.CallAnswer.{CallAnswer}
 use Rattle.primary_hold.specs.declared.calls.Called.{Called}
 use Rattle.primary_hold.specs.declared.calls.Called.TheVariants as came
 use Rattle.primary_hold.specs.Answering.{held_of}
-use Rattle.primary_hold.specs.Calls.{answer_at, called_at}
+use Rattle.primary_hold.specs.Changes.{answer_at}
 use Rattle.primary_hold.specs.Rings.{kept, ring_after}
 use Rattle.replica_node.specs.declared.node.Node.{Node}
 use Rattle.replica_node.specs.declared.role.Role.{Role}
@@ -121,13 +121,13 @@ settled_parts a (h ∷ hs) = go (is_released a h.seen) (settled_parts a hs)
     go false e = refl
 
 -- A node that settled has released some of all these answers, the oldest, and holds the others
-pub record Gives {S : Type 0} (node moved : Node S) (a : ProtocolNode) (all : List Released) : Type 0 where
-  pub released : List Released
+pub record Gives {S : Type 0} (node moved : Node S) (a : ProtocolNode) (all : List CallAnswer) : Type 0 where
+  pub released : List CallAnswer
   pub waiting : node_waiting moved ≡ node_waiting node ++ released
   pub named : map held_of released ≡ now_released a a.held
   pub parts : released ++ held_answers moved ≡ all
 
-pub gives : {S : Type 0} (node moved : Node S) (a : ProtocolNode) (all : List Released) → (node_of moved).held ≡ still_held a a.held → a.held ≡ map held_of all
+pub gives : {S : Type 0} (node moved : Node S) (a : ProtocolNode) (all : List CallAnswer) → (node_of moved).held ≡ still_held a a.held → a.held ≡ map held_of all
     → node_waiting moved ++ held_answers moved ≡ node_waiting node ++ all → Gives node moved a all
 gives node moved a all says holds same = record { released = split.0; waiting = split.1; named = named; parts = split.2 }
   where
@@ -144,11 +144,11 @@ gives node moved a all says holds same = record { released = split.0; waiting = 
         let all_mapped = map_length all in
         omega (arith, one, two, three, whole, mapped, all_mapped)
       where
-        map_length : (rs : List Released) → length (map held_of rs) ≡ length rs
+        map_length : (rs : List CallAnswer) → length (map held_of rs) ≡ length rs
         map_length [] = refl
         map_length (r ∷ rs) = ap suc (map_length rs)
 
-    split : (rs : List Released) × (node_waiting moved ≡ node_waiting node ++ rs) × (rs ++ held_answers moved ≡ all)
+    split : (rs : List CallAnswer) × (node_waiting moved ≡ node_waiting node ++ rs) × (rs ++ held_answers moved ≡ all)
     split = split_longer (node_waiting moved) (held_answers moved) (node_waiting node) all same fewer
 
     named : map held_of split.0 ≡ now_released a a.held
@@ -157,7 +157,7 @@ gives node moved a all says holds same = record { released = split.0; waiting = 
         (ap (λ hs. map held_of split.0 ++ hs) (sym still) ∙ sym (map_append held_of split.0 (held_answers moved)) ∙ ap (map held_of) split.2 ∙ sym holds ∙ sym (settled_parts a a.held))
 
 -- an answer that was released, and is that of what is held for it
-pub released_answer : {C State : Type 0} (o : Object C State) (change_of : State → C → ℕ → Option Change) (u : Machine C) (answer : Released)
+pub released_answer : {C State : Type 0} (o : Object C State) (change_of : State → C → ℕ → Option Change) (u : Machine C) (answer : CallAnswer)
     → Contains u.released (held_of answer) → held_answer o change_of u (held_of answer) ≡ Some answer → IsReleased u answer
 released_answer {C = C} o change_of u answer released is = go (newest_call answer.id u.recorded.log) refl is
   where
@@ -170,10 +170,10 @@ released_answer {C = C} o change_of u answer released is = go (newest_call answe
           released = released;
           call = x;
           executed = contains_in (CalledEntry x) u.recorded.log (newest_in answer.id u.recorded.log x e);
-          id = ap (λ (r : Released). r.id) (sym same);
-          version = ap (λ (r : Released). r.version) (sym same);
-          seen = ap (λ (r : Released). r.seen) (sym same);
-          reply = ap (λ (r : Released). r.reply) (sym same);
+          id = ap (λ (r : CallAnswer). r.id) (sym same);
+          version = ap (λ (r : CallAnswer). r.version) (sym same);
+          seen = ap (λ (r : CallAnswer). r.seen) (sym same);
+          reply = ap (λ (r : CallAnswer). r.reply) (sym same);
         }
 
 -- a ring
@@ -365,10 +365,10 @@ module _ {S R Plan C State : Type 0} (k : Meaning S C State) (records : R → Re
 
       -- answers
 
-      abbrev pub answer : Released
+      abbrev pub answer : CallAnswer
       answer = answer_at after (record { conn = conn; number = number }) (k.object.reply before call now) (k.change_of before call now)
 
-      abbrev pub all : List Released
+      abbrev pub all : List CallAnswer
       all = held_answers node ++ answer ∷ []
 
       pub given : Gives node moved after all
@@ -377,7 +377,7 @@ module _ {S R Plan C State : Type 0} (k : Meaning S C State) (records : R → Re
           (ap (λ hs. hs ++ held_of answer ∷ []) (held_named node) ∙ sym (map_append held_of (held_answers node) (answer ∷ [])))
           (facts.answers ∙ append_assoc (node_waiting node) (held_answers node) (answer ∷ []))
 
-      abbrev pub HasAnswer : Released → Type 0
+      abbrev pub HasAnswer : CallAnswer → Type 0
       HasAnswer a = held_answer k.object k.change_of next (held_of a) ≡ Some a
 
       pub each_answer : Every HasAnswer (given.released ++ held_answers moved)
@@ -399,13 +399,13 @@ module _ {S R Plan C State : Type 0} (k : Meaning S C State) (records : R → Re
           called_released k.object k.change_of w m conn number call now n lives at runs ∙ ap (filter_map (held_answer k.object k.change_of next)) (sym given.named)
           ∙ answers_of_each k.object k.change_of next held_of given.released (every_left HasAnswer given.released (held_answers moved) each_answer)
 
-      pub each_released : (a : Released) → In a given.released → IsReleased next a
+      pub each_released : (a : CallAnswer) → In a given.released → IsReleased next a
       each_released a i =
           released_answer k.object k.change_of next a
           (contains_in (held_of a) next.released (subst (In (held_of a)) (ap (λ (u : Machine C). u.released) (sym next_is)) (in_right (held_of a) w.released (now_released after after.held) (subst (In (held_of a)) given.named (map_in given.released i)))))
           (every_in HasAnswer given.released a (every_left HasAnswer given.released (held_answers moved) each_answer) i)
         where
-          map_in : (rs : List Released) → In a rs → In (held_of a) (map held_of rs)
+          map_in : (rs : List CallAnswer) → In a rs → In (held_of a) (map held_of rs)
           map_in [] i = i
           map_in (r ∷ rs) (inl e) = inl (ap held_of e)
           map_in (r ∷ rs) (inr i) = inr (map_in rs i)
@@ -541,7 +541,7 @@ module _ {S R Plan C State : Type 0} (k : Meaning S C State) (records : R → Re
               (ap (λ (x : Executed C). record w.recorded { log = w.recorded.log ++ CalledEntry x ∷ [] }) (ap (entry version) told_is ∙ entry_is version version_is) ∙ sym (ap (λ (u : Machine C). u.recorded) next_is)) recorded;
         }
 
-        answers_come : (a : Released) → Contains (node_waiting moved) a → Contains (node_waiting node) a ⊎ IsReleased next a
+        answers_come : (a : CallAnswer) → Contains (node_waiting moved) a → Contains (node_waiting node) a ⊎ IsReleased next a
         answers_come a c = go (in_cases a (node_waiting node) given.released (in_contains a (node_waiting node ++ given.released) (subst (λ rs. Contains rs a) given.waiting c)))
           where
             go : In a (node_waiting node) ⊎ In a given.released → Contains (node_waiting node) a ⊎ IsReleased next a

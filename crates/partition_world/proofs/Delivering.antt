@@ -33,7 +33,7 @@ use Rattle.member_wire.specs.Spelling.{spelling, IsSpelled, LengthsFit}
 use Rattle.member_wire.specs.declared.message.MemberMessage.{MemberMessage}
 use Rattle.member_wire.specs.declared.took.Took.{Took}
 use Rattle.member_wire.proofs.SaidAgain.{message_of-said_with}
-use Rattle.primary_hold.specs.declared.released.Released.{Released}
+use Rattle.primary_hold.specs.declared.answer.CallAnswer.{CallAnswer}
 use Rattle.primary_hold.specs.Answering.{held_of}
 use Rattle.primary_hold.specs.Rings.{kept}
 use Rattle.replica_node.specs.declared.node.Node.{Node}
@@ -434,7 +434,7 @@ module _ {S R Plan C State : Type 0} (k : Meaning S C State) (records : R → Re
         freezes = λ v e p z. (λ q. refl, none_held);
       }) at_first.members
 
-      abbrev pub IsRight : Released → Type 0
+      abbrev pub IsRight : CallAnswer → Type 0
       IsRight a = held_answer k.object k.change_of next (held_of a) ≡ Some a
 
       pub held_right : Every IsRight (held_answers node)
@@ -446,7 +446,7 @@ module _ {S R Plan C State : Type 0} (k : Meaning S C State) (records : R → Re
 
       -- what it holds then, and what has been released at it
       pub record Answered : Type 0 where
-        pub out_now : List Released
+        pub out_now : List CallAnswer
         pub waits : node_waiting moved ≡ node_waiting node ++ out_now
         pub now : now_released T.node T.node.held ≡ map held_of out_now
         pub right : Every IsRight out_now
@@ -483,7 +483,7 @@ module _ {S R Plan C State : Type 0} (k : Meaning S C State) (records : R → Re
                   let after = length_map held_of (held_answers moved) in
                   omega (arith, whole, same, before, after)
 
-              between : (rs : List Released) × (node_waiting moved ≡ node_waiting node ++ rs) × (held_answers node ≡ rs ++ held_answers moved)
+              between : (rs : List CallAnswer) × (node_waiting moved ≡ node_waiting node ++ rs) × (held_answers node ≡ rs ++ held_answers moved)
               between = parts_between (node_waiting moved) (held_answers moved) (node_waiting node) (held_answers node) e no_more
 
               all : Every IsRight (between.0 ++ held_answers moved)
@@ -496,7 +496,7 @@ module _ {S R Plan C State : Type 0} (k : Meaning S C State) (records : R → Re
             held = subst (Every IsRight) (sym none) tt;
           }
             where
-              empty : (rs : List Released) → map held_of rs ≡ [] → rs ≡ []
+              empty : (rs : List CallAnswer) → map held_of rs ≡ [] → rs ≡ []
               empty [] z = refl
               empty (r ∷ rs) z = absurd cc
 
@@ -504,10 +504,10 @@ module _ {S R Plan C State : Type 0} (k : Meaning S C State) (records : R → Re
               none = empty (held_answers moved) (sym still_is ∙ ap (still_held T.node) (taking_holds.1 follows))
 
       -- an answer that is released now
-      pub now_is_released : (answer : Released) → In answer answered.out_now → IsReleased next answer
+      pub now_is_released : (answer : CallAnswer) → In answer answered.out_now → IsReleased next answer
       now_is_released answer j = of_call (newest_call (record { conn = answer.id.conn; number = answer.id.number }) next.recorded.log) refl (every_in IsRight answered.out_now answer answered.right j)
         where
-          in_map : (rs : List Released) → In answer rs → In (held_of answer) (map held_of rs)
+          in_map : (rs : List CallAnswer) → In answer rs → In (held_of answer) (map held_of rs)
           in_map [] i = absurd i
           in_map (r ∷ rs) (inl e) = inl (ap held_of e)
           in_map (r ∷ rs) (inr i) = inr (in_map rs i)
@@ -527,13 +527,13 @@ module _ {S R Plan C State : Type 0} (k : Meaning S C State) (records : R → Re
                 released = contains_in (held_of answer) next.released given;
                 call = x;
                 executed = contains_in (Called x) next.recorded.log (newest_in (record { conn = answer.id.conn; number = answer.id.number }) next.recorded.log x e);
-                id = ap (λ (r : Released). r.id) (sym is);
-                version = ap (λ (r : Released). r.version) (sym is);
-                seen = ap (λ (r : Released). r.seen) (sym is);
-                reply = ap (λ (r : Released). r.reply) (sym is);
+                id = ap (λ (r : CallAnswer). r.id) (sym is);
+                version = ap (λ (r : CallAnswer). r.version) (sym is);
+                seen = ap (λ (r : CallAnswer). r.seen) (sym is);
+                reply = ap (λ (r : CallAnswer). r.reply) (sym is);
               }
 
-      pub answers_right : (answer : Released) → Contains (node_waiting moved) answer → Contains (node_waiting node) answer ⊎ IsReleased next answer
+      pub answers_right : (answer : CallAnswer) → Contains (node_waiting moved) answer → Contains (node_waiting node) answer ⊎ IsReleased next answer
       answers_right answer c = go (in_cases answer (node_waiting node) answered.out_now (in_contains answer (node_waiting node ++ answered.out_now) (subst (λ rs. Contains rs answer) answered.waits c)))
         where
           go : In answer (node_waiting node) ⊎ In answer answered.out_now → Contains (node_waiting node) answer ⊎ IsReleased next answer

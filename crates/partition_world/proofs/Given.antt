@@ -7,7 +7,7 @@ use Rattle.partition_protocol.specs.Node.{Node as ProtocolNode}
 use Rattle.partition_protocol.specs.World.{World as Machine, start, pair_state}
 use Rattle.partition_protocol.specs.Events.{Event, run}
 use Rattle.link_net.specs.Links.{list_of}
-use Rattle.primary_hold.specs.declared.released.Released.{Released}
+use Rattle.primary_hold.specs.declared.answer.CallAnswer.{CallAnswer}
 use Rattle.primary_hold.specs.Rings.{kept}
 use Rattle.replica_node.specs.declared.node.Node.{Node}
 use Rattle.replica_node.specs.Nodes.{node_of, contents_of, waiting as node_waiting, held_answers, ring_of, ends_of}
@@ -23,7 +23,7 @@ use Rattle.partition_world.proofs.Places.{get_map, map_set, set_itself, get_set,
 -- what a node gives out and keeps
 use Rattle.partition_protocol.specs.Recorded.{Recorded}
 
-pub record Gives {S State : Type 0} (state : S → State) (node next : Node S) (given : Option Released) : Type 0 where
+pub record Gives {S State : Type 0} (state : S → State) (node next : Node S) (given : Option CallAnswer) : Type 0 where
   pub answers : node_waiting node ≡ option_to_list given ++ node_waiting next
   pub held : held_answers next ≡ held_answers node
   pub same : node_of next ≡ node_of node
@@ -32,21 +32,21 @@ pub record Gives {S State : Type 0} (state : S → State) (node next : Node S) (
   pub ends : ends_of next ≡ ends_of node
 
 module _ {S R Plan C State : Type 0} (k : Meaning S C State) (records : R → Recorded C → Type 0) (limits : C → Type 0) (old : World S R Plan C) (events : List (Event C)) (stands : StandsFor k records limits old events) (m : ℕ) (node next : Node S)
-    (there : slice_get old.nodes.items m ≡ Some node) (given : Option Released) (gives : Gives k.state node next given) where
+    (there : slice_get old.nodes.items m ≡ Some node) (given : Option CallAnswer) (gives : Gives k.state node next given) where
   abbrev pub w : Machine C
   w = run_of k old events
 
   agrees : Agrees k records old w
   agrees = stands.agrees
 
-  was_released : (answer : Released) → Contains (node_waiting node) answer → IsReleased w answer
+  was_released : (answer : CallAnswer) → Contains (node_waiting node) answer → IsReleased w answer
   was_released answer c = agrees.waiting m answer (subst (λ rs. Contains rs answer) (sym (waiting_in old m ∙ ap waits_in there)) c)
 
   -- the answer was released
   pub given_released : IfSome given (IsReleased w)
   given_released = go given gives.answers
     where
-      go : (given : Option Released) → node_waiting node ≡ option_to_list given ++ node_waiting next → IfSome given (IsReleased w)
+      go : (given : Option CallAnswer) → node_waiting node ≡ option_to_list given ++ node_waiting next → IfSome given (IsReleased w)
       go None e = tt
       go (Some answer) e = was_released answer (subst (λ rs. Contains rs answer) (sym e) (0, omega arith, refl))
 
@@ -95,7 +95,7 @@ module _ {S R Plan C State : Type 0} (k : Meaning S C State) (records : R → Re
         each q x (inl (e, is)) = subst (λ j. IsMember k w j x) (sym e) (subst (λ y. IsMember k w m y) is is_member)
         each q x (inr (d, at)) = agrees.each q x at
 
-        waits : (q : ℕ) (answer : Released) → Contains (waits_in (slice_get (slice_set old.nodes.items m next) q)) answer → IsReleased w answer
+        waits : (q : ℕ) (answer : CallAnswer) → Contains (waits_in (slice_get (slice_set old.nodes.items m next) q)) answer → IsReleased w answer
         waits q answer c = go (same_or_not q m) c
           where
             go : (q ≡ m) ⊎ (q ≢ m) → Contains (waits_in (slice_get (slice_set old.nodes.items m next) q)) answer → IsReleased w answer

@@ -33,7 +33,7 @@ use Rattle.partition_protocol.proofs.Safe.{base_positive}
 use Rattle.partition_protocol.proofs.Walk.{walk}
 use Rattle.partition_protocol.proofs.Faithful.{part_in, part_map, run_part}
 use Rattle.partition_protocol.proofs.Answers.{map_append, once_left, once_apart, called_in, Single, run_single, start_single}
-use Rattle.primary_hold.specs.declared.released.Released.{Released}
+use Rattle.primary_hold.specs.declared.answer.CallAnswer.{CallAnswer}
 use Rattle.partition_world.specs.Answers.{id_of, is_call, executed_in, newest_call, state_before, answer_of, held_answer, released_by}
 use Rattle.partition_world.proofs.Newest.{newest_last, before_newest}
 use Rattle.partition_world.proofs.Taking.{member_apart}
@@ -312,7 +312,7 @@ module _ {C State : Type 0} (o : Object C State) (change_of : State → C → �
   before_with b = ap (λ es. state_after o o.empty (before_last (is_call (id_of (entry b))) es)) (history_with b) ∙ ap (state_after o o.empty) (before_newest (pair_history w n.pair) (entry b))
 
   -- the answer of the executed call
-  abbrev pub answer : Released
+  abbrev pub answer : CallAnswer
   answer = record {
     id = record { conn = conn; number = number };
     version = after.pair.version;
@@ -336,7 +336,7 @@ pub released_more : {C State : Type 0} (o : Object C State) (change_of : State �
 released_more o change_of w u hs e = ap (filter_map (held_answer o change_of u)) (ap (drop (length w.released)) e ∙ drop-append_seam w.released hs)
 
 -- answers that are those of what is held
-pub answers_of_held : {C State : Type 0} (o : Object C State) (change_of : State → C → ℕ → Option Change) (u : Machine C) (hs : List Held) (answers : List Released)
+pub answers_of_held : {C State : Type 0} (o : Object C State) (change_of : State → C → ℕ → Option Change) (u : Machine C) (hs : List Held) (answers : List CallAnswer)
     → map (held_answer o change_of u) hs ≡ map (λ a. Some a) answers → filter_map (held_answer o change_of u) hs ≡ answers
 answers_of_held o change_of u [] [] e = refl
 answers_of_held o change_of u [] (a ∷ answers) e = absurd cc
@@ -347,7 +347,7 @@ answers_of_held o change_of u (h ∷ hs) (a ∷ answers) e =
     ap (λ x. cons_option x (filter_map (held_answer o change_of u) hs)) first ∙ ap (λ xs. a ∷ xs) (answers_of_held o change_of u hs answers rest)
 
 -- answers, each of which is that of what is held for it
-pub answers_of_each : {C State : Type 0} (o : Object C State) (change_of : State → C → ℕ → Option Change) (u : Machine C) (held_for : Released → Held) (answers : List Released)
+pub answers_of_each : {C State : Type 0} (o : Object C State) (change_of : State → C → ℕ → Option Change) (u : Machine C) (held_for : CallAnswer → Held) (answers : List CallAnswer)
     → Every (λ a. held_answer o change_of u (held_for a) ≡ Some a) answers → filter_map (held_answer o change_of u) (map held_for answers) ≡ answers
 answers_of_each o change_of u held_for [] h = refl
 answers_of_each o change_of u held_for (a ∷ answers) h =

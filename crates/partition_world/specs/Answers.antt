@@ -10,7 +10,7 @@ use Rattle.partition_protocol.specs.Node.{Held}
 use Rattle.partition_protocol.specs.History.{Entry, Executed, Called, Reset, state_after}
 use Rattle.partition_protocol.specs.World.{World, pair_history}
 use Rattle.partition_protocol.specs.Events.{Event, Call, Deliver, happens}
-use Rattle.primary_hold.specs.declared.released.Released.{Released}
+use Rattle.primary_hold.specs.declared.answer.CallAnswer.{CallAnswer}
 
 abbrev pub id_of : {C : Type 0} → Executed C → CallId
 id_of x = record { conn = x.conn; number = x.number }
@@ -33,7 +33,7 @@ abbrev pub state_before : {C State : Type 0} → Object C State → World C → 
 state_before o w x = state_after o o.empty (before_last (is_call (id_of x)) (pair_history w (record { version = x.version; count = x.seen })))
 
 -- the answer of an executed call, with how the call changed a value
-abbrev pub answer_of : {C State : Type 0} → Object C State → (State → C → ℕ → Option Change) → World C → Executed C → Released
+abbrev pub answer_of : {C State : Type 0} → Object C State → (State → C → ℕ → Option Change) → World C → Executed C → CallAnswer
 answer_of o change_of w x = record {
   id = id_of x;
   version = x.version;
@@ -43,11 +43,11 @@ answer_of o change_of w x = record {
 }
 
 -- the answer that was held for a call of the log
-abbrev pub held_answer : {C State : Type 0} → Object C State → (State → C → ℕ → Option Change) → World C → Held → Option Released
+abbrev pub held_answer : {C State : Type 0} → Object C State → (State → C → ℕ → Option Change) → World C → Held → Option CallAnswer
 held_answer o change_of w held = option_map (answer_of o change_of w) (newest_call (record { conn = held.conn; number = held.number }) w.recorded.log)
 
 -- the answers that were released between two moments of a world, in order
-abbrev pub released_by : {C State : Type 0} → Object C State → (State → C → ℕ → Option Change) → World C → World C → List Released
+abbrev pub released_by : {C State : Type 0} → Object C State → (State → C → ℕ → Option Change) → World C → World C → List CallAnswer
 released_by o change_of before after = filter_map (held_answer o change_of after) (drop (length before.released) after.released)
 
 -- a member takes a step at a call or a message that reaches it
@@ -57,5 +57,5 @@ is_at (Deliver from to place) member = to == member
 is_at event member = false
 
 -- the answers that an event releases at a member
-abbrev pub released_at : {C State : Type 0} → Object C State → (State → C → ℕ → Option Change) → World C → Event C → ℕ → List Released
+abbrev pub released_at : {C State : Type 0} → Object C State → (State → C → ℕ → Option Change) → World C → Event C → ℕ → List CallAnswer
 released_at o change_of w event member = if is_at event member then released_by o change_of w (happens o w event).world else []

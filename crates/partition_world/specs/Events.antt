@@ -1,9 +1,9 @@
 -- The events and outcomes of the code, as those of the protocol.
 use Rattle.std.specs.Prelude.{Option, Some, None}
 use Rattle.member_wire.specs.Said.{took_of}
-use Rattle.partition_protocol.specs.Execution.{PartitionLost as IsLost, WrongTarget as IsElsewhere, Migrating as IsFrozen}
 use Rattle.partition_protocol.specs.Service.{MoveRefused as WhyNotMoved, ReopenRefused as WhyNotReopened}
 use Rattle.partition_protocol.specs.Events as protocol
+use Rattle.replica_node.specs.Calls.{refused_as}
 use Rattle.table_service.specs.Refusals.{why_not_moved, why_not_reopened}
 use Rattle.partition_world.specs.declared.event.Event.{Event}
 use Rattle.partition_world.specs.declared.event.Event.TheVariants as event
@@ -29,9 +29,7 @@ event_of event.Reopen = protocol.Reopen
 abbrev pub outcome_of : CallOutcome → protocol.Outcome
 outcome_of (call.Held seen) = protocol.HeldAt seen
 outcome_of (call.Released seen) = protocol.ReleasedAt seen
-outcome_of (call.PartitionLost version) = protocol.Refused (IsLost version)
-outcome_of (call.WrongTarget version) = protocol.Refused (IsElsewhere version)
-outcome_of (call.Migrating version) = protocol.Refused (IsFrozen version)
+outcome_of (call.Refused why) = protocol.Refused (refused_as why)
 
 -- a refusal of an event is never want of memory, which is no event
 

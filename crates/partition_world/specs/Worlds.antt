@@ -8,17 +8,13 @@ use Rattle.partition_protocol.specs.World.{World as Machine, map_or, start, pair
 use Rattle.partition_protocol.specs.Events.{Event, Happened as HappenedThere, happens, run}
 use Rattle.partition_protocol.specs.Arrivals.{NamedOnce, arrivals, name}
 use Rattle.link_net.specs.Links.{HasLists}
-use Rattle.primary_hold.specs.declared.released.Released.{Released}
+use Rattle.primary_hold.specs.declared.answer.CallAnswer.{CallAnswer}
 use Rattle.primary_hold.specs.Rings.{kept}
 use Rattle.replica_node.specs.declared.node.Node.{Node}
-use Rattle.replica_node.specs.declared.refused.NodeRefused.{NodeRefused}
-use Rattle.replica_node.specs.declared.refused.NodeRefused.TheVariants as refused
 use Rattle.replica_node.specs.Nodes.{node_of, contents_of, waiting as node_waiting, held_answers, ring_of, ends_of}
 use Rattle.table_service.specs.Services.{Setup, service_of, setup_of as service_setup}
 use Rattle.partition_world.specs.declared.world.World.{World}
 use Rattle.partition_world.specs.declared.event.Happened.{Happened}
-use Rattle.partition_world.specs.declared.event.Happened.TheVariants as happened
-use Rattle.partition_world.specs.declared.event.CallOutcome.TheVariants as called
 use Rattle.grid_base.specs.Shelves.{Meaning}
 use Rattle.partition_world.specs.Events.{EventWithin, happened_of}
 use Rattle.partition_world.specs.Answers.{held_answer, released_at}
@@ -39,11 +35,11 @@ abbrev pub node_count : {S R Plan C : Type 0} → World S R Plan C → ℕ
 node_count world = vec_len world.nodes
 
 -- the answers that were released at a member and weren't given out yet, the oldest first
-abbrev pub waiting : {S R Plan C : Type 0} → World S R Plan C → ℕ → List Released
+abbrev pub waiting : {S R Plan C : Type 0} → World S R Plan C → ℕ → List CallAnswer
 waiting {S = S} world member = map_or (slice_get world.nodes.items member) [] (λ (node : Node S). node_waiting node)
 
 -- The answer was released, and is that of a call in the log
-pub record IsReleased {C : Type 0} (w : Machine C) (answer : Released) : Type 0 where
+pub record IsReleased {C : Type 0} (w : Machine C) (answer : CallAnswer) : Type 0 where
   pub released : Contains w.released (record { conn = answer.id.conn; number = answer.id.number; seen = answer.seen })
   pub call : Executed C
   pub executed : Contains w.recorded.log (Called call)
@@ -77,7 +73,7 @@ pub record Agrees {S R Plan C State : Type 0} (k : Meaning S C State) (records :
   pub links : HasLists world.links (flying k w)
   pub fit : HasFit k w
   pub recorded : records world.recorder w.recorded
-  pub waiting : (m : ℕ) (answer : Released) → Contains (waiting world m) answer → IsReleased w answer
+  pub waiting : (m : ℕ) (answer : CallAnswer) → Contains (waiting world m) answer → IsReleased w answer
 
 -- the protocol's world after these events
 abbrev pub run_of : {S R Plan C State : Type 0} → Meaning S C State → World S R Plan C → List (Event C) → Machine C
@@ -130,10 +126,3 @@ pair_of_member {S = S} world m = option_map (λ (node : Node S). ((node_of node)
 -- and that of the member that leads, if there is one
 abbrev pub leading_pair : {S R Plan C : Type 0} → World S R Plan C → Option ℕ → Option (ℕ × ℕ)
 leading_pair world leader = option_and_then (pair_of_member world) leader
-
--- What a call came to that a member didn't execute, where it isn't for want of memory
-abbrev pub HasRefused : {S R Plan C State : Type 0} → Meaning S C State → (R → Recorded C → Type 0) → World S R Plan C → World S R Plan C → List (Event C) → Event C → NodeRefused → Type 0
-HasRefused k records old new events event (refused.PartitionLost version) = HasRun k records old new events event (happened.Called (called.PartitionLost version))
-HasRefused k records old new events event (refused.WrongTarget version) = HasRun k records old new events event (happened.Called (called.WrongTarget version))
-HasRefused k records old new events event (refused.Migrating version) = HasRun k records old new events event (happened.Called (called.Migrating version))
-HasRefused k records old new events event refused.Memory = IsKept k records old new events

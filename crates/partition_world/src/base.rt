@@ -2,25 +2,9 @@ ghost use Rattle.std.specs.Prelude.{◌≡◌, nat_lt, if◌then◌else◌};
 ghost use Rattle.partition_protocol.specs.Node.{no_pair};
 ghost use Rattle.partition_protocol.specs.History.{begins_anew};
 
+use partition_protocol::Pair;
 use partition_table::Row;
 use std::marker::Model;
-
-/// A version, and a count of effects in it: the name of a state.
-#[derive(Clone, Copy)]
-pub(crate) struct Pair {
-    pub(crate) version: u32,
-    pub(crate) count: u32,
-}
-
-impl Model for Pair {
-    ghost use Rattle.partition_protocol.specs.Node.{Pair};
-
-    ghost Value = { Pair };
-
-    ghost view = { λ p. record { version = p.version; count = p.count } };
-
-    ghost inverse = { λ p. record { version = p.version; count = p.count } };
-}
 
 /// The pair with which the primary of a version began it, and the reset of that version's row.
 #[derive(Clone, Copy)]
@@ -42,25 +26,21 @@ impl Model for Base {
 }
 
 impl Base {
-    /// With what the primary of a row begins its version, which had contents of that version and count: with none where
-    /// the row was reopened since.
-    pub(crate) fn begun(row: &Row, version: u32, count: u32) -> Base
+    /// With what the primary of a row begins its version, which had contents of that name: with none where the row was
+    /// reopened since.
+    pub(crate) fn begun(row: &Row, had: Pair) -> Base
         ensures { result ≡ record {
           version = row.now.version;
           reset = row.now.reset;
-          pair = if nat_lt version row.now.reset then no_pair else record { version = version; count = count };
+          pair = if nat_lt had.version row.now.reset then no_pair else had;
         } }
     {
-        let (base_version, base_count) = if version < row.reset {
-            (0, 0)
-        } else {
-            (version, count)
-        };
+        let begins = if had.version < row.reset { Pair::none() } else { had };
         Base {
             version: row.version,
             reset: row.reset,
-            base_version,
-            base_count,
+            base_version: begins.version,
+            base_count: begins.count,
         }
     }
 

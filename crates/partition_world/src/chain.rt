@@ -1,4 +1,4 @@
-use crate::base::Pair;
+use partition_protocol::Pair;
 
 /// How a history goes on from version to version.
 #[derive(Drop)]

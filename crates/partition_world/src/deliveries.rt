@@ -16,8 +16,8 @@ use crate::in_flight::{MOST_SENT, MOST_TOLD};
 use crate::records::Records;
 use crate::world::World;
 use grid_base::{Memory, Shelf};
-use member_wire::{MemberMessage, Outbox, Took, read_member};
-use replica_node::Contents;
+use member_wire::{MemberMessage, Took, read_member};
+use replica_node::Taken;
 use std::alloc::{AllocError, Global};
 
 /// How many messages a member sends another one at most as it takes this one: a catch-up where it brings a row, and else
@@ -107,16 +107,15 @@ impl<S: Shelf, R: Records<S::Call>> World<S, R> {
         let message = self.message(alloc, from, to, place)?;
         self.recorder.reserve()?;
         self.links.reserve(to, most_sent(&message))?;
-        let mut out = Outbox::new(alloc);
         let node = &mut self.nodes[usize::from(to)];
         let known = node.known().version;
-        let Contents { version, count, .. } = node.contents();
-        let took = node.take(alloc, from, &message, &mut out)?;
+        let pair = node.contents().pair;
+        let Taken { took, sent } = node.take(alloc, from, &message)?;
         let begins = node.known().version > known && node.is_primary();
-        let base = Base::begun(node.known(), version, count);
+        let base = Base::begun(node.known(), pair);
         self.recorder.begin_if(begins, base);
         self.links.lose(from, to, place);
-        self.links.send_all(to, out.into_vec());
+        self.links.send_all(to, sent.into_vec());
         Ok(Happened::Took(took))
     }
 

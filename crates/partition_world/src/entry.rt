@@ -2,7 +2,7 @@ ghost use Rattle.std.specs.Prelude.{◌≡◌};
 ghost use Rattle.partition_protocol.specs.History.{is_in_pair};
 ghost use Rattle.partition_world.specs.RecordedEntries.{entry_of};
 
-use crate::base::Pair;
+use partition_protocol::Pair;
 use grid_base::{Bytes, CallId, Moment};
 
 /// What stands in a partition's history.

@@ -1,4 +1,4 @@
-use grid_base::{CallId, MemberId, Moment};
+use grid_base::{CallId, MemberId, Moment, PartitionRefused};
 use member_wire::Took;
 use table_service::{MoveRefused, ReopenRefused};
 
@@ -70,12 +70,8 @@ pub enum CallOutcome {
     Held { seen: u32 },
     /// Executed at that count; its answer was released at once.
     Released { seen: u32 },
-    /// Refused: the row that the member knows is lost.
-    PartitionLost { version: u32 },
-    /// Refused: another member is primary.
-    WrongTarget { version: u32 },
-    /// Refused: the member gives the partition up.
-    Migrating { version: u32 },
+    /// The member executes none.
+    Refused(PartitionRefused),
 }
 
 /// What an event came to.

@@ -69,12 +69,13 @@ impl<S: Shelf, R: Records<S::Call>> World<S, R> {
             return Ok(Happened::Nothing);
         }
         self.links.reserve(end, MOST_SENT)?;
-        let mut out = Outbox::new(alloc);
-        if !self.nodes[usize::from(end)].resend(alloc, &mut out)? {
-            return Ok(Happened::Nothing);
+        match self.nodes[usize::from(end)].resend(alloc)? {
+            None => Ok(Happened::Nothing),
+            Some(out) => {
+                self.links.send_all(end, out.into_vec());
+                Ok(Happened::Done)
+            }
         }
-        self.links.send_all(end, out.into_vec());
-        Ok(Happened::Done)
     }
 
     fn resend_service(&mut self, alloc: Global) -> Result<Happened, Memory>

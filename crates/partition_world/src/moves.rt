@@ -11,7 +11,6 @@ use crate::records::Records;
 use crate::world::World;
 use grid_base::{MemberId, Memory, Shelf};
 use member_wire::Outbox;
-use replica_node::Contents;
 use std::alloc::{AllocError, Global};
 use table_service::{Advanced, MoveRefused, ReopenRefused};
 
@@ -142,7 +141,7 @@ impl<S: Shelf, R: Records<S::Call>> World<S, R> {
     {
         let leader = self.recorder.leader()?;
         let node = self.nodes.get(usize::from(leader))?;
-        let Contents { version, count, .. } = node.contents();
-        Some((version, count))
+        let pair = node.contents().pair;
+        Some((pair.version, pair.count))
     }
 }

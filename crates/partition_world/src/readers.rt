@@ -4,7 +4,6 @@ ghost use Rattle.partition_protocol.specs.Node.{Node as ProtocolNode};
 ghost use Rattle.partition_protocol.specs.Service.{is_idle};
 ghost use Rattle.partition_protocol.specs.World.{is_live, trail};
 ghost use Rattle.partition_protocol.specs.Events.{Event as ProtocolEvent};
-ghost use Rattle.replica_node.specs.Contents.{pair_of};
 ghost use Rattle.partition_world.specs.ContentsOf.{pair_at, contents_at, holds_at};
 ghost use Rattle.grid_base.specs.Shelves.{meaning};
 ghost use Rattle.partition_world.specs.RecordedEntries.{entry_of};
@@ -83,7 +82,7 @@ impl<S: Shelf, R: Records<S::Call>> World<S, R> {
     pub fn contents(&self, member: MemberId) -> Contents<'_, S>
         requires { member < node_count self.now }
         ensures pair { (plan : S.Plan) (events : List (ProtocolEvent S.Call)) → let k = meaning S.model plan in
-            StandsFor k R.records S.model.within_limits self.now events → pair_of result ≡ pair_at (run_of k self.now events) member }
+            StandsFor k R.records S.model.within_limits self.now events → result.pair ≡ pair_at (run_of k self.now events) member }
         ensures state { (plan : S.Plan) (events : List (ProtocolEvent S.Call)) → let k = meaning S.model plan in
             StandsFor k R.records S.model.within_limits self.now events → S.model.state result.shelf.now ≡ contents_at k.object (run_of k self.now events) member }
     {

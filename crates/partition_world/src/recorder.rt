@@ -8,7 +8,7 @@ ghost use Rattle.partition_world.specs.Openings.{AreWithin, has_reset};
 ghost use Rattle.partition_world.specs.Chains.{told, begun_with};
 ghost use Rattle.partition_world.specs.RecordedEntries.{entry_of};
 
-use crate::base::{Base, Pair};
+use crate::base::Base;
 use crate::chain::Chain;
 use crate::entry::Entry;
 use crate::history::Trail;
@@ -16,6 +16,7 @@ use crate::opening::Opening;
 use crate::records::Records;
 use crate::standing_row::StandingRow;
 use grid_base::{MemberId, Memory};
+use partition_protocol::Pair;
 use partition_table::Row;
 use std::alloc::Global;
 

@@ -10,7 +10,7 @@ use crate::records::Records;
 use grid_base::{MemberId, Memory, PartitionId, Shelf};
 use link_net::Links;
 use partition_table::Row;
-use primary_hold::Released;
+use primary_hold::CallAnswer;
 use replica_node::Node;
 use std::alloc::Global;
 use table_service::Service;
@@ -70,7 +70,7 @@ impl<S: Shelf, R: Records<S::Call>> World<S, R> {
     }
 
     /// Gives out the oldest released answer of a member that wasn't given out yet, in constant time and with no memory.
-    pub fn pop_released(&mut self, member: MemberId) -> Option<Released>
+    pub fn pop_released(&mut self, member: MemberId) -> Option<CallAnswer>
         ensures given { IfSome result (λ answer. waiting self.old member ≡ answer ∷ waiting self.new member) }
         ensures none { IsNone result ↔ (waiting self.old member ≡ []) }
         ensures kept { IfNone result (waiting self.new member ≡ waiting self.old member) }

@@ -18,11 +18,14 @@ use Rattle.replica_node.specs.Nodes.{node_of, contents_of, waiting, held_answers
 use Rattle.replica_node.specs.Sending.{Fits}
 
 -- what became of the call, in the protocol's words
+abbrev pub refused_as : PartitionRefused → Reached
+refused_as (PartitionLost version) = IsLost version
+refused_as (WrongTarget version) = IsElsewhere version
+refused_as (Migrating version) = IsFrozen version
+
 abbrev pub reached_as : Option PartitionRefused → Reached
 reached_as None = Executes
-reached_as (Some (PartitionLost version)) = IsLost version
-reached_as (Some (WrongTarget version)) = IsElsewhere version
-reached_as (Some (Migrating version)) = IsFrozen version
+reached_as (Some why) = refused_as why
 
 -- The member has executed the call: its answer is held until each backup has what the call saw, and its effect was written to each
 pub record HasExecuted {S Plan Call State : Type 0} (model : ShelfModel S Plan Call State) (plan : Plan) (id : CallId) (call : Call) (now : ℕ) (old new : Node S) (e : Execution) : Type 0 where
@@ -42,6 +45,7 @@ pub record HasExecuted {S Plan Call State : Type 0} (model : ShelfModel S Plan C
       let answer = answer_at after id ((model.object plan).reply state call now) (model.change_of plan state call now) in
       waiting new ++ held_answers new ≡ waiting old ++ held_answers old ++ answer ∷ []
   pub ring : ring_of new ≡ ring_after (model.effect_of plan (model.state (contents_of old)) call now) (ring_of old)
+  pub version : e.version ≡ (node_of old).pair.version
   pub seen : let changes = (model.object plan).changes (model.state (contents_of old)) call now in
       e.seen ≡ (executing changes id.conn id.number (node_of old)).pair.count
   pub reply : e.reply ≡ (model.object plan).reply (model.state (contents_of old)) call now
@@ -51,4 +55,4 @@ pub record HasExecuted {S Plan Call State : Type 0} (model : ShelfModel S Plan C
 -- A refusal tells what became of the call, and changes nothing
 abbrev pub HasCalled : {S Plan Call State : Type 0} → ShelfModel S Plan Call State → Plan → CallId → Call → ℕ → Node S → Node S → Called → Type 0
 HasCalled model plan id call now old new (Executed e) = HasExecuted model plan id call now old new e
-HasCalled model plan id call now old new (Refused why) = (reached (member_of old) (node_of old) ≡ reached_as (Some why)) × IsUnchanged model.state old new
+HasCalled model plan id call now old new (Refused why) = (reached (member_of old) (node_of old) ≡ refused_as why) × IsUnchanged model.state old new

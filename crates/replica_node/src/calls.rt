@@ -18,6 +18,8 @@ use std::alloc::Global;
 /// A call that was executed.
 #[derive(Debug, Drop)]
 pub struct Execution {
+    /// The version in which it was executed.
+    pub version: u32,
     /// The count of effects that it saw, its own included.
     pub seen: u32,
     /// A copy of its reply.
@@ -90,10 +92,11 @@ impl<S: Shelf> Node<S> {
         let change = ContentsChange::of_effect(executed.effect.as_ref());
         change.perform(alloc, &mut self.shelf)?;
         self.facts.count_call(id, executed);
-        let seen = self.facts.pair().count;
+        let pair = self.facts.pair();
         self.facts.settle();
         Ok(Execution {
-            seen,
+            version: pair.version,
+            seen: pair.count,
             reply,
             is_held: self.facts.holds_any(),
             sent,

@@ -58,7 +58,8 @@ returns-clause-ok g c =
       answers = settles.answers ∙ counts.answers ∙ ap (λ l. l ++ answer_at (node_of c.count_call.new.self) id executed.reply executed.change ∷ []) room.answers
           ∙ ap (λ n. answer n executed.reply executed.change) counted ∙ ap (λ r. answer after r executed.change) says.reply ∙ ap (answer after (object.reply state call now)) says.change;
       ring = settles.ring ∙ counts.ring ∙ ap (ring_after executed.effect) room.ring ∙ ap (λ e. ring_after e (ring_of old.facts)) says.effect;
-      seen = ap (λ (p : Pair). p.count) (c.seen.view_is ∙ c.pair.ensures) ∙ ap (λ (n : ProtocolNode). n.pair.count) counted;
+      version = ap (λ (p : Pair). p.version) (c.pair.view_is ∙ c.pair-pair.ensures) ∙ ap (λ (n : ProtocolNode). n.pair.version) counted;
+      seen = ap (λ (p : Pair). p.count) (c.pair.view_is ∙ c.pair-pair.ensures) ∙ ap (λ (n : ProtocolNode). n.pair.count) counted;
       reply = c.in_ok-reply.ensures ∙ says.reply;
       held = c.holds_any.ensures;
       ends = ap (λ n. let e : Ends = record { member = n; service = old.service } in e) (settles.member ∙ counts.member ∙ room.member);
