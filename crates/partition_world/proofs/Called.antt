@@ -1,5 +1,5 @@
 -- A call that a live member executes or refuses: the world of the code goes on as the protocol's.
-use Rattle.std.proofs.Common.{◌≡◌, ◌≢◌, ℕ, zero, suc, ◌+◌, ◌-◌, ◌<◌, ◌≤◌, ◌^◌, Bool, true, false, cond, ◌==◌, nat_lt, not, List, [], ◌∷◌, ◌++◌, map, length, take, drop, reverse, Option, Some, None, is_some, slice_get, slice_set, vec_len, Contains, All, refl, ap, sym, ◌∙◌, subst, arith, ◌⊎◌, inl, inr, append-nil, append_assoc, length-append}
+use Rattle.std.proofs.Common.{◌≡◌, ◌≢◌, ℕ, zero, suc, ◌+◌, ◌-◌, ◌<◌, ◌≤◌, ◌^◌, Bool, true, false, cond, ◌==◌, nat_lt, not, if◌then◌else◌, List, [], ◌∷◌, ◌++◌, map, length, take, drop, reverse, Option, Some, None, is_some, slice_get, slice_set, vec_len, Contains, All, refl, ap, sym, ◌∙◌, subst, arith, ◌⊎◌, inl, inr, append-nil, append_assoc, length-append}
 use Rattle.std.proofs.lemmas.List.{append_cancel_right, reverse-append, length-reverse, length-drop, take-append-drop}
 use Rattle.std.specs.List.{filter_map}
 use Rattle.grid_base.specs.Objects.{Object, IsSmall}
@@ -23,19 +23,15 @@ use Rattle.member_wire.specs.Said.{Contents, said_with, written}
 use Rattle.member_wire.specs.Spelling.{LengthsFit}
 use Rattle.link_net.specs.Links.{Net, HasLists, HasRoom, list_of, spare_of, sent_to, with_sent}
 use Rattle.primary_hold.specs.declared.answer.CallAnswer.{CallAnswer}
-use Rattle.primary_hold.specs.declared.calls.Called.{Called}
-use Rattle.primary_hold.specs.declared.calls.Called.TheVariants as came
 use Rattle.primary_hold.specs.Answering.{held_of}
 use Rattle.primary_hold.specs.Changes.{answer_at}
 use Rattle.primary_hold.specs.Rings.{kept, ring_after}
+use Rattle.grid_base.specs.declared.refusal.PartitionRefused.{PartitionRefused}
+use Rattle.grid_base.specs.declared.refusal.PartitionRefused.TheVariants as why_not
 use Rattle.replica_node.specs.declared.node.Node.{Node}
-use Rattle.replica_node.specs.declared.role.Role.{Role}
-use Rattle.replica_node.specs.declared.role.Role.TheVariants.{Leads, Follows}
-use Rattle.replica_node.specs.declared.refused.NodeRefused.{NodeRefused}
-use Rattle.replica_node.specs.declared.refused.NodeRefused.TheVariants as refused
-use Rattle.replica_node.specs.Roles.{role_node, role_held}
+use Rattle.replica_node.specs.declared.calls.Execution.{Execution}
+use Rattle.replica_node.specs.Calls.{refused_as}
 use Rattle.replica_node.specs.Nodes.{node_of, contents_of, waiting as node_waiting, held_answers, ring_of, ends_of, member_of, Ends, IsUnchanged}
-use Rattle.replica_node.specs.Refusals.{RefusedAs}
 use Rattle.replica_node.specs.Sending.{Fits}
 use Rattle.table_service.specs.Services.{Setup, service_of}
 use Rattle.partition_world.specs.declared.world.World.{World}
@@ -45,11 +41,11 @@ use Rattle.partition_world.specs.declared.event.CallOutcome.{CallOutcome}
 use Rattle.partition_world.specs.declared.event.CallOutcome.TheVariants as call_outcome
 use Rattle.grid_base.specs.Shelves.{Meaning}
 use Rattle.partition_world.specs.Shelves.{IsShelf}
-use Rattle.partition_world.specs.Events.{happened_of}
+use Rattle.partition_world.specs.Events.{came_to, happened_of}
 use Rattle.partition_world.specs.Answers.{newest_call, answer_of, held_answer, released_by, released_at}
 use Rattle.partition_world.specs.InFlight.{contents_in, effect_bytes, IsRing}
 use Rattle.partition_world.specs.Sending.{HasNewest, IsNamed, flying}
-use Rattle.partition_world.specs.Worlds.{setup_of, run_of, waiting, IsReleased, IsMember, Agrees, Comes, HasRun, IsKept, HasRefused}
+use Rattle.partition_world.specs.Worlds.{setup_of, run_of, waiting, IsReleased, IsMember, Agrees, Comes, HasRun, IsKept}
 use Rattle.partition_world.proofs.EffectsLead.{lawful, Stood}
 use Rattle.partition_world.proofs.SmallStates.{every_of_all}
 use Rattle.partition_world.proofs.FewOnLinks.{count_to}
@@ -105,11 +101,7 @@ same_each f g (y ∷ ys) e =
 
 -- its held answers are those that the protocol says
 pub held_named : {S : Type 0} (node : Node S) → (node_of node).held ≡ map held_of (held_answers node)
-held_named {S = S} node = go node.role
-  where
-    go : (role : Role S) → (role_node role).held ≡ map held_of (role_held role)
-    go (Leads primary) = refl
-    go (Follows follower) = refl
+held_named node = refl
 
 -- what is released comes before what is still held
 pub settled_parts : (a : ProtocolNode) (hs : List Held) → now_released a hs ++ still_held a hs ≡ hs
@@ -237,7 +229,7 @@ module _ (ring : List (List ℕ)) (count : ℕ) where
   called_kept (Some new) true t i bytes l near e = newer_kept ring new bytes count i l near e
 
 -- What a node did that executed a call, where its contents were this state: the facts of its contract
-pub record IsCalled {S C State : Type 0} (k : Meaning S C State) (conn number : ℕ) (call : C) (now : ℕ) (node moved : Node S) (out : List (ℕ × List ℕ)) (called : Called) (s : State) : Type 0 where
+pub record IsCalled {S C State : Type 0} (k : Meaning S C State) (conn number : ℕ) (call : C) (now : ℕ) (node moved : Node S) (out : List (ℕ × List ℕ)) (called : Execution) (s : State) : Type 0 where
   pub says : node_of moved ≡ settled (executing (k.object.changes s call now) conn number (node_of node))
   pub contents : k.state (contents_of moved) ≡ k.object.after s call now
   pub sent : (contents : Contents) (bytes : List ℕ) → k.effect_of s call now ≡ Some bytes
@@ -250,13 +242,11 @@ pub record IsCalled {S C State : Type 0} (k : Meaning S C State) (conn number : 
   pub answers : node_waiting moved ++ held_answers moved
       ≡ node_waiting node ++ held_answers node ++ answer_at (executing (k.object.changes s call now) conn number (node_of node)) (record { conn = conn; number = number }) (k.object.reply s call now) (k.change_of s call now) ∷ []
   pub ring : ring_of moved ≡ ring_after (k.effect_of s call now) (ring_of node)
-  pub outcome : called ≡ called_at (executing (k.object.changes s call now) conn number (node_of node)) (k.object.reply s call now)
+  pub version : called.version ≡ (node_of node).pair.version
+  pub seen : called.seen ≡ (executing (k.object.changes s call now) conn number (node_of node)).pair.count
+  pub reply : called.reply ≡ k.object.reply s call now
+  pub held : called.is_held ≡ not (is_empty (node_of moved).held)
   pub ends : ends_of moved ≡ ends_of node
-
--- what the world says of it: the outcome, the count that the call saw, and its reply
-abbrev pub came_to : Called → CallOutcome × ℕ × List ℕ
-came_to (came.Released seen reply) = (call_outcome.Released seen, seen, reply)
-came_to (came.Held seen reply) = (call_outcome.Held seen, seen, reply)
 
 module _ {S R Plan C State : Type 0} (k : Meaning S C State) (records : R → Recorded C → Type 0) (limits : C → Type 0) (within : ℕ → State → Type 0) (applied : List ℕ → State → Option State) (shelf : IsShelf k limits within applied)
     (world : World S R Plan C) (events : List (Event C)) (m conn number : ℕ) (call : C) (now : ℕ) (comes : Comes k records limits world events (Call m conn number call now)) where
@@ -331,17 +321,16 @@ module _ {S R Plan C State : Type 0} (k : Meaning S C State) (records : R → Re
                 ∙ ap (λ rs. waiting world q ++ rs) (sym (quiet.none_released k records limits within applied shelf world events event comes (ap (λ (u : Machine C). u.released) same_next) q));
           }
 
-      pub refused_run : (lives : is_live w m ≡ true) (why : NodeRefused) → RefusedAs (reached (member_of node) n) why → HasRefused k records world new events event why
-      refused_run lives (refused.PartitionLost version) e =
-          unmoved_kin (Refused (IsLost version)) (happened.Called (call_outcome.PartitionLost version)) (call_refused k.object w m conn number call now n (IsLost version) lives at (ap (λ j. reached j n) (sym number_is) ∙ e) (λ z. absurd cc)) refl
-      refused_run lives (refused.WrongTarget version) e =
-          unmoved_kin (Refused (IsElsewhere version)) (happened.Called (call_outcome.WrongTarget version)) (call_refused k.object w m conn number call now n (IsElsewhere version) lives at (ap (λ j. reached j n) (sym number_is) ∙ e) (λ z. absurd cc)) refl
-      refused_run lives (refused.Migrating version) e =
-          unmoved_kin (Refused (IsFrozen version)) (happened.Called (call_outcome.Migrating version)) (call_refused k.object w m conn number call now n (IsFrozen version) lives at (ap (λ j. reached j n) (sym number_is) ∙ e) (λ z. absurd cc)) refl
-      refused_run lives refused.Memory e = kept_kin
+      pub refused_run : (lives : is_live w m ≡ true) (why : PartitionRefused) → reached (member_of node) n ≡ refused_as why → HasRun k records world new events event (happened.Called (call_outcome.Refused why))
+      refused_run lives (why_not.PartitionLost version) e =
+          unmoved_kin (Refused (IsLost version)) (happened.Called (call_outcome.Refused (why_not.PartitionLost version))) (call_refused k.object w m conn number call now n (IsLost version) lives at (ap (λ j. reached j n) (sym number_is) ∙ e) (λ z. absurd cc)) refl
+      refused_run lives (why_not.WrongTarget version) e =
+          unmoved_kin (Refused (IsElsewhere version)) (happened.Called (call_outcome.Refused (why_not.WrongTarget version))) (call_refused k.object w m conn number call now n (IsElsewhere version) lives at (ap (λ j. reached j n) (sym number_is) ∙ e) (λ z. absurd cc)) refl
+      refused_run lives (why_not.Migrating version) e =
+          unmoved_kin (Refused (IsFrozen version)) (happened.Called (call_outcome.Refused (why_not.Migrating version))) (call_refused k.object w m conn number call now n (IsFrozen version) lives at (ap (λ j. reached j n) (sym number_is) ∙ e) (λ z. absurd cc)) refl
 
     -- a node that executed it
-    module _ (lives : is_live w m ≡ true) (runs : reached m n ≡ Executes) (moved : Node S) (out : List (ℕ × List ℕ)) (called : Called) (said : IsCalled k conn number call now node moved out called (k.state (contents_of node))) where
+    module _ (lives : is_live w m ≡ true) (runs : reached m n ≡ Executes) (moved : Node S) (out : List (ℕ × List ℕ)) (called : Execution) (said : IsCalled k conn number call now node moved out called (k.state (contents_of node))) where
       abbrev pub before : State
       before = pair_state k.object w n.pair
 
@@ -492,33 +481,30 @@ module _ {S R Plan C State : Type 0} (k : Meaning S C State) (records : R → Re
 
       -- the world
 
-      abbrev pub entry : ℕ → CallOutcome × ℕ × List ℕ → Executed C
-      entry version told = record { conn = conn; number = number; version = version; seen = told.1; now = now; call = call; reply = told.2 }
+      abbrev pub entry : Execution → Executed C
+      entry e = record { conn = conn; number = number; version = e.version; seen = e.seen; now = now; call = call; reply = e.reply }
 
-      pub entry_is : (version : ℕ) → version ≡ (node_of moved).pair.version → entry version (came_to called) ≡ entry_of k.object before conn number call now after.pair
-      entry_is version e =
-          ap (λ v. entry v (came_to called)) (e ∙ ap (λ (x : ProtocolNode). x.pair.version) facts.says) ∙ ap (λ c. entry after.pair.version (came_to c)) facts.outcome
-          ∙ go (is_empty (settled after).held)
-        where
-          go : (b : Bool) → entry after.pair.version (came_to (cond b (came.Released after.pair.count (k.object.reply before call now)) (came.Held after.pair.count (k.object.reply before call now))))
-              ≡ entry_of k.object before conn number call now after.pair
-          go true = refl
-          go false = refl
+      pub entry_is : entry called ≡ entry_of k.object before conn number call now after.pair
+      entry_is =
+          ap (λ v. let x : Executed C = record { conn = conn; number = number; version = v; seen = called.seen; now = now; call = call; reply = called.reply } in x) facts.version
+          ∙ ap (λ n'. let x : Executed C = record { conn = conn; number = number; version = after.pair.version; seen = n'; now = now; call = call; reply = called.reply } in x) facts.seen
+          ∙ ap (λ r. let x : Executed C = record { conn = conn; number = number; version = after.pair.version; seen = after.pair.count; now = now; call = call; reply = r } in x) facts.reply
 
-      pub outcome_is : happened_of (happened.Called (came_to called).0) ≡ (happens k.object w event).outcome
+      pub outcome_is : happened_of (happened.Called (came_to called)) ≡ (happens k.object w event).outcome
       outcome_is =
-          ap (λ c. happened_of (happened.Called (came_to c).0)) facts.outcome ∙ go (is_empty (settled after).held)
+          ap (λ b. happened_of (happened.Called (if b then call_outcome.Held called.seen else call_outcome.Released called.seen))) (facts.held ∙ ap (λ (x : ProtocolNode). not (is_empty x.held)) facts.says)
+          ∙ ap (λ c. happened_of (happened.Called (if not (is_empty (settled after).held) then call_outcome.Held c else call_outcome.Released c))) facts.seen
+          ∙ go (is_empty (settled after).held)
           ∙ sym (ap (λ (x : HappenedThere C). x.outcome) (call_executed k.object w m conn number call now n lives at runs))
         where
-          go : (b : Bool) → happened_of (happened.Called (came_to (cond b (came.Released after.pair.count (k.object.reply before call now)) (came.Held after.pair.count (k.object.reply before call now)))).0)
-              ≡ cond b (ReleasedAt after.pair.count) (HeldAt after.pair.count)
+          go : (b : Bool) → happened_of (happened.Called (if not b then call_outcome.Held after.pair.count else call_outcome.Released after.pair.count)) ≡ cond b (ReleasedAt after.pair.count) (HeldAt after.pair.count)
           go true = refl
           go false = refl
 
       module _ (new : World S R Plan C) (setup_stays : setup_of new ≡ setup_of world) (members : new.members ≡ world.members) (size : vec_len new.nodes ≡ vec_len world.nodes) (crashed : new.crashed.items ≡ world.crashed.items)
           (service : service_of new.service ≡ service_of world.service) (ends : new.links.ends ≡ world.links.ends) (links : HasLists new.links (with_sent m out (list_of world.links)))
-          (version : ℕ) (version_is : version ≡ (node_of moved).pair.version) (told : CallOutcome × ℕ × List ℕ) (told_is : told ≡ came_to called)
-          (recorded : records new.recorder (record w.recorded { log = w.recorded.log ++ CalledEntry (entry version told) ∷ [] }))
+          (told : CallOutcome) (told_is : told ≡ came_to called)
+          (recorded : records new.recorder (record w.recorded { log = w.recorded.log ++ CalledEntry (entry called) ∷ [] }))
           (nodes : new.nodes.items ≡ slice_set world.nodes.items m moved) where
         pub packets_next : next.packets ≡ w.packets ++ packets_from m sent
         packets_next = ap (λ (u : Machine C). u.packets) next_is
@@ -538,7 +524,7 @@ module _ {S R Plan C State : Type 0} (k : Meaning S C State) (records : R → Re
               ∙ sym (bytes.sent_lists k (lawful k limits within applied shelf) w stood.good stood.led event m contents sent packets_next named f t);
           fit = bytes.fits_next k (lawful k limits within applied shelf) w stood.good stood.led event agrees.fit w.packets m contents sent (λ p i. i) packets_next named sent_fits;
           recorded = subst (records new.recorder)
-              (ap (λ (x : Executed C). record w.recorded { log = w.recorded.log ++ CalledEntry x ∷ [] }) (ap (entry version) told_is ∙ entry_is version version_is) ∙ sym (ap (λ (u : Machine C). u.recorded) next_is)) recorded;
+              (ap (λ (x : Executed C). record w.recorded { log = w.recorded.log ++ CalledEntry x ∷ [] }) entry_is ∙ sym (ap (λ (u : Machine C). u.recorded) next_is)) recorded;
         }
 
         answers_come : (a : CallAnswer) → Contains (node_waiting moved) a → Contains (node_waiting node) a ⊎ IsReleased next a
@@ -567,5 +553,5 @@ module _ {S R Plan C State : Type 0} (k : Meaning S C State) (records : R → Re
                 ap waits_in (set_get_other world.nodes.items m q moved d) ∙ sym (append-nil (waits_in (slice_get world.nodes.items q)))
                 ∙ ap (λ rs. waits_in (slice_get world.nodes.items q) ++ rs) (sym none)
 
-        pub executed_run : HasRun k records world new events event (happened.Called told.0)
-        executed_run = record { outcome = ap (λ x. happened_of (happened.Called x.0)) told_is ∙ outcome_is; agrees = agrees_next; waits = waits_next }
+        pub executed_run : HasRun k records world new events event (happened.Called told)
+        executed_run = record { outcome = ap (λ x. happened_of (happened.Called x)) told_is ∙ outcome_is; agrees = agrees_next; waits = waits_next }

@@ -37,12 +37,9 @@ use Rattle.primary_hold.specs.declared.answer.CallAnswer.{CallAnswer}
 use Rattle.primary_hold.specs.Answering.{held_of}
 use Rattle.primary_hold.specs.Rings.{kept}
 use Rattle.replica_node.specs.declared.node.Node.{Node}
-use Rattle.replica_node.specs.declared.role.Role.{Role}
-use Rattle.replica_node.specs.declared.role.Role.TheVariants.{Leads, Follows}
 use Rattle.replica_node.specs.Nodes.{node_of, contents_of, waiting as node_waiting, held_answers, ring_of, Ends, ends_of, member_of, service_of as service_number, carried_by, IsUnchanged}
 use Rattle.replica_node.specs.Sending.{Fits}
 use Rattle.replica_node.specs.Takings.{Leaves, IsFit, row_in, ring_after_taking, answers_left}
-use Rattle.replica_node.specs.Roles.{role_node, role_held, role_ring}
 use Rattle.table_service.specs.Services.{Setup, service_of}
 use Rattle.partition_world.specs.declared.world.World.{World}
 use Rattle.partition_world.specs.declared.event.Happened.TheVariants as happened
@@ -139,18 +136,10 @@ some_each f g (y ∷ ys) h = ap (λ x. x ∷ map f (map g ys)) h.0 ∙ ap (λ xs
 -- what a node keeps
 
 pub held_is : {S : Type 0} (node : Node S) → (node_of node).held ≡ map held_of (held_answers node)
-held_is {S = S} node = go node.role
-  where
-    go : (role : Role S) → (role_node role).held ≡ map held_of (role_held role)
-    go (Leads primary) = refl
-    go (Follows follower) = refl
+held_is node = refl
 
 pub has_newest : {S : Type 0} (node : Node S) → HasNewest (node_of node) (kept (ring_of node) (node_of node).pair.count)
-has_newest {S = S} node = newest_kept (node_of node) (ring_of node) (go node.role)
-  where
-    go : (role : Role S) → length (role_ring role) ≡ min recent_limit (role_node role).recent
-    go (Leads primary) = primary.hold.newest
-    go (Follows follower) = refl
+has_newest node = newest_kept (node_of node) (ring_of node) node.facts.newest
 
 -- an answer is held until it is released
 pub settle_parts : (a : ProtocolNode) (hs : List Held) → now_released a hs ++ still_held a hs ≡ hs

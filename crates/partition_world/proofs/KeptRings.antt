@@ -20,7 +20,8 @@ use Rattle.member_wire.specs.Said.{Contents, said_with}
 use Rattle.grid_base.specs.Shelves.{Meaning}
 use Rattle.partition_world.specs.Shelves.{IsShelf}
 use Rattle.partition_world.specs.Sending.{HasNewest}
-use Rattle.replica_node.specs.Takings.{goes_on, ring_after_taking, row_in}
+use Rattle.primary_hold.specs.Adopting.{goes_on}
+use Rattle.replica_node.specs.Takings.{ring_after_taking, row_in}
 use Rattle.primary_hold.specs.Rings.{kept, ring_after}
 use Rattle.partition_world.proofs.EffectsLead.{Stood}
 use Rattle.partition_world.proofs.Executing.{KeepsOn}

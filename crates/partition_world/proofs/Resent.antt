@@ -23,7 +23,7 @@ use Rattle.link_net.specs.Links.{Net, HasLists, HasRoom, list_of, spare_of, sent
 use Rattle.primary_hold.specs.Rings.{kept}
 use Rattle.replica_node.specs.declared.node.Node.{Node}
 use Rattle.replica_node.specs.Nodes.{node_of, contents_of, member_of, service_of, ring_of, carried_by, Ends}
-use Rattle.replica_node.specs.Sending.{Fits}
+use Rattle.replica_node.specs.Sending.{Fits, Sends}
 use Rattle.partition_world.specs.declared.world.World.{World}
 use Rattle.partition_world.specs.declared.event.Happened.TheVariants as happened
 use Rattle.grid_base.specs.Shelves.{Meaning}
@@ -108,9 +108,9 @@ module _ {S R Plan C State : Type 0} (k : Meaning S C State) (records : R → Re
       (resend_other k.object w m (node_of node) lives at (ap (λ j. is_primary (node_of node).known j) (sym member_is) ∙ follows)) (over net) happened.Nothing refl
       (record { setup = refl; members = refl; size = refl; crashed = refl; service = refl; ends = ends; links = lists; recorded = comes.stands.agrees.recorded }) refl
 
-  -- what the node wrote into an empty outbox
-  module _ (leads_here : is_primary (node_of node).known (member_of node) ≡ true) (items out before : List (ℕ × List ℕ)) (same : items ≡ out) (begun : before ≡ [])
-      (sent : out ≡ before ++ map (written (carried_by k.snapshot_of k.state node)) (cond (is_primary (node_of node).known (member_of node)) (sent_again (service_of node) (node_of node)) [])) where
+  -- what the node sends again
+  module _ (leads_here : is_primary (node_of node).known (member_of node) ≡ true) (items out : List (ℕ × List ℕ)) (same : items ≡ out)
+      (sent : Sends (carried_by k.snapshot_of k.state node) (sent_again (service_of node) (node_of node)) [] out) where
     abbrev pub contents : Contents
     contents = carried_by k.snapshot_of k.state node
 
@@ -120,13 +120,11 @@ module _ {S R Plan C State : Type 0} (k : Meaning S C State) (records : R → Re
     leads : is_primary (node_of node).known m ≡ true
     leads = ap (λ j. is_primary (node_of node).known j) (sym member_is) ∙ leads_here
 
-    said : cond (is_primary (node_of node).known (member_of node)) (sent_again (service_of node) (node_of node)) [] ≡ again
-    said = ap (λ b. cond b (sent_again (service_of node) (node_of node)) []) leads_here ∙ ap (λ j. sent_again j (node_of node)) service_is
+    said : sent_again (service_of node) (node_of node) ≡ again
+    said = ap (λ j. sent_again j (node_of node)) service_is
 
     wrote : items ≡ map (written contents) again
-    wrote =
-        same ∙ sent ∙ ap (λ ms. ms ++ map (written contents) (cond (is_primary (node_of node).known (member_of node)) (sent_again (service_of node) (node_of node)) [])) begun
-        ∙ ap (map (written contents)) said
+    wrote = same ∙ sent.out ∙ ap (map (written contents)) said
 
     so : happens k.object w (Resend m) ≡ done (with_packets w (w.packets ++ packets_from m again))
     so = resend_live k.object w m (node_of node) lives at leads
@@ -172,12 +170,12 @@ module _ {S R Plan C State : Type 0} (k : Meaning S C State) (records : R → Re
     named =
         again_named k limits within applied shelf w stood m (node_of node) lives at leads stood_next (kept (ring_of node) (node_of node).pair.count) (is.ring leads) (is.newest leads) (k.state (contents_of node)) is.contents
 
-    pub resent : All (Fits contents) (cond (is_primary (node_of node).known (member_of node)) (sent_again (service_of node) (node_of node)) []) → (reserved net : Net) → HasLists reserved (list_of world.links) → net.ends ≡ world.links.ends
+    pub resent : (reserved net : Net) → HasLists reserved (list_of world.links) → net.ends ≡ world.links.ends
         → HasLists net (with_sent m items (list_of reserved)) → HasRun k records world (over net) events (Resend m) happened.Done
-    resent fits reserved net kept_lists ends lists =
+    resent reserved net kept_lists ends lists =
         quiet.packets_run k records limits within applied shelf world events (Resend m) comes (w.packets ++ packets_from m again) Done so (over net) happened.Done refl refl refl refl refl refl ends comes.stands.agrees.recorded flown
         (bytes.fits_next k law w stood.good stood.led (Resend m) comes.stands.agrees.fit w.packets m contents again (λ p j. j) packets named
-        (every_of_all (λ (s : Sent). LengthsFit (said_with contents s.message)) again (subst (All (Fits contents)) said fits)))
+        (every_of_all (λ (s : Sent). LengthsFit (said_with contents s.message)) again (subst (All (Fits contents)) said sent.fits)))
         refl
       where
         flown : HasLists net (flying k next)

@@ -1,8 +1,9 @@
 -- The events and outcomes of the code, as those of the protocol.
-use Rattle.std.specs.Prelude.{Option, Some, None}
+use Rattle.std.specs.Prelude.{if◌then◌else◌, Option, Some, None}
 use Rattle.member_wire.specs.Said.{took_of}
 use Rattle.partition_protocol.specs.Service.{MoveRefused as WhyNotMoved, ReopenRefused as WhyNotReopened}
 use Rattle.partition_protocol.specs.Events as protocol
+use Rattle.replica_node.specs.declared.calls.Execution.{Execution}
 use Rattle.replica_node.specs.Calls.{refused_as}
 use Rattle.table_service.specs.Refusals.{why_not_moved, why_not_reopened}
 use Rattle.partition_world.specs.declared.event.Event.{Event}
@@ -30,6 +31,10 @@ abbrev pub outcome_of : CallOutcome → protocol.Outcome
 outcome_of (call.Held seen) = protocol.HeldAt seen
 outcome_of (call.Released seen) = protocol.ReleasedAt seen
 outcome_of (call.Refused why) = protocol.Refused (refused_as why)
+
+-- what a call came to that was executed
+abbrev pub came_to : Execution → CallOutcome
+came_to execution = if execution.is_held then call.Held execution.seen else call.Released execution.seen
 
 -- a refusal of an event is never want of memory, which is no event
 

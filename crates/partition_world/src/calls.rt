@@ -2,6 +2,7 @@ ghost use Rattle.std.specs.Prelude.{◌≡◌, List, true, IfOk, IfErr, OnErr};
 ghost use Rattle.partition_protocol.specs.World.{is_live};
 ghost use Rattle.partition_protocol.specs.Events.{Event as ProtocolEvent, Call as CallEvent};
 ghost use Rattle.grid_base.specs.Shelves.{meaning};
+ghost use Rattle.partition_world.specs.Events.{came_to};
 ghost use Rattle.partition_world.specs.Worlds.{Comes, HasRun, IsKept, KeepsSetup, run_of};
 
 use crate::entry::Entry;
@@ -70,12 +71,13 @@ impl<S: Shelf, R: Records<S::Call>> World<S, R> {
             Called::Executed(execution) => execution,
             Called::Refused(why) => return Ok(CallOutcome::Refused(why)),
         };
+        let outcome = came_to(&execution);
         let Execution {
             version,
             seen,
             reply,
-            is_held,
             sent,
+            ..
         } = execution;
         self.recorder.record(Entry::Call {
             id,
@@ -86,10 +88,18 @@ impl<S: Shelf, R: Records<S::Call>> World<S, R> {
             reply,
         });
         self.links.send_all(member, sent.into_vec());
-        Ok(if is_held {
-            CallOutcome::Held { seen }
-        } else {
-            CallOutcome::Released { seen }
-        })
+        Ok(outcome)
+    }
+}
+
+/// What a call came to that was executed.
+fn came_to(execution: &Execution) -> CallOutcome
+    ensures { result ≡ came_to execution.now }
+{
+    let seen = execution.seen;
+    if execution.is_held {
+        CallOutcome::Held { seen }
+    } else {
+        CallOutcome::Released { seen }
     }
 }

@@ -59,7 +59,7 @@ returns-in_err-took-clause-err g c plan events comes =
     let room = c.in_ok-reserve-2.ensures in
     let said = c.in_err-took.ensures in
     on_err _ (IsKept (meaning S.model plan) g.R.Records.records old new events)
-    (kept_so _ _ S.model.within_limits S.model.within S.model.applied shelf old events c.args.from c.args.to c.args.place comes node there c.take.new.self said.err said.ends new
+    (kept_so _ _ S.model.within_limits S.model.within S.model.applied shelf old events c.args.from c.args.to c.args.place comes node there c.take.new.self said.err said.err.ends new
     (record { setup = refl; members = refl; size = refl; crashed = refl; service = refl; ends = room.ends; links = room.lists; recorded = c.in_ok-reserve.ensures.records _ comes.stands.agrees.recorded })
     (ap (λ i. slice_set old.nodes.items i c.take.new.self) c.from.ensures))
 
@@ -79,7 +79,7 @@ send_all-requires g c to =
     let room = c.in_ok-reserve-2.ensures in
     subst (λ ms. length (sent_to to ms) ≤ spare_of c.lose.new.self c.args.to to) (sym c.into_vec.ensures)
     (few _ _ S.model.within_limits S.model.within S.model.applied shelf old events c.args.from c.args.to c.args.place comes node there msg.0 msg.1 lives c.in_ok-message.message (c.in_ok-message.ensures c.requires.comes.0 events comes msg.0 msg.1)
-    _ c.take.new.out c.most_sent.result c.reserve-2.new.self c.lose.new.self c.in_ok-took.ensures.sent c.most_sent.ensures room.ok room.ends c.lose.ensures.spare to)
+    _ c.in_ok-took.field-0.sent c.most_sent.result c.reserve-2.new.self c.lose.new.self c.in_ok-took.ensures.ok.sent c.most_sent.ensures room.ok room.ends c.lose.ensures.spare to)
 
 pub returns-clause-ok : goal.returns-clause-ok
 returns-clause-ok g c plan events comes =
@@ -94,8 +94,8 @@ returns-clause-ok g c plan events comes =
     let there = stands_there old.nodes.items c.args.to c.from.result node c.from.ensures (inside _ _ S.model.within_limits old events comes.stands c.args.to lives) c.index_mut-node.ensures.value in
     let msg = message_at _ _ S.model.within_limits S.model.within S.model.applied shelf old events c.args.from c.args.to c.args.place comes _ refl c.requires.there in
     let says = c.in_ok-message.ensures plan events comes msg.0 msg.1 in
-    let facts = c.in_ok-took.ensures in
-    let taken : HasTaken (meaning S.model plan) S.model.within S.model.applied c.args.from c.in_ok-message.message node moved (took_of c.in_ok-took.took) c.take.new.out = record {
+    let facts = c.in_ok-took.ensures.ok in
+    let taken : HasTaken (meaning S.model plan) S.model.within S.model.applied c.args.from c.in_ok-message.message node moved (took_of c.in_ok-took.field-0.took) c.in_ok-took.field-0.sent = record {
       node = facts.node;
       took_is = facts.took;
       sent = facts.sent;
@@ -112,16 +112,15 @@ returns-clause-ok g c plan events comes =
       | goal.else-known v ↦ older_begins c.known.result.now.version c.known-2.result.now.version (node_of node).known.version (node_of moved).known.version c.if-known.begins (is_primary (node_of moved).known c.args.to)
           (ap (λ (r : Row). r.version) c.known.ensures) (ap (λ (r : Row). r.version) c.known-2.ensures) v.begins-is v.if-known.false
     ] in
-    let base = c.begun-base.ensures ∙ ap (λ (r : Row). base_in r (record { version = c.contents-version.result.version; count = c.contents-version.result.count })) c.known-3.ensures
-    ∙ ap (base_in (node_of moved).known) c.contents-version.ensures.pair in
+    let base = c.begun-base.ensures ∙ ap (λ (r : Row). base_in r c.contents-pair.result.pair) c.known-3.ensures ∙ ap (base_in (node_of moved).known) c.contents-pair.ensures.pair in
     let new = record old { nodes = with_item old.nodes c.from.result moved; links = c.send_all.new.self; recorder = c.begin_if.new.self } in
     let room = c.in_ok-reserve-2.ensures in
-    member_run _ _ S.model.within_limits S.model.within S.model.applied shelf old events c.args.from c.args.to c.args.place comes node there msg.0 msg.1 lives c.in_ok-message.message says moved (took_of c.in_ok-took.took) c.take.new.out taken
-    new c.in_ok-took.took refl
-    (rest_then _ _ S.model.within_limits S.model.within S.model.applied shelf old events c.args.from c.args.to c.args.place comes node there msg.0 msg.1 lives c.in_ok-message.message says moved (took_of c.in_ok-took.took) c.take.new.out taken
+    member_run _ _ S.model.within_limits S.model.within S.model.applied shelf old events c.args.from c.args.to c.args.place comes node there msg.0 msg.1 lives c.in_ok-message.message says moved (took_of c.in_ok-took.field-0.took) c.in_ok-took.field-0.sent taken
+    new c.in_ok-took.field-0.took refl
+    (rest_then _ _ S.model.within_limits S.model.within S.model.applied shelf old events c.args.from c.args.to c.args.place comes node there msg.0 msg.1 lives c.in_ok-message.message says moved (took_of c.in_ok-took.field-0.took) c.in_ok-took.field-0.sent taken
     new refl refl refl refl refl (c.send_all.ensures.ends ∙ c.lose.ensures.ends ∙ room.ends)
-    (lists_then _ _ S.model.within_limits S.model.within S.model.applied shelf old events c.args.from c.args.to c.args.place comes node there msg.0 msg.1 lives c.in_ok-message.message says moved (took_of c.in_ok-took.took) c.take.new.out taken
+    (lists_then _ _ S.model.within_limits S.model.within S.model.applied shelf old events c.args.from c.args.to c.args.place comes node there msg.0 msg.1 lives c.in_ok-message.message says moved (took_of c.in_ok-took.field-0.took) c.in_ok-took.field-0.sent taken
     c.reserve-2.new.self c.lose.new.self c.send_all.new.self room.lists c.lose.ensures.lists (λ f t. c.send_all.ensures.lists f t ∙ ap (λ ms. with_sent c.args.to ms (list_of c.lose.new.self) f t) c.into_vec.ensures))
-    (recorded_then _ _ S.model.within_limits S.model.within S.model.applied shelf old events c.args.from c.args.to c.args.place comes node there msg.0 msg.1 lives c.in_ok-message.message says moved (took_of c.in_ok-took.took) c.take.new.out taken
+    (recorded_then _ _ S.model.within_limits S.model.within S.model.applied shelf old events c.args.from c.args.to c.args.place comes node there msg.0 msg.1 lives c.in_ok-message.message says moved (took_of c.in_ok-took.field-0.took) c.in_ok-took.field-0.sent taken
     c.reserve.new.self c.begin_if.new.self c.if-known.begins c.begun-base.result (c.in_ok-reserve.ensures.records _ comes.stands.agrees.recorded) c.begin_if.ensures begins base))
     (ap (λ i. slice_set old.nodes.items i moved) c.from.ensures)
