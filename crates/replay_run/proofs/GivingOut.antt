@@ -2,9 +2,11 @@
 use Rattle.std.proofs.Common.{◌≡◌, ◌≢◌, ℕ, Bool, true, false, cond, Option, List, [], ◌∷◌, ◌++◌, map, refl, ap, sym, subst, ◌∙◌, append_assoc}
 use Rattle.grid_base.specs.declared.calls.Request.{Request}
 use Rattle.partition_protocol.specs.Events.{Event}
-use Rattle.primary_hold.specs.declared.released.Released.{Released}
+use Rattle.primary_hold.specs.declared.answer.CallAnswer.{CallAnswer}
+use Rattle.partition_protocol.specs.Recorded.{Recorded}
+use Rattle.partition_world.specs.Recorders.{KeepsAll}
 use Rattle.partition_world.specs.declared.world.World.{World}
-use Rattle.partition_world.specs.Meanings.{Meaning}
+use Rattle.grid_base.specs.Shelves.{Meaning}
 use Rattle.partition_world.specs.Worlds.{StandsFor, setup_of, waiting}
 use Rattle.call_engine.specs.declared.env.GridEnv.{GridEnv}
 use Rattle.call_engine.specs.Calls.{Settings}
@@ -18,8 +20,8 @@ use Rattle.replay_run.specs.Grids.{FormOf, GridWorld, StandsForEvents}
 use Rattle.replay_run.specs.WorldCalls.{texts_of, message_of, with_answers, goes_out, going_out, GivesOut}
 
 -- Some of the answers were given out.
-pub record GaveOut {S Env C State : Type 0} (meaning_in : Env → Meaning S C State) (limits : C → Type 0) (old new : World S Env C) (member : ℕ) : Type 0 where
-  pub stands : (env : Env) (events : List (Event C)) → StandsFor (meaning_in env) limits old events → StandsFor (meaning_in env) limits new events
+pub record GaveOut {S R Plan C State : Type 0} (meaning_in : Plan → Meaning S C State) (records : R → Recorded C → Type 0) (limits : C → Type 0) (old new : World S R Plan C) (member : ℕ) : Type 0 where
+  pub stands : (plan : Plan) (events : List (Event C)) → StandsFor (meaning_in plan) records limits old events → StandsFor (meaning_in plan) records limits new events
   pub setup : setup_of new ≡ setup_of old
   pub others : (other : ℕ) → other ≢ member → waiting new other ≡ waiting old other
 
@@ -27,35 +29,35 @@ pub record GaveOut {S Env C State : Type 0} (meaning_in : Env → Meaning S C St
 
 module _ (r : Run) (own : Option ℕ) (line : ℕ) where
   -- the text of those that go out
-  abbrev pub text_out : List Released → List ℕ
+  abbrev pub text_out : List CallAnswer → List ℕ
   text_out answers = texts_of (map (message_of line) (going_out r own answers))
 
   -- the table once they went out
-  abbrev pub table_out : Table → List Released → Table
+  abbrev pub table_out : Table → List CallAnswer → Table
   table_out table answers = with_answers table line (going_out r own answers)
 
-  module _ (answer : Released) (answers rest : List Released) (first : answers ≡ answer ∷ rest) where
+  module _ (answer : CallAnswer) (answers rest : List CallAnswer) (first : answers ≡ answer ∷ rest) where
     out_first : (goes : Bool) → goes_out r own answer ≡ goes → going_out r own answers ≡ cond goes (answer ∷ going_out r own rest) (going_out r own rest)
     out_first goes e = ap (going_out r own) first ∙ ap (λ b. cond b (answer ∷ going_out r own rest) (going_out r own rest)) e
 
     pub more_text : (out : List ℕ) → goes_out r own answer ≡ true → (out ++ appended_text (message_of line answer)) ++ text_out rest ≡ out ++ text_out answers
     more_text out goes =
-        append_assoc out (appended_text (message_of line answer)) (text_out rest) ∙ ap (λ (xs : List Released). out ++ texts_of (map (message_of line) xs)) (sym (out_first true goes))
+        append_assoc out (appended_text (message_of line answer)) (text_out rest) ∙ ap (λ (xs : List CallAnswer). out ++ texts_of (map (message_of line) xs)) (sym (out_first true goes))
 
     pub more_table : (table : Table) → goes_out r own answer ≡ true → table_out (with_answer table answer.id line) rest ≡ table_out table answers
     more_table table goes = ap (with_answers table line) (sym (out_first true goes))
 
     pub same_text : (out : List ℕ) → goes_out r own answer ≡ false → out ++ text_out rest ≡ out ++ text_out answers
-    same_text out stays = ap (λ (xs : List Released). out ++ texts_of (map (message_of line) xs)) (sym (out_first false stays))
+    same_text out stays = ap (λ (xs : List CallAnswer). out ++ texts_of (map (message_of line) xs)) (sym (out_first false stays))
 
     pub same_table : (table : Table) → goes_out r own answer ≡ false → table_out table rest ≡ table_out table answers
     same_table table stays = ap (with_answers table line) (sym (out_first false stays))
 
-module _ {S Env C State : Type 0} {meaning_in : Env → Meaning S C State} {limits : C → Type 0} where
-  pub gave_none : (world : World S Env C) (member : ℕ) → GaveOut meaning_in limits world world member
+module _ {S R Plan C State : Type 0} {meaning_in : Plan → Meaning S C State} {records : R → Recorded C → Type 0} {limits : C → Type 0} where
+  pub gave_none : (world : World S R Plan C) (member : ℕ) → GaveOut meaning_in records limits world world member
   gave_none world member = record { stands = λ env events s. s; setup = refl; others = λ other apart. refl }
 
-  pub gave_more : (first second third : World S Env C) (member : ℕ) → GaveOut meaning_in limits first second member → GaveOut meaning_in limits second third member → GaveOut meaning_in limits first third member
+  pub gave_more : (first second third : World S R Plan C) (member : ℕ) → GaveOut meaning_in records limits first second member → GaveOut meaning_in records limits second third member → GaveOut meaning_in records limits first third member
   gave_more first second third member a b = record {
     stands = λ env events s. b.stands env events (a.stands env events s);
     setup = b.setup ∙ a.setup;
@@ -63,24 +65,24 @@ module _ {S Env C State : Type 0} {meaning_in : Env → Meaning S C State} {limi
   }
 
   -- a world that gave out at most one answer
-  pub popped : (old new : World S Env C) (member : ℕ) → ((env : Env) (events : List (Event C)) → StandsFor (meaning_in env) limits old events → StandsFor (meaning_in env) limits new events) → setup_of new ≡ setup_of old
-      → ((other : ℕ) → other ≢ member → waiting new other ≡ waiting old other) → GaveOut meaning_in limits old new member
+  pub popped : (old new : World S R Plan C) (member : ℕ) → ((plan : Plan) (events : List (Event C)) → StandsFor (meaning_in plan) records limits old events → StandsFor (meaning_in plan) records limits new events) → setup_of new ≡ setup_of old
+      → ((other : ℕ) → other ≢ member → waiting new other ≡ waiting old other) → GaveOut meaning_in records limits old new member
   popped old new member stands setup others = record { stands = stands; setup = setup; others = others }
 
-  pub gives_out : (old new : World S Env C) (member : ℕ) → GaveOut meaning_in limits old new member → waiting new member ≡ [] → GivesOut meaning_in limits old new member
+  pub gives_out : (old new : World S R Plan C) (member : ℕ) → GaveOut meaning_in records limits old new member → waiting new member ≡ [] → GivesOut meaning_in records limits old new member
   gives_out old new member gave given = record { stands = gave.stands; setup = gave.setup; given = given; others = gave.others }
 
 -- the same of a grid's world that goes by settings
-pub record HasGivenOut {V : Type 0} {T : V → Type 0} (settings : Settings) (old new : GridWorld V T) (member : ℕ) : Type 0 where
+pub record HasGivenOut (settings : Settings) (old new : GridWorld) (member : ℕ) : Type 0 where
   pub stands : (events : List (Event Request)) → StandsForEvents settings old events → StandsForEvents settings new events
   pub setup : setup_of new ≡ setup_of old
   pub given : waiting new member ≡ []
   pub others : (other : ℕ) → other ≢ member → waiting new other ≡ waiting old other
 
-pub has_given_out : {V : Type 0} {T : V → Type 0} (form : FormOf V T) (settings : Settings) (env : GridEnv V T) (old new : GridWorld V T) (member : ℕ) → settings_of form env ≡ settings
-    → GivesOut (λ (e : GridEnv V T). grid_meaning (settings_of form e)) RequestFits old new member → HasGivenOut settings old new member
+pub has_given_out : {V : Type 0} {T : V → Type 0} (form : FormOf V T) (settings : Settings) (env : GridEnv V T) (old new : GridWorld) (member : ℕ) → settings_of form env ≡ settings
+    → GivesOut grid_meaning KeepsAll RequestFits old new member → HasGivenOut settings old new member
 has_given_out form settings env old new member goes_by out = record {
-  stands = λ events. subst (λ s. StandsForEvents s old events → StandsForEvents s new events) goes_by (out.stands env events);
+  stands = λ events. subst (λ s. StandsForEvents s old events → StandsForEvents s new events) goes_by (out.stands (settings_of form env) events);
   setup = out.setup;
   given = out.given;
   others = out.others;

@@ -8,7 +8,7 @@ use Rattle.grid_base.specs.declared.calls.Request.{Request}
 use Rattle.partition_protocol.specs.World.{World}
 use Rattle.partition_protocol.specs.Events.{happens}
 use Rattle.partition_protocol.proofs.Lists.{In, in_contains}
-use Rattle.primary_hold.specs.declared.released.Released.{Released}
+use Rattle.primary_hold.specs.declared.answer.CallAnswer.{CallAnswer}
 use Rattle.partition_world.specs.Answers.{released_by as answers_by}
 use Rattle.partition_world.specs.Worlds.{waiting}
 use Rattle.replay_run.specs.declared.grid.Grid.{Grid}
@@ -34,11 +34,11 @@ use Rattle.replay_run.proofs.TableCounts.{counting_called, counting_answers}
 use Rattle.replay_run.proofs.WorldRuns.{run_is, released_here, called_worlds, nothing_waits, skipped_worlds}
 
 -- the text of a call: what answered it at once, and the answers that went out
-abbrev pub call_text : List ℕ → ℕ → List ℕ → List Released → List ℕ
+abbrev pub call_text : List ℕ → ℕ → List ℕ → List CallAnswer → List ℕ
 call_text written line added answers = (written ++ added) ++ texts_of (map (message_of line) answers)
 
 -- The table and the worlds of the code after a call.
-pub record IsAfter {V : Type 0} {T : V → Type 0} (grid new : Grid V T) (line partition conn : ℕ) (world : GridWorld V T) (answers : List Released) : Type 0 where
+pub record IsAfter {V : Type 0} {T : V → Type 0} (grid new : Grid V T) (line partition conn : ℕ) (world : GridWorld) (answers : List CallAnswer) : Type 0 where
   pub env : new.env ≡ grid.env
   pub lines : new.lines ≡ line
   pub members : new.members ≡ grid.members
@@ -49,7 +49,7 @@ pub record IsAfter {V : Type 0} {T : V → Type 0} (grid new : Grid V T) (line p
   pub worlds : new.worlds.items ≡ slice_set grid.worlds.items partition world
 
 module _ {V : Type 0} {T : V → Type 0} {form : FormOf V T} {settings : Settings} (grid : Grid V T) (r : Run) (run : IsRun (partition_object settings) r) (h : Holds form settings grid r) (member : ℕ) (request : Request) (next : IsNext r request) (count : IsCounting grid.connections r request.id.conn request.id.number) (low : request.partition < partitions)
-    (new : Grid V T) (called world : GridWorld V T) (added written text : List ℕ)
+    (new : Grid V T) (called world : GridWorld) (added written text : List ℕ)
     (after : IsAfter grid new r.lines request.partition request.id.conn world (going_out r (Some request.id.conn) (waiting called member)))
     (out : HasGivenOut settings called world member)
     (wrote : text ≡ call_text written r.lines added (going_out r (Some request.id.conn) (waiting called member)))
@@ -64,7 +64,7 @@ module _ {V : Type 0} {T : V → Type 0} {form : FormOf V T} {settings : Setting
   before = world_at (partition_object settings) r request.partition
 
   -- the answers that go out
-  abbrev outgoing : List Released
+  abbrev outgoing : List CallAnswer
   outgoing = going_out r (Some request.id.conn) (waiting called member)
 
   slot : (o : Opened) × (opened_at grid.connections request.id.conn ≡ Some o) × IsConnection o next.connection
@@ -110,7 +110,7 @@ module _ {V : Type 0} {T : V → Type 0} {form : FormOf V T} {settings : Setting
 
     messages_are : map (message_of r.lines) outgoing ≡ map (answer_to r.lines) (filter (is_heard_by r request.id.conn) (released_by before then_world))
     messages_are =
-        ap (λ (answers : List Released). map (message_of r.lines) (going_out r (Some request.id.conn) answers)) released_is
+        ap (λ (answers : List CallAnswer). map (message_of r.lines) (going_out r (Some request.id.conn) answers)) released_is
         ∙ answers_given settings r (Some request.id.conn) r.lines then_world (drop (length before.released) then_world.released)
 
     called_table : HasTable new.connections called_run
@@ -220,7 +220,7 @@ module _ {V : Type 0} {T : V → Type 0} {form : FormOf V T} {settings : Setting
 
 -- A call that reached its world, which then gave out all that waited.
 pub asked_grid : {V : Type 0} {T : V → Type 0} {form : FormOf V T} {settings : Settings} (grid : Grid V T) (r : Run) (run : IsRun (partition_object settings) r) (h : Holds form settings grid r) (member : ℕ) (request : Request) → IsNext r request → IsCounting grid.connections r request.id.conn request.id.number → (low : request.partition < partitions)
-    → (new : Grid V T) (old called world : GridWorld V T) (line now : ℕ) (added written text : List ℕ) → slice_get grid.worlds.items request.partition ≡ Some old → line ≡ r.lines → now ≡ moment_of r member
+    → (new : Grid V T) (old called world : GridWorld) (line now : ℕ) (added written text : List ℕ) → slice_get grid.worlds.items request.partition ≡ Some old → line ≡ r.lines → now ≡ moment_of r member
     → IsAfter grid new line request.partition request.id.conn world (going_out r (Some request.id.conn) (waiting called member)) → HasGivenOut settings called world member
     → IsCalled settings old called (events_at request.partition r.events) (arrival_to line member now request) added ⊎ IsSkipped settings old called (events_at request.partition r.events) (arrival_to line member now request) added
     → text ≡ call_text written line added (going_out r (Some request.id.conn) (waiting called member)) → is_full (world_at (partition_object settings) r request.partition) ≡ false → HasAsked form settings new r member request written text

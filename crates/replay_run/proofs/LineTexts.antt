@@ -12,7 +12,7 @@ use Rattle.partition_protocol.specs.Node.{Held}
 use Rattle.partition_protocol.specs.History.{Executed}
 use Rattle.partition_protocol.specs.World.{World}
 use Rattle.partition_world.specs.Answers.{answer_of, held_answer, newest_call}
-use Rattle.primary_hold.specs.declared.released.Released.{Released}
+use Rattle.primary_hold.specs.declared.answer.CallAnswer.{CallAnswer}
 use Rattle.call_engine.specs.Calls.{Settings}
 use Rattle.call_engine.specs.Changes.{change_of}
 use Rattle.call_engine.specs.Objects.{partition_object}
@@ -87,7 +87,7 @@ module _ (settings : Settings) (r : Run) (own : Option ℕ) (line : ℕ) (w : Wo
   answers_given [] = refl
   answers_given (h ∷ hs) = go (newest_call (record { conn = h.conn; number = h.number }) w.recorded.log) (answers_given hs)
     where
-      one : (x : Executed Request) (answer : Released) (goes : Bool) → message_of line answer ≡ answer_to line x → (answers : List Released) (calls : List (Executed Request)) → map (message_of line) answers ≡ map (answer_to line) calls
+      one : (x : Executed Request) (answer : CallAnswer) (goes : Bool) → message_of line answer ≡ answer_to line x → (answers : List CallAnswer) (calls : List (Executed Request)) → map (message_of line) answers ≡ map (answer_to line) calls
           → map (message_of line) (cond goes (answer ∷ answers) answers) ≡ map (answer_to line) (cond goes (x ∷ calls) calls)
       one x answer true same answers calls e = λ i. same i ∷ e i
       one x answer false same answers calls e = e

@@ -4,7 +4,7 @@ use Rattle.std.specs.Option.{option_map}
 use Rattle.std.proofs.lemmas.Bool.{cases_eq}
 use Rattle.std.proofs.lemmas.List.{length-append}
 use Rattle.session_core.specs.Sessions.{session_after}
-use Rattle.primary_hold.specs.declared.released.Released.{Released}
+use Rattle.primary_hold.specs.declared.answer.CallAnswer.{CallAnswer}
 use Rattle.grid_base.specs.declared.names.CallId.{CallId}
 use Rattle.replay_run.specs.Runs.{Run, Connection, connection_of, messages_on, took_bytes, opened}
 use Rattle.replay_run.specs.Tables.{Table, Opened, most_connections, opened_at, silent, with_opened, with_change, heard, with_session, replied, with_reply, called, with_arrival, lines_answered, answered, with_answer}
@@ -89,6 +89,6 @@ counting_answered t r c number id line counting = record {
     kept : (o : Opened) → length (answered id.number line o).calls ≡ length o.calls
     kept o = length-changed_at (option_map (lines_answered line)) o.calls id.number
 
-pub counting_answers : (line : ℕ) (answers : List Released) (t : Table) (r : Run) (c number : ℕ) → IsCounting t r c number → IsCounting (with_answers t line answers) r c number
+pub counting_answers : (line : ℕ) (answers : List CallAnswer) (t : Table) (r : Run) (c number : ℕ) → IsCounting t r c number → IsCounting (with_answers t line answers) r c number
 counting_answers line [] t r c number counting = counting
 counting_answers line (answer ∷ answers) t r c number counting = counting_answers line answers (with_answer t answer.id line) r c number (counting_answered t r c number answer.id line counting)

@@ -10,7 +10,7 @@ use Rattle.grid_base.specs.Names.{is_same_call}
 use Rattle.grid_base.specs.declared.names.CallId.{CallId}
 use Rattle.session_core.specs.Sessions.{session_after}
 use Rattle.partition_protocol.proofs.Lists.{In}
-use Rattle.primary_hold.specs.declared.released.Released.{Released}
+use Rattle.primary_hold.specs.declared.answer.CallAnswer.{CallAnswer}
 use Rattle.replay_run.specs.declared.connections.CallLines.{CallLines}
 use Rattle.replay_run.specs.Runs.{Run, Connection, Arrival, Appended, is_connection, connection_of, with_bytes, took_bytes, own_answer, told, opened}
 use Rattle.replay_run.specs.Printing.{arrival_of, answer_of, is_answer_to, is_named}
@@ -290,7 +290,7 @@ pub told_table : (t : Table) (r : Run) (c : ℕ) (bytes : List ℕ) → HasTable
 told_table t r c bytes h = unanswered_table (with_reply t c) r (own_answer r.lines c bytes) (replied_table t r h c) refl
 
 -- all answers that are given out at a line
-pub answers_table : (line : ℕ) (answers : List Released) (t : Table) (r : Run) → HasTable t r → HasTable (with_answers t line answers) (record r { appended = r.appended ++ map (message_of line) answers })
+pub answers_table : (line : ℕ) (answers : List CallAnswer) (t : Table) (r : Run) → HasTable t r → HasTable (with_answers t line answers) (record r { appended = r.appended ++ map (message_of line) answers })
 answers_table line [] t r h = subst (λ (ms : List Appended). HasTable t (record r { appended = ms })) (sym (append-nil r.appended)) h
 answers_table line (answer ∷ answers) t r h =
     subst (λ (ms : List Appended). HasTable (with_answers t line (answer ∷ answers)) (record r { appended = ms })) (append_assoc r.appended (message_of line answer ∷ []) (map (message_of line) answers))

@@ -6,6 +6,8 @@ use Rattle.entry_processors.specs.Processors.{ProcessorForm}
 use Rattle.grid_base.specs.declared.names.CallId.{CallId}
 use Rattle.grid_base.specs.declared.calls.Request.{Request}
 use Rattle.partition_protocol.specs.Events.{Event}
+use Rattle.partition_world.specs.Recorders.{KeepsAll}
+use Rattle.partition_world.specs.declared.recorder.Recorder.{Recorder}
 use Rattle.partition_world.specs.declared.world.World.{World}
 use Rattle.partition_world.specs.Worlds.{StandsFor, setup_of, waiting}
 use Rattle.replay_run.specs.declared.connections.CallLines.{CallLines}
@@ -62,20 +64,20 @@ pub record IsCounting (table : Table) (r : Run) (conn number : ℕ) : Type 0 whe
 
 -- the worlds
 
-abbrev pub GridWorld : (V : Type 0) → (V → Type 0) → Type 0
-GridWorld V T = World GridShelf (GridEnv V T) Request
+abbrev pub GridWorld : Type 0
+GridWorld = World GridShelf (Recorder Request) Settings Request
 
-abbrev pub StandsForEvents : {V : Type 0} {T : V → Type 0} → Settings → GridWorld V T → List (Event Request) → Type 0
-StandsForEvents settings world events = StandsFor (grid_meaning settings) RequestFits world events
+abbrev pub StandsForEvents : Settings → GridWorld → List (Event Request) → Type 0
+StandsForEvents settings world events = StandsFor (grid_meaning settings) KeepsAll RequestFits world events
 
 -- The world is that of a partition's events.
-pub record IsWorld {V : Type 0} {T : V → Type 0} (settings : Settings) (world : GridWorld V T) (r : Run) (p : ℕ) : Type 0 where
+pub record IsWorld (settings : Settings) (world : GridWorld) (r : Run) (p : ℕ) : Type 0 where
   pub stands : StandsForEvents settings world (events_at p r.events)
   pub setup : setup_of world ≡ record { partition = p; members = r.members; backups = r.backups }
 
 -- A partition has its world, which has given out every answer that it released.
-pub record HasWorld {V : Type 0} {T : V → Type 0} (settings : Settings) (worlds : List (GridWorld V T)) (r : Run) (p : ℕ) : Type 0 where
-  pub world : GridWorld V T
+pub record HasWorld (settings : Settings) (worlds : List (GridWorld)) (r : Run) (p : ℕ) : Type 0 where
+  pub world : GridWorld
   pub there : slice_get worlds p ≡ Some world
   pub is : IsWorld settings world r p
   pub given : (member : ℕ) → waiting world member ≡ []

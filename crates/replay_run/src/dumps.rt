@@ -14,6 +14,7 @@ use itoa::Buffer;
 use key_locks::Lock;
 use map_records::{Idle, MapRecord};
 use object_store::ObjectStore;
+use partition_protocol::Pair;
 use std::alloc::Global;
 use uuid::Uuid;
 
@@ -28,15 +29,14 @@ fn push_decimal(out: &mut Vec<u8>, n: u64) -> Result<(), Memory>
 pub(crate) fn push_dump(
     out: &mut Vec<u8>,
     line: u32,
-    version: u32,
-    count: u32,
+    pair: Pair,
 ) -> Result<(), Memory>
-    ensures { OnOk result (out.new.items ≡ out.old.items ++ dump_text line (record { version = version; count = count })) }
+    ensures { OnOk result (out.new.items ≡ out.old.items ++ dump_text line pair) }
 {
     push_number(out, u64::from(line))?;
     push_text(out, b"dump ")?;
-    push_number(out, u64::from(version))?;
-    push_decimal(out, u64::from(count))?;
+    push_number(out, u64::from(pair.version))?;
+    push_decimal(out, u64::from(pair.count))?;
     push_text(out, b"\n")
 }
 

@@ -9,7 +9,7 @@ ghost use Rattle.call_engine.specs.Calls.{Settings};
 ghost use Rattle.call_engine.specs.Env.{settings_of};
 ghost use Rattle.call_engine.specs.Objects.{partition_object};
 ghost use Rattle.partition_world.specs.Events.{happened_of};
-ghost use Rattle.partition_world.specs.Meanings.{meaning};
+ghost use Rattle.grid_base.specs.Shelves.{meaning};
 ghost use Rattle.partition_world.specs.Worlds.{steps_of, waiting};
 ghost use Rattle.partition_world.specs.RecordedEntries.{entry_of};
 ghost use Rattle.replay_run.specs.Runs.{Run, Connection as RunConnection, partitions, begun, call_of, refused_by, reopened_at, connection_of, is_open, is_full, lives, world_at};
@@ -32,10 +32,10 @@ use crate::run_end::RunEnd;
 use call_engine::{GridEnv, GridShelf};
 use client_codecs::write_error;
 use entry_processors::{Processor, Registry};
-use grid_base::errors::{MIGRATING, PARTITION_LOST, WANT_OF_MEMORY, WRONG_TARGET};
+use grid_base::errors::WANT_OF_MEMORY;
 use grid_base::{Bytes, MemberId, Memory, Moment, PARTITIONS, PartitionId, Request, Shelf};
-use partition_world::{CallOutcome, Event, Happened, Trail, World};
-use primary_hold::Released;
+use partition_world::{CallOutcome, Event, Happened, Recorder, Records, Trail, World};
+use primary_hold::CallAnswer;
 use replica_node::Contents;
 use script_lang::Line;
 use session_core::Item;
@@ -60,17 +60,9 @@ fn refusal_of(happened: Happened) -> Option<Refusal>
     ensures { (line : ℕ) (request : Call) → refusals line request result ≡ refused_by line request (happened_of happened) }
 {
     match happened {
-        Happened::Called(CallOutcome::PartitionLost { version }) => Some(Refusal {
-            code: PARTITION_LOST,
-            version,
-        }),
-        Happened::Called(CallOutcome::WrongTarget { version }) => Some(Refusal {
-            code: WRONG_TARGET,
-            version,
-        }),
-        Happened::Called(CallOutcome::Migrating { version }) => Some(Refusal {
-            code: MIGRATING,
-            version,
+        Happened::Called(CallOutcome::Refused(why)) => Some(Refusal {
+            code: why.code(),
+            version: why.version(),
         }),
         _ => None,
     }
@@ -112,7 +104,7 @@ struct Arriving {
 /// A call reaches a member at a line. It is answered at once where it is refused or finds no memory.
 fn call(
     alloc: Global,
-    world: &mut World<GridShelf>,
+    world: &mut GridWorld,
     env: &GridEnv,
     at: Arriving,
     request: Request,
@@ -151,7 +143,7 @@ fn give(
     alloc: Global,
     connections: &mut Connections,
     line: u32,
-    answer: Released,
+    answer: CallAnswer,
     out: &mut Vec<u8>,
 ) -> Result<(), Memory>
     ensures table { connections.new ≡ with_answer connections.old answer.id line }
@@ -171,9 +163,9 @@ fn goes_out(connections: &Connections, own: Option<u32>, conn: u32) -> bool
 
 /// Takes the answers that wait at a member, the oldest first, and gives those out whose connections are open or are the
 /// one of the call at hand.
-pub(crate) fn give_out<S: Shelf>(
+pub(crate) fn give_out<S: Shelf, R: Records<S::Call>>(
     alloc: Global,
-    world: &mut World<S>,
+    world: &mut World<S, R>,
     member: MemberId,
     connections: &mut Connections,
     own: Option<u32>,
@@ -182,7 +174,7 @@ pub(crate) fn give_out<S: Shelf>(
 ) -> Result<(), Memory>
     ensures text { (r : Run) → HasConnections connections.old r → OnOk result (out.new.items ≡ out.old.items ++ texts_of (map (message_of line) (going_out r own (waiting world.old member)))) }
     ensures table { (r : Run) → HasConnections connections.old r → OnOk result (connections.new ≡ with_answers connections.old line (going_out r own (waiting world.old member))) }
-    ensures world { OnOk result (GivesOut (meaning S.object S.state S.effect_of S.change_of S.snapshot_of) S.within_limits world.old world.new member) }
+    ensures world { OnOk result (GivesOut (meaning S.model) R.records S.model.within_limits world.old world.new member) }
 {
     while let Some(answer) = world.pop_released(member) {
         if goes_out(connections, own, answer.id.conn) {
@@ -191,6 +183,9 @@ pub(crate) fn give_out<S: Shelf>(
     }
     Ok(())
 }
+
+/// A partition's world that keeps all that was executed, for its history to be printed.
+pub(crate) type GridWorld = World<GridShelf, Recorder<Request>>;
 
 /// The worlds of all partitions, the connections to their members, each member's clock, and how many lines were run.
 #[derive(Drop)]
@@ -204,7 +199,7 @@ pub struct Grid {
     pub(crate) reopened: Vec<Reopened>,
     /// Those of each partition.
     pub(crate) links: Vec<Link>,
-    pub(crate) worlds: Vec<World<GridShelf>>,
+    pub(crate) worlds: Vec<GridWorld>,
 }
 
 impl Grid {
@@ -512,12 +507,8 @@ impl Grid {
         ensures { (settings : Settings) (r : Run) → Stands (boxed form) settings self.old r → OnOk result (HasRun (boxed form) settings self.new r (Line.Dump partition member) out.old.items out.new.items) }
     {
         self.lines = number;
-        let Contents {
-            version,
-            count,
-            shelf,
-        } = self.worlds[usize::from(partition)].contents(member);
-        push_dump(out, number, version, count)?;
+        let Contents { pair, shelf } = self.worlds[usize::from(partition)].contents(member);
+        push_dump(out, number, pair)?;
         push_dumped(alloc, out, number, shelf)
     }
 

@@ -1,6 +1,6 @@
 use Rattle.std.proofs.Common.{◌≡◌, ◌∙◌, ap, sym, ◌++◌, List, ℕ, true, false, refl, subst, append-nil}
 use Rattle.partition_world.specs.Worlds.{waiting}
-use Rattle.primary_hold.specs.declared.released.Released.{Released}
+use Rattle.primary_hold.specs.declared.answer.CallAnswer.{CallAnswer}
 use Rattle.replay_run.specs.Runs.{Run}
 use Rattle.replay_run.specs.Grids.{HasConnections}
 use Rattle.replay_run.specs.Tables.{Table}
@@ -48,7 +48,7 @@ loop-answer-preserved g c =
 pub returns : goal.returns
 returns g c =
     let none = c.in_default.ensures.none.0 refl in record {
-      text = λ r has. sym (append-nil c.loop-answer.out.items) ∙ ap (λ (answers : List Released). c.loop-answer.out.items ++ text_out r c.args.own c.args.line answers) (sym none) ∙ c.loop-answer.invariant.text r has;
+      text = λ r has. sym (append-nil c.loop-answer.out.items) ∙ ap (λ (answers : List CallAnswer). c.loop-answer.out.items ++ text_out r c.args.own c.args.line answers) (sym none) ∙ c.loop-answer.invariant.text r has;
       table = λ r has. ap (table_out r c.args.own c.args.line c.loop-answer.connections) (sym none) ∙ c.loop-answer.invariant.table r has;
       world = gives_out _ c.pop_released.new.self c.args.member
           (gave_more _ c.loop-answer.world c.pop_released.new.self c.args.member c.loop-answer.invariant.world
