@@ -10,7 +10,7 @@ use Rattle.map_records.specs.MapEntries.{empty_entry}
 use Rattle.object_store.specs.Records.{Record, Map, Queue, entry_in, items_in, kept_entry, kept_items}
 use Rattle.call_engine.specs.Calls.{Settings}
 use Rattle.call_engine.specs.Executions.{IsExecution}
-use Rattle.call_engine.specs.Within.{found_entry, no_entry, found_items, no_items}
+use Rattle.call_engine.proofs.Found.{found_entry, no_entry, found_items, no_items}
 
 module _ (settings : Settings) (r : Request) (now : ℕ) {E : Type 0} where
   on_entry : (kept : Record) (entry : MapRecord) (c : MapCall) (made : Result Executed E) → entry ≡ entry_in kept → IfOk made (IsExecution settings (Map entry) r (call.Map c) now) → IfOk made (IsExecution settings kept r (call.Map c) now)

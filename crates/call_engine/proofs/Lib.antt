@@ -1,2 +1,5 @@
+pub mod AnswersFit
+pub mod EffectChanges
 pub mod ExecutionLaws
+pub mod Found
 pub mod ShelfSteps

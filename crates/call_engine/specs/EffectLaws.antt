@@ -1,5 +1,6 @@
--- A call's effect makes the partition after it, and a call without an effect leaves it as it was.
-use Rattle.std.proofs.Common.{◌≡◌, ℕ, Bool, true, false, not, ◌||◌, List, [], ◌∷◌, ◌++◌, drop, Option, Some, None, is_some, refl, ap, sym, ◌∙◌, subst, true≢false}
+-- A call's effect makes the partition after it, which differs, and a call without an effect leaves it as it was.
+-- It stands here for the laws of `ShelfLaws`.
+use Rattle.std.proofs.Common.{◌≡◌, ◌≢◌, ℕ, Bool, true, false, not, ◌||◌, List, [], ◌∷◌, ◌++◌, drop, Option, Some, None, is_some, refl, ap, sym, ◌∙◌, subst, true≢false}
 use Rattle.std.proofs.lemmas.List.Elements.{All-head}
 use Rattle.std.specs.Prelude.{if◌then◌else◌}
 use Rattle.grid_base.specs.Limits.{FitsFrame, MapCallFits, MapNumbersFit, QueueCallFits, CallFits, NumbersFit}
@@ -15,8 +16,11 @@ use Rattle.map_records.specs.declared.records.Idle.{Idle}
 use Rattle.map_records.specs.declared.records.MapRecord.{MapRecord}
 use Rattle.map_records.specs.MapEntries.{empty_entry}
 use Rattle.map_records.specs.MapTable as entries
+use Rattle.map_records.specs.SameEntries.{is_same_entry}
+use Rattle.map_records.proofs.SameEntries.{entry_decides}
 use Rattle.queue_records.specs.declared.queues.QueueStep.TheVariants as step
-use Rattle.queue_records.specs.Queues.{has_room, after as queue_after}
+use Rattle.queue_records.specs.Queues.{has_room, after as queue_after, step as queue_step}
+use Rattle.queue_records.proofs.Calls.{steps_where_it_changes}
 use Rattle.object_store.specs.declared.effects.Effect.{Effect}
 use Rattle.object_store.specs.declared.effects.Effect.TheVariants.{SetEntry, DropEntry, Push, Pop, Clear as ClearQueue}
 use Rattle.object_store.specs.Records.{Record, Map, Queue, suits, entry_in, items_in, is_nothing, has_value_or_lock}
@@ -24,14 +28,13 @@ use Rattle.object_store.specs.Partitions.{Partition, record_at, with_record}
 use Rattle.object_store.specs.Effects.{fits, after_effect}
 use Rattle.object_store.specs.Spelling.{IsSpelledEffect}
 use Rattle.call_engine.specs.Calls.{Settings, after}
-use Rattle.call_engine.specs.Effects.{is_same_entry, entry_effect, map_effect, step_effect, queue_effect, effect_on}
+use Rattle.call_engine.specs.Effects.{entry_effect, map_effect, step_effect, queue_effect, effect_on}
 use Rattle.call_engine.specs.Limits.{IsWhole, EntryFits, RecordFits}
-use Rattle.call_engine.specs.SameEntries.{entry_decides}
 use Rattle.call_engine.specs.Within.{sized, entry_in_fits, entry_after_fits}
 
 -- without an effect
 
-same_without_map_effect : (settings : Settings) (entry : MapRecord) (c : MapCall) (now : ℕ) → map_effect settings entry c now ≡ None → entries.after settings.forms entry c now ≡ entry
+pub same_without_map_effect : (settings : Settings) (entry : MapRecord) (c : MapCall) (now : ℕ) → map_effect settings entry c now ≡ None → entries.after settings.forms entry c now ≡ entry
 same_without_map_effect settings entry c now e = go (is_same_entry entry next) refl e
   where
     next : MapRecord
@@ -41,7 +44,7 @@ same_without_map_effect settings entry c now e = go (is_same_entry entry next) r
     go true is none = sym ((entry_decides entry next).0 is)
     go false is none = cc
 
-same_without_queue_effect : (settings : Settings) (items : List (List ℕ)) (c : QueueCall) → queue_effect settings items c ≡ None → queue_after items c settings.capacity ≡ items
+pub same_without_queue_effect : (settings : Settings) (items : List (List ℕ)) (c : QueueCall) → queue_effect settings items c ≡ None → queue_after items c settings.capacity ≡ items
 same_without_queue_effect settings items (Offer name value) e = go (has_room items settings.capacity) e
   where
     go : (room : Bool) → step_effect (Offer name value) (if room then step.Push else step.Same) ≡ None → (if room then items ++ value ∷ [] else items) ≡ items
@@ -60,6 +63,30 @@ same_on settings (Map entry) (call.Map c) now h e = ap Map (same_without_map_eff
 same_on settings (Queue items) (call.Queue c) now h e = ap Queue (same_without_queue_effect settings items c e)
 same_on settings (Map entry) (call.Queue c) now h e = absurd (true≢false (sym h))
 same_on settings (Queue items) (call.Map c) now h e = absurd (true≢false (sym h))
+
+-- with an effect
+
+pub map_effect_differs : (settings : Settings) (entry : MapRecord) (c : MapCall) (now : ℕ) (effect : Effect) → map_effect settings entry c now ≡ Some effect → entries.after settings.forms entry c now ≢ entry
+map_effect_differs settings entry c now effect e same = go (is_same_entry entry next) refl e
+  where
+    next : MapRecord
+    next = entries.after settings.forms entry c now
+
+    go : (test : Bool) → is_same_entry entry next ≡ test → (if test then None else Some (entry_effect (map_of c) (key_of c) next)) ≡ Some effect → ⊥
+    go true is some = cc
+    go false is some = true≢false (sym ((entry_decides entry next).1 (sym same)) ∙ is)
+
+pub queue_effect_differs : (settings : Settings) (items : List (List ℕ)) (c : QueueCall) (effect : Effect) → queue_effect settings items c ≡ Some effect → queue_after items c settings.capacity ≢ items
+queue_effect_differs settings items c effect e same =
+    let none : queue_step items c settings.capacity ≡ step.Same = (steps_where_it_changes items c settings.capacity).1 same in
+    let clash : None ≡ Some effect = sym (ap (step_effect c) none) ∙ e in
+    cc
+
+pub differs_on : (settings : Settings) (kept : Record) (r : GridCall) (now : ℕ) (effect : Effect) → suits (object_of r) kept ≡ true → effect_on settings kept r now ≡ Some effect → after settings kept r now ≢ kept
+differs_on settings (Map entry) (call.Map c) now effect h e same = map_effect_differs settings entry c now effect e (ap entry_in same)
+differs_on settings (Queue items) (call.Queue c) now effect h e same = queue_effect_differs settings items c effect e (ap items_in same)
+differs_on settings (Map entry) (call.Queue c) now effect h e same = true≢false (sym h)
+differs_on settings (Queue items) (call.Map c) now effect h e same = true≢false (sym h)
 
 -- by an effect
 

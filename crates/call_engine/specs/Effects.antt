@@ -1,7 +1,5 @@
 -- The effect of a call, and what bytes make of a partition.
-use Rattle.std.specs.Prelude.{ℕ, Bool, ◌&&◌, ◌==◌, List, Option, Some, None, Result, Ok, Err, option_map, if◌then◌else◌, nat_eq}
-use Rattle.std.specs.Option.{option_eq}
-use Rattle.std.specs.Cmp.Lexicographic.{pointwise}
+use Rattle.std.specs.Prelude.{ℕ, List, Option, Some, None, Result, Ok, Err, option_map, if◌then◌else◌}
 use Rattle.grid_base.specs.Names.{map_of, key_of, queue_of, object_of}
 use Rattle.grid_base.specs.declared.calls.MapCall.{MapCall}
 use Rattle.grid_base.specs.declared.calls.QueueCall.{QueueCall}
@@ -9,11 +7,9 @@ use Rattle.grid_base.specs.declared.calls.QueueCall.TheVariants.{Offer}
 use Rattle.grid_base.specs.declared.calls.GridCall.{GridCall}
 use Rattle.grid_base.specs.declared.calls.GridCall.TheVariants as call
 use Rattle.grid_base.specs.declared.calls.Request.{Request}
-use Rattle.key_locks.specs.declared.locks.Lock.{Lock}
-use Rattle.key_locks.specs.Locks.{is_same_owner}
-use Rattle.map_records.specs.declared.records.Idle.{Idle}
 use Rattle.map_records.specs.declared.records.MapRecord.{MapRecord}
 use Rattle.map_records.specs.MapTable as entries
+use Rattle.map_records.specs.SameEntries.{is_same_entry}
 use Rattle.queue_records.specs.Queues as queues
 use Rattle.queue_records.specs.declared.queues.QueueStep.{QueueStep}
 use Rattle.queue_records.specs.declared.queues.QueueStep.TheVariants as step
@@ -26,17 +22,6 @@ use Rattle.object_store.specs.Spelling.{effect_bytes}
 use Rattle.object_store.specs.Reading.{effect_in}
 use Rattle.wire_parts.specs.declared.refusal.WireRefused.{WireRefused}
 use Rattle.call_engine.specs.Calls.{Settings}
-
--- Two records of an entry are the same where each of their parts is.
-
-abbrev pub is_same_idle : Idle → Idle → Bool
-is_same_idle a b = (a.span == b.span) && (a.end == b.end)
-
-abbrev pub is_same_lock : Lock → Lock → Bool
-is_same_lock a b = is_same_owner a.owner b.owner && (a.count == b.count) && option_eq nat_eq a.until b.until
-
-abbrev pub is_same_entry : MapRecord → MapRecord → Bool
-is_same_entry a b = option_eq (pointwise nat_eq) a.value b.value && option_eq nat_eq a.expires b.expires && option_eq is_same_idle a.idle b.idle && option_eq is_same_lock a.lock b.lock
 
 -- An entry is set to what is kept of it, or dropped where it has neither a value nor a lock.
 abbrev pub entry_effect : List ℕ → List ℕ → MapRecord → Effect

@@ -1,4 +1,5 @@
--- What a call on an object answers and leaves fits frames and has numbers of their ranges, where the call and what was kept do.
+-- What a call on an object leaves fits frames and has numbers of their ranges, where the call and what was kept do.
+-- It stands here for the laws of `ShelfLaws`.
 use Rattle.std.proofs.Common.{◌≡◌, ℕ, ◌+◌, ◌-◌, ◌≤◌, ◌<◌, Bool, true, false, ◌&&◌, ◌||◌, ℤ, pos, negsuc, List, [], ◌∷◌, ◌++◌, length, Option, Some, None, IfSome, All, refl, length-append, arith}
 use Rattle.std.proofs.lemmas.Bool.Decides.{nat_tests}
 use Rattle.std.proofs.lemmas.Int.{ints}
@@ -8,25 +9,24 @@ use Rattle.std.specs.Int.{w64}
 use Rattle.std.specs.Int.RustNames.{FitsSigned}
 use Rattle.std.specs.Option.{option_map}
 use Rattle.grid_base.specs.Limits.{FitsFrame, most_bytes, OwnerFits, MapCallFits, MapNumbersFit, QueueCallFits}
-use Rattle.grid_base.specs.declared.calls.Answer.TheVariants.{Void, NotOwner, KeyLocked}
+use Rattle.grid_base.specs.declared.calls.Answer.TheVariants.{KeyLocked}
 use Rattle.grid_base.specs.declared.names.Owner.{Owner}
 use Rattle.grid_base.specs.declared.calls.MapCall.{MapCall}
 use Rattle.grid_base.specs.declared.calls.MapCall.TheVariants.{Put, Set, PutIfAbsent, Get, ContainsKey, Remove, Delete, Replace, ReplaceIfSame, RemoveIfSame, TryLock, Unlock, IsLocked, ForceUnlock, ExecuteOnKey, PutMaxIdle, SetMaxIdle}
 use Rattle.grid_base.specs.declared.calls.QueueCall.{QueueCall}
 use Rattle.grid_base.specs.declared.calls.QueueCall.TheVariants.{Offer, Poll, Peek, Size, RemainingCapacity, Clear}
-use Rattle.fixed_fields.specs.Replies.{AnswerFits}
 use Rattle.entry_processors.specs.Places.{item_at}
 use Rattle.entry_processors.specs.Processors.{ProcessorForm, outcome}
 use Rattle.entry_processors.proofs.Outcomes.{stays_within}
 use Rattle.key_locks.specs.declared.locks.Lock.{Lock}
 use Rattle.key_locks.specs.Ends.{end_of, has_ended}
-use Rattle.key_locks.specs.Locks.{is_same_owner, is_held_by, may_write, after_try_lock, after_unlock, cleaned as cleaned_lock}
+use Rattle.key_locks.specs.Locks.{is_same_owner, may_write, after_try_lock, after_unlock, cleaned as cleaned_lock}
 use Rattle.map_records.specs.declared.records.Idle.{Idle}
 use Rattle.map_records.specs.declared.records.MapRecord.{MapRecord}
 use Rattle.map_records.specs.Idling.{idle_from, idle_of, used}
 use Rattle.map_records.specs.MapEntries.{is_expired, cleaned, without_value, with_lock, with_value, replaced, is_value, with_outcome, touched}
 use Rattle.map_records.specs.MapTable.{Done, row, processed, writer, unless_locked, done}
-use Rattle.queue_records.specs.Queues.{has_room, answer, after}
+use Rattle.queue_records.specs.Queues.{has_room, after}
 use Rattle.object_store.specs.Spelling.{IsLong, IsSpelledLock, IsSpelledIdle}
 
 -- the parts of a record, each of which fits
@@ -130,18 +130,11 @@ fit_outcome entry (Some value) h fits = fit_choice (is_some entry.value) (replac
 
 -- each row of the table
 
-abbrev pub DoneFits : Done → Type 0
-DoneFits made = AnswerFits made.0 × PartsFit made.1
-
-fit_processed : (entry : MapRecord) (form : Option ProcessorForm) (argument : List ℕ) (now : ℕ) → PartsFit entry → DoneFits (processed entry (option_map (λ rule. outcome rule entry.value argument) form) now)
-fit_processed entry None argument now h = (tt, h)
+fit_processed : (entry : MapRecord) (form : Option ProcessorForm) (argument : List ℕ) (now : ℕ) → PartsFit entry → PartsFit (processed entry (option_map (λ rule. outcome rule entry.value argument) form) now).1
+fit_processed entry None argument now h = h
 fit_processed entry (Some form) argument now h =
     let within = stays_within form most_bytes entry.value argument (omega arith) h.value in
-    (within.1, fit_touched _ now (fit_outcome entry (outcome form entry.value argument).value h within.0))
-
-fit_unlock : (held : Bool) → AnswerFits (if held then Void else NotOwner)
-fit_unlock true = tt
-fit_unlock false = tt
+    fit_touched _ now (fit_outcome entry (outcome form entry.value argument).value h within.0)
 
 one : (value : List ℕ) (more : List (List ℕ)) → All FitsFrame (value ∷ more) → FitsFrame value
 one value more all = All-head FitsFrame value more all
@@ -149,52 +142,42 @@ one value more all = All-head FitsFrame value more all
 two : (first second : List ℕ) → All FitsFrame (first ∷ second ∷ []) → FitsFrame second
 two first second all = All-head FitsFrame second [] (All-tail FitsFrame first (second ∷ []) all)
 
-fit_row : (forms : List ProcessorForm) (entry : MapRecord) (call : MapCall) (now : ℕ) → MapCallFits call → MapNumbersFit call → PartsFit entry → DoneFits (row forms entry call now)
-fit_row forms entry (Put name key owner value ttl) now fits numbers h = (h.value, fit_set entry value _ None h (one value [] fits.2) (end_long now ttl) tt)
-fit_row forms entry (Set name key owner value ttl) now fits numbers h = (tt, fit_set entry value _ None h (one value [] fits.2) (end_long now ttl) tt)
-fit_row forms entry (PutMaxIdle name key owner value ttl idle) now fits numbers h = (h.value, fit_set entry value _ _ h (one value [] fits.2) (end_long now ttl) (set_fits now idle numbers.2))
-fit_row forms entry (SetMaxIdle name key owner value ttl idle) now fits numbers h = (tt, fit_set entry value _ _ h (one value [] fits.2) (end_long now ttl) (set_fits now idle numbers.2))
+fit_row : (forms : List ProcessorForm) (entry : MapRecord) (call : MapCall) (now : ℕ) → MapCallFits call → MapNumbersFit call → PartsFit entry → PartsFit (row forms entry call now).1
+fit_row forms entry (Put name key owner value ttl) now fits numbers h = fit_set entry value _ None h (one value [] fits.2) (end_long now ttl) tt
+fit_row forms entry (Set name key owner value ttl) now fits numbers h = fit_set entry value _ None h (one value [] fits.2) (end_long now ttl) tt
+fit_row forms entry (PutMaxIdle name key owner value ttl idle) now fits numbers h = fit_set entry value _ _ h (one value [] fits.2) (end_long now ttl) (set_fits now idle numbers.2)
+fit_row forms entry (SetMaxIdle name key owner value ttl idle) now fits numbers h = fit_set entry value _ _ h (one value [] fits.2) (end_long now ttl) (set_fits now idle numbers.2)
 fit_row forms entry (PutIfAbsent name key owner value ttl) now fits numbers h =
-    (h.value, fit_touched _ now (fit_choice (is_some entry.value) entry (with_value entry value (end_of now ttl) None) h (fit_set entry value (end_of now ttl) None h (one value [] fits.2) (end_long now ttl) tt)))
-fit_row forms entry (Get name key owner) now fits numbers h = (h.value, fit_touched entry now h)
-fit_row forms entry (ContainsKey name key owner) now fits numbers h = (tt, fit_touched entry now h)
-fit_row forms entry (Remove name key owner) now fits numbers h = (h.value, fit_without entry h)
-fit_row forms entry (Delete name key owner) now fits numbers h = (tt, fit_without entry h)
-fit_row forms entry (Replace name key owner value) now fits numbers h = (h.value, fit_touched _ now (fit_replaced entry value h (one value [] fits.2)))
+    fit_touched _ now (fit_choice (is_some entry.value) entry (with_value entry value (end_of now ttl) None) h (fit_set entry value (end_of now ttl) None h (one value [] fits.2) (end_long now ttl) tt))
+fit_row forms entry (Get name key owner) now fits numbers h = fit_touched entry now h
+fit_row forms entry (ContainsKey name key owner) now fits numbers h = fit_touched entry now h
+fit_row forms entry (Remove name key owner) now fits numbers h = fit_without entry h
+fit_row forms entry (Delete name key owner) now fits numbers h = fit_without entry h
+fit_row forms entry (Replace name key owner value) now fits numbers h = fit_touched _ now (fit_replaced entry value h (one value [] fits.2))
 fit_row forms entry (ReplaceIfSame name key owner test value) now fits numbers h =
-    (tt, fit_touched _ now (fit_choice (is_value entry.value test) (replaced entry value) entry (fit_replaced entry value h (two test value fits.2)) h))
+    fit_touched _ now (fit_choice (is_value entry.value test) (replaced entry value) entry (fit_replaced entry value h (two test value fits.2)) h)
 fit_row forms entry (RemoveIfSame name key owner test) now fits numbers h =
-    (tt, fit_touched _ now (fit_choice (is_value entry.value test) (without_value entry) entry (fit_without entry h) h))
-fit_row forms entry (TryLock name key owner lease) now fits numbers h = (tt, fit_locked entry _ h (lock_taken entry.lock owner _ numbers.0 (end_long now lease) h.lock))
-fit_row forms entry (Unlock name key owner) now fits numbers h = (fit_unlock (is_held_by entry.lock owner), fit_locked entry _ h (lock_released entry.lock owner h.lock))
-fit_row forms entry (IsLocked name key) now fits numbers h = (tt, h)
-fit_row forms entry (ForceUnlock name key) now fits numbers h = (tt, fit_locked entry None h tt)
+    fit_touched _ now (fit_choice (is_value entry.value test) (without_value entry) entry (fit_without entry h) h)
+fit_row forms entry (TryLock name key owner lease) now fits numbers h = fit_locked entry _ h (lock_taken entry.lock owner _ numbers.0 (end_long now lease) h.lock)
+fit_row forms entry (Unlock name key owner) now fits numbers h = fit_locked entry _ h (lock_released entry.lock owner h.lock)
+fit_row forms entry (IsLocked name key) now fits numbers h = h
+fit_row forms entry (ForceUnlock name key) now fits numbers h = fit_locked entry None h tt
 fit_row forms entry (ExecuteOnKey name key owner number argument) now fits numbers h = fit_processed entry (item_at forms number) argument now h
 
-fit_unless_locked : (owner : Option Owner) (entry : MapRecord) (made : Done) → PartsFit entry → DoneFits made → DoneFits (unless_locked owner entry made)
+fit_unless_locked : (owner : Option Owner) (entry : MapRecord) (made : Done) → PartsFit entry → PartsFit made.1 → PartsFit (unless_locked owner entry made).1
 fit_unless_locked None entry made h k = k
 fit_unless_locked (Some owner) entry made h k = go (may_write entry.lock owner)
   where
-    go : (may : Bool) → DoneFits (if may then made else (KeyLocked, entry))
+    go : (may : Bool) → PartsFit (if may then made else (KeyLocked, entry)).1
     go true = k
-    go false = (tt, h)
+    go false = h
 
-pub done_fits : (forms : List ProcessorForm) (entry : MapRecord) (call : MapCall) (now : ℕ) → MapCallFits call → MapNumbersFit call → PartsFit entry → DoneFits (done forms entry call now)
-done_fits forms entry call now fits numbers h =
+pub after_fits : (forms : List ProcessorForm) (entry : MapRecord) (call : MapCall) (now : ℕ) → MapCallFits call → MapNumbersFit call → PartsFit entry → PartsFit (done forms entry call now).1
+after_fits forms entry call now fits numbers h =
     let stands = fit_cleaned entry now h in
     fit_unless_locked (writer forms call) (cleaned entry now) (row forms (cleaned entry now) call now) stands (fit_row forms (cleaned entry now) call now fits numbers stands)
 
 -- queues
-
-pub queue_answer_fits : (items : List (List ℕ)) (call : QueueCall) (capacity : ℕ) → All FitsFrame items → AnswerFits (answer items call capacity)
-queue_answer_fits items (Offer name value) capacity all = tt
-queue_answer_fits [] (Poll name) capacity all = tt
-queue_answer_fits (item ∷ items) (Poll name) capacity all = All-head FitsFrame item items all
-queue_answer_fits [] (Peek name) capacity all = tt
-queue_answer_fits (item ∷ items) (Peek name) capacity all = All-head FitsFrame item items all
-queue_answer_fits items (Size name) capacity all = tt
-queue_answer_fits items (RemainingCapacity name) capacity all = tt
-queue_answer_fits items (Clear name) capacity all = tt
 
 -- at most so many values, each of which fits
 abbrev pub ItemsFit : ℕ → List (List ℕ) → Type 0

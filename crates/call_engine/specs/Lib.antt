@@ -1,5 +1,6 @@
 pub mod Calls
 pub mod Changes
+pub mod EffectFacts
 pub mod EffectLaws
 pub mod Effects
 pub mod Env
@@ -7,6 +8,6 @@ pub mod Executions
 pub mod Fitting
 pub mod Limits
 pub mod Objects
-pub mod SameEntries
 pub mod ShelfLaws
+pub mod Shelves
 pub mod Within

@@ -1,8 +1,9 @@
 -- What so many calls can make a partition keep: nothing at first, one call more after each, and what fits a snapshot.
-use Rattle.std.proofs.Common.{◌≡◌, ℕ, ◌+◌, ◌≤◌, ◌<◌, Bool, true, false, not, ◌&&◌, ◌||◌, List, [], ◌∷◌, length, Option, Some, None, All, is_some, unwrap_or, refl, sym, subst, true≢false, arith}
+-- It stands here for the laws of `ShelfLaws`.
+use Rattle.std.proofs.Common.{◌≡◌, ℕ, ◌+◌, ◌≤◌, ◌<◌, Bool, true, false, not, ◌&&◌, ◌||◌, List, [], length, Option, Some, None, All, is_some, unwrap_or, refl, sym, subst, true≢false, arith}
 use Rattle.std.proofs.lemmas.List.Elements.{All-nil, All-weaker}
 use Rattle.std.proofs.lemmas.Option.{IfSome_then}
-use Rattle.std.specs.Prelude.{◌^◌, if◌then◌else◌}
+use Rattle.std.specs.Prelude.{◌^◌}
 use Rattle.std.specs.FinMap as finite
 use Rattle.grid_base.specs.Objects.{IsSmall}
 use Rattle.grid_base.specs.Limits.{FitsFrame, MapCallFits, MapNumbersFit, CallFits, NumbersFit}
@@ -13,7 +14,6 @@ use Rattle.grid_base.specs.declared.calls.GridCall.{GridCall}
 use Rattle.grid_base.specs.declared.calls.GridCall.TheVariants as call
 use Rattle.grid_base.specs.declared.calls.Request.{Request}
 use Rattle.grid_base.specs.declared.calls.MapCall.{MapCall}
-use Rattle.fixed_fields.specs.Replies.{AnswerFits}
 use Rattle.entry_processors.specs.Processors.{ProcessorForm}
 use Rattle.key_locks.specs.declared.locks.Lock.{Lock}
 use Rattle.map_records.specs.declared.records.Idle.{Idle}
@@ -21,14 +21,14 @@ use Rattle.map_records.specs.declared.records.MapRecord.{MapRecord}
 use Rattle.map_records.specs.MapEntries.{empty_entry}
 use Rattle.map_records.specs.MapTable as entries
 use Rattle.map_records.proofs.Values.{stays_whole}
-use Rattle.object_store.specs.Records.{Record, Map, Queue, kept_entry, kept_items, suits, nothing_of, entry_in, items_in, is_nothing, has_value_or_lock}
+use Rattle.object_store.specs.Records.{Record, Map, Queue, suits, nothing_of, entry_in, items_in, is_nothing, has_value_or_lock}
 use Rattle.object_store.specs.Partitions.{Partition, object_cmp, is_kept, stored_in, record_at, nothing_stored}
 use Rattle.object_store.specs.Spelling.{IsSized, IsSpelledObject, IsSpelledRecord, IsSpelledPartition}
 use Rattle.object_store.proofs.PartitionLaws.{of_all_objects, all-with_record, length-with_record, stored_kept}
-use Rattle.call_engine.specs.Calls.{Settings, answer, after}
+use Rattle.call_engine.specs.Calls.{Settings, after}
 use Rattle.call_engine.specs.Limits.{RequestFits, IsWhole, EntryFits, RecordFits, NameFits, IsWithin}
 use Rattle.call_engine.specs.Objects.{target_of, partition_object}
-use Rattle.call_engine.specs.Fitting.{PartsFit, done_fits, ItemsFit, queue_answer_fits, queue_after_fits}
+use Rattle.call_engine.specs.Fitting.{PartsFit, after_fits, ItemsFit, queue_after_fits}
 
 -- records
 
@@ -42,7 +42,7 @@ entry_of_parts entry h whole = record {
   whole = whole;
 }
 
-parts_of_entry : (entry : MapRecord) → EntryFits entry → PartsFit entry
+pub parts_of_entry : (entry : MapRecord) → EntryFits entry → PartsFit entry
 parts_of_entry entry h = record { value = h.value; expires = h.numbers.expires; idle = h.numbers.idle; lock = h.numbers.lock }
 
 pub empty_fits : EntryFits empty_entry
@@ -60,23 +60,15 @@ pub items_in_fit : (calls : ℕ) (kept : Record) → RecordFits calls kept → I
 items_in_fit calls (Map entry) h = (omega arith, All-nil FitsFrame)
 items_in_fit calls (Queue items) h = h
 
-pub entry_answer_fits : (forms : List ProcessorForm) (entry : MapRecord) (c : MapCall) (now : ℕ) → MapCallFits c → MapNumbersFit c → EntryFits entry → AnswerFits (entries.answer forms entry c now)
-entry_answer_fits forms entry c now fits numbers h = (done_fits forms entry c now fits numbers (parts_of_entry entry h)).0
-
 pub entry_after_fits : (forms : List ProcessorForm) (entry : MapRecord) (c : MapCall) (now : ℕ) → MapCallFits c → MapNumbersFit c → EntryFits entry → EntryFits (entries.after forms entry c now)
 entry_after_fits forms entry c now fits numbers h =
-    let made = done_fits forms entry c now fits numbers (parts_of_entry entry h) in
+    let parts = after_fits forms entry c now fits numbers (parts_of_entry entry h) in
     let whole = stays_whole forms entry c now (λ e. (h.whole.expires e, h.whole.idle e)) in
-    entry_of_parts (entries.after forms entry c now) made.1 (record { expires = λ e. (whole e).0; idle = λ e. (whole e).1 })
+    entry_of_parts (entries.after forms entry c now) parts (record { expires = λ e. (whole e).0; idle = λ e. (whole e).1 })
 
--- What a call answers fits a frame, where the call does and what was kept.
-pub answer_fits : (settings : Settings) (calls : ℕ) (kept : Record) (r : GridCall) (now : ℕ) → CallFits r → NumbersFit r → RecordFits calls kept → AnswerFits (answer settings kept r now)
-answer_fits settings calls kept (call.Map c) now fits numbers h = entry_answer_fits settings.forms (entry_in kept) c now fits numbers (entry_in_fits calls kept h)
-answer_fits settings calls kept (call.Queue c) now fits numbers h = queue_answer_fits (items_in kept) c settings.capacity (items_in_fit calls kept h).1
-
-after_fits : (settings : Settings) (calls : ℕ) (kept : Record) (r : GridCall) (now : ℕ) → CallFits r → NumbersFit r → RecordFits calls kept → RecordFits (calls + 1) (after settings kept r now)
-after_fits settings calls kept (call.Map c) now fits numbers h = entry_after_fits settings.forms (entry_in kept) c now fits numbers (entry_in_fits calls kept h)
-after_fits settings calls kept (call.Queue c) now fits numbers h = queue_after_fits (items_in kept) c settings.capacity calls fits (items_in_fit calls kept h)
+record_after_fits : (settings : Settings) (calls : ℕ) (kept : Record) (r : GridCall) (now : ℕ) → CallFits r → NumbersFit r → RecordFits calls kept → RecordFits (calls + 1) (after settings kept r now)
+record_after_fits settings calls kept (call.Map c) now fits numbers h = entry_after_fits settings.forms (entry_in kept) c now fits numbers (entry_in_fits calls kept h)
+record_after_fits settings calls kept (call.Queue c) now fits numbers h = queue_after_fits (items_in kept) c settings.capacity calls fits (items_in_fit calls kept h)
 
 -- partitions
 
@@ -123,7 +115,7 @@ grows_within settings n s r now fits h =
     record {
       count = omega (arith, longer, before);
       each = all-with_record (IsOneWithin (n + 1)) s name kept (all_widened n (n + 1) (omega arith) (stored_in s) h.each)
-          (λ keeps. (name_fits r.call fits.0, after_fits settings n (record_at s name) r.call now fits.0 fits.1 (record_fits n s name h)));
+          (λ keeps. (name_fits r.call fits.0, record_after_fits settings n (record_at s name) r.call now fits.0 fits.1 (record_fits n s name h)));
     }
 
 -- spelling
@@ -169,46 +161,3 @@ is_spelled s h =
           let one = made.each k d less in
           (spelled_name _ one.0, spelled_record h.calls _ few (some_kept _ _ (kept k d less).0) one.1);
     }
-
--- What is looked up is what is kept, of an entry and of a queue; where nothing is found, nothing is kept.
-
-pub found_entry : (kept : Record) (entry : MapRecord) → Some entry ≡ kept_entry kept → entry ≡ entry_in kept
-found_entry kept entry e = go (is_nothing kept) e
-  where
-    go : (nothing : Bool) → Some entry ≡ (if nothing then None else Some (entry_in kept)) → entry ≡ entry_in kept
-    go true is = cc
-    go false is = cc
-
-nothing_in : (kept : Record) → is_nothing kept ≡ true → (entry_in kept ≡ empty_entry) × (items_in kept ≡ [])
-nothing_in (Map entry) e = (empty_of entry.value entry.expires entry.idle entry.lock e, refl)
-  where
-    empty_of : (value : Option (List ℕ)) (expires : Option ℕ) (idle : Option Idle) (lock : Option Lock) → (not (is_some value) && not (is_some expires) && not (is_some idle) && not (is_some lock)) ≡ true
-        → ◌≡◌ {A = MapRecord} (record { value = value; expires = expires; idle = idle; lock = lock }) empty_entry
-    empty_of None None None None is = refl
-    empty_of None None None (Some lock) is = absurd (true≢false (sym is))
-    empty_of None None (Some idle) lock is = absurd (true≢false (sym is))
-    empty_of None (Some expires) idle lock is = absurd (true≢false (sym is))
-    empty_of (Some value) expires idle lock is = absurd (true≢false (sym is))
-nothing_in (Queue []) e = (refl, refl)
-nothing_in (Queue (item ∷ items)) e = absurd (true≢false (sym e))
-
-pub no_entry : (kept : Record) → None ≡ kept_entry kept → entry_in kept ≡ empty_entry
-no_entry kept e = go (is_nothing kept) refl e
-  where
-    go : (nothing : Bool) → is_nothing kept ≡ nothing → None ≡ (if nothing then None else Some (entry_in kept)) → entry_in kept ≡ empty_entry
-    go true it is = (nothing_in kept it).0
-    go false it is = cc
-
-pub found_items : (kept : Record) (items : List (List ℕ)) → Some items ≡ kept_items kept → items ≡ items_in kept
-found_items kept items e = go (is_nothing kept) e
-  where
-    go : (nothing : Bool) → Some items ≡ (if nothing then None else Some (items_in kept)) → items ≡ items_in kept
-    go true is = cc
-    go false is = cc
-
-pub no_items : (kept : Record) → None ≡ kept_items kept → items_in kept ≡ []
-no_items kept e = go (is_nothing kept) refl e
-  where
-    go : (nothing : Bool) → is_nothing kept ≡ nothing → None ≡ (if nothing then None else Some (items_in kept)) → items_in kept ≡ []
-    go true it is = (nothing_in kept it).1
-    go false it is = cc

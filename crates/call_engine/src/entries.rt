@@ -7,11 +7,12 @@ ghost use Rattle.grid_base.specs.Names.{map_of, key_of};
 ghost use Rattle.grid_base.specs.declared.names.ObjectKey.TheVariants.{Entry};
 ghost use Rattle.grid_base.specs.declared.calls.GridCall.TheVariants.{Map as MapOf};
 ghost use Rattle.map_records.specs.MapEntries.{empty_entry, is_expired as has_expired};
+ghost use Rattle.map_records.specs.SameEntries.{is_same_entry};
 ghost use Rattle.object_store.specs.Records.{Map as KeptOf};
 ghost use Rattle.object_store.specs.Partitions.{record_at};
 ghost use Rattle.object_store.specs.Spelling.{effect_bytes};
 ghost use Rattle.call_engine.specs.Env.{settings_of};
-ghost use Rattle.call_engine.specs.Effects.{is_same_entry, entry_effect};
+ghost use Rattle.call_engine.specs.Effects.{entry_effect};
 ghost use Rattle.call_engine.specs.Executions.{IsExecution};
 ghost use Rattle.call_engine.specs.Limits.{EntryFits, IsWithin};
 

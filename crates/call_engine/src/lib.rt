@@ -3,8 +3,9 @@
 
 mod entries;
 mod env;
+pub mod laws;
 mod queues;
 mod shelf;
 
-pub use env::GridEnv;
+pub use env::{GridEnv, GridSettings};
 pub use shelf::GridShelf;

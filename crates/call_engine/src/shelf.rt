@@ -2,9 +2,9 @@ ghost use Rattle.std.specs.Prelude.{◌≡◌, Some, IfOk, OnOk, OnErr, is_some,
 ghost use Rattle.grid_base.specs.Objects.{IsSmall};
 
 use crate::entries::execute_on_entry;
-use crate::env::GridEnv;
+use crate::env::{GridEnv, GridSettings};
 use crate::queues::execute_on_queue;
-use grid_base::{Bytes, Executed, GridCall, Memory, Moment, Request, Shelf};
+use grid_base::{Bytes, Executed, Executes, GridCall, Memory, Moment, Request, Shelf};
 use object_store::{ObjectStore, read_effect};
 use std::alloc::{AllocError, Global};
 use std::marker::Model;
@@ -40,60 +40,25 @@ impl Shelf for GridShelf {
     ghost use Rattle.std.specs.Prelude.{refl};
     ghost use Rattle.object_store.specs.Partitions.{Partition, nothing_stored};
     ghost use Rattle.object_store.specs.Spelling.{snapshot_bytes};
-    ghost use Rattle.call_engine.specs.Env.{settings_of};
-    ghost use Rattle.call_engine.specs.Effects.{effect_of, applied};
-    ghost use Rattle.call_engine.specs.Changes.{change_of};
-    ghost use Rattle.call_engine.specs.Limits.{RequestFits, IsWithin};
-    ghost use Rattle.call_engine.specs.Objects.{partition_object};
-    ghost use Rattle.call_engine.specs.ShelfLaws.{changes_by_effect, same_without_effect, made_by_effect, one_spelling};
+    ghost use Rattle.call_engine.specs.Effects.{applied};
+    ghost use Rattle.call_engine.specs.Limits.{IsWithin};
+    ghost use Rattle.call_engine.specs.Shelves.{partition_shelf};
+    ghost use Rattle.call_engine.specs.ShelfLaws.{changes_by_effect, same_without_effect, differs_by_effect, made_by_effect, one_spelling};
     ghost use Rattle.call_engine.specs.Within.{begins_within, grows_within, widens};
 
-    type Env = GridEnv;
+    type Plan = GridSettings;
 
     type Call = Request;
 
     ghost State = { Partition };
 
-    ghost state = { λ shelf. shelf };
-
-    ghost empty_state = { nothing_stored };
-
-    ghost object = { λ env. partition_object (settings_of (λ b. (Processor-box b).form b.value) env) };
-
-    ghost effect_of = { λ env. effect_of (settings_of (λ b. (Processor-box b).form b.value) env) };
-
-    ghost change_of = { λ env. change_of (settings_of (λ b. (Processor-box b).form b.value) env) };
-
-    ghost within_limits = { RequestFits };
-
-    ghost within = { IsWithin };
-
-    ghost applied = { applied };
-
-    ghost snapshot_of = { snapshot_bytes };
+    ghost model = { partition_shelf };
 
     fn empty(alloc: Global) -> Self
         ensures { result ≡ nothing_stored }
     {
         GridShelf {
             store: ObjectStore::new(alloc),
-        }
-    }
-
-    fn execute(
-        &self,
-        alloc: Global,
-        env: &GridEnv,
-        call: &Request,
-        now: Moment,
-    ) -> Result<Executed, Memory> {
-        match &call.call {
-            GridCall::Map(on_entry) => {
-                execute_on_entry(alloc, &self.store, env, call, on_entry, now)
-            }
-            GridCall::Queue(on_queue) => {
-                execute_on_queue(alloc, &self.store, env, call, on_queue, now)
-            }
         }
     }
 
@@ -125,21 +90,46 @@ impl Shelf for GridShelf {
         }
     }
 
-    ghost begins_empty = { λ env. refl };
+    ghost begins_empty = { λ plan. refl };
 
-    ghost changes_by_effect = { λ env. changes_by_effect _ };
+    ghost changes_by_effect = { changes_by_effect };
 
-    ghost same_without_effect = { λ env. same_without_effect _ };
+    ghost same_without_effect = { same_without_effect };
 
-    ghost made_by_effect = { λ env. made_by_effect _ };
+    ghost differs_by_effect = { differs_by_effect };
+
+    ghost made_by_effect = { made_by_effect };
 
     ghost begins_within = { begins_within };
 
-    ghost grows_within = { λ env. grows_within _ };
+    ghost grows_within = { grows_within };
 
     ghost widens = { widens };
 
     ghost one_spelling = { one_spelling };
+}
+
+impl Executes<GridEnv> for GridShelf {
+    ghost use Rattle.call_engine.specs.Env.{settings_of};
+
+    ghost plan_of = { λ env. settings_of (λ b. (Processor-box b).form b.value) env };
+
+    fn execute(
+        &self,
+        alloc: Global,
+        env: &GridEnv,
+        call: &Request,
+        now: Moment,
+    ) -> Result<Executed, Memory> {
+        match &call.call {
+            GridCall::Map(on_entry) => {
+                execute_on_entry(alloc, &self.store, env, call, on_entry, now)
+            }
+            GridCall::Queue(on_queue) => {
+                execute_on_queue(alloc, &self.store, env, call, on_queue, now)
+            }
+        }
+    }
 }
 
 #[cfg(test)]

@@ -1,3 +1,4 @@
+pub mod Forms
 pub mod NumberValues
 pub mod OutcomeFacts
 pub mod Places

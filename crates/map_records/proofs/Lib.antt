@@ -1,4 +1,5 @@
 mod Locking
 mod Rows
+pub mod SameEntries
 mod Uses
 pub mod Values

@@ -3,3 +3,4 @@ pub mod Examples
 pub mod Idling
 pub mod MapEntries
 pub mod MapTable
+pub mod SameEntries

@@ -1,7 +1,8 @@
 use Rattle.std.proofs.Common.{sym, subst}
 use Rattle.call_engine.specs.Limits.{EntryFits}
 use Rattle.call_engine.proofs.ExecutionLaws.{on_found_entry}
-use Rattle.call_engine.specs.Within.{record_fits, entry_in_fits, found_entry}
+use Rattle.call_engine.specs.Within.{record_fits, entry_in_fits}
+use Rattle.call_engine.proofs.Found.{found_entry}
 use Rattle.call_engine.proofs.entries.execute_on_entry.Goals as goal
 
 pub run_on-requires-clause-kept : goal.run_on-requires-clause-kept

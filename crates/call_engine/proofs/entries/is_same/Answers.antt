@@ -9,7 +9,7 @@ use Rattle.grid_base.specs.declared.names.ClientKey.TheVariants.{Known, OfConn}
 use Rattle.key_locks.specs.declared.locks.Lock.{Lock}
 use Rattle.key_locks.specs.contracts.locks.LockPartialEq.TheImpl.{eq-value}
 use Rattle.key_locks.specs.Locks.{is_same_client}
-use Rattle.call_engine.specs.Effects.{is_same_idle, is_same_lock}
+use Rattle.map_records.specs.SameEntries.{is_same_idle, is_same_lock}
 use Rattle.call_engine.proofs.entries.is_same.Goals as goal
 
 three_tests : (a b c : Bool) → (a && (b && c)) ≡ ((a && b) && c)

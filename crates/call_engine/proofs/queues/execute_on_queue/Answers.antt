@@ -1,6 +1,7 @@
 use Rattle.std.proofs.Common.{All, sym, subst, ◌∙◌}
 use Rattle.grid_base.specs.Limits.{FitsFrame}
-use Rattle.call_engine.specs.Within.{record_fits, items_in_fit, found_items}
+use Rattle.call_engine.specs.Within.{record_fits, items_in_fit}
+use Rattle.call_engine.proofs.Found.{found_items}
 use Rattle.call_engine.proofs.queues.execute_on_queue.Goals as goal
 
 pub run_on-requires-clause-items : goal.run_on-requires-clause-items

@@ -14,7 +14,7 @@ use Rattle.key_locks.specs.declared.locks.Lock.{Lock}
 use Rattle.key_locks.specs.Locks.{is_same_client, is_same_owner}
 use Rattle.map_records.specs.declared.records.Idle.{Idle}
 use Rattle.map_records.specs.declared.records.MapRecord.{MapRecord}
-use Rattle.call_engine.specs.Effects.{is_same_idle, is_same_lock, is_same_entry}
+use Rattle.map_records.specs.SameEntries.{is_same_idle, is_same_lock, is_same_entry}
 
 pub option_decides : {X : Type 0} (E : X → X → Bool) → ((a b : X) → Decides (E a b) (a ≡ b)) → (p q : Option X) → Decides (option_eq E p q) (p ≡ q)
 option_decides E decides None None = (λ e. refl, λ e. refl)
