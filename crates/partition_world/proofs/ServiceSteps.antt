@@ -1,8 +1,8 @@
 -- Events at which the table service takes a step, or sends again: no member does, and what the service sends comes last on its links.
-use Rattle.std.proofs.Common.{◌≡◌, ◌≢◌, ℕ, ◌+◌, ◌<◌, ◌≤◌, Bool, true, false, cond, not, ◌&&◌, ◌==◌, nat_lt, List, [], ◌∷◌, ◌++◌, map, length, Contains, Option, Some, None, vec_len, refl, ap, sym, ◌∙◌, subst, append-nil, arith, ◌⊎◌, inl, inr}
+use Rattle.std.proofs.Common.{◌≡◌, ◌≢◌, ℕ, ◌+◌, ◌<◌, ◌≤◌, Bool, true, false, cond, not, ◌&&◌, ◌==◌, nat_lt, List, [], ◌∷◌, ◌++◌, map, length, Contains, Option, Some, None, Result, Ok, Err, IfOk, OnOk, OnErr, vec_len, refl, ap, sym, ◌∙◌, subst, append-nil, arith, ◌⊎◌, inl, inr}
 use Rattle.partition_table.specs.Rows.{is_in, is_among, first_of}
 use Rattle.partition_protocol.specs.Messages.{Sent, Freeze}
-use Rattle.partition_protocol.specs.Service.{Service, telling, detecting, beginning, handing_over, move_refused, join_refused, handover_refused, MoveRefused as WhyNotMoved, Lost as IsLost, NotIdle as IsNotIdle, NotThere as IsNotThere, AlreadyThere as IsAlreadyThere, NotLive as IsNotLive, NotEligible as IsNotEligible, AdvanceStep, Nothing, Freezes, MakesRow, advance_of, freezing_again, ReopenRefused as WhyNotReopened, NotLost as IsNotLost, NoMember as HasNoMember, reopen_refused, reopening}
+use Rattle.partition_protocol.specs.Service.{Service, telling, detecting, beginning, handing_over, move_refused, join_refused, handover_refused, MoveRefused as WhyNotMoved, AdvanceStep, Nothing, Freezes, MakesRow, advance_of, freezing_again, reopen_refused, reopening}
 use Rattle.partition_protocol.specs.Recorded.{Recorded}
 use Rattle.partition_protocol.specs.WellFormed.{IsWellFormed}
 use Rattle.partition_protocol.specs.Claims.{IsLawful}
@@ -22,12 +22,11 @@ use Rattle.member_wire.specs.Spelling.{LengthsFit}
 use Rattle.link_net.specs.Links.{Net, HasLists, HasRoom, list_of, spare_of, sent_to, with_sent}
 use Rattle.table_service.specs.declared.service.Service.{Service as TableService}
 use Rattle.table_service.specs.Services.{Setup, service_of, service_number, setup_of as service_setup}
-use Rattle.table_service.specs.Sending.{Sends, AllFit}
+use Rattle.table_service.specs.declared.told.Told.{Told}
+use Rattle.table_service.specs.Sending.{IsTold, IsRowTold, AllFit}
 use Rattle.table_service.specs.Refusals.{why_not_moved, why_not_reopened}
 use Rattle.table_service.specs.declared.refusals.MoveRefused.{MoveRefused}
-use Rattle.table_service.specs.declared.refusals.MoveRefused.TheVariants as no_move
 use Rattle.table_service.specs.declared.refusals.ReopenRefused.{ReopenRefused}
-use Rattle.table_service.specs.declared.refusals.ReopenRefused.TheVariants as no_reopening
 use Rattle.table_service.specs.Steps.{told_on_loss, advancing, told_on_advance, advanced_by}
 use Rattle.table_service.specs.declared.moves.Advanced.{Advanced}
 use Rattle.table_service.specs.declared.moves.Advanced.TheVariants as did_step
@@ -36,7 +35,7 @@ use Rattle.partition_world.specs.declared.event.Happened.{Happened}
 use Rattle.partition_world.specs.declared.event.Happened.TheVariants as happened
 use Rattle.grid_base.specs.Shelves.{Meaning}
 use Rattle.partition_world.specs.Shelves.{IsShelf}
-use Rattle.partition_world.specs.Events.{move_outcome, reopen_outcome, happened_of}
+use Rattle.partition_world.specs.Events.{happened_of}
 use Rattle.partition_world.specs.InFlight.{contents_in}
 use Rattle.partition_world.specs.Sending.{HasFit, flying}
 use Rattle.partition_world.specs.Recorders.{leader_pair, trail_by, with_reopening}
@@ -122,7 +121,7 @@ module _ {S R Plan C State : Type 0} (k : Meaning S C State) (records : R → Re
   pub of_code : (P : ℕ → Service → Type 0) → P w.members w.service → P (service_number world.service) (service_of world.service)
   of_code P p = subst (λ n. P n (service_of world.service)) same_number (subst (P w.members) (sym comes.stands.agrees.service) p)
 
-  module _ (s : Service) (r : Recorded C) (ss : List Sent) (outcome : Outcome) (served : IsServed s r ss outcome) (first out : List (ℕ × List ℕ)) (empty : first ≡ []) (sends : Sends first out ss) where
+  module _ (s : Service) (r : Recorded C) (ss : List Sent) (outcome : Outcome) (served : IsServed s r ss outcome) (out : List (ℕ × List ℕ)) (told : IsTold out ss) where
     -- each message is for an end
     to_ends : Every (λ (x : Sent). x.to ≤ w.members) ss
     to_ends = every_from_in (λ (x : Sent). x.to ≤ w.members) ss (λ x i. below x (contains_in (packet w.members x.to x.message) next.packets (there x i)))
@@ -136,7 +135,7 @@ module _ {S R Plan C State : Type 0} (k : Meaning S C State) (records : R → Re
         below x c = let l = (formed_next.packets (packet w.members x.to x.message) c).to in let same = ap (λ (z : Setup). z.members) comes.stands.agrees.setup in omega (arith, l, same)
 
     pub written_out : (c : Contents) → out ≡ map (written c) ss
-    written_out c = sends c ∙ ap (λ o. o ++ map (written c) ss) empty
+    written_out c = told.told c
 
     -- there is room for them
     pub few_sent : ((h : ℕ) → count_to h ss ≤ 2) → (links : Net) → links.ends ≡ world.links.ends → HasRoom links world.members 2 → (to : ℕ) → length (sent_to to out) ≤ spare_of links world.members to
@@ -160,7 +159,7 @@ module _ {S R Plan C State : Type 0} (k : Meaning S C State) (records : R → Re
             omega (arith, as_many, none)
 
     -- so the event has run
-    module _ (within : ℕ → State → Type 0) (applied : List ℕ → State → Option State) (shelf : IsShelf k limits within applied) (fits : AllFit ss) (links : Net) (ends : links.ends ≡ world.links.ends)
+    module _ (within : ℕ → State → Type 0) (applied : List ℕ → State → Option State) (shelf : IsShelf k limits within applied) (links : Net) (ends : links.ends ≡ world.links.ends)
         (lists : HasLists links (list_of world.links)) where
       stood : Stood k.object limits within w
       stood = comings.stood k records limits within applied shelf world events event comes
@@ -179,7 +178,7 @@ module _ {S R Plan C State : Type 0} (k : Meaning S C State) (records : R → Re
       fits_next : HasFit k next
       fits_next =
           bytes.fits_next k law w stood.good stood.led event comes.stands.agrees.fit w.packets w.members (contents_in k next) ss (λ p i. i) served.packets (named_itself k next ss)
-          (every_of_all (λ (x : Sent). LengthsFit (said_with (contents_in k next) x.message)) ss (fits (contents_in k next)))
+          (every_of_all (λ (x : Sent). LengthsFit (said_with (contents_in k next) x.message)) ss (told.fits (contents_in k next)))
 
       module _ (service : TableService) (setup : service_setup service ≡ setup_of world) (serves : service_of service ≡ s) where
         pub served_run : (new : World S R Plan C) → new ≡ record world { service = service; links = new.links; recorder = new.recorder } → records new.recorder r
@@ -262,18 +261,30 @@ tells_few members s h = let one = telling_few h h members s in omega (arith, one
 pub silent_lists : (net : Net) (m : ℕ) → HasLists net (with_sent m [] (list_of net))
 silent_lists net m f t = on_if (λ bs. list_of net f t ≡ list_of net f t ++ bs) (f == m) [] [] (sym (append-nil (list_of net f t))) (sym (append-nil (list_of net f t)))
 
-pub none_fit : AllFit []
+none_fit : AllFit []
 none_fit contents k d within = absurd (omega (arith, within))
 
--- what is no want of memory is a refusal
-pub refused_why : (refused : MoveRefused) → refused ≢ no_move.Memory → (why : WhyNotMoved) × (why_not_moved refused ≡ Some why)
-refused_why no_move.Lost other = (IsLost, refl)
-refused_why no_move.NotIdle other = (IsNotIdle, refl)
-refused_why no_move.NotThere other = (IsNotThere, refl)
-refused_why no_move.AlreadyThere other = (IsAlreadyThere, refl)
-refused_why no_move.NotLive other = (IsNotLive, refl)
-refused_why no_move.NotEligible other = (IsNotEligible, refl)
-refused_why no_move.Memory other = absurd (other refl)
+pub none_told : IsTold [] []
+none_told = record { told = λ contents. refl; fits = none_fit }
+
+-- What the service has begun, where it was not refused
+pub record IsBegun {W : Type 0} (n : ℕ) (after goes : Service) (came refusal : Option W) (made : Told ℕ) : Type 0 where
+  pub refused : came ≡ refusal
+  pub service : after ≡ goes
+  pub told : IsRowTold n after made
+
+pub begun : {E W : Type 0} (refusal_of : Result (Told ℕ) E → Option W) (n : ℕ) (after goes : Service) (refusal : Option W) (r : Result (Told ℕ) E) (made : Told ℕ) → r ≡ Ok made
+    → refusal_of r ≡ refusal → OnOk r (after ≡ goes) → IfOk r (IsRowTold n after) → IsBegun n after goes (refusal_of (Ok made)) refusal made
+begun refusal_of n after goes refusal r made is refused service told = record {
+  refused = subst (λ x. refusal_of x ≡ refusal) is refused;
+  service = subst (λ x. OnOk x (after ≡ goes)) is service;
+  told = subst (λ x. IfOk x (IsRowTold n after)) is told;
+}
+
+-- and where it was
+pub not_begun : {E W : Type 0} (refusal_of : Result (Told ℕ) E → Option W) (refusal : Option W) (same : Type 0) (r : Result (Told ℕ) E) (why : E) → r ≡ Err why → refusal_of r ≡ refusal → OnErr r same
+    → (refusal_of (Err why) ≡ refusal) × same
+not_begun refusal_of refusal same r why is refused stays = (subst (λ x. refusal_of x ≡ refusal) is refused, subst (λ x. OnErr x same) is stays)
 
 module _ {S R Plan C State : Type 0} (k : Meaning S C State) (records : R → Recorded C → Type 0) (limits : C → Type 0) (world : World S R Plan C) (events : List (Event C)) (event : Event C) (comes : Comes k records limits world events event) where
   abbrev here : Machine C
@@ -306,12 +317,10 @@ module _ {S R Plan C State : Type 0} (k : Meaning S C State) (records : R → Re
         })
         refl
 
-    pub refused_run : (refused : MoveRefused) → refused ≢ no_move.Memory → (test : Option WhyNotMoved) (otherwise : HappenedThere C) → happens k.object here event ≡ unless_move_refused here test otherwise
-        → why_not_moved refused ≡ test → HasRun k records world (record world { service = service; links = links }) events event (happened.MoveRefused refused)
-    refused_run refused other test otherwise h e =
-        let why = refused_why refused other in
-        let there : test ≡ Some why.0 = sym e ∙ why.1 in
-        unmoved_run world.recorder comes.stands.agrees.recorded (MoveIsRefused why.0) (h ∙ ap (λ x. unless_move_refused here x otherwise) there) (happened.MoveRefused refused) (ap move_outcome why.1)
+    pub refused_run : (refused : MoveRefused) (test : Option WhyNotMoved) (otherwise : HappenedThere C) → happens k.object here event ≡ unless_move_refused here test otherwise
+        → Some (why_not_moved refused) ≡ test → HasRun k records world (record world { service = service; links = links }) events event (happened.MoveRefused refused)
+    refused_run refused test otherwise h e =
+        unmoved_run world.recorder comes.stands.agrees.recorded (MoveIsRefused (why_not_moved refused)) (h ∙ ap (λ x. unless_move_refused here x otherwise) (sym e)) (happened.MoveRefused refused) refl
 
 -- a member is to take another's place
 
@@ -330,11 +339,11 @@ module _ {S R Plan C State : Type 0} (k : Meaning S C State) (records : R → Re
       none)
 
   pub refused_move : (within : ℕ → State → Type 0) (applied : List ℕ → State → Option State) (shelf : IsShelf k limits within applied) (service : TableService) (links : Net) → service_setup service ≡ setup_of world
-      → service_of service ≡ service_of world.service → links.ends ≡ world.links.ends → HasLists links (list_of world.links) → (refused : MoveRefused) → refused ≢ no_move.Memory
-      → why_not_moved refused ≡ move_refused (service_number world.service) from to (service_of world.service)
+      → service_of service ≡ service_of world.service → links.ends ≡ world.links.ends → HasLists links (list_of world.links) → (refused : MoveRefused)
+      → Some (why_not_moved refused) ≡ move_refused (service_number world.service) from to (service_of world.service)
       → HasRun k records world (record world { service = service; links = links }) events (BeginMove from to) (happened.MoveRefused refused)
-  refused_move within applied shelf service links setup same ends lists refused other e =
-      refused_run k records limits world events (BeginMove from to) comes within applied shelf service links setup same ends lists refused other (move_refused moves_at.members from to moves_at.service)
+  refused_move within applied shelf service links setup same ends lists refused e =
+      refused_run k records limits world events (BeginMove from to) comes within applied shelf service links setup same ends lists refused (move_refused moves_at.members from to moves_at.service)
       (row_made moves_at (beginning (Some from) to moves_at.service)) refl
       (e ∙ of_code k records limits world events (BeginMove from to) comes (λ n s. move_refused n from to s ≡ move_refused moves_at.members from to moves_at.service) refl)
 
@@ -355,11 +364,11 @@ module _ {S R Plan C State : Type 0} (k : Meaning S C State) (records : R → Re
       none)
 
   pub refused_join : (within : ℕ → State → Type 0) (applied : List ℕ → State → Option State) (shelf : IsShelf k limits within applied) (service : TableService) (links : Net) → service_setup service ≡ setup_of world
-      → service_of service ≡ service_of world.service → links.ends ≡ world.links.ends → HasLists links (list_of world.links) → (refused : MoveRefused) → refused ≢ no_move.Memory
-      → why_not_moved refused ≡ join_refused (service_number world.service) to (service_of world.service)
+      → service_of service ≡ service_of world.service → links.ends ≡ world.links.ends → HasLists links (list_of world.links) → (refused : MoveRefused)
+      → Some (why_not_moved refused) ≡ join_refused (service_number world.service) to (service_of world.service)
       → HasRun k records world (record world { service = service; links = links }) events (BeginJoin to) (happened.MoveRefused refused)
-  refused_join within applied shelf service links setup same ends lists refused other e =
-      refused_run k records limits world events (BeginJoin to) comes within applied shelf service links setup same ends lists refused other (join_refused joins_at.members to joins_at.service)
+  refused_join within applied shelf service links setup same ends lists refused e =
+      refused_run k records limits world events (BeginJoin to) comes within applied shelf service links setup same ends lists refused (join_refused joins_at.members to joins_at.service)
       (row_made joins_at (beginning None to joins_at.service)) refl
       (e ∙ of_code k records limits world events (BeginJoin to) comes (λ n s. join_refused n to s ≡ join_refused joins_at.members to joins_at.service) refl)
 
@@ -380,10 +389,11 @@ module _ {S R Plan C State : Type 0} (k : Meaning S C State) (records : R → Re
       none
 
   pub refused_handover : (within : ℕ → State → Type 0) (applied : List ℕ → State → Option State) (shelf : IsShelf k limits within applied) (service : TableService) → service_setup service ≡ setup_of world
-      → service_of service ≡ service_of world.service → (refused : MoveRefused) → refused ≢ no_move.Memory → why_not_moved refused ≡ handover_refused from to (service_of world.service)
+      → service_of service ≡ service_of world.service → (refused : MoveRefused)
+      → Some (why_not_moved refused) ≡ handover_refused from to (service_of world.service)
       → HasRun k records world (record world { service = service }) events (BeginHandover from to) (happened.MoveRefused refused)
-  refused_handover within applied shelf service setup same refused other e =
-      refused_run k records limits world events (BeginHandover from to) comes within applied shelf service world.links setup same refl (λ f t. refl) refused other (handover_refused from to hands_at.service)
+  refused_handover within applied shelf service setup same refused e =
+      refused_run k records limits world events (BeginHandover from to) comes within applied shelf service world.links setup same refl (λ f t. refl) refused (handover_refused from to hands_at.service)
       (done (with_service hands_at (handing_over from to hands_at.service))) refl
       (e ∙ of_code k records limits world events (BeginHandover from to) comes (λ n s. handover_refused from to s ≡ handover_refused from to hands_at.service) refl)
 
@@ -451,11 +461,6 @@ module _ {S R Plan C State : Type 0} (k : Meaning S C State) (records : R → Re
 
 -- a lost partition is reopened
 
-pub reopen_why : (refused : ReopenRefused) → refused ≢ no_reopening.Memory → (why : WhyNotReopened) × (why_not_reopened refused ≡ Some why)
-reopen_why no_reopening.NotLost other = (IsNotLost, refl)
-reopen_why no_reopening.NoMember other = (HasNoMember, refl)
-reopen_why no_reopening.Memory other = absurd (other refl)
-
 module _ {S R Plan C State : Type 0} (k : Meaning S C State) (records : R → Recorded C → Type 0) (limits : C → Type 0) (world : World S R Plan C) (events : List (Event C)) (comes : Comes k records limits world events Reopen) where
   abbrev opens_at : Machine C
   opens_at = run_of k world events
@@ -496,24 +501,21 @@ module _ {S R Plan C State : Type 0} (k : Meaning S C State) (records : R → Re
 
   pub refused_opening : (within : ℕ → State → Type 0) (applied : List ℕ → State → Option State) (shelf : IsShelf k limits within applied) (service : TableService) (links : Net) → service_setup service ≡ setup_of world
       → service_of service ≡ service_of world.service → links.ends ≡ world.links.ends → HasLists links (list_of world.links) → (recorder : R) → records recorder opens_at.recorded → (refused : ReopenRefused)
-      → refused ≢ no_reopening.Memory → why_not_reopened refused ≡ reopen_refused (setup_of world).partition (setup_of world).members (service_of world.service)
+      → Some (why_not_reopened refused) ≡ reopen_refused (setup_of world).partition (setup_of world).members (service_of world.service)
       → HasRun k records world (record world { service = service; links = links; recorder = recorder }) events Reopen (happened.ReopenRefused refused)
-  refused_opening within applied shelf service links setup same ends lists recorder recorded refused other e =
-      unmoved_run k records limits world events Reopen comes within applied shelf service links setup same ends lists recorder recorded (ReopenIsRefused why.0)
+  refused_opening within applied shelf service links setup same ends lists recorder recorded refused e =
+      unmoved_run k records limits world events Reopen comes within applied shelf service links setup same ends lists recorder recorded (ReopenIsRefused (why_not_reopened refused))
       (ap (λ x. unless_reopen_refused opens_at x (row_made (with_reset opens_at (opens_at.service.row.version + 1)) (reopening opens_at.partition opens_at.members opens_at.backups opens_at.service))) there)
-      (happened.ReopenRefused refused) (ap reopen_outcome why.1)
+      (happened.ReopenRefused refused) refl
     where
-      why : (why : WhyNotReopened) × (why_not_reopened refused ≡ Some why)
-      why = reopen_why refused other
-
-      there : reopen_refused opens_at.partition opens_at.members opens_at.service ≡ Some why.0
-      there = of_setup (λ p n b s. reopen_refused opens_at.partition opens_at.members opens_at.service ≡ reopen_refused p n s) refl ∙ sym e ∙ why.1
+      there : reopen_refused opens_at.partition opens_at.members opens_at.service ≡ Some (why_not_reopened refused)
+      there = of_setup (λ p n b s. reopen_refused opens_at.partition opens_at.members opens_at.service ≡ reopen_refused p n s) refl ∙ sym e
 
 -- the service sends again
 
 -- by another name
-pub sends_same : (first out items : List (ℕ × List ℕ)) (ss : List Sent) → items ≡ out → Sends first out ss → Sends first items ss
-sends_same first out items ss e sends contents = e ∙ sends contents
+pub told_same : (out items : List (ℕ × List ℕ)) (ss : List Sent) → items ≡ out → IsTold out ss → IsTold items ss
+told_same out items ss e told = subst (λ o. IsTold o ss) (sym e) told
 
 module _ {S R Plan C State : Type 0} (k : Meaning S C State) (records : R → Recorded C → Type 0) (limits : C → Type 0) (world : World S R Plan C) (events : List (Event C)) (comes : Comes k records limits world events (Resend world.members)) where
   abbrev sends_at : Machine C

@@ -1,7 +1,6 @@
 -- The events and outcomes of the code, as those of the protocol.
-use Rattle.std.specs.Prelude.{if◌then◌else◌, Option, Some, None}
+use Rattle.std.specs.Prelude.{if◌then◌else◌}
 use Rattle.member_wire.specs.Said.{took_of}
-use Rattle.partition_protocol.specs.Service.{MoveRefused as WhyNotMoved, ReopenRefused as WhyNotReopened}
 use Rattle.partition_protocol.specs.Events as protocol
 use Rattle.replica_node.specs.declared.calls.Execution.{Execution}
 use Rattle.replica_node.specs.Calls.{refused_as}
@@ -36,24 +35,14 @@ outcome_of (call.Refused why) = protocol.Refused (refused_as why)
 abbrev pub came_to : Execution → CallOutcome
 came_to execution = if execution.is_held then call.Held execution.seen else call.Released execution.seen
 
--- a refusal of an event is never want of memory, which is no event
-
-abbrev pub move_outcome : Option WhyNotMoved → protocol.Outcome
-move_outcome (Some why) = protocol.MoveIsRefused why
-move_outcome None = protocol.NothingDone
-
-abbrev pub reopen_outcome : Option WhyNotReopened → protocol.Outcome
-reopen_outcome (Some why) = protocol.ReopenIsRefused why
-reopen_outcome None = protocol.NothingDone
-
 abbrev pub happened_of : Happened → protocol.Outcome
 happened_of happened.Nothing = protocol.NothingDone
 happened_of happened.Done = protocol.Done
 happened_of (happened.Called outcome) = outcome_of outcome
 happened_of (happened.Took took) = protocol.TookMessage (took_of took)
 happened_of (happened.RowMade version) = protocol.RowMadeAt version
-happened_of (happened.MoveRefused why) = move_outcome (why_not_moved why)
-happened_of (happened.ReopenRefused why) = reopen_outcome (why_not_reopened why)
+happened_of (happened.MoveRefused why) = protocol.MoveIsRefused (why_not_moved why)
+happened_of (happened.ReopenRefused why) = protocol.ReopenIsRefused (why_not_reopened why)
 
 -- the call that the protocol's event brings keeps to the limits, if it brings one
 abbrev pub EventWithin : {C : Type 0} → (C → Type 0) → protocol.Event C → Type 0

@@ -87,8 +87,7 @@ impl<S: Shelf, R: Records<S::Call>> World<S, R> {
         ensures keeps { KeepsSetup self.old self.new }
     {
         self.links.reserve(self.members, MOST_TOLD)?;
-        let mut out = Outbox::new(alloc);
-        self.service.resend(alloc, &mut out)?;
+        let out = self.service.resend(alloc)?;
         self.links.send_all(self.members, out.into_vec());
         Ok(Happened::Done)
     }

@@ -45,10 +45,9 @@ impl<S: Shelf, R: Records<S::Call>> World<S, R> {
             return Ok(Happened::Nothing);
         }
         self.links.reserve(self.members, MOST_TOLD)?;
-        let mut out = Outbox::new(alloc);
-        let made = self.service.detect(alloc, member, &mut out)?;
-        self.stand(out);
-        match made {
+        let made = self.service.detect(alloc, member)?;
+        self.stand(made.out);
+        match made.outcome {
             Some(version) => Ok(Happened::RowMade { version }),
             None => Ok(Happened::Done),
         }

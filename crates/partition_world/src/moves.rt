@@ -10,9 +10,8 @@ use crate::in_flight::MOST_TOLD;
 use crate::records::Records;
 use crate::world::World;
 use grid_base::{MemberId, Memory, Shelf};
-use member_wire::Outbox;
-use std::alloc::{AllocError, Global};
-use table_service::{Advanced, MoveRefused, ReopenRefused};
+use std::alloc::Global;
+use table_service::{Advanced, ReopenRefused};
 
 impl<S: Shelf, R: Records<S::Call>> World<S, R> {
     /// A member is to take another's place in the row.
@@ -30,16 +29,14 @@ impl<S: Shelf, R: Records<S::Call>> World<S, R> {
         ensures keeps { KeepsSetup self.old self.new }
     {
         self.links.reserve(self.members, MOST_TOLD)?;
-        let mut out = Outbox::new(alloc);
-        match self.service.begin_move(alloc, from, to, &mut out) {
-            Ok(version) => {
-                self.stand(out);
-                Ok(Happened::RowMade { version })
+        match self.service.begin_move(alloc, from, to)? {
+            Ok(made) => {
+                self.stand(made.out);
+                Ok(Happened::RowMade {
+                    version: made.outcome,
+                })
             }
-            Err(refused) => match refused {
-                MoveRefused::Memory => Err(AllocError),
-                _ => Ok(Happened::MoveRefused(refused)),
-            },
+            Err(refused) => Ok(Happened::MoveRefused(refused)),
         }
     }
 
@@ -53,16 +50,14 @@ impl<S: Shelf, R: Records<S::Call>> World<S, R> {
         ensures keeps { KeepsSetup self.old self.new }
     {
         self.links.reserve(self.members, MOST_TOLD)?;
-        let mut out = Outbox::new(alloc);
-        match self.service.begin_join(alloc, to, &mut out) {
-            Ok(version) => {
-                self.stand(out);
-                Ok(Happened::RowMade { version })
+        match self.service.begin_join(alloc, to)? {
+            Ok(made) => {
+                self.stand(made.out);
+                Ok(Happened::RowMade {
+                    version: made.outcome,
+                })
             }
-            Err(refused) => match refused {
-                MoveRefused::Memory => Err(AllocError),
-                _ => Ok(Happened::MoveRefused(refused)),
-            },
+            Err(refused) => Ok(Happened::MoveRefused(refused)),
         }
     }
 
@@ -92,15 +87,15 @@ impl<S: Shelf, R: Records<S::Call>> World<S, R> {
         ensures keeps { KeepsSetup self.old self.new }
     {
         self.links.reserve(self.members, MOST_TOLD)?;
-        let mut out = Outbox::new(alloc);
-        match self.service.advance(alloc, &mut out)? {
+        let step = self.service.advance(alloc)?;
+        match step.outcome {
             Advanced::Nothing => Ok(Happened::Nothing),
             Advanced::Freezing => {
-                self.stand(out);
+                self.stand(step.out);
                 Ok(Happened::Done)
             }
             Advanced::Row { version } => {
-                self.stand(out);
+                self.stand(step.out);
                 Ok(Happened::RowMade { version })
             }
         }
@@ -121,17 +116,15 @@ impl<S: Shelf, R: Records<S::Call>> World<S, R> {
         self.links.reserve(self.members, MOST_TOLD)?;
         let leader = self.leading_pair();
         let places = self.recorder.reopening_places(alloc, leader)?;
-        let mut out = Outbox::new(alloc);
-        match self.service.reopen(alloc, &mut out) {
-            Ok(version) => {
-                self.recorder.reopen(version, places);
-                self.stand(out);
-                Ok(Happened::RowMade { version })
+        match self.service.reopen(alloc)? {
+            Ok(made) => {
+                self.recorder.reopen(made.outcome, places);
+                self.stand(made.out);
+                Ok(Happened::RowMade {
+                    version: made.outcome,
+                })
             }
-            Err(refused) => match refused {
-                ReopenRefused::Memory => Err(AllocError),
-                _ => Ok(Happened::ReopenRefused(refused)),
-            },
+            Err(refused) => Ok(Happened::ReopenRefused(refused)),
         }
     }
 

@@ -1,6 +1,6 @@
 -- Messages are put into an outbox one after another.
 use Rattle.std.proofs.Common.{◌≡◌, ℕ, ◌+◌, true, false, not, List, [], ◌∷◌, ◌++◌, map, refl, ap, sym, ◌∙◌, add-one}
-use Rattle.std.proofs.lemmas.List.{append_assoc, append-nil, map-append}
+use Rattle.std.proofs.lemmas.List.{append-nil, map-append}
 use Rattle.std.proofs.lemmas.List.Elements.{filter-append, All-append, All-nil, All-cons}
 use Rattle.partition_table.specs.declared.row.Row.{Row}
 use Rattle.partition_table.specs.Rows.{is_among}
@@ -8,14 +8,10 @@ use Rattle.partition_protocol.specs.Messages.{Sent, NewRow}
 use Rattle.partition_protocol.specs.Service.{numbers_below, undetected}
 use Rattle.member_wire.specs.Said.{Contents, said_with, written}
 use Rattle.member_wire.specs.Spelling.{LengthsFit}
-use Rattle.table_service.specs.Sending.{Sends, AllFit, row_told}
+use Rattle.table_service.specs.Sending.{Tells, AllFit, row_told}
 
-pub sends_none : (old : List (ℕ × List ℕ)) → Sends old old []
-sends_none old = λ k. sym (append-nil old)
-
-pub sends_more : (old out new : List (ℕ × List ℕ)) (sent : List Sent) (last : Sent) → Sends old out sent → ((k : Contents) → new ≡ out ++ written k last ∷ []) → Sends old new (sent ++ last ∷ [])
-sends_more old out new sent last so_far one =
-    λ k. one k ∙ ap (λ o. o ++ written k last ∷ []) (so_far k) ∙ append_assoc old (map (written k) sent) (written k last ∷ []) ∙ ap (λ ws. old ++ ws) (sym (map-append (written k) sent (last ∷ [])))
+pub tells_more : (out new : List (ℕ × List ℕ)) (sent : List Sent) (last : Sent) → Tells out sent → ((k : Contents) → new ≡ out ++ written k last ∷ []) → Tells new (sent ++ last ∷ [])
+tells_more out new sent last so_far one = λ k. one k ∙ ap (λ o. o ++ written k last ∷ []) (so_far k) ∙ sym (map-append (written k) sent (last ∷ []))
 
 pub none_fit : AllFit []
 none_fit = λ k. All-nil (λ s. LengthsFit (said_with k s.message))

@@ -1,10 +1,11 @@
 ghost use Rattle.std.specs.Prelude.{◌≡◌, ◌<◌, ◌∷◌, true, IsTrue, IfOk, OnOk, OnErr};
 ghost use Rattle.partition_table.specs.Rows.{is_in};
 ghost use Rattle.partition_protocol.specs.Service.{telling, detecting};
-ghost use Rattle.table_service.specs.Sending.{Sends, AllFit};
+ghost use Rattle.table_service.specs.Sending.{IsTold, IsRowTold};
 
 use crate::service::Service;
 use crate::telling::tell;
+use crate::told::Told;
 use grid_base::{MemberId, Memory};
 use member_wire::Outbox;
 use std::alloc::Global;
@@ -17,27 +18,28 @@ impl Service {
     /// first of the others that may lead does, the row is lost if none may, and the move under way begins again in it,
     /// or ends if the member was a part of it. The new row's version is answered, and every member but the detected
     /// ones is told of the row. Goes over the detected members for each member, and pays the row's bytes for each that
-    /// is told. Want of memory changes nothing but `out`, which may have some of the messages.
-    pub fn detect(
-        &mut self,
-        alloc: Global,
-        member: MemberId,
-        out: &mut Outbox,
-    ) -> Result<Option<u32>, Memory>
+    /// is told. Want of memory changes nothing.
+    pub fn detect(&mut self, alloc: Global, member: MemberId) -> Result<Told<Option<u32>>, Memory>
         requires { (service_of self.old).row.version < u32.MAX }
         ensures setup { setup_of self.new ≡ setup_of self.old }
         ensures service { OnOk result (service_of self.new ≡ detecting member (service_of self.old)) }
-        ensures version { IfOk result (λ version. version ≡ version_on_loss member (service_of self.old)) }
-        ensures told { OnOk result (Sends out.old out.new (told_on_loss (service_number self.old) member (service_of self.old))) }
-        ensures fits { OnOk result (AllFit (told_on_loss (service_number self.old) member (service_of self.old))) }
+        ensures version { IfOk result (λ made. made.outcome ≡ version_on_loss member (service_of self.old)) }
+        ensures told { IfOk result (λ made. IsTold made.out (told_on_loss (service_number self.old) member (service_of self.old))) }
         ensures err { OnErr result (service_of self.new ≡ service_of self.old) }
     {
         let detected = preceded(alloc, member, self.detected.as_slice())?;
         if !self.row().contains(member) {
             self.detected = detected;
-            return Ok(None);
+            return Ok(Told {
+                outcome: None,
+                out: Outbox::new(alloc),
+            });
         }
-        Ok(Some(self.lose(alloc, member, detected, out)?))
+        let Told { outcome, out } = self.lose(alloc, member, detected)?;
+        Ok(Told {
+            outcome: Some(outcome),
+            out,
+        })
     }
 
     /// A member of the row has crashed, which makes these the detected members.
@@ -46,24 +48,24 @@ impl Service {
         alloc: Global,
         member: MemberId,
         detected: Vec<MemberId>,
-        out: &mut Outbox,
-    ) -> Result<u32, Memory>
+    ) -> Result<Told<u32>, Memory>
         requires version { (service_of self.old).row.version < u32.MAX }
         requires member { is_in (service_of self.old).row member ≡ true }
         requires detected { detected.items ≡ member ∷ (service_of self.old).detected }
         ensures setup { setup_of self.new ≡ setup_of self.old }
         ensures service { OnOk result (service_of self.new ≡ detecting member (service_of self.old)) }
-        ensures version { IfOk result (λ version. version ≡ (service_of self.new).row.version) }
-        ensures told { OnOk result (Sends out.old out.new (telling (service_number self.old) (service_of self.new))) }
-        ensures fits { OnOk result (AllFit (telling (service_number self.old) (service_of self.new))) }
+        ensures made { IfOk result (IsRowTold (service_number self.old) (service_of self.new)) }
         ensures err { OnErr result (service_of self.new ≡ service_of self.old) }
     {
         let row = self.row().without(alloc, member)?;
-        tell(alloc, out, self.members, detected.as_slice(), &row)?;
+        let out = tell(alloc, self.members, detected.as_slice(), &row)?;
         let version = row.version;
         self.detected = detected;
         self.standing = self.take_standing().after_loss(member, row);
-        Ok(version)
+        Ok(Told {
+            outcome: version,
+            out,
+        })
     }
 }
 

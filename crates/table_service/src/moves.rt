@@ -1,13 +1,14 @@
-ghost use Rattle.std.specs.Prelude.{◌≡◌, ℕ, ◌≢◌, ◌<◌, Some, None, IsTrue, IsSome, IfOk, OnOk, OnErr};
+ghost use Rattle.std.specs.Prelude.{◌≡◌, ℕ, ◌<◌, Some, None, IsTrue, IfOk, OnOk, OnErr};
 ghost use Rattle.partition_protocol.specs.Service.{telling, join_refused, move_refused, handover_refused, beginning, handing_over, advance_of, Freezes, MakesRow};
 ghost use Rattle.migration.specs.Steps.{has_source};
 ghost use Rattle.table_service.specs.Refusals.{move_refusal};
-ghost use Rattle.table_service.specs.Sending.{Sends, AllFit};
+ghost use Rattle.table_service.specs.Sending.{IsTold, IsRowTold};
 
 use crate::refusals::MoveRefused;
 use crate::service::Service;
 use crate::standing::{NextStep, Standing};
 use crate::telling::tell;
+use crate::told::Told;
 use grid_base::{MemberId, Memory};
 use member_wire::{MemberMessage, Outbox};
 use migration::Joining;
@@ -31,50 +32,46 @@ impl Service {
 
     /// A member is to take another's place in the row: it comes in last, in a new row, of which the version is
     /// answered. Every member but the detected ones is told of the row. Goes over the row's members and over all
-    /// members, at the cost of the row's bytes for each. A refusal changes nothing. Want of memory changes nothing but
-    /// `out`, which may have some of the messages.
+    /// members, at the cost of the row's bytes for each. A refusal changes nothing, nor does want of memory.
     pub fn begin_move(
         &mut self,
         alloc: Global,
         from: MemberId,
         to: MemberId,
-        out: &mut Outbox,
-    ) -> Result<u32, MoveRefused>
+    ) -> Result<Result<Told<u32>, MoveRefused>, Memory>
         requires { (service_of self.old).row.version < u32.MAX }
         ensures setup { setup_of self.new ≡ setup_of self.old }
-        ensures refused { move_refusal result ≡ move_refused (service_number self.old) from to (service_of self.old) }
-        ensures service { OnOk result (service_of self.new ≡ beginning (Some from) to (service_of self.old)) }
-        ensures version { IfOk result (λ version. version ≡ (service_of self.new).row.version) }
-        ensures told { OnOk result (Sends out.old out.new (telling (service_number self.old) (service_of self.new))) }
-        ensures fits { OnOk result (AllFit (telling (service_number self.old) (service_of self.new))) }
+        ensures refused { IfOk result (λ begun. move_refusal begun ≡ move_refused (service_number self.old) from to (service_of self.old)) }
+        ensures service { IfOk result (λ begun. OnOk begun (service_of self.new ≡ beginning (Some from) to (service_of self.old))) }
+        ensures made { IfOk result (λ begun. IfOk begun (IsRowTold (service_number self.old) (service_of self.new))) }
+        ensures same { IfOk result (λ begun. OnErr begun (service_of self.new ≡ service_of self.old)) }
         ensures err { OnErr result (service_of self.new ≡ service_of self.old) }
-        ensures unsent { IsSome (move_refused (service_number self.old) from to (service_of self.old)) → out.new ≡ out.old }
     {
-        self.check_move(from, to)?;
-        Ok(self.begin(alloc, Some(from), to, out)?)
+        if let Err(refused) = self.check_move(from, to) {
+            return Ok(Err(refused));
+        }
+        Ok(Ok(self.begin(alloc, Some(from), to)?))
     }
 
     /// A member is to join the row, and nobody leaves it: it comes in last, in a new row, of which the version is
-    /// answered. Costs and tells as `begin_move` does. A refusal changes nothing. Want of memory changes nothing but
-    /// `out`, which may have some of the messages.
+    /// answered. Costs and tells as `begin_move` does. A refusal changes nothing, nor does want of memory.
     pub fn begin_join(
         &mut self,
         alloc: Global,
         to: MemberId,
-        out: &mut Outbox,
-    ) -> Result<u32, MoveRefused>
+    ) -> Result<Result<Told<u32>, MoveRefused>, Memory>
         requires { (service_of self.old).row.version < u32.MAX }
         ensures setup { setup_of self.new ≡ setup_of self.old }
-        ensures refused { move_refusal result ≡ join_refused (service_number self.old) to (service_of self.old) }
-        ensures service { OnOk result (service_of self.new ≡ beginning None to (service_of self.old)) }
-        ensures version { IfOk result (λ version. version ≡ (service_of self.new).row.version) }
-        ensures told { OnOk result (Sends out.old out.new (telling (service_number self.old) (service_of self.new))) }
-        ensures fits { OnOk result (AllFit (telling (service_number self.old) (service_of self.new))) }
+        ensures refused { IfOk result (λ begun. move_refusal begun ≡ join_refused (service_number self.old) to (service_of self.old)) }
+        ensures service { IfOk result (λ begun. OnOk begun (service_of self.new ≡ beginning None to (service_of self.old))) }
+        ensures made { IfOk result (λ begun. IfOk begun (IsRowTold (service_number self.old) (service_of self.new))) }
+        ensures same { IfOk result (λ begun. OnErr begun (service_of self.new ≡ service_of self.old)) }
         ensures err { OnErr result (service_of self.new ≡ service_of self.old) }
-        ensures unsent { IsSome (join_refused (service_number self.old) to (service_of self.old)) → out.new ≡ out.old }
     {
-        self.check_join(to)?;
-        Ok(self.begin(alloc, None, to, out)?)
+        if let Err(refused) = self.check_join(to) {
+            return Ok(Err(refused));
+        }
+        Ok(Ok(self.begin(alloc, None, to)?))
     }
 
     /// A move begins: the target comes into the row, and has no contents yet.
@@ -83,22 +80,19 @@ impl Service {
         alloc: Global,
         source: Option<MemberId>,
         target: MemberId,
-        out: &mut Outbox,
-    ) -> Result<u32, Memory>
+    ) -> Result<Told<u32>, Memory>
         requires version { (service_of self.old).row.version < u32.MAX }
         requires source { IsTrue (has_source (service_of self.old).row source) }
         ensures setup { setup_of self.new ≡ setup_of self.old }
         ensures service { OnOk result (service_of self.new ≡ beginning source target (service_of self.old)) }
-        ensures version { IfOk result (λ version. version ≡ (service_of self.new).row.version) }
-        ensures told { OnOk result (Sends out.old out.new (telling (service_number self.old) (service_of self.new))) }
-        ensures fits { OnOk result (AllFit (telling (service_number self.old) (service_of self.new))) }
+        ensures made { IfOk result (IsRowTold (service_number self.old) (service_of self.new)) }
         ensures err { OnErr result (service_of self.new ≡ service_of self.old) }
     {
         let row = self.row().with_joiner(alloc, target)?;
-        tell(alloc, out, self.members, self.detected.as_slice(), &row)?;
-        let version = row.version;
+        let out = tell(alloc, self.members, self.detected.as_slice(), &row)?;
+        let outcome = row.version;
         self.standing = Standing::Joining(Joining::start(source, target, row));
-        Ok(version)
+        Ok(Told { outcome, out })
     }
 
     /// A backup that may lead is to take the primary's place. It has the contents, so no row is made, and nothing is
@@ -106,7 +100,6 @@ impl Service {
     pub fn begin_handover(&mut self, from: MemberId, to: MemberId) -> Result<(), MoveRefused>
         ensures setup { setup_of self.new ≡ setup_of self.old }
         ensures refused { move_refusal result ≡ handover_refused from to (service_of self.old) }
-        ensures memory { result ≢ Err MoveRefused.Memory }
         ensures service { OnOk result (service_of self.new ≡ handing_over from to (service_of self.old)) }
         ensures err { OnErr result (service_of self.new ≡ service_of self.old) }
     {
@@ -117,64 +110,63 @@ impl Service {
 
     /// The move under way takes its next step, if one is due: a source that is primary is told to freeze, and one that
     /// is drained, or is a backup, leaves in a new row, of which every member but the detected ones is told. Costs as
-    /// `begin_move` does. Want of memory changes nothing but `out`, which may have some of the messages.
-    pub fn advance(&mut self, alloc: Global, out: &mut Outbox) -> Result<Advanced, Memory>
+    /// `begin_move` does. Want of memory changes nothing.
+    pub fn advance(&mut self, alloc: Global) -> Result<Told<Advanced>, Memory>
         requires { (service_of self.old).row.version < u32.MAX }
         ensures setup { setup_of self.new ≡ setup_of self.old }
-        ensures advanced { IfOk result (λ advanced. advanced ≡ advanced_by (advance_of (service_of self.old))) }
+        ensures advanced { IfOk result (λ step. step.outcome ≡ advanced_by (advance_of (service_of self.old))) }
         ensures service { let s = service_of self.old in
             OnOk result (service_of self.new ≡ advancing (advance_of s) s) }
         ensures told { let s = service_of self.old in
-            OnOk result (Sends out.old out.new (told_on_advance (service_number self.old) (advance_of s) s)) }
-        ensures fits { let s = service_of self.old in
-            OnOk result (AllFit (told_on_advance (service_number self.old) (advance_of s) s)) }
+            IfOk result (λ step. IsTold step.out (told_on_advance (service_number self.old) (advance_of s) s)) }
         ensures err { OnErr result (service_of self.new ≡ service_of self.old) }
     {
         match self.standing.next_step(alloc)? {
-            NextStep::Nothing => Ok(Advanced::Nothing),
-            NextStep::Freezes { source, .. } => self.freeze(alloc, source, out),
-            NextStep::MakesRow { row } => self.end_move(alloc, row, out),
+            NextStep::Nothing => Ok(Told {
+                outcome: Advanced::Nothing,
+                out: Outbox::new(alloc),
+            }),
+            NextStep::Freezes { source, .. } => self.freeze(alloc, source),
+            NextStep::MakesRow { row } => self.end_move(alloc, row),
         }
     }
 
-    fn freeze(
-        &mut self,
-        alloc: Global,
-        source: MemberId,
-        out: &mut Outbox,
-    ) -> Result<Advanced, Memory>
+    fn freeze(&mut self, alloc: Global, source: MemberId) -> Result<Told<Advanced>, Memory>
         requires { (target : ℕ) × (advance_of (service_of self.old) ≡ Freezes source target) }
         ensures setup { setup_of self.new ≡ setup_of self.old }
-        ensures advanced { IfOk result (λ advanced. advanced ≡ advanced_by (advance_of (service_of self.old))) }
+        ensures advanced { IfOk result (λ step. step.outcome ≡ advanced_by (advance_of (service_of self.old))) }
         ensures service { let s = service_of self.old in
             OnOk result (service_of self.new ≡ advancing (advance_of s) s) }
         ensures told { let s = service_of self.old in
-            OnOk result (Sends out.old out.new (told_on_advance (service_number self.old) (advance_of s) s)) }
-        ensures fits { let s = service_of self.old in
-            OnOk result (AllFit (told_on_advance (service_number self.old) (advance_of s) s)) }
+            IfOk result (λ step. IsTold step.out (told_on_advance (service_number self.old) (advance_of s) s)) }
         ensures err { OnErr result (service_of self.new ≡ service_of self.old) }
     {
         let version = self.row().version;
+        let mut out = Outbox::new(alloc);
         out.write(alloc, source, &MemberMessage::Freeze { version })?;
         self.standing = self.take_standing().freezing();
-        Ok(Advanced::Freezing)
+        Ok(Told {
+            outcome: Advanced::Freezing,
+            out,
+        })
     }
 
-    fn end_move(&mut self, alloc: Global, row: Row, out: &mut Outbox) -> Result<Advanced, Memory>
+    fn end_move(&mut self, alloc: Global, row: Row) -> Result<Told<Advanced>, Memory>
         requires { advance_of (service_of self.old) ≡ MakesRow row }
         ensures setup { setup_of self.new ≡ setup_of self.old }
-        ensures advanced { IfOk result (λ advanced. advanced ≡ advanced_by (advance_of (service_of self.old))) }
+        ensures advanced { IfOk result (λ step. step.outcome ≡ advanced_by (advance_of (service_of self.old))) }
         ensures service { let s = service_of self.old in
             OnOk result (service_of self.new ≡ advancing (advance_of s) s) }
         ensures told { let s = service_of self.old in
-            OnOk result (Sends out.old out.new (told_on_advance (service_number self.old) (advance_of s) s)) }
-        ensures fits { let s = service_of self.old in
-            OnOk result (AllFit (told_on_advance (service_number self.old) (advance_of s) s)) }
+            IfOk result (λ step. IsTold step.out (told_on_advance (service_number self.old) (advance_of s) s)) }
         ensures err { OnErr result (service_of self.new ≡ service_of self.old) }
     {
-        tell(alloc, out, self.members, self.detected.as_slice(), &row)?;
+        let out = tell(alloc, self.members, self.detected.as_slice(), &row)?;
         let version = row.version;
         self.standing = self.take_standing().ended(row);
-        Ok(Advanced::Row { version })
+        Ok(Told {
+            outcome: Advanced::Row { version },
+            out,
+        })
     }
 }

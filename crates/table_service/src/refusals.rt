@@ -1,12 +1,9 @@
-ghost use Rattle.std.specs.Prelude.{◌≡◌, ◌≢◌};
+ghost use Rattle.std.specs.Prelude.{◌≡◌};
 ghost use Rattle.partition_protocol.specs.Service.{join_refused, move_refused, handover_refused};
 ghost use Rattle.table_service.specs.Refusals.{move_refusal};
-ghost use Rattle.table_service.specs.declared.refusals.MoveRefused.TheVariants.{Memory as NoMemory};
-ghost use Rattle.table_service.specs.declared.refusals.ReopenRefused.TheVariants.{Memory as NoMemoryToReopen};
 
 use crate::service::Service;
 use grid_base::MemberId;
-use std::alloc::AllocError;
 
 /// Why a move, a join or a handover wasn't begun: the first reason that applies.
 #[derive(Clone, Copy, Debug, PartialEq, Eq)]
@@ -23,8 +20,6 @@ pub enum MoveRefused {
     NotLive,
     /// The target may not lead.
     NotEligible,
-    /// There is no memory for the row or for the messages that tell it.
-    Memory,
 }
 
 /// Why a partition wasn't reopened.
@@ -34,24 +29,6 @@ pub enum ReopenRefused {
     NotLost,
     /// Every member is detected.
     NoMember,
-    /// There is no memory for the row or for the messages that tell it.
-    Memory,
-}
-
-impl From<AllocError> for MoveRefused {
-    ghost from_gives = { λ _ refused. refused ≡ NoMemory };
-
-    fn from(_error: AllocError) -> MoveRefused {
-        MoveRefused::Memory
-    }
-}
-
-impl From<AllocError> for ReopenRefused {
-    ghost from_gives = { λ _ refused. refused ≡ NoMemoryToReopen };
-
-    fn from(_error: AllocError) -> ReopenRefused {
-        ReopenRefused::Memory
-    }
 }
 
 impl Service {
@@ -59,8 +36,7 @@ impl Service {
 
     /// Whether the member can join the row.
     pub(crate) fn check_join(&self, to: MemberId) -> Result<(), MoveRefused>
-        ensures refused { move_refusal result ≡ join_refused (service_number self.now) to (service_of self.now) }
-        ensures memory { result ≢ Err MoveRefused.Memory }
+        ensures { move_refusal result ≡ join_refused (service_number self.now) to (service_of self.now) }
     {
         if self.row().lost {
             Err(MoveRefused::Lost)
@@ -77,8 +53,7 @@ impl Service {
 
     /// Whether a member can take another's place in the row.
     pub(crate) fn check_move(&self, from: MemberId, to: MemberId) -> Result<(), MoveRefused>
-        ensures refused { move_refusal result ≡ move_refused (service_number self.now) from to (service_of self.now) }
-        ensures memory { result ≢ Err MoveRefused.Memory }
+        ensures { move_refusal result ≡ move_refused (service_number self.now) from to (service_of self.now) }
     {
         if self.row().lost {
             Err(MoveRefused::Lost)
@@ -93,8 +68,7 @@ impl Service {
 
     /// Whether a backup can take the primary's place at once.
     pub(crate) fn check_handover(&self, from: MemberId, to: MemberId) -> Result<(), MoveRefused>
-        ensures refused { move_refusal result ≡ handover_refused from to (service_of self.now) }
-        ensures memory { result ≢ Err MoveRefused.Memory }
+        ensures { move_refusal result ≡ handover_refused from to (service_of self.now) }
     {
         let row = self.row();
         if row.lost {

@@ -1,15 +1,15 @@
-ghost use Rattle.std.specs.Prelude.{◌≡◌, ◌+◌, ◌%◌, ◌<◌, false, IsSome, IfOk, OnOk, OnErr};
+ghost use Rattle.std.specs.Prelude.{◌≡◌, ◌+◌, ◌%◌, ◌<◌, false, IfOk, OnOk, OnErr};
 ghost use Rattle.partition_table.specs.Rows.{is_empty, reopened};
 ghost use Rattle.partition_protocol.specs.Service.{NoMove, telling, candidates, reopen_refused, reopening, with_row};
 ghost use Rattle.table_service.specs.Refusals.{reopen_refusal};
-ghost use Rattle.table_service.specs.Sending.{Sends, AllFit};
+ghost use Rattle.table_service.specs.Sending.{IsRowTold};
 
 use crate::refusals::ReopenRefused;
 use crate::service::{Service, is_listed};
 use crate::standing::Standing;
 use crate::telling::tell;
+use crate::told::Told;
 use grid_base::{MemberId, Memory, PartitionId};
-use member_wire::Outbox;
 use std::alloc::Global;
 
 impl Service {
@@ -19,23 +19,20 @@ impl Service {
     /// modulo the members' number on, the first that isn't detected leads, and the next ones are its backups, which may
     /// not lead yet. The new row's version is answered, and every member but the detected ones is told of the row. Goes
     /// over the detected members for each member, and pays the row's bytes for each that is told. A refusal changes
-    /// nothing. Want of memory changes nothing but `out`, which may have some of the messages.
-    pub fn reopen(&mut self, alloc: Global, out: &mut Outbox) -> Result<u32, ReopenRefused>
+    /// nothing, nor does want of memory.
+    pub fn reopen(&mut self, alloc: Global) -> Result<Result<Told<u32>, ReopenRefused>, Memory>
         requires { (service_of self.old).row.version < u32.MAX }
         ensures setup { setup_of self.new ≡ setup_of self.old }
         ensures refused { let setup = setup_of self.old in
-            reopen_refusal result ≡ reopen_refused setup.partition setup.members (service_of self.old) }
+            IfOk result (λ reopened. reopen_refusal reopened ≡ reopen_refused setup.partition setup.members (service_of self.old)) }
         ensures service { let setup = setup_of self.old in
-            OnOk result (service_of self.new ≡ reopening setup.partition setup.members setup.backups (service_of self.old)) }
-        ensures version { IfOk result (λ version. version ≡ (service_of self.new).row.version) }
-        ensures told { OnOk result (Sends out.old out.new (telling (service_number self.old) (service_of self.new))) }
-        ensures fits { OnOk result (AllFit (telling (service_number self.old) (service_of self.new))) }
+            IfOk result (λ reopened. OnOk reopened (service_of self.new ≡ reopening setup.partition setup.members setup.backups (service_of self.old))) }
+        ensures made { IfOk result (λ reopened. IfOk reopened (IsRowTold (service_number self.old) (service_of self.new))) }
+        ensures same { IfOk result (λ reopened. OnErr reopened (service_of self.new ≡ service_of self.old)) }
         ensures err { OnErr result (service_of self.new ≡ service_of self.old) }
-        ensures unsent { let setup = setup_of self.old in
-            IsSome (reopen_refused setup.partition setup.members (service_of self.old)) → out.new ≡ out.old }
     {
         if !self.row().lost {
-            return Err(ReopenRefused::NotLost);
+            return Ok(Err(ReopenRefused::NotLost));
         }
         let mut members = undetected_from(
             alloc,
@@ -44,33 +41,26 @@ impl Service {
             self.detected.as_slice(),
         )?;
         if members.is_empty() {
-            return Err(ReopenRefused::NoMember);
+            return Ok(Err(ReopenRefused::NoMember));
         }
         members.truncate(usize::from(self.backups) + 1);
-        Ok(self.reopen_with(alloc, members.as_slice(), out)?)
+        Ok(Ok(self.reopen_with(alloc, members.as_slice())?))
     }
 
     /// The partition goes on empty in a row of these members.
-    fn reopen_with(
-        &mut self,
-        alloc: Global,
-        members: &[MemberId],
-        out: &mut Outbox,
-    ) -> Result<u32, Memory>
+    fn reopen_with(&mut self, alloc: Global, members: &[MemberId]) -> Result<Told<u32>, Memory>
         requires { (service_of self.old).row.version < u32.MAX }
         ensures setup { setup_of self.new ≡ setup_of self.old }
         ensures service { let s = service_of self.old in
             OnOk result (service_of self.new ≡ with_row s (reopened s.row members.now) NoMove) }
-        ensures version { IfOk result (λ version. version ≡ (service_of self.new).row.version) }
-        ensures told { OnOk result (Sends out.old out.new (telling (service_number self.old) (service_of self.new))) }
-        ensures fits { OnOk result (AllFit (telling (service_number self.old) (service_of self.new))) }
+        ensures made { IfOk result (IsRowTold (service_number self.old) (service_of self.new)) }
         ensures err { OnErr result (service_of self.new ≡ service_of self.old) }
     {
         let row = self.row().reopened(alloc, members)?;
-        tell(alloc, out, self.members, self.detected.as_slice(), &row)?;
-        let version = row.version;
+        let out = tell(alloc, self.members, self.detected.as_slice(), &row)?;
+        let outcome = row.version;
         self.standing = Standing::Idle(row);
-        Ok(version)
+        Ok(Told { outcome, out })
     }
 }
 

@@ -1,6 +1,7 @@
-ghost use Rattle.std.specs.Prelude.{◌≡◌, ◌++◌, OnOk};
+ghost use Rattle.std.specs.Prelude.{List, [], ◌∷◌, ◌++◌, IfOk};
+ghost use Rattle.partition_protocol.specs.Messages.{Sent, Freeze};
 ghost use Rattle.partition_protocol.specs.Service.{telling, freezing_again};
-ghost use Rattle.table_service.specs.Sending.{Sends, AllFit, row_told};
+ghost use Rattle.table_service.specs.Sending.{IsTold, row_told};
 
 use crate::service::{Service, is_listed};
 use crate::standing::Standing;
@@ -9,23 +10,35 @@ use member_wire::{MemberMessage, Outbox};
 use partition_table::Row;
 use std::alloc::Global;
 
-/// Writes a row to each member but the detected ones, in the order of their numbers.
+/// What tells a row to each member but the detected ones, in the order of their numbers.
 pub(crate) fn tell(
     alloc: Global,
-    out: &mut Outbox,
     members: u8,
     detected: &[MemberId],
     row: &Row,
-) -> Result<(), Memory>
-    ensures told { OnOk result (Sends out.old out.new (row_told members row.now detected.now)) }
-    ensures fits { OnOk result (AllFit (row_told members row.now detected.now)) }
+) -> Result<Outbox, Memory>
+    ensures { IfOk result (λ out. IsTold out (row_told members row.now detected.now)) }
 {
+    let mut out = Outbox::new(alloc);
     for member in 0..members {
         if !is_listed(detected, member) {
             out.write_row(alloc, member, row)?;
         }
     }
-    Ok(())
+    Ok(out)
+}
+
+/// These messages, and then a freeze.
+fn tell_freeze(
+    alloc: Global,
+    mut out: Outbox,
+    source: MemberId,
+    version: u32,
+) -> Result<Outbox, Memory>
+    ensures { (sent : List Sent) → IsTold out sent → IfOk result (λ out. IsTold out (sent ++ record { to = source; message = Freeze version } ∷ [])) }
+{
+    out.write(alloc, source, &MemberMessage::Freeze { version })?;
+    Ok(out)
 }
 
 impl Service {
@@ -33,24 +46,17 @@ impl Service {
 
     /// What may have been lost is sent again: the newest row to every member but the detected ones, and a freeze to a
     /// source that was told to freeze and hasn't said that it is frozen. Goes over the detected members for each
-    /// member, and pays the row's bytes for each that is told. After want of memory `out` may have some of the messages.
-    pub fn resend(&self, alloc: Global, out: &mut Outbox) -> Result<(), Memory>
-        ensures told { let s = service_of self.now in
-            OnOk result (Sends out.old out.new (telling (service_number self.now) s ++ freezing_again s)) }
-        ensures fits { let s = service_of self.now in
-            OnOk result (AllFit (telling (service_number self.now) s ++ freezing_again s)) }
+    /// member, and pays the row's bytes for each that is told.
+    pub fn resend(&self, alloc: Global) -> Result<Outbox, Memory>
+        ensures { let s = service_of self.now in
+            IfOk result (λ out. IsTold out (telling (service_number self.now) s ++ freezing_again s)) }
     {
-        tell(
-            alloc,
-            out,
-            self.members,
-            self.detected.as_slice(),
-            self.row(),
-        )?;
-        if let Standing::Freezing(freezing) = &self.standing {
-            let version = freezing.row().version;
-            out.write(alloc, freezing.source(), &MemberMessage::Freeze { version })?;
+        let out = tell(alloc, self.members, self.detected.as_slice(), self.row())?;
+        match &self.standing {
+            Standing::Freezing(freezing) => {
+                tell_freeze(alloc, out, freezing.source(), freezing.row().version)
+            }
+            _ => Ok(out),
         }
-        Ok(())
     }
 }

@@ -46,10 +46,13 @@ const STALE: Outcome = Outcome::Took(Took::Stale);
 /// may lead, and whether a move is under way. What is sent is the row, if it isn't said to be a freeze.
 type Line = (Call, Outcome, &'static str, &'static str);
 
-fn made(answer: Result<u32, MoveRefused>) -> Outcome {
+fn made(alloc: Global, answer: Result<Told<u32>, MoveRefused>) -> Told<Outcome> {
     match answer {
-        Ok(version) => Made(version),
-        Err(refused) => Refused(refused),
+        Ok(told) => Told {
+            outcome: Made(told.outcome),
+            out: told.out,
+        },
+        Err(refused) => silent(alloc, Refused(refused)),
     }
 }
 
@@ -60,25 +63,44 @@ fn begun(answer: Result<(), MoveRefused>) -> Outcome {
     }
 }
 
-fn reopened(answer: Result<u32, ReopenRefused>) -> Outcome {
+fn reopened(alloc: Global, answer: Result<Told<u32>, ReopenRefused>) -> Told<Outcome> {
     match answer {
-        Ok(version) => Made(version),
-        Err(refused) => NotReopened(refused),
+        Ok(told) => Told {
+            outcome: Made(told.outcome),
+            out: told.out,
+        },
+        Err(refused) => silent(alloc, NotReopened(refused)),
     }
 }
 
-fn detected(made: Option<u32>) -> Outcome {
-    match made {
+fn detected(told: Told<Option<u32>>) -> Told<Outcome> {
+    let outcome = match told.outcome {
         None => Done,
         Some(version) => Made(version),
+    };
+    Told {
+        outcome,
+        out: told.out,
     }
 }
 
-fn advanced(advanced: Advanced) -> Outcome {
-    match advanced {
+fn advanced(told: Told<Advanced>) -> Told<Outcome> {
+    let outcome = match told.outcome {
         Advanced::Nothing => NothingDue,
         Advanced::Freezing => Froze,
         Advanced::Row { version } => Made(version),
+    };
+    Told {
+        outcome,
+        out: told.out,
+    }
+}
+
+/// A call that sends nothing.
+fn silent(alloc: Global, outcome: Outcome) -> Told<Outcome> {
+    Told {
+        outcome,
+        out: Outbox::new(alloc),
     }
 }
 
@@ -87,24 +109,27 @@ fn run_call(
     alloc: Global,
     service: &mut Service,
     call: Call,
-    out: &mut Outbox,
-) -> Result<Outcome, Fail> {
+) -> Result<Told<Outcome>, Fail> {
     assert!(rt; service.row().version < u32::MAX);
     Ok(match call {
-        Detect(member) => detected(service.detect(alloc, member, out)?),
-        Move(from, to) => made(service.begin_move(alloc, from, to, out)),
-        Join(to) => made(service.begin_join(alloc, to, out)),
-        Handover(from, to) => begun(service.begin_handover(from, to)),
-        Advance => advanced(service.advance(alloc, out)?),
-        Reopen => reopened(service.reopen(alloc, out)),
+        Detect(member) => detected(service.detect(alloc, member)?),
+        Move(from, to) => made(alloc, service.begin_move(alloc, from, to)?),
+        Join(to) => made(alloc, service.begin_join(alloc, to)?),
+        Handover(from, to) => silent(alloc, begun(service.begin_handover(from, to))),
+        Advance => advanced(service.advance(alloc)?),
+        Reopen => reopened(alloc, service.reopen(alloc)?),
         Joined(version, member) => {
-            Outcome::Took(service.take(&MemberMessage::Joined { version, member }))
+            let took = service.take(&MemberMessage::Joined { version, member });
+            silent(alloc, Outcome::Took(took))
         }
-        Frozen(version) => Outcome::Took(service.take(&MemberMessage::Frozen { version })),
-        Resend => {
-            service.resend(alloc, out)?;
-            Done
+        Frozen(version) => {
+            let took = service.take(&MemberMessage::Frozen { version });
+            silent(alloc, Outcome::Took(took))
         }
+        Resend => Told {
+            outcome: Done,
+            out: service.resend(alloc)?,
+        },
     })
 }
 
@@ -154,10 +179,9 @@ fn assert_calls(
     lines: &[Line],
 ) -> Result<(), Fail> {
     for (call, outcome, sent, standing) in lines {
-        let mut out = Outbox::new(alloc);
-        let came_to = run_call(rt, alloc, service, *call, &mut out)?;
-        assert_eq!(rt; came_to, *outcome, "at {call:?}");
-        let was_sent = sent_text(rt, alloc, service.row(), &out)?;
+        let told = run_call(rt, alloc, service, *call)?;
+        assert_eq!(rt; told.outcome, *outcome, "at {call:?}");
+        let was_sent = sent_text(rt, alloc, service.row(), &told.out)?;
         assert_eq!(rt; was_sent.as_str(), *sent, "at {call:?}");
         let stands = standing_text(alloc, service)?;
         assert_eq!(rt; stands.as_str(), *standing, "at {call:?}");
@@ -290,8 +314,7 @@ fn moved_by(rt: &impl Abort, alloc: Global, steps: usize) -> Result<Service, Fai
     let mut service = Service::new(alloc, 6, 5, 2)?;
     let calls = [Move(1, 4), Joined(2, 4), Advance, Frozen(2)];
     for step in calls.into_iter().take(steps) {
-        let mut out = Outbox::new(alloc);
-        run_call(rt, alloc, &mut service, step, &mut out)?;
+        run_call(rt, alloc, &mut service, step)?;
     }
     assert_eq!(rt; service.row().version, 2);
     assert!(rt; service.moving());

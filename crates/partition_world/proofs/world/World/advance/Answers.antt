@@ -22,8 +22,8 @@ stand-requires g c =
     let k = meaning sh.model c.requires.0 in
     let old = c.args.self.now in
     let s = service_of old.service in
-    let served = served_step k g.R.Records.records sh.model.within_limits old c.requires.1 c.requires.2 (freezes_some c.in_ok-advance.field-0 (advance_of s) c.in_ok-advance.ensures.advanced c.in-Freezing.is) in
-    few_sent k g.R.Records.records sh.model.within_limits old c.requires.1 Advance c.requires.2 _ _ _ _ served c.new-out.result c.advance.new.out c.new-out.ensures c.in_ok-advance.ensures.told (step_few (service_number old.service) (advance_of s) s)
+    let served = served_step k g.R.Records.records sh.model.within_limits old c.requires.1 c.requires.2 (freezes_some c.in_ok-step.step.outcome (advance_of s) c.in_ok-step.ensures.advanced c.in-Freezing.is) in
+    few_sent k g.R.Records.records sh.model.within_limits old c.requires.1 Advance c.requires.2 _ _ _ _ served c.in_ok-step.step.out c.in_ok-step.ensures.told (step_few (service_number old.service) (advance_of s) s)
     c.reserve.new.self c.reserve.ensures.ends c.in_ok-reserve.ensures.ok
 
 pub stand-requires-in-Row : goal.stand-requires-in-Row
@@ -32,8 +32,8 @@ stand-requires-in-Row g c =
     let k = meaning sh.model c.requires.0 in
     let old = c.args.self.now in
     let s = service_of old.service in
-    let served = served_step k g.R.Records.records sh.model.within_limits old c.requires.1 c.requires.2 (makes_some c.in_ok-advance.field-0 c.in-Row.version (advance_of s) c.in_ok-advance.ensures.advanced c.in-Row.is) in
-    few_sent k g.R.Records.records sh.model.within_limits old c.requires.1 Advance c.requires.2 _ _ _ _ served c.new-out.result c.advance.new.out c.new-out.ensures c.in_ok-advance.ensures.told (step_few (service_number old.service) (advance_of s) s)
+    let served = served_step k g.R.Records.records sh.model.within_limits old c.requires.1 c.requires.2 (makes_some c.in_ok-step.step.outcome c.in-Row.version (advance_of s) c.in_ok-step.ensures.advanced c.in-Row.is) in
+    few_sent k g.R.Records.records sh.model.within_limits old c.requires.1 Advance c.requires.2 _ _ _ _ served c.in_ok-step.step.out c.in_ok-step.ensures.told (step_few (service_number old.service) (advance_of s) s)
     c.reserve.new.self c.reserve.ensures.ends c.in_ok-reserve.ensures.ok
 
 pub returns-in-Nothing-clause-ok : goal.returns-in-Nothing-clause-ok
@@ -43,9 +43,9 @@ returns-in-Nothing-clause-ok g c plan events comes =
     let k = meaning sh.model plan in
     let shelf = shelf_of sh.model law.begins_empty law.changes_by_effect law.same_without_effect law.made_by_effect law.begins_within law.grows_within law.widens law.one_spelling plan in
     let old = c.args.self.now in
-    let ok = c.in_ok-advance.ensures in
+    let ok = c.in_ok-step.ensures in
     no_step k g.R.Records.records sh.model.within_limits old events comes sh.model.within sh.model.applied shelf c.advance.new.self c.reserve.new.self ok.setup ok.service c.reserve.ensures.ends c.reserve.ensures.lists
-    (step_none c.in_ok-advance.field-0 (advance_of (service_of old.service)) ok.advanced c.in-Nothing.is)
+    (step_none c.in_ok-step.step.outcome (advance_of (service_of old.service)) ok.advanced c.in-Nothing.is)
 
 pub returns-in-Freezing-clause-ok : goal.returns-in-Freezing-clause-ok
 returns-in-Freezing-clause-ok g c plan events comes =
@@ -55,12 +55,12 @@ returns-in-Freezing-clause-ok g c plan events comes =
     let shelf = shelf_of sh.model law.begins_empty law.changes_by_effect law.same_without_effect law.made_by_effect law.begins_within law.grows_within law.widens law.one_spelling plan in
     let old = c.args.self.now in
     let s = service_of old.service in
-    let ok = c.in_ok-advance.ensures in
-    let served = served_step k g.R.Records.records sh.model.within_limits old events comes (freezes_some c.in_ok-advance.field-0 (advance_of s) ok.advanced c.in-Freezing.is) in
-    stands_run k g.R.Records.records sh.model.within_limits old events Advance comes _ _ _ _ served c.new-out.result c.advance.new.out c.new-out.ensures ok.told sh.model.within sh.model.applied shelf ok.fits
+    let ok = c.in_ok-step.ensures in
+    let served = served_step k g.R.Records.records sh.model.within_limits old events comes (freezes_some c.in_ok-step.step.outcome (advance_of s) ok.advanced c.in-Freezing.is) in
+    stands_run k g.R.Records.records sh.model.within_limits old events Advance comes _ _ _ _ served c.in_ok-step.step.out ok.told sh.model.within sh.model.applied shelf
     c.reserve.new.self c.reserve.ensures.ends c.reserve.ensures.lists c.advance.new.self ok.setup ok.service old.recorder (run_of k old events).recorded comes.stands.agrees.recorded refl
     c.stand.new.self c.stand.ensures.recorder c.stand.ensures.links c.stand.ensures.ends c.stand.ensures.rest Done
-    (step_freezes c.in_ok-advance.field-0 (advance_of s) ok.advanced c.in-Freezing.is)
+    (step_freezes c.in_ok-step.step.outcome (advance_of s) ok.advanced c.in-Freezing.is)
 
 pub returns-in-Row-clause-ok : goal.returns-in-Row-clause-ok
 returns-in-Row-clause-ok g c plan events comes =
@@ -70,9 +70,9 @@ returns-in-Row-clause-ok g c plan events comes =
     let shelf = shelf_of sh.model law.begins_empty law.changes_by_effect law.same_without_effect law.made_by_effect law.begins_within law.grows_within law.widens law.one_spelling plan in
     let old = c.args.self.now in
     let s = service_of old.service in
-    let ok = c.in_ok-advance.ensures in
-    let served = served_step k g.R.Records.records sh.model.within_limits old events comes (makes_some c.in_ok-advance.field-0 c.in-Row.version (advance_of s) ok.advanced c.in-Row.is) in
-    stands_run k g.R.Records.records sh.model.within_limits old events Advance comes _ _ _ _ served c.new-out.result c.advance.new.out c.new-out.ensures ok.told sh.model.within sh.model.applied shelf ok.fits
+    let ok = c.in_ok-step.ensures in
+    let served = served_step k g.R.Records.records sh.model.within_limits old events comes (makes_some c.in_ok-step.step.outcome c.in-Row.version (advance_of s) ok.advanced c.in-Row.is) in
+    stands_run k g.R.Records.records sh.model.within_limits old events Advance comes _ _ _ _ served c.in_ok-step.step.out ok.told sh.model.within sh.model.applied shelf
     c.reserve.new.self c.reserve.ensures.ends c.reserve.ensures.lists c.advance.new.self ok.setup ok.service old.recorder (run_of k old events).recorded comes.stands.agrees.recorded refl
     c.stand-in-Row.new.self c.stand-in-Row.ensures.recorder c.stand-in-Row.ensures.links c.stand-in-Row.ensures.ends c.stand-in-Row.ensures.rest (RowMade c.in-Row.version)
-    (step_makes c.in_ok-advance.field-0 c.in-Row.version (advance_of s) ok.advanced c.in-Row.is)
+    (step_makes c.in_ok-step.step.outcome c.in-Row.version (advance_of s) ok.advanced c.in-Row.is)

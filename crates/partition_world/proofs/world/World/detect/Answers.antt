@@ -23,7 +23,7 @@ stand-requires g c =
     let k = meaning sh.model c.requires.0 in
     let old = c.args.self.now in
     let served = served_loss k g.R.Records.records sh.model.within_limits old c.requires.1 c.args.member c.requires.2 c.is_unnoticed.result c.is_unnoticed.ensures c.if-not-is_unnoticed.false in
-    few_sent k g.R.Records.records sh.model.within_limits old c.requires.1 (Detect c.args.member) c.requires.2 _ _ _ _ served c.new-out.result c.detect.new.out c.new-out.ensures c.in_ok-made.ensures.told
+    few_sent k g.R.Records.records sh.model.within_limits old c.requires.1 (Detect c.args.member) c.requires.2 _ _ _ _ served c.in_ok-made.made.out c.in_ok-made.ensures.told
     (loss_few (service_number old.service) c.args.member (service_of old.service)) c.reserve.new.self c.reserve.ensures.ends c.in_ok-reserve.ensures.ok
 
 pub returns-in-Some-clause-ok : goal.returns-in-Some-clause-ok
@@ -36,10 +36,10 @@ returns-in-Some-clause-ok g c plan events comes =
     let s = service_of old.service in
     let ok = c.in_ok-made.ensures in
     let served = served_loss k g.R.Records.records sh.model.within_limits old events c.args.member comes c.is_unnoticed.result c.is_unnoticed.ensures c.if-not-is_unnoticed.false in
-    stands_run k g.R.Records.records sh.model.within_limits old events (Detect c.args.member) comes _ _ _ _ served c.new-out.result c.detect.new.out c.new-out.ensures ok.told sh.model.within sh.model.applied shelf ok.fits
+    stands_run k g.R.Records.records sh.model.within_limits old events (Detect c.args.member) comes _ _ _ _ served c.in_ok-made.made.out ok.told sh.model.within sh.model.applied shelf
     c.reserve.new.self c.reserve.ensures.ends c.reserve.ensures.lists c.detect.new.self ok.setup ok.service old.recorder (run_of k old events).recorded comes.stands.agrees.recorded refl
     c.stand.new.self c.stand.ensures.recorder c.stand.ensures.links c.stand.ensures.ends c.stand.ensures.rest (RowMade c.in-Some.version)
-    (loss_made c.in_ok-made.made c.in-Some.version (detecting c.args.member s).row.version (is_in s.row c.args.member) ok.version c.in-Some.is)
+    (loss_made c.in_ok-made.made.outcome c.in-Some.version (detecting c.args.member s).row.version (is_in s.row c.args.member) ok.version c.in-Some.is)
 
 pub returns-in-None-clause-ok : goal.returns-in-None-clause-ok
 returns-in-None-clause-ok g c plan events comes =
@@ -51,7 +51,7 @@ returns-in-None-clause-ok g c plan events comes =
     let s = service_of old.service in
     let ok = c.in_ok-made.ensures in
     let served = served_loss k g.R.Records.records sh.model.within_limits old events c.args.member comes c.is_unnoticed.result c.is_unnoticed.ensures c.if-not-is_unnoticed.false in
-    stands_run k g.R.Records.records sh.model.within_limits old events (Detect c.args.member) comes _ _ _ _ served c.new-out.result c.detect.new.out c.new-out.ensures ok.told sh.model.within sh.model.applied shelf ok.fits
+    stands_run k g.R.Records.records sh.model.within_limits old events (Detect c.args.member) comes _ _ _ _ served c.in_ok-made.made.out ok.told sh.model.within sh.model.applied shelf
     c.reserve.new.self c.reserve.ensures.ends c.reserve.ensures.lists c.detect.new.self ok.setup ok.service old.recorder (run_of k old events).recorded comes.stands.agrees.recorded refl
     c.stand.new.self c.stand.ensures.recorder c.stand.ensures.links c.stand.ensures.ends c.stand.ensures.rest Done
-    (loss_done c.in_ok-made.made (detecting c.args.member s).row.version (is_in s.row c.args.member) ok.version c.in-None.is)
+    (loss_done c.in_ok-made.made.outcome (detecting c.args.member s).row.version (is_in s.row c.args.member) ok.version c.in-None.is)
