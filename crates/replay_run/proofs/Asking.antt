@@ -15,7 +15,6 @@ use Rattle.call_engine.specs.Env.{settings_of}
 use Rattle.call_engine.specs.Limits.{RequestFits}
 use Rattle.call_engine.specs.Objects.{partition_object}
 use Rattle.object_store.specs.Partitions.{Partition}
-use Rattle.partition_world.specs.Recorders.{KeepsAll}
 use Rattle.partition_world.specs.declared.entry.Entry.{Entry}
 use Rattle.partition_world.specs.RecordedEntries.{entry_of}
 use Rattle.partition_world.specs.Worlds.{steps_of, setup_of, run_of, Comes}
@@ -33,6 +32,7 @@ use Rattle.replay_run.proofs.RunFacts.{is_of, named}
 use Rattle.replay_run.proofs.RunsOfLines.{run_ok}
 use Rattle.replay_run.proofs.HistoryTexts.{indexed_world}
 use Rattle.replay_run.proofs.WorldRuns.{run_is}
+use Rattle.partition_world.specs.Recorders.{KeepsAll}
 
 -- a failure that is handed on
 pub handed_on : {T E : Type 0} (r : Result T E) (e why : E) → IsErrAnd r (λ y. y ≡ e) → r ≡ Err why → e ≡ why

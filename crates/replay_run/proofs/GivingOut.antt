@@ -3,8 +3,6 @@ use Rattle.std.proofs.Common.{◌≡◌, ◌≢◌, ℕ, Bool, true, false, cond
 use Rattle.grid_base.specs.declared.calls.Request.{Request}
 use Rattle.partition_protocol.specs.Events.{Event}
 use Rattle.primary_hold.specs.declared.answer.CallAnswer.{CallAnswer}
-use Rattle.partition_protocol.specs.Recorded.{Recorded}
-use Rattle.partition_world.specs.Recorders.{KeepsAll}
 use Rattle.partition_world.specs.declared.world.World.{World}
 use Rattle.grid_base.specs.Shelves.{Meaning}
 use Rattle.partition_world.specs.Worlds.{StandsFor, setup_of, waiting}
@@ -18,6 +16,8 @@ use Rattle.replay_run.specs.Tables.{Table, with_answer}
 use Rattle.replay_run.specs.Shelves.{grid_meaning}
 use Rattle.replay_run.specs.Grids.{FormOf, GridWorld, StandsForEvents}
 use Rattle.replay_run.specs.WorldCalls.{texts_of, message_of, with_answers, goes_out, going_out, GivesOut}
+use Rattle.partition_protocol.specs.Recorded.{Recorded}
+use Rattle.partition_world.specs.Recorders.{KeepsAll}
 
 -- Some of the answers were given out.
 pub record GaveOut {S R Plan C State : Type 0} (meaning_in : Plan → Meaning S C State) (records : R → Recorded C → Type 0) (limits : C → Type 0) (old new : World S R Plan C) (member : ℕ) : Type 0 where
@@ -55,11 +55,11 @@ module _ (r : Run) (own : Option ℕ) (line : ℕ) where
 
 module _ {S R Plan C State : Type 0} {meaning_in : Plan → Meaning S C State} {records : R → Recorded C → Type 0} {limits : C → Type 0} where
   pub gave_none : (world : World S R Plan C) (member : ℕ) → GaveOut meaning_in records limits world world member
-  gave_none world member = record { stands = λ env events s. s; setup = refl; others = λ other apart. refl }
+  gave_none world member = record { stands = λ plan events s. s; setup = refl; others = λ other apart. refl }
 
   pub gave_more : (first second third : World S R Plan C) (member : ℕ) → GaveOut meaning_in records limits first second member → GaveOut meaning_in records limits second third member → GaveOut meaning_in records limits first third member
   gave_more first second third member a b = record {
-    stands = λ env events s. b.stands env events (a.stands env events s);
+    stands = λ plan events s. b.stands plan events (a.stands plan events s);
     setup = b.setup ∙ a.setup;
     others = λ other apart. b.others other apart ∙ a.others other apart;
   }
@@ -79,11 +79,5 @@ pub record HasGivenOut (settings : Settings) (old new : GridWorld) (member : ℕ
   pub given : waiting new member ≡ []
   pub others : (other : ℕ) → other ≢ member → waiting new other ≡ waiting old other
 
-pub has_given_out : {V : Type 0} {T : V → Type 0} (form : FormOf V T) (settings : Settings) (env : GridEnv V T) (old new : GridWorld) (member : ℕ) → settings_of form env ≡ settings
-    → GivesOut grid_meaning KeepsAll RequestFits old new member → HasGivenOut settings old new member
-has_given_out form settings env old new member goes_by out = record {
-  stands = λ events. subst (λ s. StandsForEvents s old events → StandsForEvents s new events) goes_by (out.stands (settings_of form env) events);
-  setup = out.setup;
-  given = out.given;
-  others = out.others;
-}
+pub has_given_out : (settings : Settings) (old new : GridWorld) (member : ℕ) → GivesOut grid_meaning KeepsAll RequestFits old new member → HasGivenOut settings old new member
+has_given_out settings old new member out = record { stands = out.stands settings; setup = out.setup; given = out.given; others = out.others }

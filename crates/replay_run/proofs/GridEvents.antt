@@ -13,7 +13,6 @@ use Rattle.partition_protocol.specs.Arrivals.{asked_by, arrivals, name, NamedOnc
 use Rattle.partition_protocol.proofs.Lists.{set_get_same, set_get_other}
 use Rattle.primary_hold.specs.declared.answer.CallAnswer.{CallAnswer}
 use Rattle.table_service.specs.Services.{Setup}
-use Rattle.partition_world.specs.Recorders.{KeepsAll}
 use Rattle.partition_world.specs.Answers.{released_at, released_by as answers_by}
 use Rattle.partition_world.specs.Events.{EventWithin, event_of, happened_of}
 use Rattle.partition_world.specs.declared.event.Event.{Event as CodeEvent}
@@ -43,6 +42,7 @@ use Rattle.replay_run.proofs.Occurring.{keeps_released}
 use Rattle.replay_run.proofs.TableRuns.{answers_table}
 use Rattle.replay_run.proofs.TableCounts.{counting_answers}
 use Rattle.replay_run.proofs.WorldRuns.{same_events, run_is}
+use Rattle.partition_world.specs.Recorders.{KeepsAll}
 
 -- what an event releases
 
@@ -314,7 +314,7 @@ pub stepped_by : {V : Type 0} {T : V → Type 0} (form : FormOf V T) (env : Grid
 stepped_by form env settings goes_by old new events event happened = subst (λ s. HasStepped s old new events event happened) goes_by
 
 -- Of a grid its table and its worlds changed, and nothing else.
-with_table : {V : Type 0} {T : V → Type 0} (grid : Grid V T) (p : ℕ) (world : GridWorld) (answers : List CallAnswer) (table : Table) (worlds : Vec (GridWorld) Global) → table ≡ with_answers grid.connections grid.lines answers → worlds.items ≡ slice_set grid.worlds.items p world
+with_table : {V : Type 0} {T : V → Type 0} (grid : Grid V T) (p : ℕ) (world : GridWorld) (answers : List CallAnswer) (table : Table) (worlds : Vec GridWorld Global) → table ≡ with_answers grid.connections grid.lines answers → worlds.items ≡ slice_set grid.worlds.items p world
     → IsAfterEvent grid (record grid { connections = table; worlds = worlds }) p world answers []
 with_table grid p world given table worlds answered placed = record {
   env = refl;
@@ -334,7 +334,7 @@ pub record HasReleased {V : Type 0} {T : V → Type 0} (settings : Settings) (gr
   pub after : IsAfterEvent grid mid partition world (going_out r None (waiting_at called taker)) []
   pub added : text ≡ written ++ texts_of (map (message_of grid.lines) (going_out r None (waiting_at called taker)))
 
-pub released_some : {V : Type 0} {T : V → Type 0} (settings : Settings) (grid mid : Grid V T) (table : Table) (worlds : Vec (GridWorld) Global) (r : Run) (p : ℕ) (called world : GridWorld) (taker : Option ℕ) (member : ℕ) (written text made : List ℕ)
+pub released_some : {V : Type 0} {T : V → Type 0} (settings : Settings) (grid mid : Grid V T) (table : Table) (worlds : Vec GridWorld Global) (r : Run) (p : ℕ) (called world : GridWorld) (taker : Option ℕ) (member : ℕ) (written text made : List ℕ)
     → taker ≡ Some member → mid ≡ record grid { connections = table; worlds = worlds } → text ≡ made
     → HasGivenOut settings called world member → table ≡ with_answers grid.connections grid.lines (going_out r None (waiting called member)) → worlds.items ≡ slice_set grid.worlds.items p world
     → made ≡ written ++ texts_of (map (message_of grid.lines) (going_out r None (waiting called member))) → HasReleased settings grid mid r p called taker written text
@@ -343,7 +343,7 @@ released_some settings grid mid table worlds r p called world taker member writt
     (subst (λ m. HasReleased settings grid m r p called (Some member) written text) (sym same)
     (record { world = world; out = gave_at settings called world member out; after = with_table grid p world (going_out r None (waiting called member)) table worlds answered placed; added = made_it ∙ is }))
 
-pub released_none : {V : Type 0} {T : V → Type 0} (settings : Settings) (grid mid : Grid V T) (worlds : Vec (GridWorld) Global) (r : Run) (p : ℕ) (called : GridWorld) (taker : Option ℕ) (written text : List ℕ)
+pub released_none : {V : Type 0} {T : V → Type 0} (settings : Settings) (grid mid : Grid V T) (worlds : Vec GridWorld Global) (r : Run) (p : ℕ) (called : GridWorld) (taker : Option ℕ) (written text : List ℕ)
     → taker ≡ None → mid ≡ record grid { worlds = worlds } → text ≡ written → worlds.items ≡ slice_set grid.worlds.items p called → HasReleased settings grid mid r p called taker written text
 released_none settings grid mid worlds r p called taker written text its same is placed =
     subst (λ t. HasReleased settings grid mid r p called t written text) (sym its)

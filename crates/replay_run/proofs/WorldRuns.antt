@@ -29,7 +29,7 @@ same_events {settings = settings} w r next p is e members backups = record {
 pub run_is : {settings : Settings} (w : GridWorld) (r : Run) (p : ℕ) → IsWorld settings w r p → run_of (grid_meaning settings) w (events_at p r.events) ≡ world_at (partition_object settings) r p
 run_is {settings = settings} w r p is = ap (λ (s : Setup). run (partition_object settings) (start s.partition s.members s.backups) (events_at p r.events)) is.setup
 
-module _ {settings : Settings} (ws : List (GridWorld)) (r : Run) (a : Arrival) (new : GridWorld) (next : Run) (old : HasWorld settings ws r a.request.partition) (members : next.members ≡ r.members) (backups : next.backups ≡ r.backups) where
+module _ {settings : Settings} (ws : List GridWorld) (r : Run) (a : Arrival) (new : GridWorld) (next : Run) (old : HasWorld settings ws r a.request.partition) (members : next.members ≡ r.members) (backups : next.backups ≡ r.backups) where
   -- the other partitions have their worlds
   elsewhere : (q : ℕ) → HasWorld settings ws r q → q ≢ a.request.partition → events_at q next.events ≡ events_at q r.events → HasWorld settings (slice_set ws a.request.partition new) next q
   elsewhere q has apart e = record {

@@ -6,8 +6,6 @@ use Rattle.entry_processors.specs.Processors.{ProcessorForm}
 use Rattle.grid_base.specs.declared.names.CallId.{CallId}
 use Rattle.grid_base.specs.declared.calls.Request.{Request}
 use Rattle.partition_protocol.specs.Events.{Event}
-use Rattle.partition_world.specs.Recorders.{KeepsAll}
-use Rattle.partition_world.specs.declared.recorder.Recorder.{Recorder}
 use Rattle.partition_world.specs.declared.world.World.{World}
 use Rattle.partition_world.specs.Worlds.{StandsFor, setup_of, waiting}
 use Rattle.replay_run.specs.declared.connections.CallLines.{CallLines}
@@ -28,6 +26,8 @@ use Rattle.replay_run.specs.Printing.{arrival_of, answer_of, line_text}
 use Rattle.replay_run.specs.ScriptRuns.{IsRun}
 use Rattle.replay_run.specs.Skips.{AreOfLine}
 use Rattle.replay_run.specs.Tables.{Table, Opened, most_connections, opened_at, lines_of}
+use Rattle.partition_world.specs.Recorders.{KeepsAll}
+use Rattle.partition_world.specs.declared.recorder.Recorder.{Recorder}
 
 -- the table
 
@@ -64,6 +64,7 @@ pub record IsCounting (table : Table) (r : Run) (conn number : ℕ) : Type 0 whe
 
 -- the worlds
 
+-- it records all that happens
 abbrev pub GridWorld : Type 0
 GridWorld = World GridShelf (Recorder Request) Settings Request
 
@@ -76,7 +77,7 @@ pub record IsWorld (settings : Settings) (world : GridWorld) (r : Run) (p : ℕ)
   pub setup : setup_of world ≡ record { partition = p; members = r.members; backups = r.backups }
 
 -- A partition has its world, which has given out every answer that it released.
-pub record HasWorld (settings : Settings) (worlds : List (GridWorld)) (r : Run) (p : ℕ) : Type 0 where
+pub record HasWorld (settings : Settings) (worlds : List GridWorld) (r : Run) (p : ℕ) : Type 0 where
   pub world : GridWorld
   pub there : slice_get worlds p ≡ Some world
   pub is : IsWorld settings world r p

@@ -6,7 +6,6 @@ use Rattle.grid_base.specs.declared.calls.Request.{Request}
 use Rattle.partition_protocol.specs.Events.{Event, happens}
 use Rattle.partition_protocol.specs.Events as event
 use Rattle.partition_protocol.specs.Service.{numbers_below}
-use Rattle.partition_protocol.specs.Recorded.{Recorded}
 use Rattle.partition_world.specs.declared.event.Happened.{Happened}
 use Rattle.partition_world.specs.Events.{happened_of}
 use Rattle.primary_hold.specs.declared.answer.CallAnswer.{CallAnswer}
@@ -33,6 +32,7 @@ use Rattle.replay_run.specs.ScriptRuns.{IsRun, IsMidway, calls_in}
 use Rattle.replay_run.specs.Tables.{Table, with_answer}
 use Rattle.replay_run.specs.Shelves.{grid_meaning}
 use Rattle.replay_run.specs.Grids.{FormOf, GridWorld, StandsForEvents, IsSettled, IsCounting, Holds}
+use Rattle.partition_protocol.specs.Recorded.{Recorded}
 
 -- the call of a request that reaches a member at a line, at the member's moment
 abbrev pub arrival_to : ℕ → ℕ → ℕ → Request → Arrival
@@ -80,7 +80,7 @@ goes_out r own answer = is_own own answer.id.conn || is_open (connection_of r an
 abbrev pub going_out : Run → Option ℕ → List CallAnswer → List CallAnswer
 going_out r own answers = filter (goes_out r own) answers
 
--- All answers that waited at a member were taken, which is no event in any environment.
+-- All answers that waited at a member were taken, which is no event by any plan.
 pub record GivesOut {S R Plan C State : Type 0} (meaning_in : Plan → Meaning S C State) (records : R → Recorded C → Type 0) (limits : C → Type 0) (old new : World S R Plan C) (member : ℕ) : Type 0 where
   pub stands : (plan : Plan) (events : List (Event C)) → StandsFor (meaning_in plan) records limits old events → StandsFor (meaning_in plan) records limits new events
   pub setup : setup_of new ≡ setup_of old

@@ -131,7 +131,11 @@ fn delivery_on(link: Link) -> Event<Request>
 }
 
 /// Whether an event is one that its partition doesn't take now, as too many messages are in flight.
-fn meets_full<S: Shelf, R: Records<S::Call>>(links: &[Link], world: &World<S, R>, event: &Event<S::Call>) -> bool
+fn meets_full<S: Shelf, R: Records<S::Call>>(
+    links: &[Link],
+    world: &World<S, R>,
+    event: &Event<S::Call>,
+) -> bool
     ensures { (plan : S.Plan) (events : List (ProtocolEvent S.Call)) → let k = meaning S.model plan in
         StandsFor k R.records S.model.within_limits world.now events → links.now ≡ links_of (setup_of world.now).members → result ≡ meets_full (run_of k world.now events) (event_of event.now) }
 {

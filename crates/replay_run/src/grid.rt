@@ -104,7 +104,7 @@ struct Arriving {
 /// A call reaches a member at a line. It is answered at once where it is refused or finds no memory.
 fn call(
     alloc: Global,
-    world: &mut GridWorld,
+    world: &mut World<GridShelf, Recorder<Request>>,
     env: &GridEnv,
     at: Arriving,
     request: Request,
@@ -184,9 +184,6 @@ pub(crate) fn give_out<S: Shelf, R: Records<S::Call>>(
     Ok(())
 }
 
-/// A partition's world that keeps all that was executed, for its history to be printed.
-pub(crate) type GridWorld = World<GridShelf, Recorder<Request>>;
-
 /// The worlds of all partitions, the connections to their members, each member's clock, and how many lines were run.
 #[derive(Drop)]
 pub struct Grid {
@@ -199,7 +196,7 @@ pub struct Grid {
     pub(crate) reopened: Vec<Reopened>,
     /// Those of each partition.
     pub(crate) links: Vec<Link>,
-    pub(crate) worlds: Vec<GridWorld>,
+    pub(crate) worlds: Vec<World<GridShelf, Recorder<Request>>>,
 }
 
 impl Grid {

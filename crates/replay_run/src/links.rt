@@ -63,7 +63,10 @@ pub(crate) fn is_full<S: Shelf, R: Records<S::Call>>(links: &[Link], world: &Wor
 }
 
 /// The first link that has a message, if one has.
-pub(crate) fn next_link<S: Shelf, R: Records<S::Call>>(links: &[Link], world: &World<S, R>) -> Option<Link>
+pub(crate) fn next_link<S: Shelf, R: Records<S::Call>>(
+    links: &[Link],
+    world: &World<S, R>,
+) -> Option<Link>
     ensures { (plan : S.Plan) (events : List (ProtocolEvent S.Call)) → let k = meaning S.model plan in
         StandsFor k R.records S.model.within_limits world.now events → links.now ≡ links_of (setup_of world.now).members → result ≡ next_link (run_of k world.now events) }
 {
