@@ -32,21 +32,22 @@ use Rattle.replay_run.proofs.RunFacts.{is_of, named}
 use Rattle.replay_run.proofs.RunsOfLines.{run_ok}
 use Rattle.replay_run.proofs.HistoryTexts.{indexed_world}
 use Rattle.replay_run.proofs.WorldRuns.{run_is}
+use Rattle.partition_world.specs.Recorders.{KeepsAll}
 
 -- a failure that is handed on
 pub handed_on : {T E : Type 0} (r : Result T E) (e why : E) → IsErrAnd r (λ y. y ≡ e) → r ≡ Err why → e ≡ why
 handed_on r e why ensured is = sym (subst (λ x. IsErrAnd x (λ y. y ≡ e)) is ensured)
 
 -- what a call did, in an environment that makes these settings
-abbrev pub Did : {V : Type 0} {T : V → Type 0} → Settings → GridWorld V T → GridWorld V T → List (Event Request) → Arrival → List ℕ → List ℕ → Type 0
+abbrev pub Did : Settings → GridWorld → GridWorld → List (Event Request) → Arrival → List ℕ → List ℕ → Type 0
 Did settings old new events a before after = (text : List ℕ) × (after ≡ before ++ text) × (IsCalled settings old new events a text ⊎ IsSkipped settings old new events a text)
 
-pub did_by : {V : Type 0} {T : V → Type 0} (form : FormOf V T) (env : GridEnv V T) (settings : Settings) → settings_of form env ≡ settings → (old new : GridWorld V T) (events : List (Event Request)) (a : Arrival) (before after : List ℕ)
+pub did_by : {V : Type 0} {T : V → Type 0} (form : FormOf V T) (env : GridEnv V T) (settings : Settings) → settings_of form env ≡ settings → (old new : GridWorld) (events : List (Event Request)) (a : Arrival) (before after : List ℕ)
     → (StandsForEvents (settings_of form env) old events → NamedOnce (map name (arrivals (events ++ call_of a ∷ []))) → Did (settings_of form env) old new events a before after)
     → StandsForEvents settings old events → NamedOnce (map name (arrivals (events ++ call_of a ∷ []))) → Did settings old new events a before after
 did_by form env settings goes_by old new events a before after = subst (λ s. StandsForEvents s old events → NamedOnce (map name (arrivals (events ++ call_of a ∷ []))) → Did s old new events a before after) goes_by
 
-pub stands_by : {V : Type 0} {T : V → Type 0} (form : FormOf V T) (env : GridEnv V T) (settings : Settings) → settings_of form env ≡ settings → (world : GridWorld V T) (events : List (Event Request))
+pub stands_by : {V : Type 0} {T : V → Type 0} (form : FormOf V T) (env : GridEnv V T) (settings : Settings) → settings_of form env ≡ settings → (world : GridWorld) (events : List (Event Request))
     → StandsForEvents settings world events → StandsForEvents (settings_of form env) world events
 stands_by form env settings goes_by world events = subst (λ s. StandsForEvents s world events) (sym goes_by)
 
@@ -55,7 +56,7 @@ module _ {V : Type 0} {T : V → Type 0} {form : FormOf V T} {settings : Setting
   pub world_within : i < length grid.worlds.items
   world_within = let within = slice_get_within grid.worlds.items p (h.worlds p low).world (h.worlds p low).there in omega (arith, within, same)
 
-  module _ (world : GridWorld V T) (read : world ≡ get_or grid.worlds.items i world) where
+  module _ (world : GridWorld) (read : world ≡ get_or grid.worlds.items i world) where
     pub world_there : slice_get grid.worlds.items p ≡ Some world
     world_there = (h.worlds p low).there ∙ ap Some (sym (read_there grid.worlds.items p i (h.worlds p low).world world same (h.worlds p low).there read))
 
@@ -106,15 +107,15 @@ named_next settings r run member line now request next at_line at_moment =
     ap_names e = subst (λ x. NamedOnce (map name (arrivals (events_at request.partition r.events ++ x ∷ [])))) (sym e) once
 
 -- It may come next in its partition's world.
-pub call_comes : {V : Type 0} {T : V → Type 0} (settings : Settings) (world : GridWorld V T) (events : List (Event Request)) (a : Arrival) → StandsForEvents settings world events → steps_of world + 1 < 2 ^ 32 - 1
-    → RequestFits a.request → NamedOnce (map name (arrivals (events ++ call_of a ∷ []))) → Comes (grid_meaning settings) RequestFits world events (call_of a)
+pub call_comes : (settings : Settings) (world : GridWorld) (events : List (Event Request)) (a : Arrival) → StandsForEvents settings world events → steps_of world + 1 < 2 ^ 32 - 1
+    → RequestFits a.request → NamedOnce (map name (arrivals (events ++ call_of a ∷ []))) → Comes (grid_meaning settings) KeepsAll RequestFits world events (call_of a)
 call_comes settings world events a stands room fits once = record {
   stands = stands;
   may = record { room = (let steps = stands.steps in omega (arith, room, steps)); within = fits; once = once };
 }
 
 -- What the code tells of a partition's world is so in the run.
-pub told_of : {X V : Type 0} {T : V → Type 0} {settings : Settings} (form : FormOf V T) (grid : Grid V T) (r : Run) → Holds form settings grid r → (p i : ℕ) → p < partitions → i ≡ p → (world : GridWorld V T) → world ≡ get_or grid.worlds.items i world
+pub told_of : {X V : Type 0} {T : V → Type 0} {settings : Settings} (form : FormOf V T) (grid : Grid V T) (r : Run) → Holds form settings grid r → (p i : ℕ) → p < partitions → i ≡ p → (world : GridWorld) → world ≡ get_or grid.worlds.items i world
     → (tells : World Request → X) (told : X) → ((events : List (Event Request)) → StandsForEvents (settings_of form grid.env) world events → told ≡ tells (run_of (grid_meaning (settings_of form grid.env)) world events))
     → told ≡ tells (world_at (partition_object settings) r p)
 told_of form grid r h p i low same world read tells told by =
@@ -123,13 +124,13 @@ told_of form grid r h p i low same world read tells told by =
     ∙ ap tells (run_is world r p is)
 
 -- the history that it tells
-pub told_history : {V : Type 0} {T : V → Type 0} {settings : Settings} (form : FormOf V T) (grid : Grid V T) (r : Run) → Stands form settings grid r → (p i : ℕ) → p < partitions → i ≡ p → (world : GridWorld V T) → world ≡ get_or grid.worlds.items i world
+pub told_history : {V : Type 0} {T : V → Type 0} {settings : Settings} (form : FormOf V T) (grid : Grid V T) (r : Run) → Stands form settings grid r → (p i : ℕ) → p < partitions → i ≡ p → (world : GridWorld) → world ≡ get_or grid.worlds.items i world
     → (entries : List (Entry Request)) → ((events : List (Event Request)) → StandsForEvents (settings_of form grid.env) world events → map entry_of entries ≡ trail (run_of (grid_meaning (settings_of form grid.env)) world events))
     → map entry_of entries ≡ trail (world_at (partition_object settings) r p)
 told_history form grid r s p i low same world read entries = told_of form grid r s.holds p i low same world read trail (map entry_of entries)
 
 -- whether it is full
-pub told_full : {V : Type 0} {T : V → Type 0} {settings : Settings} (form : FormOf V T) (grid : Grid V T) (r : Run) → Holds form settings grid r → (p i : ℕ) → p < partitions → i ≡ p → (world : GridWorld V T) → world ≡ get_or grid.worlds.items i world
+pub told_full : {V : Type 0} {T : V → Type 0} {settings : Settings} (form : FormOf V T) (grid : Grid V T) (r : Run) → Holds form settings grid r → (p i : ℕ) → p < partitions → i ≡ p → (world : GridWorld) → world ≡ get_or grid.worlds.items i world
     → (links : List Link) → links ≡ grid.links.items → (full : Bool)
     → ((events : List (Event Request)) → StandsForEvents (settings_of form grid.env) world events → links ≡ links_of (setup_of world).members → full ≡ is_full (run_of (grid_meaning (settings_of form grid.env)) world events))
     → full ≡ is_full (world_at (partition_object settings) r p)

@@ -15,16 +15,16 @@ use Rattle.replay_run.specs.Grids.{FormOf, GridWorld, IsWorld, Matches, HasTable
 use Rattle.replay_run.proofs.TableChanges.{got_last, got_before, line_at}
 
 -- one world more
-pub more_worlds : {V : Type 0} {T : V → Type 0} {settings : Settings} (ws : List (GridWorld V T)) (r : Run) (n : ℕ) (world : GridWorld V T) → length ws ≡ n → ((p : ℕ) → p < n → HasWorld settings ws r p) → HasWorld settings (ws ++ world ∷ []) r n → (p : ℕ) → p < n + 1 → HasWorld settings (ws ++ world ∷ []) r p
+pub more_worlds : {settings : Settings} (ws : List GridWorld) (r : Run) (n : ℕ) (world : GridWorld) → length ws ≡ n → ((p : ℕ) → p < n → HasWorld settings ws r p) → HasWorld settings (ws ++ world ∷ []) r n → (p : ℕ) → p < n + 1 → HasWorld settings (ws ++ world ∷ []) r p
 more_worlds {settings = settings} ws r n world size have last p below = ⊎_elim (λ e. subst (λ q. HasWorld settings (ws ++ world ∷ []) r q) (sym e) last) (λ apart. kept apart (have p (omega arith))) (cases_eq p n)
   where
     kept : p ≢ n → HasWorld settings ws r p → HasWorld settings (ws ++ world ∷ []) r p
     kept apart w = record { world = w.world; there = got_before ws world p (λ e. apart (e ∙ size)) ∙ w.there; is = w.is; given = w.given }
 
-pub worlds_as : {V : Type 0} {T : V → Type 0} {settings : Settings} {ws others : List (GridWorld V T)} {r : Run} {p : ℕ} → ws ≡ others → HasWorld settings others r p → HasWorld settings ws r p
+pub worlds_as : {settings : Settings} {ws others : List GridWorld} {r : Run} {p : ℕ} → ws ≡ others → HasWorld settings others r p → HasWorld settings ws r p
 worlds_as {settings = settings} {r = r} {p = p} same = subst (λ xs. HasWorld settings xs r p) (sym same)
 
-pub last_world : {V : Type 0} {T : V → Type 0} {settings : Settings} (ws : List (GridWorld V T)) (r : Run) (n : ℕ) (world : GridWorld V T) → length ws ≡ n → IsWorld settings world r n → ((member : ℕ) → waiting world member ≡ []) → HasWorld settings (ws ++ world ∷ []) r n
+pub last_world : {settings : Settings} (ws : List GridWorld) (r : Run) (n : ℕ) (world : GridWorld) → length ws ≡ n → IsWorld settings world r n → ((member : ℕ) → waiting world member ≡ []) → HasWorld settings (ws ++ world ∷ []) r n
 last_world ws r n world size is given = record { world = world; there = ap (slice_get (ws ++ world ∷ [])) (sym size) ∙ got_last ws world; is = is; given = given }
 
 sized : (n : ℕ) → length (unopened n) ≡ n

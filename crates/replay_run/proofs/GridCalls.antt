@@ -38,7 +38,7 @@ abbrev pub call_text : List ℕ → ℕ → List ℕ → List Released → List 
 call_text written line added answers = (written ++ added) ++ texts_of (map (message_of line) answers)
 
 -- The table and the worlds of the code after a call.
-pub record IsAfter {V : Type 0} {T : V → Type 0} (grid new : Grid V T) (line partition conn : ℕ) (world : GridWorld V T) (answers : List Released) : Type 0 where
+pub record IsAfter {V : Type 0} {T : V → Type 0} (grid new : Grid V T) (line partition conn : ℕ) (world : GridWorld) (answers : List Released) : Type 0 where
   pub env : new.env ≡ grid.env
   pub lines : new.lines ≡ line
   pub members : new.members ≡ grid.members
@@ -49,7 +49,7 @@ pub record IsAfter {V : Type 0} {T : V → Type 0} (grid new : Grid V T) (line p
   pub worlds : new.worlds.items ≡ slice_set grid.worlds.items partition world
 
 module _ {V : Type 0} {T : V → Type 0} {form : FormOf V T} {settings : Settings} (grid : Grid V T) (r : Run) (run : IsRun (partition_object settings) r) (h : Holds form settings grid r) (member : ℕ) (request : Request) (next : IsNext r request) (count : IsCounting grid.connections r request.id.conn request.id.number) (low : request.partition < partitions)
-    (new : Grid V T) (called world : GridWorld V T) (added written text : List ℕ)
+    (new : Grid V T) (called world : GridWorld) (added written text : List ℕ)
     (after : IsAfter grid new r.lines request.partition request.id.conn world (going_out r (Some request.id.conn) (waiting called member)))
     (out : HasGivenOut settings called world member)
     (wrote : text ≡ call_text written r.lines added (going_out r (Some request.id.conn) (waiting called member)))
@@ -220,7 +220,7 @@ module _ {V : Type 0} {T : V → Type 0} {form : FormOf V T} {settings : Setting
 
 -- A call that reached its world, which then gave out all that waited.
 pub asked_grid : {V : Type 0} {T : V → Type 0} {form : FormOf V T} {settings : Settings} (grid : Grid V T) (r : Run) (run : IsRun (partition_object settings) r) (h : Holds form settings grid r) (member : ℕ) (request : Request) → IsNext r request → IsCounting grid.connections r request.id.conn request.id.number → (low : request.partition < partitions)
-    → (new : Grid V T) (old called world : GridWorld V T) (line now : ℕ) (added written text : List ℕ) → slice_get grid.worlds.items request.partition ≡ Some old → line ≡ r.lines → now ≡ moment_of r member
+    → (new : Grid V T) (old called world : GridWorld) (line now : ℕ) (added written text : List ℕ) → slice_get grid.worlds.items request.partition ≡ Some old → line ≡ r.lines → now ≡ moment_of r member
     → IsAfter grid new line request.partition request.id.conn world (going_out r (Some request.id.conn) (waiting called member)) → HasGivenOut settings called world member
     → IsCalled settings old called (events_at request.partition r.events) (arrival_to line member now request) added ⊎ IsSkipped settings old called (events_at request.partition r.events) (arrival_to line member now request) added
     → text ≡ call_text written line added (going_out r (Some request.id.conn) (waiting called member)) → is_full (world_at (partition_object settings) r request.partition) ≡ false → HasAsked form settings new r member request written text

@@ -42,6 +42,7 @@ use Rattle.replay_run.proofs.Occurring.{keeps_released}
 use Rattle.replay_run.proofs.TableRuns.{answers_table}
 use Rattle.replay_run.proofs.TableCounts.{counting_answers}
 use Rattle.replay_run.proofs.WorldRuns.{same_events, run_is}
+use Rattle.partition_world.specs.Recorders.{KeepsAll}
 
 -- what an event releases
 
@@ -91,8 +92,8 @@ unasked_within Advance quiet = tt
 unasked_within Reopen quiet = tt
 
 -- It may come next in its partition's world.
-pub event_comes : {V : Type 0} {T : V → Type 0} (settings : Settings) (world : GridWorld V T) (r : Run) (p : ℕ) (event : Event Request) → asked_by event ≡ [] → HasRoomAt r p 1 → StandsForEvents settings world (events_at p r.events)
-    → Comes (grid_meaning settings) RequestFits world (events_at p r.events) event
+pub event_comes : (settings : Settings) (world : GridWorld) (r : Run) (p : ℕ) (event : Event Request) → asked_by event ≡ [] → HasRoomAt r p 1 → StandsForEvents settings world (events_at p r.events)
+    → Comes (grid_meaning settings) KeepsAll RequestFits world (events_at p r.events) event
 event_comes settings world r p event quiet room stands = record {
   stands = stands;
   may = record {
@@ -110,23 +111,23 @@ event_comes settings world r p event quiet room stands = record {
 -- what the code did
 
 -- A world ran the event.
-pub record HasStepped {V : Type 0} {T : V → Type 0} (settings : Settings) (old new : GridWorld V T) (events : List (Event Request)) (event : Event Request) (happened : Happened) : Type 0 where
+pub record HasStepped (settings : Settings) (old new : GridWorld) (events : List (Event Request)) (event : Event Request) (happened : Happened) : Type 0 where
   pub stands : StandsForEvents settings new (events ++ event ∷ [])
   pub setup : setup_of new ≡ setup_of old
   pub waits : (member : ℕ) → waiting new member ≡ waiting old member ++ released_at (partition_object settings) (change_of settings) (run_of (grid_meaning settings) old events) event member
   pub outcome : happened_of happened ≡ (happens (partition_object settings) (run_of (grid_meaning settings) old events) event).outcome
 
 -- It gave out what waited where the event may release answers, and nowhere else.
-pub record HasGivenAt {V : Type 0} {T : V → Type 0} (settings : Settings) (old new : GridWorld V T) (taker : Option ℕ) : Type 0 where
+pub record HasGivenAt (settings : Settings) (old new : GridWorld) (taker : Option ℕ) : Type 0 where
   pub stands : (events : List (Event Request)) → StandsForEvents settings old events → StandsForEvents settings new events
   pub setup : setup_of new ≡ setup_of old
   pub given : (member : ℕ) → taker ≡ Some member → waiting new member ≡ []
   pub others : (member : ℕ) → taker ≢ Some member → waiting new member ≡ waiting old member
 
-pub gave_nothing : {V : Type 0} {T : V → Type 0} (settings : Settings) (world : GridWorld V T) → HasGivenAt settings world world None
+pub gave_nothing : (settings : Settings) (world : GridWorld) → HasGivenAt settings world world None
 gave_nothing settings world = record { stands = λ events s. s; setup = refl; given = λ member e. absurd cc; others = λ member apart. refl }
 
-pub gave_at : {V : Type 0} {T : V → Type 0} (settings : Settings) (old new : GridWorld V T) (member : ℕ) → HasGivenOut settings old new member → HasGivenAt settings old new (Some member)
+pub gave_at : (settings : Settings) (old new : GridWorld) (member : ℕ) → HasGivenOut settings old new member → HasGivenAt settings old new (Some member)
 gave_at settings old new member out = record {
   stands = out.stands;
   setup = out.setup;
@@ -134,12 +135,12 @@ gave_at settings old new member out = record {
   others = λ m apart. out.others m (λ e. apart (ap Some (sym e)));
 }
 
-abbrev pub waiting_at : {V : Type 0} {T : V → Type 0} → GridWorld V T → Option ℕ → List Released
+abbrev pub waiting_at : GridWorld → Option ℕ → List Released
 waiting_at world None = []
 waiting_at world (Some member) = waiting world member
 
 -- The table, the reopenings and the worlds after an event.
-pub record IsAfterEvent {V : Type 0} {T : V → Type 0} (grid new : Grid V T) (partition : ℕ) (world : GridWorld V T) (answers : List Released) (more : List Reopened) : Type 0 where
+pub record IsAfterEvent {V : Type 0} {T : V → Type 0} (grid new : Grid V T) (partition : ℕ) (world : GridWorld) (answers : List Released) (more : List Reopened) : Type 0 where
   pub env : new.env ≡ grid.env
   pub lines : new.lines ≡ grid.lines
   pub members : new.members ≡ grid.members
@@ -155,7 +156,7 @@ settled_answers line answers t r settled c o k at there =
     (counting_answers line answers t r c (length (messages_on k)) (record { here = λ x e. settled c x k e there; others = λ d x j apart e found. settled d x j e found })).here o at
 
 module _ {V : Type 0} {T : V → Type 0} {form : FormOf V T} {settings : Settings} (grid : Grid V T) (r : Run) (amid : IsAmid form settings grid r) (p : ℕ) (low : p < partitions) (event : Event Request) (quiet : asked_by event ≡ [])
-    (taker : Option ℕ) (its_taker : taker ≡ taker_of event) (new : Grid V T) (called world : GridWorld V T) (happened : Happened)
+    (taker : Option ℕ) (its_taker : taker ≡ taker_of event) (new : Grid V T) (called world : GridWorld) (happened : Happened)
     (did : HasStepped settings (amid.holds.worlds p low).world called (events_at p r.events) event happened) (out : HasGivenAt settings called world taker)
     (after : IsAfterEvent grid new p world (going_out r None (waiting_at called taker)) (reopening_by p grid.lines event (happened_of happened))) where
   abbrev o : Object Request Partition
@@ -285,7 +286,7 @@ module _ {V : Type 0} {T : V → Type 0} {form : FormOf V T} {settings : Setting
 
 -- what the code reads of a partition's world
 
-module _ {V : Type 0} {T : V → Type 0} {form : FormOf V T} {settings : Settings} (grid : Grid V T) (r : Run) (h : Holds form settings grid r) (p i : ℕ) (low : p < partitions) (same : i ≡ p) (world : GridWorld V T) (read : world ≡ get_or grid.worlds.items i world) where
+module _ {V : Type 0} {T : V → Type 0} {form : FormOf V T} {settings : Settings} (grid : Grid V T) (r : Run) (h : Holds form settings grid r) (p i : ℕ) (low : p < partitions) (same : i ≡ p) (world : GridWorld) (read : world ≡ get_or grid.worlds.items i world) where
   is_its : IsWorld settings world r p
   is_its = world_is grid r h p i low same world read
 
@@ -304,16 +305,16 @@ module _ {V : Type 0} {T : V → Type 0} {form : FormOf V T} {settings : Setting
       let there = (world_is grid r2 h2 p i low same world read).stands.steps in
       omega (arith, room, here, there)
 
-  pub comes_in : (event : Event Request) → asked_by event ≡ [] → HasRoomAt r p 1 → Comes (grid_meaning (settings_of form grid.env)) RequestFits world (events_at p r.events) event
+  pub comes_in : (event : Event Request) → asked_by event ≡ [] → HasRoomAt r p 1 → Comes (grid_meaning (settings_of form grid.env)) KeepsAll RequestFits world (events_at p r.events) event
   comes_in event quiet room = event_comes (settings_of form grid.env) world r p event quiet room (stands_by form grid.env settings h.goes_by world (events_at p r.events) is_its.stands)
 
 -- A step in an environment that makes these settings
-pub stepped_by : {V : Type 0} {T : V → Type 0} (form : FormOf V T) (env : GridEnv V T) (settings : Settings) → settings_of form env ≡ settings → (old new : GridWorld V T) (events : List (Event Request)) (event : Event Request) (happened : Happened)
+pub stepped_by : {V : Type 0} {T : V → Type 0} (form : FormOf V T) (env : GridEnv V T) (settings : Settings) → settings_of form env ≡ settings → (old new : GridWorld) (events : List (Event Request)) (event : Event Request) (happened : Happened)
     → HasStepped (settings_of form env) old new events event happened → HasStepped settings old new events event happened
 stepped_by form env settings goes_by old new events event happened = subst (λ s. HasStepped s old new events event happened) goes_by
 
 -- Of a grid its table and its worlds changed, and nothing else.
-with_table : {V : Type 0} {T : V → Type 0} (grid : Grid V T) (p : ℕ) (world : GridWorld V T) (answers : List Released) (table : Table) (worlds : Vec (GridWorld V T) Global) → table ≡ with_answers grid.connections grid.lines answers → worlds.items ≡ slice_set grid.worlds.items p world
+with_table : {V : Type 0} {T : V → Type 0} (grid : Grid V T) (p : ℕ) (world : GridWorld) (answers : List Released) (table : Table) (worlds : Vec GridWorld Global) → table ≡ with_answers grid.connections grid.lines answers → worlds.items ≡ slice_set grid.worlds.items p world
     → IsAfterEvent grid (record grid { connections = table; worlds = worlds }) p world answers []
 with_table grid p world given table worlds answered placed = record {
   env = refl;
@@ -327,13 +328,13 @@ with_table grid p world given table worlds answered placed = record {
 }
 
 -- The answers of an event were given out.
-pub record HasReleased {V : Type 0} {T : V → Type 0} (settings : Settings) (grid mid : Grid V T) (r : Run) (partition : ℕ) (called : GridWorld V T) (taker : Option ℕ) (written text : List ℕ) : Type 0 where
-  pub world : GridWorld V T
+pub record HasReleased {V : Type 0} {T : V → Type 0} (settings : Settings) (grid mid : Grid V T) (r : Run) (partition : ℕ) (called : GridWorld) (taker : Option ℕ) (written text : List ℕ) : Type 0 where
+  pub world : GridWorld
   pub out : HasGivenAt settings called world taker
   pub after : IsAfterEvent grid mid partition world (going_out r None (waiting_at called taker)) []
   pub added : text ≡ written ++ texts_of (map (message_of grid.lines) (going_out r None (waiting_at called taker)))
 
-pub released_some : {V : Type 0} {T : V → Type 0} (settings : Settings) (grid mid : Grid V T) (table : Table) (worlds : Vec (GridWorld V T) Global) (r : Run) (p : ℕ) (called world : GridWorld V T) (taker : Option ℕ) (member : ℕ) (written text made : List ℕ)
+pub released_some : {V : Type 0} {T : V → Type 0} (settings : Settings) (grid mid : Grid V T) (table : Table) (worlds : Vec GridWorld Global) (r : Run) (p : ℕ) (called world : GridWorld) (taker : Option ℕ) (member : ℕ) (written text made : List ℕ)
     → taker ≡ Some member → mid ≡ record grid { connections = table; worlds = worlds } → text ≡ made
     → HasGivenOut settings called world member → table ≡ with_answers grid.connections grid.lines (going_out r None (waiting called member)) → worlds.items ≡ slice_set grid.worlds.items p world
     → made ≡ written ++ texts_of (map (message_of grid.lines) (going_out r None (waiting called member))) → HasReleased settings grid mid r p called taker written text
@@ -342,7 +343,7 @@ released_some settings grid mid table worlds r p called world taker member writt
     (subst (λ m. HasReleased settings grid m r p called (Some member) written text) (sym same)
     (record { world = world; out = gave_at settings called world member out; after = with_table grid p world (going_out r None (waiting called member)) table worlds answered placed; added = made_it ∙ is }))
 
-pub released_none : {V : Type 0} {T : V → Type 0} (settings : Settings) (grid mid : Grid V T) (worlds : Vec (GridWorld V T) Global) (r : Run) (p : ℕ) (called : GridWorld V T) (taker : Option ℕ) (written text : List ℕ)
+pub released_none : {V : Type 0} {T : V → Type 0} (settings : Settings) (grid mid : Grid V T) (worlds : Vec GridWorld Global) (r : Run) (p : ℕ) (called : GridWorld) (taker : Option ℕ) (written text : List ℕ)
     → taker ≡ None → mid ≡ record grid { worlds = worlds } → text ≡ written → worlds.items ≡ slice_set grid.worlds.items p called → HasReleased settings grid mid r p called taker written text
 released_none settings grid mid worlds r p called taker written text its same is placed =
     subst (λ t. HasReleased settings grid mid r p called t written text) (sym its)
@@ -351,8 +352,8 @@ released_none settings grid mid worlds r p called taker written text its same is
 
 -- It ran, and its answers were given out.
 module _ {V : Type 0} {T : V → Type 0} {form : FormOf V T} {settings : Settings} (grid : Grid V T) (r : Run) (amid : IsAmid form settings grid r) (p i : ℕ) (low : p < partitions) (same : i ≡ p) (event : Event Request) (quiet : asked_by event ≡ [])
-    (old : GridWorld V T) (read : old ≡ get_or grid.worlds.items i old) (goes : meets_full (world_at (partition_object settings) r p) event ≡ false)
-    (taker : Option ℕ) (its_taker : taker ≡ taker_of event) (mid new : Grid V T) (called : GridWorld V T) (happened : Happened)
+    (old : GridWorld) (read : old ≡ get_or grid.worlds.items i old) (goes : meets_full (world_at (partition_object settings) r p) event ≡ false)
+    (taker : Option ℕ) (its_taker : taker ≡ taker_of event) (mid new : Grid V T) (called : GridWorld) (happened : Happened)
     (did : HasStepped settings old called (events_at p r.events) event happened) (written text : List ℕ) (gave : HasReleased settings grid mid r p called taker written text) where
   same_world : old ≡ (amid.holds.worlds p low).world
   same_world =

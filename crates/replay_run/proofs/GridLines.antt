@@ -198,7 +198,7 @@ module _ {V : Type 0} {T : V → Type 0} {form : FormOf V T} {settings : Setting
     reopened = set.reopened ∙ s.holds.reopened;
     worlds = λ p low.
         let w = s.holds.worlds p low in
-        record { world = w.world; there = ap (λ (ws : List (GridWorld V T)). slice_get ws p) set.worlds ∙ w.there; is = record { stands = w.is.stands; setup = w.is.setup }; given = w.given };
+        record { world = w.world; there = ap (λ (ws : List GridWorld). slice_get ws p) set.worlds ∙ w.there; is = record { stands = w.is.stands; setup = w.is.setup }; given = w.given };
   }
 
   pub clock_line : (written text : List ℕ) → text ≡ written ++ ok_text number → HasRun form settings new r (Clock member moment) written text

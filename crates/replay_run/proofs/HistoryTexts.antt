@@ -24,7 +24,7 @@ use Rattle.replay_run.specs.Tables.{Table}
 use Rattle.replay_run.proofs.RunsOfLines.{unheard_unanswered}
 
 -- the world that the code reads is a partition's
-pub indexed_world : {V : Type 0} {T : V → Type 0} {settings : Settings} (ws : List (GridWorld V T)) (r : Run) (p i : ℕ) (world : GridWorld V T) → HasWorld settings ws r p → i ≡ p → world ≡ get_or ws i world → IsWorld settings world r p
+pub indexed_world : {settings : Settings} (ws : List GridWorld) (r : Run) (p i : ℕ) (world : GridWorld) → HasWorld settings ws r p → i ≡ p → world ≡ get_or ws i world → IsWorld settings world r p
 indexed_world {settings = settings} ws r p i world has same read = subst (λ w. IsWorld settings w r p) (sym (read_there ws p i has.world world same has.there read)) has.is
 
 -- an entry

@@ -17,7 +17,7 @@ use Rattle.replay_run.proofs.WorldRuns.{run_is}
 abbrev pub link_of : Settings → Machine Request → Link → List (List ℕ)
 link_of settings w l = flying (grid_meaning settings) w l.from l.to
 
-module _ {V : Type 0} {T : V → Type 0} {settings : Settings} (world : GridWorld V T) (r : Run) (p : ℕ) (is : IsWorld settings world r p) (links : List Link) (all : links ≡ links_of r.members) where
+module _ {settings : Settings} (world : GridWorld) (r : Run) (p : ℕ) (is : IsWorld settings world r p) (links : List Link) (all : links ≡ links_of r.members) where
   abbrev its_run : Machine Request
   its_run = run_of (grid_meaning settings) world (events_at p r.events)
 

@@ -19,17 +19,17 @@ use Rattle.replay_run.proofs.GivingOut.{HasGivenOut}
 use Rattle.replay_run.proofs.RunFacts.{is_of}
 
 -- a partition's world goes by its partition's events alone
-pub same_events : {V : Type 0} {T : V → Type 0} {settings : Settings} (w : GridWorld V T) (r next : Run) (p : ℕ) → IsWorld settings w r p → events_at p next.events ≡ events_at p r.events → next.members ≡ r.members → next.backups ≡ r.backups → IsWorld settings w next p
+pub same_events : {settings : Settings} (w : GridWorld) (r next : Run) (p : ℕ) → IsWorld settings w r p → events_at p next.events ≡ events_at p r.events → next.members ≡ r.members → next.backups ≡ r.backups → IsWorld settings w next p
 same_events {settings = settings} w r next p is e members backups = record {
   stands = subst (λ es. StandsForEvents settings w es) (sym e) is.stands;
   setup = is.setup ∙ (λ i. record { partition = p; members = sym members i; backups = sym backups i });
 }
 
 -- the protocol's world of a partition
-pub run_is : {V : Type 0} {T : V → Type 0} {settings : Settings} (w : GridWorld V T) (r : Run) (p : ℕ) → IsWorld settings w r p → run_of (grid_meaning settings) w (events_at p r.events) ≡ world_at (partition_object settings) r p
+pub run_is : {settings : Settings} (w : GridWorld) (r : Run) (p : ℕ) → IsWorld settings w r p → run_of (grid_meaning settings) w (events_at p r.events) ≡ world_at (partition_object settings) r p
 run_is {settings = settings} w r p is = ap (λ (s : Setup). run (partition_object settings) (start s.partition s.members s.backups) (events_at p r.events)) is.setup
 
-module _ {V : Type 0} {T : V → Type 0} {settings : Settings} (ws : List (GridWorld V T)) (r : Run) (a : Arrival) (new : GridWorld V T) (next : Run) (old : HasWorld settings ws r a.request.partition) (members : next.members ≡ r.members) (backups : next.backups ≡ r.backups) where
+module _ {settings : Settings} (ws : List GridWorld) (r : Run) (a : Arrival) (new : GridWorld) (next : Run) (old : HasWorld settings ws r a.request.partition) (members : next.members ≡ r.members) (backups : next.backups ≡ r.backups) where
   -- the other partitions have their worlds
   elsewhere : (q : ℕ) → HasWorld settings ws r q → q ≢ a.request.partition → events_at q next.events ≡ events_at q r.events → HasWorld settings (slice_set ws a.request.partition new) next q
   elsewhere q has apart e = record {
@@ -52,11 +52,11 @@ module _ {V : Type 0} {T : V → Type 0} {settings : Settings} (ws : List (GridW
   worlds_with same is given q has = ⊎_elim (λ e. here q e is given) (λ apart. elsewhere q has apart (same q apart)) (cases_eq q a.request.partition)
 
   -- a world that gave out all that waited
-  none_waits : (called : GridWorld V T) → HasGivenOut settings called new a.member → ((other : ℕ) → other ≢ a.member → waiting called other ≡ []) → (member : ℕ) → waiting new member ≡ []
+  none_waits : (called : GridWorld) → HasGivenOut settings called new a.member → ((other : ℕ) → other ≢ a.member → waiting called other ≡ []) → (member : ℕ) → waiting new member ≡ []
   none_waits called out others member = ⊎_elim (λ e. subst (λ m. waiting new m ≡ []) (sym e) out.given) (λ apart. out.others member apart ∙ others member apart) (cases_eq member a.member)
 
   -- the call is an event of its partition
-  module _ (called : GridWorld V T) (added : List ℕ) (did : IsCalled settings old.world called (events_at a.request.partition r.events) a added) (out : HasGivenOut settings called new a.member) (events : next.events ≡ r.events ++ its_event a ∷ []) where
+  module _ (called : GridWorld) (added : List ℕ) (did : IsCalled settings old.world called (events_at a.request.partition r.events) a added) (out : HasGivenOut settings called new a.member) (events : next.events ≡ r.events ++ its_event a ∷ []) where
     its_partition : (q : ℕ) → events_at q next.events ≡ events_at q r.events ++ maybe_one (is_of q a) (call_of a)
     its_partition q = ap (events_at q) events ∙ events_of_more q r.events a
 
@@ -90,7 +90,7 @@ module _ {V : Type 0} {T : V → Type 0} {settings : Settings} (ws : List (GridW
     called_worlds = worlds_with not_elsewhere called_one (none_waits called out others_wait_for_none)
 
   -- the call found no memory
-  module _ (called : GridWorld V T) (added : List ℕ) (did : IsSkipped settings old.world called (events_at a.request.partition r.events) a added) (out : HasGivenOut settings called new a.member) (events : next.events ≡ r.events) where
+  module _ (called : GridWorld) (added : List ℕ) (did : IsSkipped settings old.world called (events_at a.request.partition r.events) a added) (out : HasGivenOut settings called new a.member) (events : next.events ≡ r.events) where
     same_everywhere : (q : ℕ) → events_at q next.events ≡ events_at q r.events
     same_everywhere q = ap (events_at q) events
 

@@ -26,6 +26,8 @@ use Rattle.replay_run.specs.Printing.{arrival_of, answer_of, line_text}
 use Rattle.replay_run.specs.ScriptRuns.{IsRun}
 use Rattle.replay_run.specs.Skips.{AreOfLine}
 use Rattle.replay_run.specs.Tables.{Table, Opened, most_connections, opened_at, lines_of}
+use Rattle.partition_world.specs.Recorders.{KeepsAll}
+use Rattle.partition_world.specs.declared.recorder.Recorder.{Recorder}
 
 -- the table
 
@@ -62,20 +64,21 @@ pub record IsCounting (table : Table) (r : Run) (conn number : ℕ) : Type 0 whe
 
 -- the worlds
 
-abbrev pub GridWorld : (V : Type 0) → (V → Type 0) → Type 0
-GridWorld V T = World GridShelf (GridEnv V T) Request
+-- it records all that happens
+abbrev pub GridWorld : Type 0
+GridWorld = World GridShelf (Recorder Request) Settings Request
 
-abbrev pub StandsForEvents : {V : Type 0} {T : V → Type 0} → Settings → GridWorld V T → List (Event Request) → Type 0
-StandsForEvents settings world events = StandsFor (grid_meaning settings) RequestFits world events
+abbrev pub StandsForEvents : Settings → GridWorld → List (Event Request) → Type 0
+StandsForEvents settings world events = StandsFor (grid_meaning settings) KeepsAll RequestFits world events
 
 -- The world is that of a partition's events.
-pub record IsWorld {V : Type 0} {T : V → Type 0} (settings : Settings) (world : GridWorld V T) (r : Run) (p : ℕ) : Type 0 where
+pub record IsWorld (settings : Settings) (world : GridWorld) (r : Run) (p : ℕ) : Type 0 where
   pub stands : StandsForEvents settings world (events_at p r.events)
   pub setup : setup_of world ≡ record { partition = p; members = r.members; backups = r.backups }
 
 -- A partition has its world, which has given out every answer that it released.
-pub record HasWorld {V : Type 0} {T : V → Type 0} (settings : Settings) (worlds : List (GridWorld V T)) (r : Run) (p : ℕ) : Type 0 where
-  pub world : GridWorld V T
+pub record HasWorld (settings : Settings) (worlds : List GridWorld) (r : Run) (p : ℕ) : Type 0 where
+  pub world : GridWorld
   pub there : slice_get worlds p ≡ Some world
   pub is : IsWorld settings world r p
   pub given : (member : ℕ) → waiting world member ≡ []

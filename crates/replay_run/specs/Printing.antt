@@ -174,10 +174,9 @@ nothing_text line = number line ++ codes "nothing" ++ line_end
 
 -- What an event came to, in words.
 
--- a refusal for a reason, if there is one
-abbrev pub refusal_words : Option (List ℕ) → List ℕ
-refusal_words None = codes "nothing"
-refusal_words (Some why) = codes "refused " ++ why
+-- a refusal for a reason
+abbrev pub refusal_words : List ℕ → List ℕ
+refusal_words why = codes "refused " ++ why
 
 -- how a message was taken
 abbrev pub took_word : Took → List ℕ
@@ -220,8 +219,8 @@ words_of done NothingDone = codes "nothing"
 words_of done Done = done
 words_of done (TookMessage took) = codes "took " ++ took_word took
 words_of done (RowMadeAt version) = codes "row " ++ decimal version
-words_of done (MoveIsRefused why) = refusal_words (Some (move_refused_word why))
-words_of done (ReopenIsRefused why) = refusal_words (Some (reopen_refused_word why))
+words_of done (MoveIsRefused why) = refusal_words (move_refused_word why)
+words_of done (ReopenIsRefused why) = refusal_words (reopen_refused_word why)
 words_of done outcome = codes "ok"
 
 -- of a crash or a detection, which are done or not, whether or not a row is made

@@ -10,7 +10,7 @@ use Rattle.partition_world.specs.declared.event.Happened.{Happened}
 use Rattle.partition_world.specs.Events.{happened_of}
 use Rattle.primary_hold.specs.declared.released.Released.{Released}
 use Rattle.partition_world.specs.declared.world.World.{World}
-use Rattle.partition_world.specs.Meanings.{Meaning}
+use Rattle.grid_base.specs.Shelves.{Meaning}
 use Rattle.partition_world.specs.Answers.{released_at}
 use Rattle.partition_world.specs.Worlds.{StandsFor, run_of, setup_of, waiting}
 use Rattle.replay_run.specs.declared.grid.Refusal.{Refusal}
@@ -32,6 +32,7 @@ use Rattle.replay_run.specs.ScriptRuns.{IsRun, IsMidway, calls_in}
 use Rattle.replay_run.specs.Tables.{Table, with_answer}
 use Rattle.replay_run.specs.Shelves.{grid_meaning}
 use Rattle.replay_run.specs.Grids.{FormOf, GridWorld, StandsForEvents, IsSettled, IsCounting, Holds}
+use Rattle.partition_protocol.specs.Recorded.{Recorded}
 
 -- the call of a request that reaches a member at a line, at the member's moment
 abbrev pub arrival_to : ℕ → ℕ → ℕ → Request → Arrival
@@ -46,14 +47,14 @@ abbrev pub texts_of : List Appended → List ℕ
 texts_of messages = flat_map appended_text messages
 
 -- The call is one event more, with the answers that it released and the refusal that was written.
-pub record IsCalled {V : Type 0} {T : V → Type 0} (settings : Settings) (old new : GridWorld V T) (events : List (Event Request)) (a : Arrival) (added : List ℕ) : Type 0 where
+pub record IsCalled (settings : Settings) (old new : GridWorld) (events : List (Event Request)) (a : Arrival) (added : List ℕ) : Type 0 where
   pub stands : StandsForEvents settings new (events ++ call_of a ∷ [])
   pub setup : setup_of new ≡ setup_of old
   pub waiting : (member : ℕ) → waiting new member ≡ waiting old member ++ released_at (partition_object settings) (change_of settings) (run_of (grid_meaning settings) old events) (call_of a) member
   pub text : added ≡ texts_of (refused_by a.line a.request (happens (partition_object settings) (run_of (grid_meaning settings) old events) (call_of a)).outcome)
 
 -- The call found no memory, is no event and was answered so.
-pub record IsSkipped {V : Type 0} {T : V → Type 0} (settings : Settings) (old new : GridWorld V T) (events : List (Event Request)) (a : Arrival) (added : List ℕ) : Type 0 where
+pub record IsSkipped (settings : Settings) (old new : GridWorld) (events : List (Event Request)) (a : Arrival) (added : List ℕ) : Type 0 where
   pub stands : StandsForEvents settings new events
   pub setup : setup_of new ≡ setup_of old
   pub waiting : (member : ℕ) → waiting new member ≡ waiting old member
@@ -79,9 +80,9 @@ goes_out r own answer = is_own own answer.id.conn || is_open (connection_of r an
 abbrev pub going_out : Run → Option ℕ → List Released → List Released
 going_out r own answers = filter (goes_out r own) answers
 
--- All answers that waited at a member were taken, which is no event in any environment.
-pub record GivesOut {S Env C State : Type 0} (meaning_in : Env → Meaning S C State) (limits : C → Type 0) (old new : World S Env C) (member : ℕ) : Type 0 where
-  pub stands : (env : Env) (events : List (Event C)) → StandsFor (meaning_in env) limits old events → StandsFor (meaning_in env) limits new events
+-- All answers that waited at a member were taken, which is no event by any plan.
+pub record GivesOut {S R Plan C State : Type 0} (meaning_in : Plan → Meaning S C State) (records : R → Recorded C → Type 0) (limits : C → Type 0) (old new : World S R Plan C) (member : ℕ) : Type 0 where
+  pub stands : (plan : Plan) (events : List (Event C)) → StandsFor (meaning_in plan) records limits old events → StandsFor (meaning_in plan) records limits new events
   pub setup : setup_of new ≡ setup_of old
   pub given : waiting new member ≡ []
   pub others : (other : ℕ) → other ≢ member → waiting new other ≡ waiting old other

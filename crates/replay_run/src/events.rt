@@ -4,7 +4,7 @@ ghost use Rattle.std.specs.Prelude.{◌≡◌, ◌<◌, ◌≤◌, ◌++◌, if�
 ghost use Rattle.partition_protocol.specs.Service.{numbers_below};
 ghost use Rattle.partition_protocol.specs.Events.{Event as ProtocolEvent, Reopen as Reopens};
 ghost use Rattle.partition_protocol.specs.Arrivals.{asked_by};
-ghost use Rattle.partition_world.specs.Meanings.{meaning};
+ghost use Rattle.grid_base.specs.Shelves.{meaning};
 ghost use Rattle.partition_world.specs.Worlds.{StandsFor, run_of, setup_of};
 ghost use Rattle.partition_world.specs.Events.{event_of, happened_of};
 ghost use Rattle.call_engine.specs.Calls.{Settings};
@@ -23,7 +23,7 @@ use crate::print::push_text;
 use crate::reopened::Reopened;
 use crate::run_end::RunEnd;
 use grid_base::{MemberId, Memory, PARTITIONS, PartitionId, Request, Shelf};
-use partition_world::{Event, Happened, World};
+use partition_world::{Event, Happened, Records, World};
 use script_lang::Line;
 use std::alloc::Global;
 
@@ -131,9 +131,13 @@ fn delivery_on(link: Link) -> Event<Request>
 }
 
 /// Whether an event is one that its partition doesn't take now, as too many messages are in flight.
-fn meets_full<S: Shelf>(links: &[Link], world: &World<S>, event: &Event<S::Call>) -> bool
-    ensures { (env : S.Env) (events : List (ProtocolEvent S.Call)) → let k = meaning S.object S.state S.effect_of S.change_of S.snapshot_of env in
-        StandsFor k S.within_limits world.now events → links.now ≡ links_of (setup_of world.now).members → result ≡ meets_full (run_of k world.now events) (event_of event.now) }
+fn meets_full<S: Shelf, R: Records<S::Call>>(
+    links: &[Link],
+    world: &World<S, R>,
+    event: &Event<S::Call>,
+) -> bool
+    ensures { (plan : S.Plan) (events : List (ProtocolEvent S.Call)) → let k = meaning S.model plan in
+        StandsFor k R.records S.model.within_limits world.now events → links.now ≡ links_of (setup_of world.now).members → result ≡ meets_full (run_of k world.now events) (event_of event.now) }
 {
     !matches!(event, Event::Lose { .. }) && is_full(links, world)
 }

@@ -9,7 +9,7 @@ ghost use Rattle.call_engine.specs.Calls.{Settings};
 ghost use Rattle.call_engine.specs.Env.{settings_of};
 ghost use Rattle.call_engine.specs.Objects.{partition_object};
 ghost use Rattle.partition_world.specs.Events.{happened_of};
-ghost use Rattle.partition_world.specs.Meanings.{meaning};
+ghost use Rattle.grid_base.specs.Shelves.{meaning};
 ghost use Rattle.partition_world.specs.Worlds.{steps_of, waiting};
 ghost use Rattle.partition_world.specs.RecordedEntries.{entry_of};
 ghost use Rattle.replay_run.specs.Runs.{Run, Connection as RunConnection, partitions, begun, call_of, refused_by, reopened_at, connection_of, is_open, is_full, lives, world_at};
@@ -34,7 +34,7 @@ use client_codecs::write_error;
 use entry_processors::{Processor, Registry};
 use grid_base::errors::{MIGRATING, PARTITION_LOST, WANT_OF_MEMORY, WRONG_TARGET};
 use grid_base::{Bytes, MemberId, Memory, Moment, PARTITIONS, PartitionId, Request, Shelf};
-use partition_world::{CallOutcome, Event, Happened, Trail, World};
+use partition_world::{CallOutcome, Event, Happened, Recorder, Records, Trail, World};
 use primary_hold::Released;
 use replica_node::Contents;
 use script_lang::Line;
@@ -112,7 +112,7 @@ struct Arriving {
 /// A call reaches a member at a line. It is answered at once where it is refused or finds no memory.
 fn call(
     alloc: Global,
-    world: &mut World<GridShelf>,
+    world: &mut World<GridShelf, Recorder<Request>>,
     env: &GridEnv,
     at: Arriving,
     request: Request,
@@ -171,9 +171,9 @@ fn goes_out(connections: &Connections, own: Option<u32>, conn: u32) -> bool
 
 /// Takes the answers that wait at a member, the oldest first, and gives those out whose connections are open or are the
 /// one of the call at hand.
-pub(crate) fn give_out<S: Shelf>(
+pub(crate) fn give_out<S: Shelf, R: Records<S::Call>>(
     alloc: Global,
-    world: &mut World<S>,
+    world: &mut World<S, R>,
     member: MemberId,
     connections: &mut Connections,
     own: Option<u32>,
@@ -182,7 +182,7 @@ pub(crate) fn give_out<S: Shelf>(
 ) -> Result<(), Memory>
     ensures text { (r : Run) → HasConnections connections.old r → OnOk result (out.new.items ≡ out.old.items ++ texts_of (map (message_of line) (going_out r own (waiting world.old member)))) }
     ensures table { (r : Run) → HasConnections connections.old r → OnOk result (connections.new ≡ with_answers connections.old line (going_out r own (waiting world.old member))) }
-    ensures world { OnOk result (GivesOut (meaning S.object S.state S.effect_of S.change_of S.snapshot_of) S.within_limits world.old world.new member) }
+    ensures world { OnOk result (GivesOut (meaning S.model) R.records S.model.within_limits world.old world.new member) }
 {
     while let Some(answer) = world.pop_released(member) {
         if goes_out(connections, own, answer.id.conn) {
@@ -204,7 +204,7 @@ pub struct Grid {
     pub(crate) reopened: Vec<Reopened>,
     /// Those of each partition.
     pub(crate) links: Vec<Link>,
-    pub(crate) worlds: Vec<World<GridShelf>>,
+    pub(crate) worlds: Vec<World<GridShelf, Recorder<Request>>>,
 }
 
 impl Grid {

@@ -3,7 +3,7 @@
 ghost use Rattle.std.specs.Prelude.{◌≡◌, ◌-◌, ◌≤◌, ◌++◌, List, length, sum_by, IfOk, OnOk};
 ghost use Rattle.std.specs.List.{flat_map};
 ghost use Rattle.partition_protocol.specs.Events.{Event as ProtocolEvent};
-ghost use Rattle.partition_world.specs.Meanings.{meaning};
+ghost use Rattle.grid_base.specs.Shelves.{meaning};
 ghost use Rattle.partition_world.specs.Sending.{flying};
 ghost use Rattle.partition_world.specs.Worlds.{StandsFor, run_of, setup_of};
 ghost use Rattle.replay_run.specs.Runs.{links_from, links_of, is_full, next_link};
@@ -11,7 +11,7 @@ ghost use Rattle.replay_run.specs.Printing.{link_text_from, message_text};
 
 use crate::print::{push_hex, push_number, push_text, push_word};
 use grid_base::{Bytes, Memory, Shelf};
-use partition_world::World;
+use partition_world::{Records, World};
 use std::alloc::Global;
 
 /// The way of messages from one end to another. The ends are the members by their numbers, and the table service by the
@@ -50,9 +50,9 @@ pub(crate) fn links_of(alloc: Global, members: u8) -> Result<Vec<Link>, Memory>
 }
 
 /// Whether a partition takes no event but a loss. Looks at the length of each of its links.
-pub(crate) fn is_full<S: Shelf>(links: &[Link], world: &World<S>) -> bool
-    ensures { (env : S.Env) (events : List (ProtocolEvent S.Call)) → let k = meaning S.object S.state S.effect_of S.change_of S.snapshot_of env in
-        StandsFor k S.within_limits world.now events → links.now ≡ links_of (setup_of world.now).members → result ≡ is_full (run_of k world.now events) }
+pub(crate) fn is_full<S: Shelf, R: Records<S::Call>>(links: &[Link], world: &World<S, R>) -> bool
+    ensures { (plan : S.Plan) (events : List (ProtocolEvent S.Call)) → let k = meaning S.model plan in
+        StandsFor k R.records S.model.within_limits world.now events → links.now ≡ links_of (setup_of world.now).members → result ≡ is_full (run_of k world.now events) }
 {
     for link in links {
         if world.in_flight(link.from, link.to).len() >= MOST_IN_FLIGHT {
@@ -63,9 +63,12 @@ pub(crate) fn is_full<S: Shelf>(links: &[Link], world: &World<S>) -> bool
 }
 
 /// The first link that has a message, if one has.
-pub(crate) fn next_link<S: Shelf>(links: &[Link], world: &World<S>) -> Option<Link>
-    ensures { (env : S.Env) (events : List (ProtocolEvent S.Call)) → let k = meaning S.object S.state S.effect_of S.change_of S.snapshot_of env in
-        StandsFor k S.within_limits world.now events → links.now ≡ links_of (setup_of world.now).members → result ≡ next_link (run_of k world.now events) }
+pub(crate) fn next_link<S: Shelf, R: Records<S::Call>>(
+    links: &[Link],
+    world: &World<S, R>,
+) -> Option<Link>
+    ensures { (plan : S.Plan) (events : List (ProtocolEvent S.Call)) → let k = meaning S.model plan in
+        StandsFor k R.records S.model.within_limits world.now events → links.now ≡ links_of (setup_of world.now).members → result ≡ next_link (run_of k world.now events) }
 {
     for link in links {
         if !world.in_flight(link.from, link.to).is_empty() {
@@ -76,9 +79,9 @@ pub(crate) fn next_link<S: Shelf>(links: &[Link], world: &World<S>) -> Option<Li
 }
 
 /// How many messages of a partition are in flight.
-pub(crate) fn in_flight<S: Shelf>(links: &[Link], world: &World<S>) -> u128
-    ensures { (env : S.Env) (events : List (ProtocolEvent S.Call)) → let k = meaning S.object S.state S.effect_of S.change_of S.snapshot_of env in
-        StandsFor k S.within_limits world.now events → result ≡ sum_by (λ (l : Link). length (flying k (run_of k world.now events) l.from l.to)) links.now }
+pub(crate) fn in_flight<S: Shelf, R: Records<S::Call>>(links: &[Link], world: &World<S, R>) -> u128
+    ensures { (plan : S.Plan) (events : List (ProtocolEvent S.Call)) → let k = meaning S.model plan in
+        StandsFor k R.records S.model.within_limits world.now events → result ≡ sum_by (λ (l : Link). length (flying k (run_of k world.now events) l.from l.to)) links.now }
 {
     let mut messages = 0;
     for link in links {
@@ -124,15 +127,15 @@ fn push_link(
 }
 
 /// Appends a partition's messages in flight, link by link.
-pub(crate) fn push_in_flight<S: Shelf>(
+pub(crate) fn push_in_flight<S: Shelf, R: Records<S::Call>>(
     alloc: Global,
     out: &mut Vec<u8>,
     line: u32,
     links: &[Link],
-    world: &World<S>,
+    world: &World<S, R>,
 ) -> Result<(), Memory>
-    ensures { (env : S.Env) (events : List (ProtocolEvent S.Call)) → let k = meaning S.object S.state S.effect_of S.change_of S.snapshot_of env in
-        StandsFor k S.within_limits world.now events
+    ensures { (plan : S.Plan) (events : List (ProtocolEvent S.Call)) → let k = meaning S.model plan in
+        StandsFor k R.records S.model.within_limits world.now events
         → OnOk result (out.new.items ≡ out.old.items ++ flat_map (λ (l : Link). link_text_from line l 0 (flying k (run_of k world.now events) l.from l.to)) links.now) }
 {
     for link in links {

@@ -1,6 +1,6 @@
 //! What an event came to, in the words of a transcript.
 
-ghost use Rattle.std.specs.Prelude.{◌≡◌, ◌++◌, OnOk, option_map};
+ghost use Rattle.std.specs.Prelude.{◌≡◌, ◌++◌, OnOk};
 ghost use Rattle.table_service.specs.Refusals.{why_not_moved, why_not_reopened};
 ghost use Rattle.partition_world.specs.Events.{event_of, happened_of};
 ghost use Rattle.replay_run.specs.Printing.{refusal_words, move_refused_word, reopen_refused_word, done_word, words_of, fate_words, words_line, flow_text, links_text};
@@ -11,29 +11,27 @@ use itoa::Buffer;
 use partition_world::{Event, Happened};
 use table_service::{MoveRefused, ReopenRefused};
 
-/// Why a move, a join or a handover wasn't begun, where it isn't for want of memory.
-fn move_refused_word(why: MoveRefused) -> Option<&'static str>
-    ensures { option_map (λ word. word.now) result ≡ option_map move_refused_word (why_not_moved why) }
+/// Why a move, a join or a handover wasn't begun.
+fn move_refused_word(why: MoveRefused) -> &'static str
+    ensures { result.now ≡ move_refused_word (why_not_moved why) }
 {
     match why {
-        MoveRefused::Lost => Some("lost"),
-        MoveRefused::NotIdle => Some("notidle"),
-        MoveRefused::NotThere => Some("notthere"),
-        MoveRefused::AlreadyThere => Some("alreadythere"),
-        MoveRefused::NotLive => Some("notlive"),
-        MoveRefused::NotEligible => Some("noteligible"),
-        MoveRefused::Memory => None,
+        MoveRefused::Lost => "lost",
+        MoveRefused::NotIdle => "notidle",
+        MoveRefused::NotThere => "notthere",
+        MoveRefused::AlreadyThere => "alreadythere",
+        MoveRefused::NotLive => "notlive",
+        MoveRefused::NotEligible => "noteligible",
     }
 }
 
-/// Why a partition wasn't reopened, where it isn't for want of memory.
-fn reopen_refused_word(why: ReopenRefused) -> Option<&'static str>
-    ensures { option_map (λ word. word.now) result ≡ option_map reopen_refused_word (why_not_reopened why) }
+/// Why a partition wasn't reopened.
+fn reopen_refused_word(why: ReopenRefused) -> &'static str
+    ensures { result.now ≡ reopen_refused_word (why_not_reopened why) }
 {
     match why {
-        ReopenRefused::NotLost => Some("notlost"),
-        ReopenRefused::NoMember => Some("nomember"),
-        ReopenRefused::Memory => None,
+        ReopenRefused::NotLost => "notlost",
+        ReopenRefused::NoMember => "nomember",
     }
 }
 
@@ -48,12 +46,9 @@ pub(crate) fn done_word(event: &Event<Request>) -> &'static str
 }
 
 /// Appends why something was refused.
-fn push_refused(out: &mut Vec<u8>, word: Option<&'static str>) -> Result<(), Memory>
-    ensures { OnOk result (out.new.items ≡ out.old.items ++ refusal_words (option_map (λ word. word.now) word.entry)) }
+fn push_refused(out: &mut Vec<u8>, word: &str) -> Result<(), Memory>
+    ensures { OnOk result (out.new.items ≡ out.old.items ++ refusal_words word.now) }
 {
-    let Some(word) = word else {
-        return push_text(out, b"nothing");
-    };
     push_text(out, b"refused ")?;
     push_text(out, word.as_bytes())
 }

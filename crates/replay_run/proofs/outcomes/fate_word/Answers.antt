@@ -3,8 +3,7 @@ use Rattle.std.specs.Prelude.{codes}
 use Rattle.partition_world.specs.declared.event.Happened.{Happened}
 use Rattle.partition_world.specs.declared.event.Happened.TheVariants as happened
 use Rattle.partition_world.specs.declared.event.CallOutcome.TheVariants as call
-use Rattle.partition_world.specs.Events.{happened_of, move_outcome, reopen_outcome}
-use Rattle.table_service.specs.Refusals.{why_not_moved, why_not_reopened}
+use Rattle.partition_world.specs.Events.{happened_of}
 use Rattle.replay_run.specs.Printing.{fate_words}
 use Rattle.replay_run.proofs.outcomes.fate_word.Goals as goal
 
@@ -18,16 +17,8 @@ done_or_row (happened.Called (call.WrongTarget version)) done row = refl
 done_or_row (happened.Called (call.Migrating version)) done row = refl
 done_or_row (happened.Took took) done row = refl
 done_or_row (happened.RowMade version) done row = absurd (row version refl)
-done_or_row (happened.MoveRefused why) done row = move (why_not_moved why)
-  where
-    move : (w : Option _) → codes "nothing" ≡ fate_words (move_outcome w)
-    move (Some why) = refl
-    move None = refl
-done_or_row (happened.ReopenRefused why) done row = reopen (why_not_reopened why)
-  where
-    reopen : (w : Option _) → codes "nothing" ≡ fate_words (reopen_outcome w)
-    reopen (Some why) = refl
-    reopen None = refl
+done_or_row (happened.MoveRefused why) done row = refl
+done_or_row (happened.ReopenRefused why) done row = refl
 
 pub returns-in_default : goal.returns-in_default
 returns-in_default c = done_or_row c.args.happened c.in_default.not-Done c.in_default.not-RowMade

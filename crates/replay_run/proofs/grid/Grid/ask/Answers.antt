@@ -10,6 +10,7 @@ use Rattle.replay_run.proofs.GivingOut.{has_given_out}
 use Rattle.replay_run.proofs.TableRuns.{connections_called}
 use Rattle.replay_run.proofs.GridCalls.{asked_grid}
 use Rattle.replay_run.proofs.grid.Grid.ask.Goals as goal
+use Rattle.call_engine.specs.Env.{settings_of}
 
 pub index_mut-world-requires : goal.index_mut-world-requires
 index_mut-world-requires g c =
@@ -37,7 +38,7 @@ index-requires g c =
 -- The partition is full.
 pub returns-then-is_full-clause-full : goal.returns-then-is_full-clause-full
 returns-then-is_full-clause-full g c = λ settings r h fails.
-    sym (told_full _ c.args.self.now r h c.args.request.partition c.from.result c.requires.placed c.from.ensures c.index_mut-world.result.now c.index_mut-world.ensures.value c.as_slice.result.now c.as_slice.ensures.value c.is_full.result (c.is_full.ensures c.args.self.now.env))
+    sym (told_full _ c.args.self.now r h c.args.request.partition c.from.result c.requires.placed c.from.ensures c.index_mut-world.result.now c.index_mut-world.ensures.value c.as_slice.result.now c.as_slice.ensures.value c.is_full.result (c.is_full.ensures (settings_of _ c.args.self.now.env)))
     ∙ c.if-is_full.true
 
 pub returns-clause-ok : goal.returns-clause-ok
@@ -52,7 +53,7 @@ returns-clause-ok g c = λ settings r run h next count.
     let now = c.index.result.now in
     let events = events_at partition r.events in
     let goes : is_full (world_at (partition_object settings) r partition) ≡ false =
-    sym (told_full _ grid r h partition c.from.result c.requires.placed c.from.ensures old read c.as_slice.result.now c.as_slice.ensures.value c.is_full.result (c.is_full.ensures grid.env)) ∙ c.if-is_full.false in
+    sym (told_full _ grid r h partition c.from.result c.requires.placed c.from.ensures old read c.as_slice.result.now c.as_slice.ensures.value c.is_full.result (c.is_full.ensures (settings_of _ grid.env))) ∙ c.if-is_full.false in
     let did = did_by _ grid.env settings h.goes_by old c.call.new.world events (arrival_to line c.args.member now c.args.request) c.args.out.now.items c.call.new.out.items (c.in_ok-call.ensures events)
     (world_is grid r h partition c.from.result c.requires.placed c.from.ensures old read).stands
     (named_next settings r run c.args.member line now c.args.request next h.lines (moment_there grid r h c.args.member c.from-2.result c.requires.member c.from-2.ensures now c.index.ensures)) in
@@ -71,7 +72,7 @@ returns-clause-ok g c = λ settings r run h next count.
       reopened = refl;
       worlds = λ i. set grid.worlds.items (c.from.ensures i) c.give_out.new.world;
     })
-    (has_given_out _ settings grid.env c.call.new.world c.give_out.new.world c.args.member h.goes_by c.in_ok-give_out.ensures.world)
+    (has_given_out settings c.call.new.world c.give_out.new.world c.args.member c.in_ok-give_out.ensures.world)
     did.2
     (c.in_ok-give_out.ensures.text r has ∙ ap (λ (xs : List ℕ). xs ++ texts_of (map (message_of line) answers)) did.1)
     goes

@@ -16,6 +16,7 @@ use Rattle.replay_run.proofs.Asking.{world_within, world_is, told_of}
 use Rattle.replay_run.proofs.WorldRuns.{run_is}
 use Rattle.replay_run.proofs.GridLines.{counted, counted_stands, counted_line, next_number, both_texts}
 use Rattle.replay_run.proofs.grid.Grid.dump.Goals as goal
+use Rattle.call_engine.specs.Env.{settings_of}
 
 pub index-requires : goal.index-requires
 index-requires g c =
@@ -45,9 +46,9 @@ returns g c = λ settings r s.
     let events = events_at p r.events in
     let o = partition_object settings in
     let pair : pair_of c.contents-version.result ≡ pair_at (world_at o (next_line r) p) member =
-    told_of _ (counted grid number) (next_line r) stands.holds p c.from.result low c.from.ensures world c.index.ensures (λ w. pair_at w member) (pair_of c.contents-version.result) (c.contents-version.ensures.pair grid.env) in
+    told_of _ (counted grid number) (next_line r) stands.holds p c.from.result low c.from.ensures world c.index.ensures (λ w. pair_at w member) (pair_of c.contents-version.result) (c.contents-version.ensures.pair (settings_of _ grid.env)) in
     let shown : c.contents-version.result.shelf.now ≡ contents_at o (world_at o (next_line r) p) member =
-    subst (λ (x : Settings). StandsForEvents x world events → c.contents-version.result.shelf.now ≡ contents_at (partition_object x) (run_of (grid_meaning x) world events) member) s.holds.goes_by (c.contents-version.ensures.state grid.env events) is.stands
+    subst (λ (x : Settings). StandsForEvents x world events → c.contents-version.result.shelf.now ≡ contents_at (partition_object x) (run_of (grid_meaning x) world events) member) s.holds.goes_by (c.contents-version.ensures.state (settings_of _ grid.env) events) is.stands
     ∙ ap (λ w. contents_at o w member) (run_is world (next_line r) p is) in
     let outcome = dump_text (r.lines + 1) (pair_at (world_at o (next_line r) p) member) in
     let dumped = dumped_text (r.lines + 1) (contents_at o (world_at o (next_line r) p) member) in

@@ -5,15 +5,16 @@ use Rattle.replay_run.specs.Runs.{begun}
 use Rattle.replay_run.specs.Grids.{GridWorld, IsWorld}
 use Rattle.replay_run.proofs.Beginning.{more_worlds, worlds_as, last_world, begun_stands}
 use Rattle.replay_run.proofs.grid.Grid.new.Goals as goal
+use Rattle.call_engine.specs.Env.{settings_of}
 
 pub loop-partition-preserved : goal.loop-partition-preserved
 loop-partition-preserved g c =
     let ws = c.loop-partition.worlds.items in
     let world = c.in_ok-new.field-0 in
     record {
-      size = ap (λ (xs : List (GridWorld _ _)). length xs) c.in_ok-push.ensures.items ∙ length_push ws world ∙ ap (λ n. n + 1) c.loop-partition.invariant.size;
+      size = ap (λ (xs : List GridWorld). length xs) c.in_ok-push.ensures.items ∙ length_push ws world ∙ ap (λ n. n + 1) c.loop-partition.invariant.size;
       worlds = λ env p below.
-          let is : IsWorld _ world (begun c.args.members c.args.backups) c.loop-partition.partition = record { stands = c.in_ok-new.ensures.stands env; setup = c.in_ok-new.ensures.setup } in
+          let is : IsWorld _ world (begun c.args.members c.args.backups) c.loop-partition.partition = record { stands = c.in_ok-new.ensures.stands (settings_of _ env); setup = c.in_ok-new.ensures.setup } in
           let last = last_world ws (begun c.args.members c.args.backups) c.loop-partition.partition world c.loop-partition.invariant.size is c.in_ok-new.ensures.waiting in
           worlds_as c.in_ok-push.ensures.items
           (more_worlds ws (begun c.args.members c.args.backups) c.loop-partition.partition world c.loop-partition.invariant.size (c.loop-partition.invariant.worlds env) last p below);

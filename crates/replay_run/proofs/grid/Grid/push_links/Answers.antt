@@ -14,6 +14,7 @@ use Rattle.replay_run.proofs.Asking.{world_within, world_is}
 use Rattle.replay_run.proofs.GridLines.{counted, counted_stands, counted_line, next_number, both_texts}
 use Rattle.replay_run.proofs.LinkTexts.{link_of, links_counted, links_shown}
 use Rattle.replay_run.proofs.grid.Grid.push_links.Goals as goal
+use Rattle.call_engine.specs.Env.{settings_of}
 
 pub index-world-requires : goal.index-world-requires
 index-world-requires g c =
@@ -35,7 +36,7 @@ returns g c = λ settings r s.
     let links = c.as_slice-links.result.now in
     let all : links ≡ links_of r.members = c.as_slice-links.ensures.value ∙ s.holds.links in
     let messages : c.in_flight.result ≡ in_flight settings (next_line r) p =
-    subst (λ (x : Settings). StandsForEvents x world events → c.in_flight.result ≡ sum_by (λ (l : Link). length (link_of x (run_of (grid_meaning x) world events) l)) links) s.holds.goes_by (c.in_flight.ensures grid.env events) is.stands
+    subst (λ (x : Settings). StandsForEvents x world events → c.in_flight.result ≡ sum_by (λ (l : Link). length (link_of x (run_of (grid_meaning x) world events) l)) links) s.holds.goes_by (c.in_flight.ensures (settings_of _ grid.env) events) is.stands
     ∙ links_counted world (next_line r) p is links all in
     let outcome = links_text (r.lines + 1) (in_flight settings (next_line r) p) in
     let shown = flat_map (link_text settings (r.lines + 1) (next_line r) p) (links_of r.members) in
@@ -46,4 +47,4 @@ returns g c = λ settings r s.
     (c.in_ok-push_links.ensures ∙ (λ i. c.args.out.now.items ++ links_text (at_line i) (messages i)))
     (e ∙ ap (λ xs. c.push_links.new.out.items ++ xs) (ap (texts settings) at_line ∙ links_shown world (next_line r) p is links all (r.lines + 1)))
     ∙ ap (λ xs. c.args.out.now.items ++ xs) (sym (append-nil ((outcome ++ []) ++ shown) ∙ ap (λ xs. xs ++ shown) (append-nil outcome)))))
-    (subst (λ (x : Settings). StandsForEvents x world events → OnOk c.push_in_flight.result (c.push_in_flight.new.out.items ≡ c.push_links.new.out.items ++ texts x number)) s.holds.goes_by (c.push_in_flight.ensures grid.env events) is.stands)
+    (subst (λ (x : Settings). StandsForEvents x world events → OnOk c.push_in_flight.result (c.push_in_flight.new.out.items ≡ c.push_links.new.out.items ++ texts x number)) s.holds.goes_by (c.push_in_flight.ensures (settings_of _ grid.env) events) is.stands)

@@ -8,6 +8,7 @@ use Rattle.replay_run.proofs.GivingOut.{has_given_out}
 use Rattle.replay_run.proofs.GridEvents.{HasReleased, told_of, room_in, comes_in, stepped_by, released_some, released_none, has_taken, not_reopened}
 use Rattle.replay_run.proofs.grid.Grid.take.Goals as goal
 use Rattle.replay_run.proofs.grid.Grid.take.Goals.{in-Some+in_ok-give_out, in_default-taker, in-Reopen, in_default}
+use Rattle.call_engine.specs.Env.{settings_of}
 
 pub index_mut-world-requires : goal.index_mut-world-requires
 index_mut-world-requires g c =
@@ -17,7 +18,7 @@ index_mut-world-requires g c =
 pub returns-then-meets_full-clause-full : goal.returns-then-meets_full-clause-full
 returns-then-meets_full-clause-full g c = λ settings r amid was.
     sym (told_of c.args.self.now r amid.holds c.args.partition c.from.result c.requires.placed c.from.ensures c.index_mut-world.result.now c.index_mut-world.ensures.value
-    (λ w. meets_full w (event_of c.args.event)) c.meets_full.result c.as_slice.result.now c.as_slice.ensures.value (c.meets_full.ensures c.args.self.now.env))
+    (λ w. meets_full w (event_of c.args.event)) c.meets_full.result c.as_slice.result.now c.as_slice.ensures.value (c.meets_full.ensures (settings_of _ c.args.self.now.env)))
     ∙ c.if-meets_full.true
 
 pub step-requires : goal.step-requires
@@ -41,12 +42,12 @@ returns-clause-ok g c = λ settings r amid.
     let room = room_in grid c.requires.stands.1 c.requires.stands.2.holds p c.from.result c.requires.placed c.from.ensures old read r amid.holds 1 c.requires.stands.3 in
     let comes = comes_in grid r amid.holds p c.from.result c.requires.placed c.from.ensures old read event c.requires.unasked room in
     let goes : meets_full (world_at (partition_object settings) r p) event ≡ false =
-    sym (told_of grid r amid.holds p c.from.result c.requires.placed c.from.ensures old read (λ w. meets_full w event) c.meets_full.result c.as_slice.result.now c.as_slice.ensures.value (c.meets_full.ensures grid.env)) ∙ c.if-meets_full.false in
+    sym (told_of grid r amid.holds p c.from.result c.requires.placed c.from.ensures old read (λ w. meets_full w event) c.meets_full.result c.as_slice.result.now c.as_slice.ensures.value (c.meets_full.ensures (settings_of _ grid.env))) ∙ c.if-meets_full.false in
     let did = stepped_by _ grid.env settings amid.holds.goes_by old called events event happened
     (record { stands = c.in_ok-happened.ensures.stands events comes; setup = c.in_ok-happened.ensures.setup; waits = c.in_ok-happened.ensures.waiting events comes; outcome = c.in_ok-happened.ensures.outcome events comes }) in
     let gave : HasReleased settings grid c.match-taker.self r p called taker start c.match-taker.out.items = elim c.match-taker.branch [
       | in-Some+in_ok-give_out w ↦ released_some settings grid c.match-taker.self _ _ r p called w.give_out.new.world taker w.in-Some.member start c.match-taker.out.items w.give_out.new.out.items w.in-Some.is w.self-is (ap (λ (v : Vec ℕ Global). v.items) w.out-is)
-          (has_given_out _ settings grid.env called w.give_out.new.world w.in-Some.member amid.holds.goes_by w.in_ok-give_out.ensures.world)
+          (has_given_out settings called w.give_out.new.world w.in-Some.member w.in_ok-give_out.ensures.world)
           (w.in_ok-give_out.ensures.table r amid.holds.table.connections)
           (λ i. set grid.worlds.items (c.from.ensures i) w.give_out.new.world)
           (w.in_ok-give_out.ensures.text r amid.holds.table.connections)

@@ -11,6 +11,7 @@ use Rattle.replay_run.specs.Printing.{trail_text, entry_text, entries_of}
 use Rattle.replay_run.proofs.Asking.{world_within, told_history}
 use Rattle.replay_run.proofs.GridLines.{counted, counted_stands, counted_line, next_number, both_texts}
 use Rattle.replay_run.proofs.grid.Grid.trail.Goals as goal
+use Rattle.call_engine.specs.Env.{settings_of}
 
 pub index-requires : goal.index-requires
 index-requires g c =
@@ -26,7 +27,7 @@ returns g c = λ settings r s.
     let at_line = next_number c.args.self.now number (Trail p) c.requires r s in
     let stands = counted_stands c.args.self.now r number s at_line in
     let es = trail (world_at (partition_object settings) (next_line r) p) in
-    let told : map entry_of c.in_ok-trail.trail ≡ es = told_history _ (counted c.args.self.now number) (next_line r) stands p c.from.result low c.from.ensures c.index.result.now c.index.ensures c.in_ok-trail.trail (c.in_ok-trail.ensures c.args.self.now.env) in
+    let told : map entry_of c.in_ok-trail.trail ≡ es = told_history _ (counted c.args.self.now number) (next_line r) stands p c.from.result low c.from.ensures c.index.result.now c.index.ensures c.in_ok-trail.trail (c.in_ok-trail.ensures (settings_of _ c.args.self.now.env)) in
     let count : c.len.result ≡ length es = c.len.ensures ∙ sym (length-map c.in_ok-trail.trail entry_of) ∙ ap length told in
     on_ok_weaker c.push_entries.result
     (λ e. counted_line c.args.self.now (counted c.args.self.now number) r number (Trail p) s at_line refl refl c.args.out.now.items c.push_entries.new.out.items refl refl
