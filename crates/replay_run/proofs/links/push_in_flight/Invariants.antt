@@ -1,7 +1,7 @@
 use Rattle.std.proofs.Common.{◌≡◌, ◌++◌, List, take}
 use Rattle.std.specs.List.{flat_map}
 use Rattle.partition_protocol.specs.Events.{Event as ProtocolEvent}
-use Rattle.partition_world.specs.Meanings.{meaning}
+use Rattle.grid_base.specs.Shelves.{meaning}
 use Rattle.partition_world.specs.Worlds.{StandsFor, run_of}
 use Rattle.partition_world.specs.Sending.{flying}
 use Rattle.replay_run.specs.declared.links.Link.{Link}
@@ -10,6 +10,6 @@ use Rattle.replay_run.proofs.links.push_in_flight.Given as goal
 
 -- the messages of the links so far were printed
 abbrev pub invariant-loop-link : goal.invariant-loop-link
-invariant-loop-link g l = (env : g.row.S-Env.Denot) (events : List (ProtocolEvent g.row.S-Call.Denot)) →
-    let k = meaning g.S.Shelf.object g.S.Shelf.state g.S.Shelf.effect_of g.S.Shelf.change_of g.S.Shelf.snapshot_of env in
-    StandsFor k g.S.Shelf.within_limits l.world events → l.out.items ≡ l.initial.out.items ++ flat_map (λ (x : Link). link_text_from l.line x 0 (flying k (run_of k l.world events) x.from x.to)) (take l.link-index l.links)
+invariant-loop-link g l = (plan : g.row.S-Plan.Denot) (events : List (ProtocolEvent g.row.S-Call.Denot)) →
+    let k = meaning g.S.Shelf.model plan in
+    StandsFor k g.R.Records.records g.S.Shelf.model.within_limits l.world events → l.out.items ≡ l.initial.out.items ++ flat_map (λ (x : Link). link_text_from l.line x 0 (flying k (run_of k l.world events) x.from x.to)) (take l.link-index l.links)

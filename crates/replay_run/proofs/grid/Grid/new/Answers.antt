@@ -12,7 +12,7 @@ loop-partition-preserved g c =
     let ws = c.loop-partition.worlds.items in
     let world = c.in_ok-new.field-0 in
     record {
-      size = ap (λ (xs : List (GridWorld _ _)). length xs) c.in_ok-push.ensures.items ∙ length_push ws world ∙ ap (λ n. n + 1) c.loop-partition.invariant.size;
+      size = ap (λ (xs : List GridWorld). length xs) c.in_ok-push.ensures.items ∙ length_push ws world ∙ ap (λ n. n + 1) c.loop-partition.invariant.size;
       worlds = λ env p below.
           let is : IsWorld _ world (begun c.args.members c.args.backups) c.loop-partition.partition = record { stands = c.in_ok-new.ensures.stands (settings_of _ env); setup = c.in_ok-new.ensures.setup } in
           let last = last_world ws (begun c.args.members c.args.backups) c.loop-partition.partition world c.loop-partition.invariant.size is c.in_ok-new.ensures.waiting in
