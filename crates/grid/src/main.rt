@@ -5,15 +5,44 @@ use entry_processors::{Add, AddUpTo, Append, Clear, Processor, SetIfGreater};
 use grid_base::Memory;
 use grid_cli::{Status, replay_command};
 use grid_edge::{StdSink, StdSource};
+use std::io::ErrorKind;
 use std::process::ExitCode;
 use std::{env, io};
 
-const USAGE: &str = "usage: grid replay, grid serve, grid sample NUMBER";
+/// The words that are commands.
+const USAGE: &str = "\
+usage: grid replay < SCRIPT    runs a script and prints its transcript
+       grid --help             prints this
+       grid --version          prints the version";
+
+const VERSION: &str = "grid 0.1.0";
 
 /// The limit of the processor that adds up to a limit.
 const MOST_COUNTED: i64 = 1000;
 
-/// The words after the program's name.
+/// What the words after the program's name ask for.
+#[derive(Clone, Copy)]
+enum Request {
+    Help,
+    Version,
+    /// A command, or words that are none.
+    Command,
+}
+
+impl Request {
+    fn of(words: &[String]) -> Request {
+        match words {
+            [word] if word.as_str() == "--help" => Request::Help,
+            [word] if word.as_str() == "--version" => Request::Version,
+            [command, word] if command.as_str() == "replay" && word.as_str() == "--help" => {
+                Request::Help
+            }
+            _ => Request::Command,
+        }
+    }
+}
+
+/// The words after the program's name. Their reading fails for want of memory, or where one isn't text.
 fn words(rt: &HostRuntime) -> io::Result<Vec<String>> {
     let mut words = Vec::new(rt.alloc());
     for word in env::args(rt)?.skip(1) {
@@ -36,11 +65,43 @@ fn carry_out(rt: &HostRuntime, words: &[String]) -> Result<Status, Memory> {
     Ok(replay_command(alloc, words, processors, &mut script, &mut out))
 }
 
-fn main(rt: HostRuntime) -> io::Result<ExitCode> {
-    let words = words(&rt)?;
-    let status = carry_out(&rt, words.as_slice()).unwrap_or(Status::Memory);
-    if status == Status::Usage {
-        rt.eprintln(USAGE)?;
+/// Prints a text and a newline to standard output.
+fn print(rt: &HostRuntime, text: &str) -> Status {
+    match rt.println(text) {
+        Ok(()) => Status::Done,
+        Err(_) => Status::WriteFault,
     }
-    Ok(ExitCode::from(status.code()))
+}
+
+/// Does what the words ask for.
+fn respond(rt: &HostRuntime, words: &[String]) -> Status {
+    match Request::of(words) {
+        Request::Help => print(rt, USAGE),
+        Request::Version => print(rt, VERSION),
+        Request::Command => carry_out(rt, words).unwrap_or(Status::Memory),
+    }
+}
+
+/// What standard error is told: the cause of a status that no transcript tells.
+fn cause(status: Status) -> Option<&'static str> {
+    match status {
+        Status::Usage => Some(USAGE),
+        Status::ReadFault => Some("grid: standard input can't be read"),
+        Status::WriteFault => Some("grid: standard output can't be written"),
+        Status::Memory => Some("grid: out of memory"),
+        Status::Done | Status::ScriptRefused { .. } | Status::Limit { .. } => None,
+    }
+}
+
+/// Where standard error takes nothing, the exit status alone tells how the program ended.
+fn main(rt: HostRuntime) -> ExitCode {
+    let status = match words(&rt) {
+        Ok(words) => respond(&rt, words.as_slice()),
+        Err(error) if error.kind() == ErrorKind::OutOfMemory => Status::Memory,
+        Err(_) => Status::Usage,
+    };
+    if let Some(cause) = cause(status) {
+        let _ = rt.eprintln(cause);
+    }
+    ExitCode::from(status.code())
 }

@@ -20,7 +20,7 @@ use Rattle.replay_run.specs.Linearizability.{IsLinearizable}
 use Rattle.grid_cli.specs.Scripts.{lines_of, limit_of}
 use Rattle.grid_cli.specs.Transcripts.{Transcript, settings, Ending, Ended, Refused, TooLong, first_line, later_lines, after_first, following, refused, too_long}
 use Rattle.grid_cli.specs.Progress.{run_of, run_after, begun_by, capacity_by, capacity_of}
-use Rattle.grid_cli.specs.Statuses.{whole, Writes, WritesText}
+use Rattle.grid_cli.specs.Statuses.{whole, Writes, ReadsAndWrites}
 use Rattle.grid_cli.specs.Commands.{ClosesWith, PrintsHistories, settings_in}
 use Rattle.grid_cli.specs.declared.status.LimitWhat.{LimitWhat}
 use Rattle.grid_cli.specs.declared.status.LimitWhat.TheVariants.{InFlight}
@@ -217,25 +217,26 @@ first_linearize forms skips texts lines =
     ⊎_elim (begins_linearizable (settings forms (capacity_of texts)) forms skips (take lines texts))
     (λ same. subst (λ capacity. IsLinearizable (settings forms capacity) (run_of forms skips (take lines texts))) same (run_is_linearizable forms skips (take lines texts))) (first_lines texts lines)
 
-done_closes : (forms : List ProcessorForm) (skips : List CallId) (script text : List ℕ) → Writes forms Done skips script text → ClosesAll forms skips (lines_of script) (whole text Ended)
-done_closes forms skips script text is =
+done_closes : (forms : List ProcessorForm) (skips : List CallId) (script read text : List ℕ) → Writes forms Done skips script read text → ClosesAll forms skips (lines_of script) (whole text Ended)
+done_closes forms skips script read text is =
     let closes = lines_close forms skips (limit_of script) (lines_of script) (ap ended_in is) in
     (closes.0, subst (λ (t : Transcript). ClosesWith (settings_in forms script) (run_of forms skips (take closes.0 (lines_of script))) t.text) is closes.1)
 
-pub prints_histories : (forms : List ProcessorForm) (status : Status) (left before after : Option (List ℕ)) → WritesText forms status left before after → (script : List ℕ) → left ≡ Some script
-    → PrintsHistories forms status script before after
-prints_histories forms status left before after writes script told =
+pub prints_histories : (forms : List ProcessorForm) (status : Status) (first left before after : Option (List ℕ)) → ReadsAndWrites forms status first left before after → PrintsHistories forms status first left before after
+prints_histories forms status first left before after writes script told =
     let w = writes script told in (
       w.0,
       w.1,
       w.2,
+      w.3,
+      w.4,
       record {
-        writes = w.3;
+        replayed = w.5;
         linearizable = first_linearize forms w.0 (lines_of script);
-        closes = λ done. done_closes forms w.0 script w.1 (subst (λ s. Writes forms s w.0 script w.1) done w.3);
+        closes = λ done. done_closes forms w.0 script w.1 w.2 (subst (λ s. Writes forms s w.0 script w.1 w.2) done w.5.writes);
       },
     )
 
 -- where the words are no command
-pub nothing_printed : (forms : List ProcessorForm) (left before : Option (List ℕ)) (script : List ℕ) → left ≡ Some script → PrintsHistories forms Usage script before before
-nothing_printed forms left before = prints_histories forms Usage left before before (nothing_said forms left before)
+pub nothing_printed : (forms : List ProcessorForm) (first before : Option (List ℕ)) → PrintsHistories forms Usage first first before before
+nothing_printed forms first before = prints_histories forms Usage first first before before (nothing_said forms first before)

@@ -24,11 +24,11 @@ use Rattle.grid_cli.proofs.Cuts.{lines_completed, nothing_unfinished, more_unfin
 use Rattle.grid_cli.proofs.TranscriberLaws.{begins_transcript}
 
 -- a run whose lines are all that the script has
-module _ (forms : List ProcessorForm) (limit : Option LimitWhat) (skips : List CallId) (script written : List ℕ) (lines : List (List ℕ)) (is : cut script ≡ (record { lines = lines; limit = limit })) where
+module _ (forms : List ProcessorForm) (limit : Option LimitWhat) (skips : List CallId) (script read written : List ℕ) (lines : List (List ℕ)) (is : cut script ≡ (record { lines = lines; limit = limit })) where
   same : first_line forms skips limit lines ≡ transcript forms skips script
   same = ap (λ (c : Cut). first_line forms skips c.limit c.lines) (sym is)
 
-  pub concluded : (status : Status) → Concludes forms limit status skips lines written → Writes forms status skips script written
+  pub concluded : (status : Status) → Concludes forms limit status skips lines written → Writes forms status skips script read written
   concluded Done h = sym same ∙ h
   concluded Usage h = absurd h
   concluded (ScriptRefused line why) h = sym same ∙ h
@@ -44,11 +44,11 @@ pub not_read_fault : (forms : List ProcessorForm) (limit : Option LimitWhat) (st
 not_read_fault forms limit status skips lines written h is = let P : Status → Type 0 = λ s. Concludes forms limit s skips lines written in subst P is h
 
 -- a run that stopped at a line of the script
-module _ (forms : List ProcessorForm) (skips : List CallId) (done : List (List ℕ)) (text written script : List ℕ) (front : IsFrontOf (done ++ text ∷ []) (lines_of script)) where
+module _ (forms : List ProcessorForm) (skips : List CallId) (done : List (List ℕ)) (text written script read : List ℕ) (front : IsFrontOf (done ++ text ∷ []) (lines_of script)) where
   goes_so : (P : Transcript → Type 0) → Continues forms skips done text P → P (transcript forms skips script)
   goes_so P h = subst (λ ls. P (first_line forms skips (limit_of script) ls)) (sym (append_assoc done (text ∷ []) front.0) ∙ front.1) (h (limit_of script) front.0)
 
-  line_writes : (status : Status) → StopsAs forms status skips done text written → Writes forms status skips script written
+  line_writes : (status : Status) → StopsAs forms status skips done text written → Writes forms status skips script read written
   line_writes Done h = goes_so (λ t. t ≡ whole written Ended) h
   line_writes Usage h = absurd h
   line_writes (ScriptRefused line why) h = goes_so (λ t. t ≡ whole written (Refused line why)) h
@@ -60,7 +60,7 @@ module _ (forms : List ProcessorForm) (skips : List CallId) (done : List (List �
 pub stops_at_line : {forms : List ProcessorForm} (status : Status) (skips : List CallId) (done : List (List ℕ)) (text written read : List ℕ) → IsWithin read → whole_lines read ≡ done ++ text ∷ []
     → StopsAs forms status skips done text written → StopsWithin forms status skips read written
 stops_at_line {forms = forms} status skips done text written read within lines h = record {
-  writes = λ script front. line_writes forms skips done text written script (subst (λ ls. IsFrontOf ls (lines_of script)) lines (lines_begin read within script front)) status h;
+  writes = λ script came front. line_writes forms skips done text written script came (subst (λ ls. IsFrontOf ls (lines_of script)) lines (lines_begin read within script front)) status h;
   runs = λ is. let P : Status → Type 0 = λ s. StopsAs forms s skips done text written in subst P is h;
   reads = λ is. let P : Status → Type 0 = λ s. StopsAs forms s skips done text written in subst P is h;
 }
@@ -68,7 +68,7 @@ stops_at_line {forms = forms} status skips done text written read within lines h
 -- and however many bytes follow
 pub stops_before : {forms : List ProcessorForm} (status : Status) (skips : List CallId) (read more written : List ℕ) → StopsWithin forms status skips read written → StopsWithin forms status skips (read ++ more) written
 stops_before status skips read more written h = record {
-  writes = λ script front. h.writes script (more ++ front.0, sym (append_assoc read more front.0) ∙ front.1);
+  writes = λ script came front. h.writes script came (more ++ front.0, sym (append_assoc read more front.0) ∙ front.1);
   runs = h.runs;
   reads = h.reads;
 }
@@ -78,8 +78,8 @@ pub stops_at_limit : {forms : List ProcessorForm} (what : LimitWhat) (status : S
     → ((past : Bool) (rest : List ℕ) → cut_pieces past most_lines (pieces_at newline (read ++ rest)) ≡ behind done (stops what))
     → Concludes forms (Some what) status skips done written → StopsWithin forms status skips read written
 stops_at_limit {forms = forms} what status skips done read written passed h = record {
-  writes = λ script front.
-      concluded forms (Some what) skips script written (done ++ []) (limit_passed_in read done what passed script front) status
+  writes = λ script came front.
+      concluded forms (Some what) skips script came written (done ++ []) (limit_passed_in read done what passed script front) status
       (subst (λ ls. Concludes forms (Some what) status skips ls written) (sym (append-nil done)) h);
   runs = not_usage forms (Some what) status skips done written h;
   reads = not_read_fault forms (Some what) status skips done written h;
@@ -91,7 +91,7 @@ stops_for_memory {form = form} replay bytes taken forms skips read written has =
   [],
   [],
   stops_before Memory skips read bytes (written ++ []) (record {
-    writes = λ script front.
+    writes = λ script came front.
         let lines = lines_begin read has.within script front in
         subst (λ w. IsFrontOf w (transcript forms skips script).text) (sym (append-nil written))
         (subst (λ ls. IsFrontOf written (first_line forms skips (limit_of script) ls).text) lines.1

@@ -10,8 +10,9 @@ use Rattle.script_lang.specs.Limits.{most_bytes}
 use Rattle.script_lang.specs.Words.{whole_lines, unfinished}
 use Rattle.entry_processors.specs.Processors.{ProcessorForm}
 use Rattle.replay_run.specs.Grids.{FormOf}
+use Rattle.grid_cli.specs.Scripts.{lines_of}
 use Rattle.grid_cli.specs.Transcripts.{transcript}
-use Rattle.grid_cli.specs.Statuses.{Writes, WritesText, IsTextSoFar}
+use Rattle.grid_cli.specs.Statuses.{Writes, most_piece, IsTextSoFar, StopsInLastPiece, ReadsAndWrites}
 use Rattle.grid_cli.specs.Transcribing.{Concludes}
 use Rattle.grid_cli.specs.Replays.{HasRead, StopsIn, Takes, last_line}
 use Rattle.grid_cli.specs.declared.replay.Replay.{Replay}
@@ -35,11 +36,28 @@ pub record HasPlayed {V : Type 0} {T : V → Type 0} (form : FormOf V T) (forms 
 pub at_first : {V : Type 0} {T : V → Type 0} {form : FormOf V T} {forms : List ProcessorForm} (replay : Replay V T) (first before : Option (List ℕ)) → HasRead form forms replay [] [] [] → HasPlayed form forms replay 0 first first before before
 at_first replay first before has = record { skips = []; read = []; written = []; has = has; left = sym (prepend_known-nil first); taken = sym (append_known-nil before); size = refl }
 
-pub nothing_played : (forms : List ProcessorForm) (first before : Option (List ℕ)) → WritesText forms Memory first before before
-nothing_played forms first before script told = ([], [], sym (append_known-nil before), ((transcript forms [] script).text, refl))
+-- before anything was read
+nothing_stops : (forms : List ProcessorForm) (script : List ℕ) → StopsInLastPiece forms [] script [] []
+nothing_stops forms script = record {
+  before = [];
+  piece = [];
+  pieces = refl;
+  size = omega arith;
+  earlier = [];
+  later = [];
+  calls = refl;
+  shown = [];
+  so_far = record { within = (lines_of script, refl); lines = refl };
+  front = ([], refl);
+}
 
-pub nothing_said : (forms : List ProcessorForm) (first before : Option (List ℕ)) → WritesText forms Usage first before before
-nothing_said forms first before script told = ([], [], sym (append_known-nil before), refl)
+pub nothing_played : (forms : List ProcessorForm) (first before : Option (List ℕ)) → ReadsAndWrites forms Memory first first before before
+nothing_played forms first before script told =
+    ([], [], [], sym (prepend_known-nil first), sym (append_known-nil before), record { writes = ((transcript forms [] script).text, refl); stops = nothing_stops forms script })
+
+pub nothing_said : (forms : List ProcessorForm) (first before : Option (List ℕ)) → ReadsAndWrites forms Usage first first before before
+nothing_said forms first before script told =
+    ([], [], [], sym (prepend_known-nil first), sym (append_known-nil before), record { writes = (refl, refl); stops = nothing_stops forms script })
 
 -- A front of a script is one of the bytes that are looked at, if they are no more.
 front_within : (read rest : List ℕ) → length read ≤ most_bytes → IsFrontOf read (take most_bytes (read ++ rest))
@@ -52,40 +70,78 @@ front_within read rest few =
 told_rest : (script read : List ℕ) (first now : Option (List ℕ)) → first ≡ Some script → first ≡ prepend_known read now → (rest : List ℕ) × (now ≡ Some rest) × (script ≡ read ++ rest)
 told_rest script read first now told left = prepend_known-some read now script (sym told ∙ left)
 
-text_so_far : {V : Type 0} {T : V → Type 0} {form : FormOf V T} {forms : List ProcessorForm} (replay : Replay V T) (skips : List CallId) (read rest written : List ℕ) → length read ≤ most_bytes → HasRead form forms replay skips read written → IsTextSoFar forms skips (read ++ rest) written
-text_so_far {form = form} {forms = forms} replay skips read rest written few has = record {
-  read = read;
-  front = (rest, refl);
-  within = lines_begin read has.within (read ++ rest) (front_within read rest few);
+text_so_far : {V : Type 0} {T : V → Type 0} {form : FormOf V T} {forms : List ProcessorForm} (replay : Replay V T) (skips : List CallId) (script read rest written : List ℕ) → length read ≤ most_bytes → HasRead form forms replay skips read written
+    → script ≡ read ++ rest → IsTextSoFar forms skips script read written
+text_so_far {form = form} {forms = forms} replay skips script read rest written few has is = record {
+  within = lines_begin read has.within script (subst (λ bytes. IsFrontOf read (take most_bytes bytes)) (sym is) (front_within read rest few));
   lines = stop_of_lines form forms replay.transcriber.stage skips (whole_lines read) written has.follows None;
 }
 
-pub read_failed : {V : Type 0} {T : V → Type 0} {form : FormOf V T} {forms : List ProcessorForm} (replay : Replay V T) (count : ℕ) (first now before after : Option (List ℕ)) → HasPlayed form forms replay count first now before after → count ≤ most_bytes → WritesText forms ReadFault first before after
-read_failed {forms = forms} replay count first now before after played few script told =
-    let rest = told_rest script played.read first now told played.left in (
+-- The run went on until this piece came, and goes no further than it.
+stops_in_last : {V : Type 0} {T : V → Type 0} {form : FormOf V T} {forms : List ProcessorForm} (replay : Replay V T) (skips more : List CallId) (script read rest piece written text : List ℕ) → length read ≤ most_bytes → HasRead form forms replay skips read written
+    → script ≡ read ++ rest → length piece ≤ most_piece → IsFrontOf written text → StopsInLastPiece forms (more ++ skips) script (read ++ piece) text
+stops_in_last replay skips more script read rest piece written text few has is size front = record {
+  before = read;
+  piece = piece;
+  pieces = refl;
+  size = size;
+  earlier = skips;
+  later = more;
+  calls = refl;
+  shown = written;
+  so_far = text_so_far replay skips script read rest written few has is;
+  front = front;
+}
+
+-- a piece as it came
+piece_size : (buffer : List ℕ) (n : ℕ) → length buffer ≤ most_piece → length (take n buffer) ≤ most_piece
+piece_size buffer n size = omega (arith, size, length-take n buffer)
+
+-- The source failed, and gave nothing.
+pub read_failed : {V : Type 0} {T : V → Type 0} {form : FormOf V T} {forms : List ProcessorForm} (replay : Replay V T) (count : ℕ) (first now left before after : Option (List ℕ)) → HasPlayed form forms replay count first now before after → left ≡ now → count ≤ most_bytes
+    → ReadsAndWrites forms ReadFault first left before after
+read_failed {forms = forms} replay count first now left before after played same few script told =
+    let rest = told_rest script played.read first now told played.left in
+    let within : length played.read ≤ most_bytes = omega (arith, few, played.size) in (
       played.skips,
+      played.read,
       played.written,
+      played.left ∙ ap (prepend_known played.read) (sym same),
       played.taken,
-      subst (λ bytes. Writes forms ReadFault played.skips bytes played.written) (sym rest.2) (text_so_far replay played.skips played.read rest.0 played.written (omega (arith, played.size)) played.has),
+      record {
+        writes = text_so_far replay played.skips script played.read rest.0 played.written within played.has rest.2;
+        stops =
+            subst (λ bytes. StopsInLastPiece forms played.skips script bytes played.written) (append-nil played.read)
+            (stops_in_last replay played.skips [] script played.read rest.0 [] played.written played.written within played.has rest.2 (omega arith) ([], append-nil played.written));
+      },
     )
 
 no_more : (rest : List ℕ) (now : Option (List ℕ)) → now ≡ Some rest → IsAtEnd now → rest ≡ []
 no_more rest now is end = let P : Option (List ℕ) → Type 0 = IsAtEnd in subst P is end
 
-pub script_read : {V : Type 0} {T : V → Type 0} {form : FormOf V T} {forms : List ProcessorForm} (replay : Replay V T) (count : ℕ) (first now before after last : Option (List ℕ)) (status : Status) → HasPlayed form forms replay count first now before after → IsAtEnd now → count ≤ most_bytes
+pub script_read : {V : Type 0} {T : V → Type 0} {form : FormOf V T} {forms : List ProcessorForm} (replay : Replay V T) (count : ℕ) (first now later before after last : Option (List ℕ)) (status : Status) (buffer : List ℕ) (n : ℕ)
+    → HasPlayed form forms replay count first now before after → now ≡ prepend_known (take n buffer) later → length buffer ≤ most_piece → IsAtEnd now → count ≤ most_bytes
     → ((skips : List CallId) (read written : List ℕ) → HasRead form forms replay skips read written
     → (more : List CallId) × (added : List ℕ) × Concludes forms None status (more ++ skips) (whole_lines read ++ last_line (unfinished read)) (written ++ added) × (last ≡ append_known after added))
-    → WritesText forms status first before last
-script_read {forms = forms} replay count first now before after last status played end few ends script told =
+    → ReadsAndWrites forms status first later before last
+script_read {forms = forms} replay count first now later before after last status buffer n played came size end few ends script told =
     let rest = told_rest script played.read first now told played.left in
     let all : script ≡ played.read = rest.2 ∙ ap (λ bytes. played.read ++ bytes) (no_more rest.0 now rest.1 end) ∙ append-nil played.read in
+    let within : length played.read ≤ most_bytes = omega (arith, few, played.size) in
+    let taken : List ℕ = played.read ++ take n buffer in
     let h = ends played.skips played.read played.written played.has in (
       h.0 ++ played.skips,
+      taken,
       played.written ++ h.1,
+      more_read first now later played.read (take n buffer) played.left came,
       more_taken before after last played.written h.1 played.taken h.3,
-      subst (λ bytes. Writes forms status (h.0 ++ played.skips) bytes (played.written ++ h.1)) (sym all)
-          (concluded forms None (h.0 ++ played.skips) played.read (played.written ++ h.1) (whole_lines played.read ++ last_line (unfinished played.read))
-          (script_ended played.read played.has.within (omega (arith, played.size))) status h.2),
+      record {
+        writes =
+            subst (λ bytes. Writes forms status (h.0 ++ played.skips) bytes taken (played.written ++ h.1)) (sym all)
+            (concluded forms None (h.0 ++ played.skips) played.read taken (played.written ++ h.1) (whole_lines played.read ++ last_line (unfinished played.read))
+            (script_ended played.read played.has.within within) status h.2);
+        stops = stops_in_last replay played.skips h.0 script played.read rest.0 (take n buffer) played.written (played.written ++ h.1) within played.has rest.2 (piece_size buffer n size) (h.1, refl);
+      },
     )
 
 -- A front of the bytes that came is taken.
@@ -97,20 +153,29 @@ rest_of_piece read buffer rest count m within =
     ∙ sym (append_assoc read (take m buffer) (drop m (take count buffer) ++ rest))
 
 pub stopped_in_piece : {V : Type 0} {T : V → Type 0} {form : FormOf V T} {forms : List ProcessorForm} (replay : Replay V T) (count : ℕ) (first now later before after last : Option (List ℕ)) (status : Status) (buffer : List ℕ) (n m : ℕ)
-    → HasPlayed form forms replay count first now before after → now ≡ prepend_known (take n buffer) later → m ≤ n → count + m ≤ most_bytes → StopsIn form replay status (take m buffer) after last
-    → WritesText forms status first before last
-stopped_in_piece {forms = forms} replay count first now later before after last status buffer n m played came within room stops script told =
+    → HasPlayed form forms replay count first now before after → now ≡ prepend_known (take n buffer) later → length buffer ≤ most_piece → m ≤ n → count + m ≤ most_bytes → StopsIn form replay status (take m buffer) after last
+    → ReadsAndWrites forms status first later before last
+stopped_in_piece {forms = forms} replay count first now later before after last status buffer n m played came size within room stops script told =
     let rest = told_rest script played.read first now told played.left in
     let more = prepend_known-some (take n buffer) later rest.0 (sym rest.1 ∙ came) in
     let front : List ℕ = played.read ++ take m buffer in
     let behind : List ℕ = drop m (take n buffer) ++ more.0 in
     let all : script ≡ front ++ behind = rest.2 ∙ ap (λ bytes. played.read ++ bytes) more.2 ∙ rest_of_piece played.read buffer more.0 n m within in
+    let taken : List ℕ = played.read ++ take n buffer in
     let h = stops forms played.skips played.read played.written played.has in (
       h.0 ++ played.skips,
+      taken,
       played.written ++ h.1,
+      more_read first now later played.read (take n buffer) played.left came,
       more_taken before after last played.written h.1 played.taken h.3,
-      subst (λ bytes. Writes forms status (h.0 ++ played.skips) bytes (played.written ++ h.1)) (sym all)
-          (h.2.writes (front ++ behind) (front_within front behind (omega (arith, played.size, length-append played.read (take m buffer), length-take m buffer)))),
+      record {
+        writes =
+            subst (λ bytes. Writes forms status (h.0 ++ played.skips) bytes taken (played.written ++ h.1)) (sym all)
+            (h.2.writes (front ++ behind) taken (front_within front behind (omega (arith, played.size, length-append played.read (take m buffer), length-take m buffer, room))));
+        stops =
+            stops_in_last replay played.skips h.0 script played.read rest.0 (take n buffer) played.written (played.written ++ h.1)
+            (omega (arith, played.size, room)) played.has rest.2 (piece_size buffer n size) (h.1, refl);
+      },
     )
 
 -- The piece was taken whole, and the run goes on.
@@ -131,12 +196,12 @@ played_on {forms = forms} replay next count first now later before after last bu
 
 -- The script has more bytes than it may.
 pub limit_was_passed : {V : Type 0} {T : V → Type 0} {form : FormOf V T} {forms : List ProcessorForm} (replay next : Replay V T) (count : ℕ) (first now later before after mid last : Option (List ℕ)) (status : Status) (buffer : List ℕ) (n m : ℕ)
-    → HasPlayed form forms replay count first now before after → now ≡ prepend_known (take n buffer) later → n ≤ length buffer → count ≤ most_bytes → m ≡ most_bytes - count → m < n
+    → HasPlayed form forms replay count first now before after → now ≡ prepend_known (take n buffer) later → length buffer ≤ most_piece → n ≤ length buffer → count ≤ most_bytes → m ≡ most_bytes - count → m < n
     → Takes form replay next (take m buffer) after mid
     → ((skips : List CallId) (read written : List ℕ) → HasRead form forms next skips read written
     → (added : List ℕ) × Concludes forms (Some Bytes) status skips (whole_lines read) (written ++ added) × (last ≡ append_known mid added))
-    → WritesText forms status first before last
-limit_was_passed {forms = forms} replay next count first now later before after mid last status buffer n m played came within count_within room past goes ends script told =
+    → ReadsAndWrites forms status first later before last
+limit_was_passed {forms = forms} replay next count first now later before after mid last status buffer n m played came fits within count_within room past goes ends script told =
     let rest = told_rest script played.read first now told played.left in
     let more = prepend_known-some (take n buffer) later rest.0 (sym rest.1 ∙ came) in
     let front : List ℕ = played.read ++ take m buffer in
@@ -145,13 +210,22 @@ limit_was_passed {forms = forms} replay next count first now later before after 
     let cut_off : take most_bytes script ≡ front = ap (take most_bytes) all ∙ take_at front (drop m (take n buffer) ++ more.0) most_bytes size in
     let many : most_bytes < length script =
     omega (arith, played.size, ap length rest.2, ap length more.2, length-append played.read rest.0, length-append (take n buffer) more.0, length-take n buffer, room, past, within) in
+    let taken : List ℕ = played.read ++ take n buffer in
     let h = goes forms played.skips played.read played.written played.has in
     let e = ends (h.0 ++ played.skips) front (played.written ++ h.1) h.2 in (
       h.0 ++ played.skips,
+      taken,
       (played.written ++ h.1) ++ e.0,
+      more_read first now later played.read (take n buffer) played.left came,
       more_taken before mid last (played.written ++ h.1) e.0 (more_taken before after mid played.written h.1 played.taken h.3) e.2,
-      concluded forms (Some Bytes) (h.0 ++ played.skips) script ((played.written ++ h.1) ++ e.0) (whole_lines front ++ []) (bytes_passed front h.2.within script many cut_off) status
-          (subst (λ ls. Concludes forms (Some Bytes) status (h.0 ++ played.skips) ls ((played.written ++ h.1) ++ e.0)) (sym (append-nil (whole_lines front))) e.1),
+      record {
+        writes =
+            concluded forms (Some Bytes) (h.0 ++ played.skips) script taken ((played.written ++ h.1) ++ e.0) (whole_lines front ++ []) (bytes_passed front h.2.within script many cut_off) status
+            (subst (λ ls. Concludes forms (Some Bytes) status (h.0 ++ played.skips) ls ((played.written ++ h.1) ++ e.0)) (sym (append-nil (whole_lines front))) e.1);
+        stops =
+            stops_in_last replay played.skips h.0 script played.read rest.0 (take n buffer) played.written ((played.written ++ h.1) ++ e.0)
+            (omega (arith, played.size, count_within)) played.has rest.2 (piece_size buffer n fits) (h.1 ++ e.0, sym (append_assoc played.written h.1 e.0));
+      },
     )
 
 pub all_taken : {V : Type 0} {T : V → Type 0} {form : FormOf V T} (replay next : Replay V T) (buffer : List ℕ) (n m : ℕ) (after last : Option (List ℕ)) → m ≡ n → Takes form replay next (take m buffer) after last

@@ -1,7 +1,7 @@
 -- What the program's commands are, and what a replay says of the histories that it prints.
-use Rattle.std.specs.Prelude.{◌≡◌, ℕ, Bool, false, List, [], ◌∷◌, ◌++◌, take, Option, codes, String, string_bytes}
+use Rattle.std.specs.Prelude.{◌≡◌, ℕ, Bool, false, List, [], ◌∷◌, ◌++◌, take, Option, Some, codes, String, string_bytes}
 use Rattle.std.specs.List.{flat_map}
-use Rattle.std.specs.Io.KnownBytes.{append_known}
+use Rattle.std.specs.Io.KnownBytes.{append_known, prepend_known}
 use Rattle.std.specs.declared.alloc.Global.{Global}
 use Rattle.grid_base.specs.declared.names.CallId.{CallId}
 use Rattle.script_lang.specs.Words.{are_same}
@@ -14,7 +14,7 @@ use Rattle.replay_run.specs.Linearizability.{IsLinearizable}
 use Rattle.grid_cli.specs.Scripts.{lines_of}
 use Rattle.grid_cli.specs.Progress.{run_of, capacity_of}
 use Rattle.grid_cli.specs.Transcripts.{settings}
-use Rattle.grid_cli.specs.Statuses.{Writes}
+use Rattle.grid_cli.specs.Statuses.{HasReplayed}
 use Rattle.grid_cli.specs.declared.status.Status.{Status}
 use Rattle.grid_cli.specs.declared.status.Status.TheVariants.{Done}
 
@@ -36,14 +36,15 @@ settings_in forms script = settings forms (capacity_of (lines_of script))
 abbrev pub ClosesWith : Settings → Run → List ℕ → Type 0
 ClosesWith s r text = (front : List ℕ) × (text ≡ front ++ ok_text r.lines ++ flat_map (entry_text r.lines) (all_entries (partition_object s) r))
 
--- With this status the text was written of the script's transcript, where these calls found no memory.
-pub record TellsHistories (forms : List ProcessorForm) (status : Status) (skips : List CallId) (script text : List ℕ) : Type 0 where
-  pub writes : Writes forms status skips script text
+-- With this status this was read of the script and this text written, where these calls found no memory.
+pub record TellsHistories (forms : List ProcessorForm) (status : Status) (skips : List CallId) (script read text : List ℕ) : Type 0 where
+  pub replayed : HasReplayed forms status skips script read text
   -- Whichever line it is that prints histories, each is one that a single thread could have seen.
   pub linearizable : (lines : ℕ) → IsLinearizable (settings_in forms script) (run_of_script forms skips script lines)
   -- and with the line `end` the text closes with all of them
   pub closes : status ≡ Done → (lines : ℕ) × ClosesWith (settings_in forms script) (run_of_script forms skips script lines) text
 
--- What was written tells histories of the script, for some calls that found no memory.
-abbrev pub PrintsHistories : List ProcessorForm → Status → List ℕ → Option (List ℕ) → Option (List ℕ) → Type 0
-PrintsHistories forms status script before after = (skips : List CallId) × (text : List ℕ) × (after ≡ append_known before text) × TellsHistories forms status skips script text
+-- What was written tells histories of the script that the source told, for some calls that found no memory.
+abbrev pub PrintsHistories : List ProcessorForm → Status → Option (List ℕ) → Option (List ℕ) → Option (List ℕ) → Option (List ℕ) → Type 0
+PrintsHistories forms status first left before after = (script : List ℕ) → first ≡ Some script
+    → (skips : List CallId) × (read text : List ℕ) × (first ≡ prepend_known read left) × (after ≡ append_known before text) × TellsHistories forms status skips script read text

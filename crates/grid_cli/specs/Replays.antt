@@ -27,9 +27,9 @@ pub record HasRead {V : Type 0} {T : V → Type 0} (form : FormOf V T) (forms : 
   pub rest : replay.unfinished.items ≡ unfinished read
   pub within : IsWithin read
 
--- The run stopped with this status within these bytes, whatever the script has behind them.
+-- The run stopped with this status within these bytes, whatever the script has behind them, and whatever came with them.
 pub record StopsWithin (forms : List ProcessorForm) (status : Status) (skips : List CallId) (read written : List ℕ) : Type 0 where
-  pub writes : (script : List ℕ) → IsFrontOf read (take most_bytes script) → Writes forms status skips script written
+  pub writes : (script came : List ℕ) → IsFrontOf read (take most_bytes script) → Writes forms status skips script came written
   pub runs : status ≢ Usage
   pub reads : status ≢ ReadFault
 

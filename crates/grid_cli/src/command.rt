@@ -1,6 +1,6 @@
 ghost use Rattle.std.specs.Prelude.{◌≡◌, ◌↔◌, ℕ, List, map, Some, false, true};
 ghost use Rattle.grid_edge.specs.Faults.{Rose};
-ghost use Rattle.grid_cli.specs.Statuses.{WritesText};
+ghost use Rattle.grid_cli.specs.Statuses.{ReadsAndWrites};
 ghost use Rattle.grid_cli.specs.Commands.{is_replay, PrintsHistories};
 
 use crate::replay::run_script;
@@ -28,19 +28,20 @@ pub fn replay_command<S: Source, K: Sink>(
     script: &mut S,
     out: &mut K,
 ) -> Status
-    // Where the words are no command nothing is read and nothing is written.
+    // Where the words are no command, the source and the sink are left as they were.
     ensures usage { (result ≡ Status.Usage) ↔ (is_replay words.now ≡ false) }
-    ensures unread { result ≡ Status.Usage → S.left script.new ≡ S.left script.old }
-    ensures unwritten { result ≡ Status.Usage → K.taken out.new ≡ K.taken out.old }
+    ensures unread { result ≡ Status.Usage → script.new ≡ script.old }
+    ensures unwritten { result ≡ Status.Usage → out.new ≡ out.old }
     // A fault is told only where the source or the sink had one.
     ensures read_fault { result ≡ Status.ReadFault → Rose (S.faults script.old) (S.faults script.new) }
     ensures write_fault { result ≡ Status.WriteFault → Rose (K.faults out.old) (K.faults out.new) }
-    // What was written is the script's transcript, or as much of it as the status says.
-    ensures text { WritesText (map form processors.items) result (S.left script.old) (K.taken out.old) (K.taken out.new) }
+    // What was written is the script's transcript, or as much of it as the status says. What was read is what the
+    // source has no longer left: no piece more than the one in which the run came to its end.
+    ensures text { ReadsAndWrites (map form processors.items) result (S.left script.old) (S.left script.new) (K.taken out.old) (K.taken out.new) }
     // What is printed for each entry of a map and each queue is the history of one that one thread used, with every answered
     // call in it once.
     // Whatever the status, and whichever line prints it.
-    ensures headline { (bytes : List ℕ) → S.left script.old ≡ Some bytes → PrintsHistories (map form processors.items) result bytes (K.taken out.old) (K.taken out.new) }
+    ensures headline { PrintsHistories (map form processors.items) result (S.left script.old) (S.left script.new) (K.taken out.old) (K.taken out.new) }
 {
     if !is_replay_command(words) {
         return Status::Usage;

@@ -6,7 +6,7 @@ ghost use Rattle.entry_processors.specs.Processors.{ProcessorForm};
 ghost use Rattle.script_lang.specs.Words.{whole_lines, unfinished};
 ghost use Rattle.script_lang.specs.Pieces.{IsOnePiece};
 ghost use Rattle.grid_cli.specs.Scripts.{limit_in};
-ghost use Rattle.grid_cli.specs.Statuses.{WritesText};
+ghost use Rattle.grid_cli.specs.Statuses.{ReadsAndWrites, most_piece};
 ghost use Rattle.grid_cli.specs.Transcribing.{Concludes};
 ghost use Rattle.grid_cli.specs.Replays.{HasRead, Takes, StopsIn, ended_line, last_line};
 ghost use Rattle.grid_cli.specs.Commands.{PrintsHistories};
@@ -149,8 +149,9 @@ fn run_pieces<S: Source, K: Sink>(
     script: &mut S,
     out: &mut K,
 ) -> Status
-    requires { 0 < length buffer.old }
-    ensures text { WritesText (map form processors.items) result (S.left script.old) (K.taken out.old) (K.taken out.new) }
+    requires some { 0 < length buffer.old }
+    requires size { length buffer.old ≤ most_piece }
+    ensures text { ReadsAndWrites (map form processors.items) result (S.left script.old) (S.left script.new) (K.taken out.old) (K.taken out.new) }
     ensures runs { result ≢ Status.Usage }
     ensures read_fault { result ≡ Status.ReadFault → Rose (S.faults script.old) (S.faults script.new) }
     ensures write_fault { result ≡ Status.WriteFault → Rose (K.faults out.old) (K.faults out.new) }
@@ -183,8 +184,8 @@ pub(crate) fn run_script<S: Source, K: Sink>(
     script: &mut S,
     out: &mut K,
 ) -> Status
-    ensures text { WritesText (map form processors.items) result (S.left script.old) (K.taken out.old) (K.taken out.new) }
-    ensures headline { (bytes : List ℕ) → S.left script.old ≡ Some bytes → PrintsHistories (map form processors.items) result bytes (K.taken out.old) (K.taken out.new) }
+    ensures text { ReadsAndWrites (map form processors.items) result (S.left script.old) (S.left script.new) (K.taken out.old) (K.taken out.new) }
+    ensures headline { PrintsHistories (map form processors.items) result (S.left script.old) (S.left script.new) (K.taken out.old) (K.taken out.new) }
     ensures runs { result ≢ Status.Usage }
     ensures read_fault { result ≡ Status.ReadFault → Rose (S.faults script.old) (S.faults script.new) }
     ensures write_fault { result ≡ Status.WriteFault → Rose (K.faults out.old) (K.faults out.new) }

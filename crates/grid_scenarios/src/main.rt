@@ -5,6 +5,7 @@ ghost use Rattle.std.specs.Prelude.{◌<◌};
 
 mod codec;
 mod difference;
+mod fronts;
 mod long_scripts;
 mod scenarios;
 mod tables;
@@ -12,6 +13,7 @@ mod tables;
 use codec::count_messages;
 use difference::{first_difference, verdict};
 use entry_processors::{Add, AddUpTo, Append, Clear, Processor, SetIfGreater};
+use fronts::{SMALL_READ, SMALL_WRITE, text_of_reads, text_of_writes};
 use grid_cli::{Status, replay_command};
 use grid_edge::{MemorySink, MemorySource};
 use long_scripts::{LONG_SCRIPTS, LongScript};
@@ -38,7 +40,7 @@ const OTHER_WORDS: [&[&str]; 6] = [
 const REFUSED: u8 = 2;
 
 /// The numbers of the calls that are made to fail lie below this; the last is past the last call.
-const CALLS: u64 = 64;
+const CALLS: usize = 64;
 
 /// The limit of the processor that adds up to a limit.
 const MOST_COUNTED: i64 = 1000;
@@ -58,7 +60,7 @@ impl Pieces {
         ensures { 0 < result }
     {
         match self {
-            Pieces::Small => 64,
+            Pieces::Small => SMALL_READ,
             Pieces::Whole => usize::MAX,
         }
     }
@@ -68,7 +70,7 @@ impl Pieces {
         ensures { 0 < result }
     {
         match self {
-            Pieces::Small => 16,
+            Pieces::Small => SMALL_WRITE,
             Pieces::Whole => usize::MAX,
         }
     }
@@ -134,6 +136,11 @@ fn replayed(
 fn read_data(rt: &HostRuntime, name: &str, kind: &str) -> io::Result<Vec<u8>> {
     let path = format!(in rt.alloc(); "{name}.{kind}")?;
     fs::read(rt, path.as_str())
+}
+
+fn read_text(rt: &HostRuntime, name: &str, kind: &str) -> io::Result<String> {
+    let path = format!(in rt.alloc(); "{name}.{kind}")?;
+    fs::read_to_string(rt, path.as_str())
 }
 
 /// Runs the scenario with these failing calls: how it ended, what it printed, and its transcript.
@@ -207,29 +214,66 @@ fn tell(rt: &HostRuntime, name: &str, held: bool) -> io::Result<bool> {
     Ok(held)
 }
 
-/// Let each source call, or each sink call, of the scenario fail in turn: does each run end with that fault and
-/// print a front of the transcript, which is empty for the first call, up to the last call, and is the transcript whole
-/// where no call fails?
-fn each_call_fails(rt: &HostRuntime, name: &str, fault: Status) -> io::Result<bool> {
-    let alloc = rt.alloc();
-    let mut held = true;
-    let mut faults = 0u64;
-    for call in 0..CALLS {
-        let one = vec![in alloc; call]?;
-        let mut fails = Fails::none(alloc);
-        if fault == Status::ReadFault {
-            fails.reads = one;
-        } else {
-            fails.writes = one;
+/// Which calls are made to fail.
+#[derive(Clone, Copy, Debug, PartialEq, Eq)]
+enum Failing {
+    Reads,
+    Writes,
+}
+
+impl Failing {
+    /// The status with which a run ends at such a call.
+    fn status(self) -> Status {
+        match self {
+            Failing::Reads => Status::ReadFault,
+            Failing::Writes => Status::WriteFault,
         }
-        let (status, text, transcript) = played(rt, name, fails, Pieces::Small)?;
-        if status == fault {
+    }
+
+    /// The call with this number fails, and no other.
+    fn at(self, alloc: Global, call: usize) -> io::Result<Fails> {
+        let one = vec![in alloc; call as u64]?;
+        let none = Vec::new(alloc);
+        Ok(match self {
+            Failing::Reads => Fails {
+                reads: one,
+                writes: none,
+            },
+            Failing::Writes => Fails {
+                reads: none,
+                writes: one,
+            },
+        })
+    }
+
+    /// What is written before that call, where a script and its transcript go in small pieces.
+    fn written_before<'a>(self, call: usize, script: &str, transcript: &'a str) -> &'a [u8] {
+        match self {
+            Failing::Reads => text_of_reads(script, transcript, call),
+            Failing::Writes => text_of_writes(transcript, call),
+        }
+    }
+}
+
+/// Let each source call, or each sink call, of the scenario fail in turn: does each run end with that fault, up to the
+/// last call, with exactly what is written before that call, and is the transcript whole where no call fails?
+fn each_call_fails(rt: &HostRuntime, name: &str, failing: Failing) -> io::Result<bool> {
+    let alloc = rt.alloc();
+    let script = read_text(rt, name, "script")?;
+    let transcript = read_text(rt, name, "transcript")?;
+    let (script, transcript) = (script.as_str(), transcript.as_str());
+    let mut held = true;
+    let mut faults = 0usize;
+    for call in 0..CALLS {
+        let bytes = script.as_bytes().to_vec(alloc)?;
+        let (status, text) = replayed(alloc, bytes, failing.at(alloc, call)?, Pieces::Small)?;
+        if status == failing.status() {
             // No call before this one was past the last.
-            held &= faults == call && transcript.as_slice().starts_with(text.as_slice());
-            held &= call > 0 || text.is_empty();
+            held &= faults == call;
+            held &= text.as_slice() == failing.written_before(call, script, transcript);
             faults = faults.saturating_add(1);
         } else {
-            held &= status == Status::Done && text.as_slice() == transcript.as_slice();
+            held &= status == Status::Done && text.as_slice() == transcript.as_bytes();
         }
     }
     Ok(held && 0 < faults && faults < CALLS)
@@ -378,9 +422,9 @@ fn other_words_are_no_command(rt: &HostRuntime, name: &str) -> io::Result<bool> 
 /// Lets each call of a scenario's source and sink fail, and tells how that came out, and whether memory sufficed.
 fn faults_and_memory(rt: &HostRuntime, name: &str) -> io::Result<bool> {
     let mut held = true;
-    let told = each_call_fails(rt, name, Status::ReadFault)?;
+    let told = each_call_fails(rt, name, Failing::Reads)?;
     held &= tell(rt, "each_source_call_fails", told)?;
-    let told = each_call_fails(rt, name, Status::WriteFault)?;
+    let told = each_call_fails(rt, name, Failing::Writes)?;
     held &= tell(rt, "each_sink_call_fails", told)?;
     let done = memory_suffices(rt, name)?;
     held &= tell(rt, "ample_memory", done)?;

@@ -6,7 +6,7 @@ use Rattle.grid_cli.proofs.ReplayRuns.{at_first, all_taken, played_on, read_fail
 use Rattle.grid_cli.proofs.replay.run_pieces.Goals as goal
 
 pub pieces-init : goal.pieces-init
-pieces-init g c = (at_first c.new-replay.result _ _ c.new-replay.ensures, omega arith, omega arith, omega arith, c.requires)
+pieces-init g c = (at_first c.new-replay.result _ _ c.new-replay.ensures, omega arith, omega arith, omega arith, c.requires.some, c.requires.size)
 
 pub returns-then-count-eq0-clause-runs : goal.returns-then-count-eq0-clause-runs
 returns-then-count-eq0-clause-runs g c =
@@ -53,22 +53,22 @@ returns-then-count-room-clause-read_fault g c = λ is.
     absurd (not_read_fault _ (Some Bytes) c.stop_at_limit.result _ _ _ e.1 is)
 
 pub returns-in_default-clause-text : goal.returns-in_default-clause-text
-returns-in_default-clause-text g c = read_failed _ _ _ _ _ _ c.pieces.invariant.0 c.pieces.invariant.1
+returns-in_default-clause-text g c = read_failed _ _ _ _ _ _ _ c.pieces.invariant.0 c.in_default.ensures.err c.pieces.invariant.1
 
 pub returns-then-count-eq0-clause-text : goal.returns-then-count-eq0-clause-text
 returns-then-count-eq0-clause-text g c =
-    script_read c.pieces.replay c.pieces.read _ _ _ _ _ c.finish.result c.pieces.invariant.0
+    script_read c.pieces.replay c.pieces.read _ _ _ _ _ _ c.finish.result c.read.new.into c.in-Ok.count c.pieces.invariant.0 c.in-Ok.ensures.bytes (omega (arith, c.read.auto.into, c.pieces.invariant.5))
     (c.in-Ok.ensures.end c.if-count-eq0.true (omega (arith, c.read.auto.into, c.pieces.invariant.4))) c.pieces.invariant.1 (c.finish.ensures.concludes _)
 
 pub returns-in-Err-clause-text : goal.returns-in-Err-clause-text
 returns-in-Err-clause-text g c =
     stopped_in_piece c.pieces.replay c.pieces.read _ _ _ _ _ _ c.in-Err.status c.read.new.into c.in-Ok.count c.min.result
-    c.pieces.invariant.0 c.in-Ok.ensures.bytes (omega (arith, c.min.ensures)) (omega (arith, c.min.ensures, c.pieces.invariant.1)) c.in-Err.ensures.stops
+    c.pieces.invariant.0 c.in-Ok.ensures.bytes (omega (arith, c.read.auto.into, c.pieces.invariant.5)) (omega (arith, c.min.ensures)) (omega (arith, c.min.ensures, c.pieces.invariant.1)) c.in-Err.ensures.stops
 
 pub returns-then-count-room-clause-text : goal.returns-then-count-room-clause-text
 returns-then-count-room-clause-text g c =
     limit_was_passed c.pieces.replay c.take.new.self c.pieces.read _ _ _ _ _ _ _ c.stop_at_limit.result c.read.new.into c.in-Ok.count c.min.result
-    c.pieces.invariant.0 c.in-Ok.ensures.bytes c.in-Ok.ensures.within c.pieces.invariant.1 (omega (arith, c.min.ensures, c.if-count-room.true)) (omega (arith, c.min.ensures, c.if-count-room.true))
+    c.pieces.invariant.0 c.in-Ok.ensures.bytes (omega (arith, c.read.auto.into, c.pieces.invariant.5)) c.in-Ok.ensures.within c.pieces.invariant.1 (omega (arith, c.min.ensures, c.if-count-room.true)) (omega (arith, c.min.ensures, c.if-count-room.true))
     c.in-Ok-take.ensures.goes (λ skips read written has. c.stop_at_limit.ensures.concludes _ skips (whole_lines read) written has.follows)
 
 pub pieces-preserved : goal.pieces-preserved
@@ -80,4 +80,5 @@ pieces-preserved g c =
       omega (arith, c.pieces.invariant.2, c.read.ensures.cause.never_falls),
       omega (arith, c.pieces.invariant.3, c.take.ensures.never_falls),
       omega (arith, c.pieces.invariant.4, c.read.auto.into),
+      omega (arith, c.pieces.invariant.5, c.read.auto.into),
     )

@@ -6,7 +6,7 @@ pub returns-in_default-clause-text : goal.returns-in_default-clause-text
 returns-in_default-clause-text g c = nothing_played _ _ _
 
 pub returns-in_default-clause-headline : goal.returns-in_default-clause-headline
-returns-in_default-clause-headline g c = prints_histories _ _ _ _ _ (nothing_played _ _ _)
+returns-in_default-clause-headline g c = prints_histories _ _ _ _ _ _ (nothing_played _ _ _)
 
 pub returns-clause-headline : goal.returns-clause-headline
-returns-clause-headline g c bytes told = prints_histories _ c.run_pieces.result _ _ _ c.run_pieces.ensures.text bytes told
+returns-clause-headline g c = prints_histories _ c.run_pieces.result _ _ _ _ c.run_pieces.ensures.text

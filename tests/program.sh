@@ -1,0 +1,111 @@
+#!/usr/bin/env bash
+# Runs the program `grid` as it is run by hand: its words, its exit statuses, and what it writes to its streams. Run it
+# from anywhere, after `rt ci` or `rt run` in crates/grid has built the program: tests/program.sh. GRID names another.
+# The last line is 'N passed, M failed', and the exit status is 0 where none failed.
+set -u
+cd "$(dirname "$0")/.." || exit 1
+
+grid=${GRID:-crates/grid/out/grid}
+script=crates/grid/stdin
+usage='usage: grid replay < SCRIPT    runs a script and prints its transcript'
+passed=0
+failed=0
+room=$(mktemp -d) || exit 1
+trap 'rm -r "$room"' EXIT
+
+# Is what came the same as what was wanted? Counts it, and tells where it isn't.
+compare() {
+    if [ "$2" = "$3" ]; then
+        passed=$((passed + 1))
+    else
+        failed=$((failed + 1))
+        printf "program, %s: '%s' in place of '%s'\n" "$1" "$3" "$2"
+    fi
+}
+
+# Runs the program with these words, for a minute at most.
+run() {
+    timeout 60 "$grid" "$@" >"$room/out" 2>"$room/err"
+    status=$?
+}
+
+# Did the last run of this name end with this status, print this, and write this as the first line of standard error?
+ended() {
+    compare "$1, exit status" "$2" "$status"
+    compare "$1, standard output" "$3" "$(cat "$room/out")"
+    compare "$1, standard error" "$4" "$(head -n 1 "$room/err")"
+}
+
+if [ ! -x "$grid" ]; then
+    echo "no program at $grid: build it with 'rt ci', or set GRID"
+    echo '0 passed, 1 failed'
+    exit 1
+fi
+
+# Words that are no command, one of them no text.
+run <"$script"
+ended 'no words' 1 '' "$usage"
+for words in 'serve' 'Replay' 'replay x' '--help x' '--version x' $'\xff'; do
+    # shellcheck disable=SC2086
+    run $words <"$script"
+    ended "the words $words" 1 '' "$usage"
+done
+
+# The usage and the version are asked for.
+run
+help=$(cat "$room/err")
+for words in '--help' 'replay --help'; do
+    # shellcheck disable=SC2086
+    run $words <"$script"
+    ended "the words $words" 0 "$help" ''
+done
+run --version <"$script"
+ended 'the word --version' 0 'grid 0.1.0' ''
+
+# Scripts that end, are refused, and go past a limit.
+run replay <"$script"
+ended 'a script' 0 "$(cat crates/grid/stdout)" ''
+run replay <<<'grid 1 0 10'
+ended 'a script without an end' 2 $'1 ok\nrefused 1 noend' ''
+{ echo 'grid 1 0 10'; head -c 70000 /dev/zero | tr '\0' '#'; } >"$room/long"
+run replay <"$room/long"
+ended 'a long line' 5 $'1 ok\nlimit 2 line' ''
+
+# Standard input that can't be read, and standard output that can't be written.
+run replay <.
+ended 'a directory' 3 '' "grid: standard input can't be read"
+for words in 'replay' '--help' '--version'; do
+    # shellcheck disable=SC2086
+    timeout 60 "$grid" $words <"$script" >/dev/full 2>"$room/err"
+    compare "a full disk and $words, exit status" 4 $?
+    compare "a full disk and $words, standard error" "grid: standard output can't be written" "$(cat "$room/err")"
+done
+
+# Standard error that can't be written.
+timeout 60 "$grid" replay <. >"$room/out" 2>/dev/full
+compare 'a full standard error, exit status' 3 $?
+
+# Runs the program with these words and less and less memory, from this many kilobytes on. Did some run end for want of
+# it, tell so, and print nothing?
+want_of_memory() {
+    local most=$1 kilobytes
+    shift
+    for ((kilobytes = most; kilobytes > 0; kilobytes -= most / 64)); do
+        (ulimit -v "$kilobytes" && run "$@" <"$script" && exit "$status") 2>/dev/null
+        status=$?
+        if [ "$status" = 7 ] && [ "$(cat "$room/err")" = 'grid: out of memory' ] && [ ! -s "$room/out" ]; then
+            echo yes
+            return
+        fi
+    done
+    echo no
+}
+
+# Want of memory for a script, and for the words, before there is a command.
+compare 'a script in little memory, told' yes "$(want_of_memory 16384 replay)"
+printf -v long '%0100000d' 0
+compare 'long words in little memory, told' yes \
+    "$(want_of_memory 16384 "$long" "$long" "$long" "$long" "$long" "$long" "$long" "$long" "$long" "$long")"
+
+echo "$passed passed, $failed failed"
+[ "$failed" = 0 ]
