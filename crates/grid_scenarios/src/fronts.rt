@@ -2,6 +2,7 @@
 
 /// The most bytes that a call of the source gives, and that one of the sink takes, in small pieces.
 pub(crate) const SMALL_READ: usize = 64;
+
 pub(crate) const SMALL_WRITE: usize = 16;
 
 /// The line of the script that a line of its transcript is of, by which that begins.
@@ -74,13 +75,18 @@ pub(crate) fn text_of_writes(transcript: &str, calls: usize) -> &[u8] {
 mod tests {
     use super::*;
 
-    const SCRIPT: &str = "grid 1 0 10\nopen 0 0\n# a comment as long as a piece of what is read, and more\nend\n";
+    const SCRIPT: &str =
+        "grid 1 0 10\nopen 0 0\n# a comment as long as a piece of what is read, and more\nend\n";
+
     const TRANSCRIPT: &str = "1 ok\n2 ok\n3 ok\n4 ok\n4 entry 5 0 0 1\n";
 
     #[test]
     fn whole_lines_of_what_is_read_are_written(rt: HostRuntime) {
         assert_eq!(rt; text_of_reads(SCRIPT, TRANSCRIPT, 0), b"".as_slice());
-        assert_eq!(rt; text_of_reads(SCRIPT, TRANSCRIPT, 1), b"1 ok\n2 ok\n".as_slice());
+        assert_eq!(rt;
+            text_of_reads(SCRIPT, TRANSCRIPT, 1),
+            b"1 ok\n2 ok\n".as_slice()
+        );
         assert_eq!(rt; text_of_reads(SCRIPT, TRANSCRIPT, 2), TRANSCRIPT.as_bytes());
     }
 
@@ -88,7 +94,10 @@ mod tests {
     fn a_write_takes_of_one_line(rt: HostRuntime) {
         assert_eq!(rt; text_of_writes(TRANSCRIPT, 0), b"".as_slice());
         assert_eq!(rt; text_of_writes(TRANSCRIPT, 2), b"1 ok\n2 ok\n".as_slice());
-        assert_eq!(rt; text_of_writes(TRANSCRIPT, 4), b"1 ok\n2 ok\n3 ok\n4 ok\n4 entry 5 0".as_slice());
+        assert_eq!(rt;
+            text_of_writes(TRANSCRIPT, 4),
+            b"1 ok\n2 ok\n3 ok\n4 ok\n4 entry 5 0".as_slice()
+        );
         assert_eq!(rt; text_of_writes(TRANSCRIPT, 5), TRANSCRIPT.as_bytes());
     }
 }
