@@ -3,13 +3,17 @@
 //! `specs/` has the machine: what is said (`Messages`), what a member knows (`Node`) and how it takes each message
 //! (`Replica`), what the service does (`Service`), and what each event does to the whole (`Events`).
 //! It moves no contents: what a member has is the state that its pair of a version and a count names (`History`).
-//! The functions here compute nothing. Their contracts are what holds of every run, for any calls and any object.
+//! The functions here and in `laws` compute nothing. Their contracts are what holds of every run, for any calls and any object.
+//! `Pair` is the protocol's name of contents as a value of a program, with the test by which a backup takes them.
 #![tactic(auto)]
 
 pub mod laws;
+mod pair;
 
 ghost use Rattle.grid_base.specs.Objects.{Object};
 ghost use Rattle.partition_protocol.specs.Claims.{EveryRunIsSafe, EveryAckHolds, EveryRunExtends, EveryAnswerStays, EveryStateStays, EveryBridgeStays, EveryBeginningIsEmpty};
+
+pub use pair::Pair;
 
 /// Whatever is lost, repeated or late, and whoever crashes: after every list of events in which no two calls have one
 /// name, the history by which the partition stands is that of one object used by one thread and emptied at each
