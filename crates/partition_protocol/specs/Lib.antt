@@ -25,3 +25,4 @@ pub mod HistorySizes
 pub mod CrashTraces
 pub mod RowRules
 pub mod ReadOff
+pub mod ReleaseRules

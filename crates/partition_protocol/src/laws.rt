@@ -9,6 +9,7 @@ ghost use Rattle.partition_protocol.specs.Beginnings.{EveryCountIsAnEffect, Ever
 ghost use Rattle.partition_protocol.specs.HistorySizes.{EveryHistoryIsOfTheLog, EveryLoggedCallArrived};
 ghost use Rattle.partition_protocol.specs.RowRules.{EveryKnownRowGoesOn, EveryLossIsTold, EveryRowIsLostByRule, EveryRowIsLostIfEmpty};
 ghost use Rattle.partition_protocol.specs.ReadOff.{EveryFactIsReadOff};
+ghost use Rattle.partition_protocol.specs.ReleaseRules.{EveryHeldAnswerWaits, EveryReleaseIsInOrder};
 
 /// After `n` events every version and every reset is at most `n + 1`, and every count at most `n`: of rows, of pairs,
 /// of acknowledgements, of answers and in messages.
@@ -20,6 +21,14 @@ pub fn every_count_is_bounded<C, S>()
 /// there once.
 pub fn every_answer_is_single<C, S>()
     ensures { (o : Object C S) → EveryAnswerIsSingle o }
+{}
+
+/// An answer is released at the first event at which it can be. Of each answer that a member holds after an event, a backup
+/// of the row that it knows hasn't acknowledged yet what the answer saw. In an event one member at most releases answers: the
+/// oldest of what it held, in order, once every backup of the row that it then knows has acknowledged what they saw.
+pub fn every_answer_is_released_in_time<C, S>()
+    ensures held { (o : Object C S) → EveryHeldAnswerWaits o }
+    ensures released { (o : Object C S) → EveryReleaseIsInOrder o }
 {}
 
 /// There is a node for each member, each row lists members, each once, and each message in flight is between two ends, as
