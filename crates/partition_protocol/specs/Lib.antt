@@ -26,3 +26,4 @@ pub mod CrashTraces
 pub mod RowRules
 pub mod ReadOff
 pub mod ReleaseRules
+pub mod MadeRows

@@ -9,6 +9,7 @@ ghost use Rattle.partition_protocol.specs.Beginnings.{EveryCountIsAnEffect, Ever
 ghost use Rattle.partition_protocol.specs.HistorySizes.{EveryHistoryIsOfTheLog, EveryLoggedCallArrived};
 ghost use Rattle.partition_protocol.specs.RowRules.{EveryKnownRowGoesOn, EveryLossIsTold, EveryRowIsLostByRule, EveryRowIsLostIfEmpty};
 ghost use Rattle.partition_protocol.specs.ReadOff.{EveryFactIsReadOff};
+ghost use Rattle.partition_protocol.specs.MadeRows.{EveryRowWasMade, EveryVersionHasOneRow};
 ghost use Rattle.partition_protocol.specs.ReleaseRules.{EveryHeldAnswerWaits, EveryReleaseIsInOrder};
 
 /// After `n` events every version and every reset is at most `n + 1`, and every count at most `n`: of rows, of pairs,
@@ -56,6 +57,14 @@ pub fn every_row_goes_by_rule<C, S>()
     ensures told { (o : Object C S) → EveryLossIsTold o }
     ensures lost { (o : Object C S) → EveryRowIsLostByRule o }
     ensures empty { (o : Object C S) → EveryRowIsLostIfEmpty o }
+{}
+
+/// Each row that a member knows, that is in flight or that the partition stands by is one that the service made: it was the
+/// service's row after some of the events, with the same marks. Two rows that the service made in one version have the same
+/// members in the same order, and differ at most in which of them may lead.
+pub fn every_row_was_made<C, S>()
+    ensures made { (o : Object C S) → EveryRowWasMade o }
+    ensures one { (o : Object C S) → EveryVersionHasOneRow o }
 {}
 
 /// What a member knows is what was handed over to it. Its row is the newest of the initial one and those in its messages,
