@@ -1,4 +1,5 @@
--- What holds of the newest row, of each that a member knows and of each in flight holds of them after an event, if it holds of the newest row then.
+-- What holds of the newest row, of each that a member knows and of each in flight holds of them after an event,
+-- if it holds of the newest row then.
 use Rattle.std.proofs.Common.{◌≡◌, ◌≢◌, ℕ, ◌+◌, Bool, cond, List, [], ◌∷◌, ◌++◌, map, Some, slice_set, refl, sym, subst, ◌⊎◌, inl, inr}
 use Rattle.grid_base.specs.Objects.{Object}
 use Rattle.partition_table.specs.declared.Row.{Row}

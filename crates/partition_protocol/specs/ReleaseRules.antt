@@ -1,4 +1,4 @@
--- When an answer is released: at the first event at which every backup has acknowledged what it saw, and the oldest first.
+-- When an answer is released: at the first event at which each backup has acknowledged what it saw, the oldest first.
 use Rattle.std.specs.Prelude.{◌≡◌, ℕ, ◌≤◌, ◌⊎◌, true, List, [], ◌∷◌, ◌++◌, Some, slice_get, slice_set, Contains}
 use Rattle.grid_base.specs.Objects.{Object}
 use Rattle.partition_table.specs.Rows.{is_backup}
@@ -37,7 +37,7 @@ answer_to (Call m conn number call now) after = record { conn = conn; number = n
 answer_to _ after = []
 
 pub record ReleasesInOrder {C : Type 0} (event : Event C) (before after : Node) (answers : List Held) : Type 0 where
-  -- these answers and those still held are, in order, what was held before and the answer to a call that was executed now
+  -- these answers and those still held are, in order, what was held before and the answer to a call executed now
   pub oldest : answers ++ after.held ≡ before.held ++ answer_to event after
   -- each backup of the row that the member now knows has acknowledged what they saw
   pub acknowledged : (h : Held) → Contains answers h → AllHaveAcknowledged after h.seen

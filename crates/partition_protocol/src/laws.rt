@@ -24,9 +24,10 @@ pub fn every_answer_is_single<C, S>()
     ensures { (o : Object C S) → EveryAnswerIsSingle o }
 {}
 
-/// An answer is released at the first event at which it can be. Of each answer that a member holds after an event, a backup
-/// of the row that it knows hasn't acknowledged yet what the answer saw. In an event one member at most releases answers: the
-/// oldest of what it held, in order, once every backup of the row that it then knows has acknowledged what they saw.
+/// An answer is released at the first event at which it can be. Of each answer that a member holds after an event, a
+/// backup of the row that it knows hasn't acknowledged yet what the answer saw. In an event one member at most releases
+/// answers: the oldest of what it held, in order, once every backup of the row that it then knows has acknowledged what
+/// they saw.
 pub fn every_answer_is_released_in_time<C, S>()
     ensures held { (o : Object C S) → EveryHeldAnswerWaits o }
     ensures released { (o : Object C S) → EveryReleaseIsInOrder o }
@@ -59,9 +60,9 @@ pub fn every_row_goes_by_rule<C, S>()
     ensures empty { (o : Object C S) → EveryRowIsLostIfEmpty o }
 {}
 
-/// Each row that a member knows, that is in flight or that the partition stands by is one that the service made: it was the
-/// service's row after some of the events, with the same marks. Two rows that the service made in one version have the same
-/// members in the same order, and differ at most in which of them may lead.
+/// Each row that a member knows, that is in flight or that the partition stands by is one that the service made: it was
+/// the service's row after some of the events, with the same marks. Two rows that the service made in one version have
+/// the same members in the same order, and differ at most in which of them may lead.
 pub fn every_row_was_made<C, S>()
     ensures made { (o : Object C S) → EveryRowWasMade o }
     ensures one { (o : Object C S) → EveryVersionHasOneRow o }

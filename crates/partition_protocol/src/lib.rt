@@ -3,7 +3,8 @@
 //! `specs/` has the machine: what is said (`Messages`), what a member knows (`Node`) and how it takes each message
 //! (`Replica`), what the service does (`Service`), and what each event does to the whole (`Events`).
 //! It moves no contents: what a member has is the state that its pair of a version and a count names (`History`).
-//! The functions here and in `laws` compute nothing. Their contracts are what holds of every run, for any calls and any object.
+//! The functions here and in `laws` compute nothing. Their contracts are what holds of every run, for any calls and any
+//! object.
 //! `Pair` is the protocol's name of contents as a value of a program, with the test by which a backup takes them.
 #![tactic(auto)]
 
