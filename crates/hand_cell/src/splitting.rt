@@ -59,8 +59,11 @@ impl<T: Stands> Cell<T> {
         requires idle { IsIdle place.old }
         requires other_idle { IsIdle other }
         ensures cell { IsSamePass place.old place.new }
-        ensures joined { place.new.me ≡ (idle_view (longer_of (view_of place.old).seen (view_of other).seen)
-            (both_names (view_of place.old).names (view_of other).names), []) }
+        ensures joined { place.new.me ≡ (
+          idle_view (longer_of (view_of place.old).seen (view_of other).seen)
+              (both_names (view_of place.old).names (view_of other).names),
+          [],
+        ) }
         ensures extends { Extends T.key_of (view_of place.old).seen (view_of place.old).names (view_of other).seen
             (view_of other).names }
     {

@@ -10,10 +10,9 @@ use crate::pass::Place;
 use crate::stands::Stands;
 use crate::steps::{Draw, EventIs, Look, PassOn, PlanIs};
 use crate::view::Held;
-use std::hint;
 use std::snapshot::Snapshot;
 use std::sync::Wait;
-use std::thread;
+use std::{hint, thread};
 
 /// The word of the next ticket.
 const NEXT: usize = 0;
@@ -88,24 +87,12 @@ impl<T: Stands> Cell<T> {
         ensures looked { HasLooked T.stands T.key_of W.plan ticket result place.old.me place.new.me }
     {
         for _ in 1..LOOKS {
-            let served = self.look::<W>(place, ticket);
+            let served = self.table.shared.load::<Look<T, W>>(place, SERVED);
             if served == ticket {
                 return served;
             }
             hint::spin_loop();
         }
-        self.look::<W>(place, ticket)
-    }
-
-    /// The ticket served. The turn is taken where it is the pass's.
-    fn look<W: PlanIs<T::Plan>>(&self, place: &mut Place<T>, ticket: u64) -> u64
-        requires cell { place.old.table_id ≡ self.now.table.shared.table_id }
-        requires plan { W.plan ≡ Some self.now.table.shared.key }
-        requires waiting { (view_of place.old).stage ≡ Waiting ticket }
-        ensures cell { IsSamePass place.old place.new }
-        ensures looked { HasLooked T.stands T.key_of W.plan ticket result place.old.me place.new.me }
-    {
-        let _ = ticket;
         self.table.shared.load::<Look<T, W>>(place, SERVED)
     }
 
@@ -124,9 +111,7 @@ impl<T: Stands> Cell<T> {
         ensures passed { place.new.me ≡ (at_stage (view_of place.old) Away (after_ran (view_of place.old).seen (event_of ran)), []) }
     {
         self.table.shared.exchange(place, 0, Some(held));
-        self.table
-            .shared
-            .fetch_add::<PassOn<W>>(place, SERVED, 1);
+        self.table.shared.fetch_add::<PassOn<W>>(place, SERVED, 1);
         let _ = ran;
         self.wake_waiting(ticket);
     }
