@@ -3,7 +3,6 @@ use Rattle.std.proofs.Common.{◌≡◌, ◌≢◌, ⊎_elim, ℕ, ◌+◌, eqb,
 use mathlib.Core.Logic.{dite}
 use native.Mathlib.Decide.{ℕ_discrete}
 use Rattle.std.proofs.lemmas.Bool.Decides.{nat_tests}
-use Rattle.grid_base.specs.declared.names.CallId.{CallId}
 use Rattle.hand_cell.specs.declared.names.NameSet.{NameSet}
 use Rattle.hand_cell.specs.declared.names.Names.TheVariants.{One}
 use Rattle.hand_cell.specs.Names.{has_number, NoneOf, every_name, left_names, given_names, both_names}

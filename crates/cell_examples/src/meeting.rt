@@ -42,7 +42,10 @@ fn sees(mark: &AtomicU64) -> bool {
 }
 
 /// Whether each of two calls, in turns on two cells, saw the other in its turn.
-pub fn meet_in_turns<R: Threads + Wait + Sync>(rt: &R, alloc: Global) -> Result<(bool, bool), Memory> {
+pub fn meet_in_turns<R: Threads + Wait + Sync>(
+    rt: &R,
+    alloc: Global,
+) -> Result<(bool, bool), Memory> {
     let (here, my_pass) = Cell::new(alloc, Counter { count: 0 }, &())?;
     let (there, other_pass) = Cell::new(alloc, Counter { count: 0 }, &())?;
     let mine = AtomicU64::new(0);

@@ -83,7 +83,11 @@ pub fn shared<R: Threads + Wait + Sync>(rt: &R, alloc: Global, turns: u32) -> Re
 }
 
 /// Two threads, each on its own cell.
-fn apart_by_two<R: Threads + Wait + Sync>(rt: &R, alloc: Global, turns: u32) -> Result<u64, Memory> {
+fn apart_by_two<R: Threads + Wait + Sync>(
+    rt: &R,
+    alloc: Global,
+    turns: u32,
+) -> Result<u64, Memory> {
     let (here, mut my_pass) = Cell::new(alloc, Ticks { count: 0 }, &())?;
     let (there, mut other_pass) = Cell::new(alloc, Ticks { count: 0 }, &())?;
     let mine = here.split(&mut my_pass, Names::Nothing);

@@ -106,10 +106,6 @@ fn apart_by_two<R: Threads + Wait + Sync>(rt: &R, turns: u32) -> u64 {
 
 /// Four threads, each on its own counter.
 pub fn apart<R: Threads + Wait + Sync>(rt: &R, turns: u32) -> u64 {
-    let (a, b) = join(
-        rt,
-        || apart_by_two(rt, turns),
-        || apart_by_two(rt, turns),
-    );
+    let (a, b) = join(rt, || apart_by_two(rt, turns), || apart_by_two(rt, turns));
     a.saturating_add(b)
 }
