@@ -4,7 +4,7 @@ use crate::view::{Held, View};
 use atomic_table::TableRule;
 use std::marker::PhantomData;
 
-/// There is a history, which the value stands for while no pass has the turn, and of which each pass has seen a beginning.
+/// There is a history. The value stands for it while no pass has the turn, and each pass has seen a beginning of it.
 pub struct TurnRule<T> {
     value: PhantomData<T>,
 }

@@ -118,8 +118,8 @@ impl<T: Stands> Cell<T> {
 
     /// Wakes those who wait, once the ticket was served: a system call where a later one was drawn, and else none.
     fn wake_waiting(&self, ticket: u64) {
-        // No wake is lost: a waiter draws before it looks at the ticket served, and sleeps only while that is what it saw;
-        // all orderings are SeqCst. So whoever sleeps through the step that served the next had drawn before, as is seen here.
+        // No wake is lost: a waiter draws before it looks at the ticket served, and sleeps only while that is what it
+        // saw. So whoever sleeps through the step before this look drew before that step, as all orderings are SeqCst.
         let last_drawn = self.table.shared.peek(NEXT).saturating_sub(1);
         if last_drawn > ticket {
             self.table.shared.wake_all(SERVED);

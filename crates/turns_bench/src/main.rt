@@ -1,7 +1,8 @@
 //! Takes turns on counters, for `bench/turns.sh`: by turn cells, and by a mutex with a condition variable.
 //!
-//! `turns_bench cell|lock one|shared|apart TURNS` has one thread or four take so many turns each, four on one counter
-//! (`shared`) or each on its own (`apart`), and prints how many were counted. With no words it tries each for 100 turns.
+//! `turns_bench cell|lock one|shared|apart TURNS` has one thread or four take so many turns each, the four on one
+//! counter (`shared`) or each on its own (`apart`), and prints how many were counted. With no words it tries each for
+//! 100 turns.
 #![tactic(auto)]
 
 mod cells;
