@@ -38,6 +38,6 @@ module _ {T P E O : Type 0} (key_of : E → Key) (call_of : ℕ → Request → 
 
 module _ {T P E O : Type 0} where
   -- The end is the receiver's of a parcel that was made on these terms
-  pub record Awaits (terms : Terms P E) (parcel : Arc (Parcel T P E O) Global) (end : End T P E O) : Type 0 where
-    pub parcel_is : IsEndOf (arc_value parcel) end
+  pub record Awaits (terms : Terms P E) (shared : Arc (Parcel T P E O) Global) (end : End T P E O) : Type 0 where
+    pub parcel : IsEndOf (arc_value shared) end
     pub side : end.side ≡ Receiver terms

@@ -48,6 +48,7 @@ impl<T: Served> Job<T> {
         requires unused { IsNewKey T.key_of (Call request.id) pass.seen }
         requires within { T.fits request }
         ensures pass { IfOk result (λ made. made.0.pass ≡ pass) }
+        ensures member { IfOk result (λ made. made.0.member ≡ member) }
         ensures partition { IfOk result (λ made. made.0.partition ≡ request.partition) }
         ensures job { (roster : Roster T.Plan) → StandsAt roster request.partition cell.now → IfOk result (λ made. IsJobFor T.key_of T.call_of T.fits roster made.0) }
         ensures receiver { IfOk result (λ made. Awaits (terms_for T.call_of cell.now pass member request now) made.1 made.2) }

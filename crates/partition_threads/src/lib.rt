@@ -7,6 +7,7 @@
 
 mod calls;
 mod gate;
+mod starting;
 mod turns;
 mod watch;
 mod workers;
@@ -14,5 +15,6 @@ mod workplace;
 
 pub use calls::HeldCall;
 pub use gate::{Gate, OpenGate};
+pub use starting::{Awaited, StartRefused};
 pub use workers::{WorkerTokens, worker};
 pub use workplace::{THREADS, Workplace, worker_of};
