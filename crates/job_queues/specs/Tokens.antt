@@ -32,6 +32,11 @@ module _ {T P E O : Type 0} where
   capacity_of queue = ruled_capacity queue.queue
 
 module _ {P : Type 0} where
+  -- they are of one queue
+  pub record IsSameQueue (old new : Token P) : Type 0 where
+    pub queue : new.queue ≡ old.queue
+    pub roster : new.roster ≡ old.roster
+
   -- its count of full looks has risen
   abbrev pub after_full_look : Token P → Token P
   after_full_look t = record { queue = t.queue; roster = t.roster; full = min (t.full + 1) 18446744073709551615; empty = t.empty }

@@ -4,7 +4,7 @@ ghost use Rattle.crossbeam_queue.specs.Passes.{view, IsPassOf};
 ghost use Rattle.job_queues.specs.declared.roster.QueueSide.TheVariants.{Opening, Ready};
 ghost use Rattle.job_queues.specs.Roster.{roster_of};
 ghost use Rattle.job_queues.specs.Jobs.{IsJobFor, WasFull};
-ghost use Rattle.job_queues.specs.Tokens.{IsTokenOf, capacity_of, after_full_look, after_empty_look};
+ghost use Rattle.job_queues.specs.Tokens.{IsTokenOf, IsSameQueue, capacity_of, after_full_look, after_empty_look};
 
 use crate::job::Job;
 use crate::queue_rule::{Copied, HandsOver, Open, QueueRule, RosterIs};
@@ -111,6 +111,7 @@ impl<T: Served> JobQueue<T> {
     pub fn put<R: Wait>(&self, rt: &R, token: &mut QueuePass<T>, job: Job<T>) -> Result<(), Busy<T>>
         requires queue { IsTokenOf self.now token.old }
         requires job { IsJobFor T.key_of T.call_of T.fits token.old.roster job }
+        ensures queue { IsSameQueue token.old token.new }
         ensures ok { OnOk result (token.new ≡ token.old) }
         ensures back { IfErr result (λ busy. busy.job ≡ job) }
         ensures rose { IfErr result (λ _. token.new ≡ after_full_look token.old) }
@@ -133,6 +134,7 @@ impl<T: Served> JobQueue<T> {
     pub fn take<R: Wait>(&self, rt: &R, token: &mut QueuePass<T>) -> Option<Job<T>>
         requires { IsTokenOf self.now token.old }
         ensures job { IfSome result (λ job. IsJobFor T.key_of T.call_of T.fits token.old.roster job) }
+        ensures queue { IsSameQueue token.old token.new }
         ensures same { IfSome result (λ _. token.new ≡ token.old) }
         ensures rose { IfNone result (token.new ≡ after_empty_look token.old) }
     {

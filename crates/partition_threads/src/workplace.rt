@@ -68,6 +68,15 @@ impl<T: Served> Workplace<T> {
         Ok((place, tokens))
     }
 
+    /// A second token of a worker's queue, which begins to count. Takes no memory.
+    pub fn split_token(&self, worker: usize, token: &mut QueuePass<T>) -> QueuePass<T>
+        requires { IsTokenAt self.now worker token.old }
+        ensures kept { token.new ≡ token.old }
+        ensures token { IsTokenAt self.now worker result }
+    {
+        self.queues[worker].split(token)
+    }
+
     /// Hands a job over to the worker of its partition at its member, and wakes that worker if it sleeps. The job comes back
     /// as it was only where the queue was full at a moment of this call: the token's count of full looks rises then, and
     /// nowhere else. Constant time and no memory; a system call only where the worker sleeps.
