@@ -13,7 +13,7 @@ use Rattle.partition_protocol.specs.Events.{Event, run}
 use Rattle.partition_protocol.specs.Bounds.{IsRowWithin, IsMessageWithin}
 use Rattle.partition_protocol.specs.WellFormed.{IsRowOf, IsMessageOf}
 use Rattle.partition_protocol.specs.RowRules.{IsLostIfEmpty, IsRowLostIfEmpty}
-use Rattle.partition_protocol.proofs.LostRows.{PacketLost, grid_lost}
+use Rattle.partition_protocol.proofs.LostRows.{every_row_is_lost_if_empty}
 use Rattle.partition_protocol.proofs.Lists.{In, Every, every_in, contains_in}
 use Rattle.partition_protocol.proofs.RowFacts.{same_number, false_or_not, in_among}
 use Rattle.partition_protocol.proofs.Listings.{first_apart, rest_distinct}
@@ -104,4 +104,4 @@ flying_spelled k partition members backups events some eight few p i fit =
     message_spelled (length events) members few eight p.from p.to p.message (contents_in k w)
     ((every_run_is_within k.object partition members backups events).packets p (contains_in p w.packets i))
     ((every_run_is_well_formed k.object partition members backups events).packets p (contains_in p w.packets i)).message
-    (every_in PacketLost w.packets p (grid_lost k.object partition members backups events some).packets i) fit
+    ((every_row_is_lost_if_empty k.object partition members backups events some).packets p (contains_in p w.packets i)) fit
