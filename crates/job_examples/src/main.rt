@@ -1,4 +1,5 @@
-//! Two examples of job queues and workers: a queue of one place hands a job back, and workers serve calls that are held.
+//! Two examples of job queues and workers: a queue of one place hands a job back, and workers serve calls that are
+//! held.
 #![tactic(auto)]
 
 mod queue_of_one;

@@ -72,7 +72,8 @@ fn two_jobs(alloc: Global) -> Result<TwoJobs, Memory>
     })
 }
 
-/// Makes a queue of one place, and puts two jobs into it; takes one, puts the one that was handed back, and takes twice.
+/// Makes a queue of one place, and puts two jobs into it; takes one, puts the one that was handed back, and takes
+/// twice.
 pub fn put_one_by_one<R: Wait>(rt: &R, alloc: Global) -> Result<Option<OneByOne>, Memory> {
     let TwoJobs {
         cell,

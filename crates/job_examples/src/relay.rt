@@ -8,8 +8,8 @@ use std::alloc::Global;
 /// The kind of the requests whose calls send a message. A call of another kind is held until a message is delivered.
 pub const SENDS: u32 = 1;
 
-/// Calls that wait for a delivery, and how many messages are in flight. A delivery releases each call that waits; its reply
-/// is its connection's number, in four bytes.
+/// Calls that wait for a delivery, and how many messages are in flight. A delivery releases each call that waits; its
+/// reply is its connection's number, in four bytes.
 #[derive(Drop)]
 pub struct Relay {
     in_flight: u32,

@@ -113,7 +113,8 @@ struct Caller {
     two: Pass<Relay>,
 }
 
-/// Starts a call that is held, at member 0, and later one that sends a message, at member 1. Its delivery releases both.
+/// Starts a call that is held, at member 0, and later one that sends a message, at member 1. Its delivery releases
+/// both.
 fn call_both<R: Wait>(
     rt: &R,
     alloc: Global,
@@ -205,8 +206,8 @@ fn open(alloc: Global) -> Result<Opened, Memory>
     })
 }
 
-/// Two workers of two members serve two calls on one cell. The first is held until the events of the second have run, so
-/// its worker is woken by these.
+/// Two workers of two members serve two calls on one cell. The first is held until the events of the second have run,
+/// so its worker is woken by these.
 pub fn serve_two<R: Threads + Wait + Sync>(
     rt: &R,
     alloc: Global,

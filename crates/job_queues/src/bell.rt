@@ -9,8 +9,9 @@ const MOST_LOOKS: u32 = 200;
 /// A bell that one thread sleeps on, until another rings it. What the thread waits for is made before the ring.
 ///
 /// The sleeper reads `rings` before each look for work. It says that it sleeps before its sleep compares the rings, and
-/// who rings raises them before it reads that. So either the sleep finds the new count, or the ringer finds the sleeper.
-/// A sleep sees the low half of the count: 2^32 rings between one look and the sleep after it would pass unseen.
+/// who rings raises them before it reads that. So either the sleep finds the new count, or the ringer finds the
+/// sleeper. A sleep sees the low half of the count: 2^32 rings between one look and the sleep after it would pass
+/// unseen.
 #[derive(Drop)]
 pub struct Bell {
     rings: AtomicU64,
@@ -39,9 +40,9 @@ impl Bell {
         }
     }
 
-    /// What an idle thread does after a look that found nothing: after few in a row it lets others run, and after 200 it
-    /// sleeps until the bell has rung since it showed `rings`. `idle` is how many looks in a row found nothing before;
-    /// gives the number for the next. It may come back for no reason.
+    /// What an idle thread does after a look that found nothing: after few in a row it lets others run, and after 200
+    /// it sleeps until the bell has rung since it showed `rings`. `idle` is how many looks in a row found nothing
+    /// before; gives the number for the next. It may come back for no reason.
     pub fn rest<R: Wait>(&self, rt: &R, rings: u64, idle: u32) -> u32 {
         if idle < MOST_LOOKS {
             thread::yield_now();

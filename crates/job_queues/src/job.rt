@@ -13,8 +13,8 @@ use hand_cell::{Cell, Pass, Served};
 use std::alloc::Global;
 use std::sync::Arc;
 
-/// A call that is to be run at a member, with a pass of the cell at its partition, and the sender's end of the parcel that
-/// its answer goes to. The call arrived at the moment `now`.
+/// A call that is to be run at a member, with a pass of the cell at its partition, and the sender's end of the parcel
+/// that its answer goes to. The call arrived at the moment `now`.
 #[derive(Drop)]
 pub struct Job<T: Served> {
     pub pass: Pass<T>,

@@ -1,8 +1,8 @@
 //! Queues of jobs, and parcels for their answers.
 //!
-//! A job is a client's call, with a pass of the cell at its partition. It isn't copyable, and neither is the pass: so what
-//! is taken from a queue was put there, and each job is taken at most once. Its answer goes into a parcel of one place,
-//! with the pass.
+//! A job is a client's call, with a pass of the cell at its partition. It isn't copyable, and neither is the pass: so
+//! what is taken from a queue was put there, and each job is taken at most once. Its answer goes into a parcel of one
+//! place, with the pass.
 #![tactic(auto)]
 
 mod bell;

@@ -75,8 +75,8 @@ impl<T: Served> Parcel<T> {
         self.queue.another::<Seal<W>>(seat)
     }
 
-    /// Fills the parcel, and wakes its receiver. It can't be refused. Constant time and no memory; a system call only where
-    /// the receiver sleeps.
+    /// Fills the parcel, and wakes its receiver. It can't be refused. Constant time and no memory; a system call only
+    /// where the receiver sleeps.
     pub fn put<R: Wait>(&self, rt: &R, end: ParcelEnd<T>, done: Done<T>)
         requires end { IsEndOf self.now end }
         requires done { (terms : Terms T.Plan T.Event) × (end.side ≡ Sender terms) × IsDone T.key_of T.tells terms done }
@@ -88,8 +88,8 @@ impl<T: Served> Parcel<T> {
         }
     }
 
-    /// The answer, if it has come. None comes only where the parcel was empty at a moment of this call: the count of empty
-    /// looks rises then, and nowhere else. Constant time, no memory and no system call.
+    /// The answer, if it has come. None comes only where the parcel was empty at a moment of this call: the count of
+    /// empty looks rises then, and nowhere else. Constant time, no memory and no system call.
     pub fn look<R: Wait>(&self, rt: &R, end: &mut ParcelEnd<T>) -> Option<Done<T>>
         requires end { IsEndOf self.now end.old }
         requires receiver { (terms : Terms T.Plan T.Event) × (end.old.side ≡ Receiver terms) }

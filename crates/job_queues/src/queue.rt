@@ -22,8 +22,8 @@ pub struct JobQueue<T: Served> {
     pub(crate) queue: RuledArrayQueue<Job<T>, QueueSide<T::Plan>, QueueRule<T>, Global>,
 }
 
-/// What one holder knows of a queue: for which cells it is, and how often it found the queue full, and empty. The counts
-/// stay at 2^64 - 1.
+/// What one holder knows of a queue: for which cells it is, and how often it found the queue full, and empty. The
+/// counts stay at 2^64 - 1.
 #[derive(Drop)]
 pub struct QueuePass<T: Served> {
     pub(crate) seat: Seat<Job<T>, QueueSide<T::Plan>>,
@@ -105,9 +105,9 @@ impl<T: Served> JobQueue<T> {
         }
     }
 
-    /// Puts a job at the end. It comes back as it was only where the queue was full at a moment of this call: the count of
-    /// full looks rises then, and nowhere else. Constant time, no memory and no system call; it waits only for a thread
-    /// that was stopped in the midst of a `put` or `take` here.
+    /// Puts a job at the end. It comes back as it was only where the queue was full at a moment of this call: the count
+    /// of full looks rises then, and nowhere else. Constant time, no memory and no system call; it waits only for a
+    /// thread that was stopped in the midst of a `put` or `take` here.
     pub fn put<R: Wait>(&self, rt: &R, token: &mut QueuePass<T>, job: Job<T>) -> Result<(), Busy<T>>
         requires queue { IsTokenOf self.now token.old }
         requires job { IsJobFor T.key_of T.call_of T.fits token.old.roster job }
@@ -129,8 +129,8 @@ impl<T: Served> JobQueue<T> {
         }
     }
 
-    /// Takes the oldest job, which meets the condition of `put`. None comes only where the queue was empty at a moment of
-    /// this call: the count of empty looks rises then, and nowhere else. Costs what `put` costs.
+    /// Takes the oldest job, which meets the condition of `put`. None comes only where the queue was empty at a moment
+    /// of this call: the count of empty looks rises then, and nowhere else. Costs what `put` costs.
     pub fn take<R: Wait>(&self, rt: &R, token: &mut QueuePass<T>) -> Option<Job<T>>
         requires { IsTokenOf self.now token.old }
         ensures job { IfSome result (λ job. IsJobFor T.key_of T.call_of T.fits token.old.roster job) }

@@ -2,8 +2,8 @@
 use hand_cell::{Pass, Served};
 use std::marker::Model;
 
-/// The terms on which a parcel is made: what its cell was made for, the pass that goes with the call, as it was then, and
-/// the call's event. No value of it is made.
+/// The terms on which a parcel is made: what its cell was made for, the pass that goes with the call, as it was then,
+/// and the call's event. No value of it is made.
 pub struct Terms<T: Served> {
     plan: T::Plan,
     first: Pass<T>,

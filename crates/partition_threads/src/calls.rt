@@ -17,8 +17,8 @@ pub struct HeldCall<T: Served> {
     pub id: CallId,
     pub parcel: Arc<Parcel<T>>,
     pub end: ParcelEnd<T>,
-    /// How many events of its partition were told of before the last look at it, which found nothing to deliver. None where
-    /// it is to be looked at at once.
+    /// How many events of its partition were told of before the last look at it, which found nothing to deliver. None
+    /// where it is to be looked at at once.
     pub looked: Option<u64>,
 }
 

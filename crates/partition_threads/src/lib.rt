@@ -1,8 +1,9 @@
 //! Threads that run the calls of partitions.
 //!
-//! A `Workplace` has a cell for each partition, and for each member four workers with a queue of jobs each. A worker runs a
-//! job's call in a turn of the partition's cell, delivers what it sent, a message a turn, and fills the job's parcel once
-//! the call's outcome is known. A call that is held meanwhile keeps it from no other job. Who has nothing to do sleeps.
+//! A `Workplace` has a cell for each partition, and for each member four workers with a queue of jobs each. A worker
+//! runs a job's call in a turn of the partition's cell, delivers what it sent, a message a turn, and fills the job's
+//! parcel once the call's outcome is known. A call that is held meanwhile keeps it from no other job. Who has nothing
+//! to do sleeps.
 #![tactic(auto)]
 
 mod calls;

@@ -31,8 +31,8 @@ pub enum StartRefused<T: Served> {
 }
 
 impl<T: Served> Workplace<T> {
-    /// Hands a call over to the worker of its partition at a member, with a pass of the cell there that has the name of the
-    /// call, which is new. Takes memory for a parcel; a system call only where the worker sleeps.
+    /// Hands a call over to the worker of its partition at a member, with a pass of the cell there that has the name of
+    /// the call, which is new. Takes memory for a parcel; a system call only where the worker sleeps.
     pub fn start<R: Wait>(
         &self,
         rt: &R,

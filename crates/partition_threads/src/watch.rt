@@ -3,8 +3,8 @@ use std::sync::atomic::{AtomicU64, Ordering};
 
 /// The events of one partition, counted for those who hold calls there.
 ///
-/// Who holds a call says so before it reads the count; who ran an event raises the count before it reads whether a call is
-/// held. So either the holder finds the new count, or it is found, and rung.
+/// Who holds a call says so before it reads the count; who ran an event raises the count before it reads whether a call
+/// is held. So either the holder finds the new count, or it is found, and rung.
 #[derive(Drop)]
 pub(crate) struct Watch {
     events: AtomicU64,

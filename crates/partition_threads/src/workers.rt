@@ -73,8 +73,8 @@ fn go_one<T: Served + Runs<N>, N, R: Wait>(
     }
 }
 
-/// Delivers what is in flight in a call's partition, a message a turn, until the call's outcome is known. The call comes
-/// back where nothing is in flight and the outcome isn't known, or for want of memory.
+/// Delivers what is in flight in a call's partition, a message a turn, until the call's outcome is known. The call
+/// comes back where nothing is in flight and the outcome isn't known, or for want of memory.
 fn go_on<T: Served + Runs<N>, N, R: Wait>(
     rt: &R,
     alloc: Global,
@@ -207,12 +207,12 @@ fn take_job<T: Served + Runs<N>, N, G: Gate, R: Wait>(
     Looked::Ran
 }
 
-/// Runs the jobs of the worker's queue until the place is stopped, all that was submitted before is done, and no call is
-/// held; its queue was then empty at a moment, so its token's count of empty looks rose.
+/// Runs the jobs of the worker's queue until the place is stopped, all that was submitted before is done, and no call
+/// is held; its queue was then empty at a moment, so its token's count of empty looks rose.
 ///
 /// A call whose outcome isn't known keeps it from no other job: it is looked at again once an event has run in its
-/// partition. Where there is nothing to do the worker sleeps, until a job or `stop` comes or such an event has run. A job
-/// takes memory only for its event and its deliveries.
+/// partition. Where there is nothing to do the worker sleeps, until a job or `stop` comes or such an event has run. A
+/// job takes memory only for its event and its deliveries.
 pub fn worker<T: Served + Runs<N>, N, G: Gate, R: Wait>(
     rt: &R,
     alloc: Global,

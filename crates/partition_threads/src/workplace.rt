@@ -77,9 +77,9 @@ impl<T: Served> Workplace<T> {
         self.queues[worker].split(token)
     }
 
-    /// Hands a job over to the worker of its partition at its member, and wakes that worker if it sleeps. The job comes back
-    /// as it was only where the queue was full at a moment of this call: the token's count of full looks rises then, and
-    /// nowhere else. Constant time and no memory; a system call only where the worker sleeps.
+    /// Hands a job over to the worker of its partition at its member, and wakes that worker if it sleeps. The job comes
+    /// back as it was only where the queue was full at a moment of this call: the token's count of full looks rises
+    /// then, and nowhere else. Constant time and no memory; a system call only where the worker sleeps.
     pub fn submit<R: Wait>(
         &self,
         rt: &R,
@@ -100,8 +100,8 @@ impl<T: Served> Workplace<T> {
         put
     }
 
-    /// Tells of an event that was run in a partition, so that calls which are held there are looked at again. Who runs an
-    /// event in a cell of the place calls it, after the turn. A system call only where a call is held there.
+    /// Tells of an event that was run in a partition, so that calls which are held there are looked at again. Who runs
+    /// an event in a cell of the place calls it, after the turn. A system call only where a call is held there.
     pub fn event_ran(&self, partition: PartitionId) {
         if let Some(watch) = self.watches.get(usize::from(partition))
             && watch.event_ran()
