@@ -41,7 +41,9 @@ impl Mailbox {
         self.waiting.lock(rt).job = Some(job);
         self.came.notify_one();
         let answer = self.answer.lock(rt);
-        let mut answer = self.answered.wait_while(rt, answer, |answer| answer.is_none());
+        let mut answer = self
+            .answered
+            .wait_while(rt, answer, |answer| answer.is_none());
         *answer = None;
     }
 

@@ -195,7 +195,11 @@ impl CallTrial {
     }
 
     /// How many nanoseconds each call took.
-    fn times<R: Threads + Wait + Clock + Sync>(self, rt: &R, alloc: Global) -> io::Result<Vec<u64>> {
+    fn times<R: Threads + Wait + Clock + Sync>(
+        self,
+        rt: &R,
+        alloc: Global,
+    ) -> io::Result<Vec<u64>> {
         match self.way {
             Way::Queue => calls::through_queue(rt, alloc, self.pace),
             Way::Lock => mailbox::through_mailbox(rt, alloc, self.pace),
@@ -229,10 +233,7 @@ fn report_each_way<R: Threads + Wait + Clock + Sync + Print>(
 ) -> io::Result<()> {
     for way in [Way::Queue, Way::Lock] {
         for parked in [false, true] {
-            let pace = Pace {
-                calls: FEW,
-                parked,
-            };
+            let pace = Pace { calls: FEW, parked };
             let count = CallTrial { way, pace }.times(rt, alloc)?.len();
             let pace = if parked { "parked" } else { "busy" };
             println!(rt; "calls {} {pace}: {count} calls", way.name())?;

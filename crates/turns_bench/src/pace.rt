@@ -1,8 +1,7 @@
 //! How calls follow one another, and what they took.
-use std::io;
 use std::rt::Clock;
-use std::thread;
 use std::time::{Duration, Instant};
+use std::{io, thread};
 
 /// How many calls are made, and whether the worker has gone to sleep before each.
 #[derive(Clone, Copy)]
