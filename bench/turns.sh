@@ -3,6 +3,10 @@
 # counter each (`apart`), by a turn cell, and by a mutex with a condition variable. Run it from the repository's top,
 # after `rt run` in crates/turns_bench has built the program: bench/turns.sh [TURNS]. TURNS is how many each thread takes;
 # of the mutex on a shared counter, which is slow, a tenth. TURNS_BENCH names another program.
+#
+# Then it times calls, one after another, that go to another thread and back: through a queue of jobs and parcels, and
+# through a mutex and a condition variable for each way. `busy` has the next call follow at once, a tenth of TURNS of them;
+# `parked` has the other thread sleep before each, 1,000 of them. Calls a second are those of one caller that waits for each.
 set -euo pipefail
 
 TURNS_BENCH=${TURNS_BENCH:-crates/turns_bench/out/turns_bench}
@@ -35,5 +39,18 @@ for shape in one shared apart; do
         read -r count seconds < <(measure "$means" "$shape" "$each")
         awk -v m="$means" -v k="$shape" -v c="$count" -v s="$seconds" \
             'BEGIN { printf "%8s %8s %10d %10.3f %14.0f\n", m, k, c, s, (s > 0 ? c / s : 0) }'
+    done
+done
+
+echo
+printf '%8s %8s %10s %14s %10s %10s\n' by other calls calls/second p50/ns p99/ns
+for pace in busy parked; do
+    for means in queue lock; do
+        count=$(((turns + 9) / 10))
+        if [ "$pace" = parked ]; then
+            count=1000
+        fi
+        "$TURNS_BENCH" calls "$means" "$pace" "$count" |
+            awk -v m="$means" -v k="$pace" '{ printf "%8s %8s %10d %14d %10d %10d\n", m, k, $4, $6, $10, $13 }'
     done
 done

@@ -3,20 +3,31 @@
 //! `turns_bench cell|lock one|shared|apart TURNS` has one thread or four take so many turns each, the four on one
 //! counter (`shared`) or each on its own (`apart`), and prints how many were counted. With no words it tries each for
 //! 100 turns.
+//!
+//! `turns_bench calls queue|lock busy|parked CALLS` has a thread make so many calls, one after another, which another thread
+//! answers: through a queue of jobs and parcels, or through a mutex and a condition variable for each way. `parked` has the
+//! other sleep before each. It prints how many calls a second there were, and what 50 and 99 of 100 took at most.
 #![tactic(auto)]
 
+mod calls;
 mod cells;
+mod echo;
 mod locks;
+mod mailbox;
+mod pace;
 mod ticks;
 
 use grid_base::Memory;
+use pace::{Pace, Summary};
 use std::alloc::{AllocError, Global};
 use std::process::ExitCode;
+use std::rt::Clock;
 use std::sync::Wait;
 use std::thread::Threads;
 use std::{env, io};
 
-const USAGE: &str = "usage: turns_bench [cell|lock one|shared|apart TURNS]";
+const USAGE: &str =
+    "usage: turns_bench [cell|lock one|shared|apart TURNS | calls queue|lock busy|parked CALLS]";
 
 /// The turns of each thread where no number is given.
 const FEW: u32 = 100;
@@ -135,6 +146,102 @@ fn report_each<R: Threads + Wait + Sync + Print>(rt: &R, alloc: Global) -> io::R
     Ok(())
 }
 
+/// By what calls go to the other thread and back.
+#[derive(Clone, Copy)]
+enum Way {
+    Queue,
+    Lock,
+}
+
+impl Way {
+    fn name(self) -> &'static str {
+        match self {
+            Way::Queue => "queue",
+            Way::Lock => "lock",
+        }
+    }
+}
+
+/// A trial of calls.
+#[derive(Clone, Copy)]
+struct CallTrial {
+    way: Way,
+    pace: Pace,
+}
+
+impl CallTrial {
+    fn of_words(words: &[String]) -> Option<CallTrial> {
+        let [first, way, pace, calls] = words else {
+            return None;
+        };
+        if first.as_str() != "calls" {
+            return None;
+        }
+        let way = match way.as_str() {
+            "queue" => Way::Queue,
+            "lock" => Way::Lock,
+            _ => return None,
+        };
+        let parked = match pace.as_str() {
+            "busy" => false,
+            "parked" => true,
+            _ => return None,
+        };
+        let calls = calls.as_str().parse::<u32>().ok()?;
+        Some(CallTrial {
+            way,
+            pace: Pace { calls, parked },
+        })
+    }
+
+    /// How many nanoseconds each call took.
+    fn times<R: Threads + Wait + Clock + Sync>(
+        self,
+        rt: &R,
+        alloc: Global,
+    ) -> io::Result<Vec<u64>> {
+        match self.way {
+            Way::Queue => calls::through_queue(rt, alloc, self.pace),
+            Way::Lock => mailbox::through_mailbox(rt, alloc, self.pace),
+        }
+    }
+}
+
+/// Makes the calls of a trial, and prints what they took.
+fn report_calls<R: Threads + Wait + Clock + Sync + Print>(
+    rt: &R,
+    alloc: Global,
+    trial: CallTrial,
+) -> io::Result<()> {
+    let (way, pace) = (
+        trial.way.name(),
+        if trial.pace.parked { "parked" } else { "busy" },
+    );
+    let times = trial.times(rt, alloc)?;
+    let count = times.len();
+    let summary = Summary::of(times)?;
+    println!(rt;
+        "calls {way} {pace}: {count} calls {} a second p50 {} ns p99 {} ns",
+        summary.per_second, summary.half, summary.most
+    )
+}
+
+/// Makes few calls each way, and prints how many were answered.
+fn report_each_way<R: Threads + Wait + Clock + Sync + Print>(
+    rt: &R,
+    alloc: Global,
+) -> io::Result<()> {
+    for way in [Way::Queue, Way::Lock] {
+        for parked in [false, true] {
+            let pace = Pace { calls: FEW, parked };
+            let count = CallTrial { way, pace }.times(rt, alloc)?.len();
+            let pace = if parked { "parked" } else { "busy" };
+            println!(rt; "calls {} {pace}: {count} calls", way.name())?;
+        }
+    }
+    Ok(())
+}
+
 fn main(rt: HostRuntime) -> io::Result<ExitCode> {
     let mut words = Vec::new(rt.alloc());
     for word in env::args(&rt)?.skip(1) {
@@ -142,6 +249,11 @@ fn main(rt: HostRuntime) -> io::Result<ExitCode> {
     }
     if words.is_empty() {
         report_each(&rt, rt.alloc())?;
+        report_each_way(&rt, rt.alloc())?;
+        return Ok(ExitCode::SUCCESS);
+    }
+    if let Some(trial) = CallTrial::of_words(words.as_slice()) {
+        report_calls(&rt, rt.alloc(), trial)?;
         return Ok(ExitCode::SUCCESS);
     }
     let Some(trial) = Trial::of_words(words.as_slice()) else {

@@ -1,0 +1,64 @@
+//! Two examples of job queues and workers: a queue of one place hands a job back, and workers serve calls that are
+//! held.
+#![tactic(auto)]
+
+mod queue_of_one;
+mod relay;
+mod requests;
+mod serving;
+
+use grid_base::Memory;
+use queue_of_one::OneByOne;
+use std::alloc::{AllocError, Global};
+use std::io;
+use std::sync::Wait;
+use std::thread::Threads;
+
+/// How often calls are served while all threads are made to sleep and to be woken.
+const ROUNDS: u32 = 50;
+
+/// How often a thread lets others run between two steps: more often than one looks before it sleeps.
+const PAUSES: u32 = 400;
+
+/// Whether both calls were answered with their own reply and both workers ended, each time.
+fn served_each_time<R: Threads + Wait + Sync>(
+    rt: &R,
+    alloc: Global,
+    rounds: u32,
+    pauses: u32,
+) -> Result<bool, Memory> {
+    for _ in 0..rounds {
+        let exchange = serving::serve_two(rt, alloc, pauses)?;
+        if exchange.held != Some(1) || exchange.sent != Some(2) || exchange.ended != (true, true) {
+            return Ok(false);
+        }
+    }
+    Ok(true)
+}
+
+/// Whether the full queue handed the second job back, and what was taken was what was put, in its order.
+fn is_in_order(seen: &OneByOne) -> bool {
+    seen.handed_back == 2 && seen.taken == (Some(1), Some(2), None)
+}
+
+fn main(rt: HostRuntime) -> io::Result<()> {
+    match queue_of_one::put_one_by_one(&rt, rt.alloc()) {
+        Ok(Some(seen)) if is_in_order(&seen) => {
+            println!(rt;
+                "a queue of one place: the second job came back, and was taken after the first"
+            )?
+        }
+        Ok(_) => println!(rt; "a queue of one place: a job is missing, or too many")?,
+        Err(AllocError) => println!(rt; "want of memory")?,
+    }
+    for pauses in [0, PAUSES] {
+        match served_each_time(&rt, rt.alloc(), ROUNDS, pauses) {
+            Ok(true) => println!(rt;
+                "two workers: a held call was answered once another's event had run"
+            )?,
+            Ok(false) => println!(rt; "two workers: an answer is missing, or a call was left")?,
+            Err(AllocError) => println!(rt; "want of memory")?,
+        }
+    }
+    Ok(())
+}

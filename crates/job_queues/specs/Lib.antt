@@ -1,0 +1,9 @@
+pub mod Answers
+pub mod Ends
+pub mod Jobs
+pub mod Lists
+pub mod ParcelRule
+pub mod QueueRule
+pub mod Roster
+pub mod Terms
+pub mod Tokens

@@ -1,0 +1,6 @@
+use Rattle.job_queues.specs.Roster.{roster_of}
+use Rattle.partition_threads.specs.Calls.{AreHeld}
+use Rattle.partition_threads.proofs.workers.look_again.Given as goal
+
+abbrev pub invariant-loop : goal.invariant-loop
+invariant-loop g l = AreHeld g.T.Stands.key_of g.T.Served.tells g.T.Served.call_of (roster_of l.place.cells.items) l.held.items

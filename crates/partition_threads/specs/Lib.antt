@@ -1,0 +1,5 @@
+pub mod Calls
+pub mod Starting
+pub mod Turns
+pub mod Workers
+pub mod Workplaces

@@ -1,0 +1,75 @@
+//! How a call is started.
+ghost use Rattle.std.specs.Prelude.{◌≡◌, ◌+◌, ◌*◌, ◌%◌, true, Some, slice_get, IfOk, IfErr};
+ghost use Rattle.hand_cell.specs.declared.names.Key.TheVariants.{Call};
+ghost use Rattle.hand_cell.specs.Names.{has, IsNewKey};
+ghost use Rattle.job_queues.specs.Roster.{roster_of};
+ghost use Rattle.job_queues.specs.Answers.{IsDone};
+ghost use Rattle.job_queues.specs.Terms.{Terms};
+ghost use Rattle.partition_threads.specs.Workplaces.{IsTokenAt};
+ghost use Rattle.partition_threads.specs.Starting.{HasStarted, IsUnstarted, IsAwaited};
+
+use crate::workplace::Workplace;
+use grid_base::{MemberId, Moment, Request};
+use hand_cell::{Pass, Served};
+use job_queues::{Busy, Done, Job, Parcel, ParcelEnd, QueuePass, Unmade};
+use std::alloc::Global;
+use std::sync::{Arc, Wait};
+
+/// A call that was started: the receiver's side of its parcel.
+#[derive(Drop)]
+pub struct Awaited<T: Served> {
+    pub parcel: Arc<Parcel<T>>,
+    pub end: ParcelEnd<T>,
+}
+
+/// Why a call wasn't started. The pass comes back as it was.
+#[derive(Drop)]
+pub enum StartRefused<T: Served> {
+    /// The worker's queue was full at a moment of the call.
+    Busy(Pass<T>),
+    Memory(Pass<T>),
+}
+
+impl<T: Served> Workplace<T> {
+    /// Hands a call over to the worker of its partition at a member, with a pass of the cell there that has the name of
+    /// the call, which is new. Takes memory for a parcel; a system call only where the worker sleeps.
+    pub fn start<R: Wait>(
+        &self,
+        rt: &R,
+        alloc: Global,
+        token: &mut QueuePass<T>,
+        pass: Pass<T>,
+        member: MemberId,
+        request: Request,
+        now: Moment,
+    ) -> Result<Awaited<T>, StartRefused<T>>
+        requires token { IsTokenAt self.now (4 * member + request.partition % 4) token.old }
+        requires cell { slice_get (roster_of self.now.cells.items).tables request.partition ≡ Some pass.table }
+        requires named { has pass.names (Call request.id) ≡ true }
+        requires unused { IsNewKey T.key_of (Call request.id) pass.seen }
+        requires within { T.fits request }
+        ensures started { IfOk result (λ awaited. HasStarted T.call_of (roster_of self.now.cells.items) pass member request now awaited) }
+        ensures same { IfOk result (λ _. token.new ≡ token.old) }
+        ensures refused { IfErr result (λ why. IsUnstarted pass token.old token.new why) }
+    {
+        let cell = &self.cells[usize::from(request.partition)];
+        match Job::new(alloc, cell, pass, member, request, now) {
+            Ok((job, parcel, end)) => match self.submit(rt, token, job) {
+                Ok(()) => Ok(Awaited { parcel, end }),
+                Err(Busy { job }) => Err(StartRefused::Busy(job.pass)),
+            },
+            Err(Unmade { pass }) => Err(StartRefused::Memory(pass)),
+        }
+    }
+}
+
+impl<T: Served> Awaited<T> {
+    /// Waits for the answer, as `Parcel::wait`.
+    pub fn wait<R: Wait>(self, rt: &R) -> Done<T>
+        requires { (terms : Terms T.Plan T.Event) × IsAwaited terms self }
+        ensures { (terms : Terms T.Plan T.Event) → IsAwaited terms self → IsDone T.key_of T.tells terms result }
+    {
+        let Awaited { parcel, end } = self;
+        parcel.wait(rt, end)
+    }
+}
