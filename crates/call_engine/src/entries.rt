@@ -17,8 +17,8 @@ ghost use Rattle.call_engine.specs.Executions.{IsExecution};
 ghost use Rattle.call_engine.specs.Limits.{EntryFits, IsWithin};
 
 use crate::env::GridEnv;
+use fixed_fields::write_reply;
 use grid_base::{Bytes, Change, Executed, MapCall, Memory, Moment, Request};
-use map_codecs::write_map_reply;
 use map_records::{MapRecord, is_expired, run_map};
 use object_store::{ObjectStore, write_drop_entry, write_set_entry};
 use std::alloc::Global;
@@ -123,7 +123,7 @@ fn run_on(
 {
     let (answer, next) = run_map(alloc, kept, call, now, &env.registry)?;
     Ok(Executed {
-        reply: write_map_reply(alloc, request.kind, request.correlation, &answer)?,
+        reply: write_reply(alloc, request.kind, request.correlation, &answer)?,
         effect: write_change(alloc, call, kept, &next)?,
         change: value_change(alloc, call, kept, next, now)?,
     })

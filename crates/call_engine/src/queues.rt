@@ -13,9 +13,9 @@ ghost use Rattle.call_engine.specs.Executions.{IsExecution};
 ghost use Rattle.call_engine.specs.Limits.{IsWithin};
 
 use crate::env::GridEnv;
+use fixed_fields::write_reply;
 use grid_base::{Bytes, Executed, Memory, Moment, QueueCall, Request};
 use object_store::{ObjectStore, write_clear, write_pop, write_push};
-use queue_codecs::write_queue_reply;
 use queue_records::{QueueStep, run_queue};
 use std::alloc::Global;
 
@@ -49,7 +49,7 @@ fn run_on(
 {
     let (answer, step) = run_queue(alloc, items, call, env.capacity)?;
     Ok(Executed {
-        reply: write_queue_reply(alloc, request.kind, request.correlation, &answer)?,
+        reply: write_reply(alloc, request.kind, request.correlation, &answer)?,
         effect: write_step(alloc, call, step)?,
         change: None,
     })

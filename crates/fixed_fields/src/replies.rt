@@ -57,7 +57,7 @@ fn write_object_error(alloc: Global, correlation: i64, code: i32) -> Result<Byte
 
 /// The reply to a request of that type, whole: its type is the request's plus 1, and it repeats the
 /// request's correlation. Costs its bytes, and copies a value once.
-pub fn write_answer(
+pub fn write_reply(
     alloc: Global,
     kind: u32,
     correlation: i64,

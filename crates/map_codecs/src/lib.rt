@@ -1,11 +1,10 @@
-//! Calls on a map's entry, read from a client's messages, and the bytes of their answers.
+//! Calls on a map's entry as a client's messages.
 #![tactic(auto)]
 
 mod calls;
 mod kinds;
 pub mod laws;
 mod parts;
-mod replies;
 mod shapes;
 
 pub use calls::read_map_call;
@@ -15,4 +14,3 @@ pub use kinds::{
     REMOVE_KIND, REPLACE_IF_SAME_KIND, REPLACE_KIND, SET_KIND, SET_MAX_IDLE_KIND, TRY_LOCK_KIND,
     UNLOCK_KIND,
 };
-pub use replies::write_map_reply;

@@ -36,7 +36,7 @@ byte_of_kind : (byte : ℕ) (k : Kind) → kind_of byte ≡ Some k → byte ≡ 
 byte_of_kind byte k e = let same = find_passes (λ kind. kind_byte kind == byte) all_kinds k e in grind (arith, nat_tests)
 
 kind_of_byte : (k : Kind) → kind_of (kind_byte k) ≡ Some k
-kind_of_byte kinds.Row = refl
+kind_of_byte kinds.NewRow = refl
 kind_of_byte kinds.Sync = refl
 kind_of_byte kinds.Effect = refl
 kind_of_byte kinds.Ack = refl
@@ -56,7 +56,7 @@ known_err at None p e is = (refl, cc)
 known_err at (Some kind) p e is = absurd cc
 
 some_kind : Begins SpellsKind []
-some_kind = record { value = kinds.Row; text = 1 ∷ []; spells = record { fits = tt; is = refl }; rest = 1 ∷ []; whole = refl }
+some_kind = record { value = kinds.NewRow; text = 1 ∷ []; spells = record { fits = tt; is = refl }; rest = 1 ∷ []; whole = refl }
 
 kind_taken : (p q : Place) (k : Kind) → IsBytes p.rest → kind_at p ≡ Ok (k, q) → Takes SpellsKind p k q
 kind_taken p q k are e =
@@ -105,7 +105,7 @@ before_rest : {C : Type 0} (R : ℕ → Place → Result (C × Place) WireRefuse
 before_rest R S f = followed (number_at w32) SpellsNumber R S number_format (λ n text s. f n)
 
 abbrev FieldsOf : Kind → MemberMessage → List ℕ → Type 0
-FieldsOf kinds.Row = Made said.Row SpellsRow
+FieldsOf kinds.NewRow = Made said.NewRow SpellsRow
 FieldsOf kinds.Sync = Follows SpellsRow (λ row. Follows SpellsNumber (λ count. Made (said.Sync row count) SpellsSized))
 FieldsOf kinds.Effect = Follows SpellsNumber (λ version. Follows SpellsNumber (λ number. Made (said.Effect version number) SpellsSized))
 FieldsOf kinds.Ack = Follows SpellsNumber (λ version. Made (said.Ack version) SpellsNumber)
@@ -116,7 +116,7 @@ FieldsOf kinds.Bridge = Follows SpellsRow (λ row. Follows SpellsNumber (λ base
 
 fields_format : (kind : Kind) → IsFormat (fields_at kind) (FieldsOf kind)
 unfolding row_message_at sync_at effect_at ack_at joined_at freeze_at frozen_at bridge_at
-fields_format kinds.Row = made said.Row row_at SpellsRow row_format
+fields_format kinds.NewRow = made said.NewRow row_at SpellsRow row_format
 fields_format kinds.Sync =
     followed row_at SpellsRow (λ row p. number_at w32 p >>= λ count. sized_at count.1 >>= λ bytes. Ok (said.Sync row count.0 bytes.0, bytes.1))
     (λ row. Follows SpellsNumber (λ count. Made (said.Sync row count) SpellsSized)) row_format
@@ -151,7 +151,7 @@ three : (text a b c d e f : List ℕ) → text ≡ a ++ b → a ≡ d → b ≡ 
 three text a b c d e f whole one rest two = whole ∙ both one (rest ∙ both two refl) ∙ sym (append_assoc d f e)
 
 to_fields : (kind : Kind) (m : MemberMessage) (text : List ℕ) → FieldsOf kind m text → IsOfKind kind m text
-to_fields kinds.Row m text s = subst (λ x. IsOfKind kinds.Row x text) (sym s.value) (record { kind_is = refl; fits = s.spells.fits; is = s.spells.is })
+to_fields kinds.NewRow m text s = subst (λ x. IsOfKind kinds.NewRow x text) (sym s.value) (record { kind_is = refl; fits = s.spells.fits; is = s.spells.is })
 to_fields kinds.Sync m text s =
     let last = s.is_back.is_back in
     subst (λ x. IsOfKind kinds.Sync x text) (sym last.value)
@@ -178,7 +178,7 @@ itself : {C : Type 0} {Fits : C → Type 0} (spelled : C → List ℕ) (c : C) �
 itself spelled c fits = record { fits = fits; is = refl }
 
 from_fields : (m : MemberMessage) → IsSpelled m → FieldsOf (kind_of_message m) m (field_bytes m)
-from_fields (said.Row row) fits = record { first = row; spells = itself row_bytes row fits; value = refl }
+from_fields (said.NewRow row) fits = record { first = row; spells = itself row_bytes row fits; value = refl }
 from_fields (said.Sync row count snapshot) fits = record {
   first = row;
   front = row_bytes row;

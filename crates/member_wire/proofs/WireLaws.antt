@@ -116,7 +116,7 @@ few_in_row : (row : Row) → IsSpelledRow row → IsByte (length row.members)
 few_in_row row fits = few_members row.lost (length row.members) fits.count
 
 pub lengths_fit : (m : MemberMessage) → IsSpelled m → LengthsFit m
-lengths_fit (said.Row row) fits = few_in_row row fits
+lengths_fit (said.NewRow row) fits = few_in_row row fits
 lengths_fit (said.Sync row count snapshot) fits = (few_in_row row fits.0, fits.2)
 lengths_fit (said.Effect version number effect) fits = fits.2
 lengths_fit (said.Ack version count) fits = tt

@@ -2,10 +2,10 @@
 use Rattle.std.specs.Prelude.{ℕ, ◌==◌, List, [], ◌∷◌, Option}
 use Rattle.std.specs.List.{find}
 use Rattle.member_wire.specs.declared.kind.Kind.{Kind}
-use Rattle.member_wire.specs.declared.kind.Kind.TheVariants.{Row, Sync, Effect, Ack, Joined, Freeze, Frozen, Bridge}
+use Rattle.member_wire.specs.declared.kind.Kind.TheVariants.{NewRow, Sync, Effect, Ack, Joined, Freeze, Frozen, Bridge}
 
 abbrev pub kind_byte : Kind → ℕ
-kind_byte Row = 1
+kind_byte NewRow = 1
 kind_byte Sync = 2
 kind_byte Effect = 3
 kind_byte Ack = 4
@@ -15,7 +15,7 @@ kind_byte Frozen = 7
 kind_byte Bridge = 8
 
 abbrev pub all_kinds : List Kind
-all_kinds = Row ∷ Sync ∷ Effect ∷ Ack ∷ Joined ∷ Freeze ∷ Frozen ∷ Bridge ∷ []
+all_kinds = NewRow ∷ Sync ∷ Effect ∷ Ack ∷ Joined ∷ Freeze ∷ Frozen ∷ Bridge ∷ []
 
 -- the kind that a byte stands for
 abbrev pub kind_of : ℕ → Option Kind

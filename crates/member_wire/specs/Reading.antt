@@ -51,7 +51,7 @@ row_at p = do
 unfoldable pub row_message_at : Place → Result (MemberMessage × Place) WireRefused
 row_message_at p = do
   row ← row_at p
-  Ok (said.Row row.0, row.1)
+  Ok (said.NewRow row.0, row.1)
 
 unfoldable pub sync_at : Place → Result (MemberMessage × Place) WireRefused
 sync_at p = do
@@ -107,7 +107,7 @@ kind_at p = do
   known_kind p.at (kind_of byte.0) byte.1
 
 abbrev pub fields_at : Kind → Place → Result (MemberMessage × Place) WireRefused
-fields_at kinds.Row p = row_message_at p
+fields_at kinds.NewRow p = row_message_at p
 fields_at kinds.Sync p = sync_at p
 fields_at kinds.Effect p = effect_at p
 fields_at kinds.Ack p = ack_at p

@@ -16,7 +16,7 @@ pub record Contents : Type 0 where
 
 -- the message with its contents
 abbrev pub said_with : Contents → Message → MemberMessage
-said_with k (NewRow row) = said.Row row
+said_with k (NewRow row) = said.NewRow row
 said_with k (SyncMessage row count) = said.Sync row count (k.snapshot row.version count)
 said_with k (EffectMessage version number) = said.Effect version number (k.effect version number)
 said_with k (BridgeMessage row base count) = said.Bridge row base count
@@ -31,7 +31,7 @@ written k sent = (sent.to, spelling (said_with k sent.message))
 
 -- the message without its contents
 abbrev pub message_of : MemberMessage → Message
-message_of (said.Row row) = NewRow row
+message_of (said.NewRow row) = NewRow row
 message_of (said.Sync row count snapshot) = SyncMessage row count
 message_of (said.Effect version number effect) = EffectMessage version number
 message_of (said.Ack version count) = AckMessage version count

@@ -20,7 +20,7 @@ abbrev pub row_bytes : Row → List ℕ
 row_bytes row = number row.version ++ number row.reset ++ mark row.lost ++ (length row.members ∷ flat_map member_bytes row.members)
 
 abbrev pub kind_of_message : MemberMessage → Kind
-kind_of_message (said.Row row) = kinds.Row
+kind_of_message (said.NewRow row) = kinds.NewRow
 kind_of_message (said.Sync row count snapshot) = kinds.Sync
 kind_of_message (said.Effect version number' effect) = kinds.Effect
 kind_of_message (said.Ack version count) = kinds.Ack
@@ -30,7 +30,7 @@ kind_of_message (said.Frozen version) = kinds.Frozen
 kind_of_message (said.Bridge row base count) = kinds.Bridge
 
 abbrev pub field_bytes : MemberMessage → List ℕ
-field_bytes (said.Row row) = row_bytes row
+field_bytes (said.NewRow row) = row_bytes row
 field_bytes (said.Sync row count snapshot) = row_bytes row ++ number count ++ sized snapshot
 field_bytes (said.Effect version number' effect) = number version ++ number number' ++ sized effect
 field_bytes (said.Ack version count) = number version ++ number count
@@ -58,7 +58,7 @@ pub record IsSpelledRow (row : Row) : Type 0 where
   pub distinct : HasDistinctMembers row
 
 abbrev pub IsSpelled : MemberMessage → Type 0
-IsSpelled (said.Row row) = IsSpelledRow row
+IsSpelled (said.NewRow row) = IsSpelledRow row
 IsSpelled (said.Sync row count snapshot) = IsSpelledRow row × IsNumber count × IsNumber (length snapshot)
 IsSpelled (said.Effect version number' effect) = IsNumber version × IsNumber number' × IsNumber (length effect)
 IsSpelled (said.Ack version count) = IsNumber version × IsNumber count
@@ -69,7 +69,7 @@ IsSpelled (said.Bridge row base count) = IsSpelledRow row × IsNumber base × Is
 
 -- What the types of the fields leave open: a row's members are counted by a byte, and contents by a number.
 abbrev pub LengthsFit : MemberMessage → Type 0
-LengthsFit (said.Row row) = IsByte (length row.members)
+LengthsFit (said.NewRow row) = IsByte (length row.members)
 LengthsFit (said.Sync row count snapshot) = IsByte (length row.members) × IsNumber (length snapshot)
 LengthsFit (said.Effect version number' effect) = IsNumber (length effect)
 LengthsFit (said.Ack version count) = Unit {0}

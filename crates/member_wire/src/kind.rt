@@ -4,7 +4,7 @@ ghost use Rattle.member_wire.specs.Kinds.{kind_byte, kind_of};
 /// What a message is about, which its first byte says.
 #[derive(Clone, Copy, Debug, PartialEq, Eq)]
 pub enum Kind {
-    Row = 1,
+    NewRow = 1,
     Sync = 2,
     Effect = 3,
     Ack = 4,
@@ -27,7 +27,7 @@ impl Kind {
         ensures { result ≡ kind_of byte }
     {
         match byte {
-            1 => Some(Kind::Row),
+            1 => Some(Kind::NewRow),
             2 => Some(Kind::Sync),
             3 => Some(Kind::Effect),
             4 => Some(Kind::Ack),

@@ -11,7 +11,7 @@ pub const MAX_MEMBERS: usize = 8;
 #[derive(Debug, Drop)]
 pub enum MemberMessage {
     /// The service made this row.
-    Row {
+    NewRow {
         row: Row,
     },
     /// The primary's contents, whole, as they are in the row's version after so many effects.
@@ -60,7 +60,7 @@ impl MemberMessage {
         ensures { result ≡ kind_of_message self.now }
     {
         match self {
-            MemberMessage::Row { .. } => Kind::Row,
+            MemberMessage::NewRow { .. } => Kind::NewRow,
             MemberMessage::Sync { .. } => Kind::Sync,
             MemberMessage::Effect { .. } => Kind::Effect,
             MemberMessage::Ack { .. } => Kind::Ack,

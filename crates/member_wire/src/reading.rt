@@ -148,7 +148,7 @@ fn read_fields(
     ensures { Gives (λ message. (message, from.new)) result (fields_at kind from.old) }
 {
     match kind {
-        Kind::Row => Ok(MemberMessage::Row {
+        Kind::NewRow => Ok(MemberMessage::NewRow {
             row: read_row(alloc, from)?,
         }),
         Kind::Sync => read_sync(alloc, from),

@@ -43,7 +43,7 @@ fn write_parts(
     message: &MemberMessage,
 ) -> Result<(), Fail> {
     match message {
-        MemberMessage::Row { row } => outbox.write_row(alloc, to, row)?,
+        MemberMessage::NewRow { row } => outbox.write_row(alloc, to, row)?,
         MemberMessage::Sync {
             row,
             count,
@@ -105,7 +105,7 @@ fn a_row_of_too_many_members_is_refused(rt: HostRuntime) -> Result<(), Fail> {
     assert!(rt; outbox.write_bridge(alloc, 0, &row, 1, 1).is_err());
     let none = Bytes::new(alloc);
     assert!(rt; outbox.write_sync(alloc, 0, &row, 1, &none).is_err());
-    assert!(rt; outbox.write(alloc, 0, &MemberMessage::Row { row }).is_err());
+    assert!(rt; outbox.write(alloc, 0, &MemberMessage::NewRow { row }).is_err());
     assert_eq!(rt; outbox.len(), 1);
     Ok(())
 }

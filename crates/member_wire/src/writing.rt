@@ -91,7 +91,7 @@ pub(crate) fn row_message(alloc: Global, row: &Row) -> Result<Bytes, Memory>
     ensures spelled { IfOk result (λ bytes. bytes ≡ spelling (MemberMessage.Row row.now)) }
     ensures fits { OnOk result (LengthsFit (MemberMessage.Row row.now)) }
 {
-    let mut out = begun(alloc, Kind::Row, 1 + row_length(row)?)?;
+    let mut out = begun(alloc, Kind::NewRow, 1 + row_length(row)?)?;
     put_row(&mut out, row)?;
     Ok(Bytes::from_vec(out))
 }
@@ -183,7 +183,7 @@ pub fn write_member(alloc: Global, message: &MemberMessage) -> Result<Bytes, Mem
     ensures fits { OnOk result (LengthsFit message.now) }
 {
     match message {
-        MemberMessage::Row { row } => row_message(alloc, row),
+        MemberMessage::NewRow { row } => row_message(alloc, row),
         MemberMessage::Sync {
             row,
             count,

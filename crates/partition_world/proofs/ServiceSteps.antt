@@ -6,6 +6,7 @@ use Rattle.partition_protocol.specs.Service.{Service, telling, detecting, beginn
 use Rattle.partition_protocol.specs.Recorded.{Recorded}
 use Rattle.partition_protocol.specs.WellFormed.{IsWellFormed}
 use Rattle.partition_protocol.specs.Claims.{IsLawful}
+use Rattle.partition_protocol.specs.Node.{Pair}
 use Rattle.partition_protocol.specs.World.{World as Machine, start, with_service, trail}
 use Rattle.partition_protocol.specs.History.{Reset}
 use Rattle.partition_protocol.specs.Links.{packets_from, sending}
@@ -38,7 +39,7 @@ use Rattle.partition_world.specs.Shelves.{IsShelf}
 use Rattle.partition_world.specs.Events.{happened_of}
 use Rattle.partition_world.specs.InFlight.{contents_in}
 use Rattle.partition_world.specs.Sending.{HasFit, flying}
-use Rattle.partition_world.specs.Recorders.{leader_pair, trail_by, with_reopening}
+use Rattle.partition_world.specs.Recorders.{trail_by, with_reopening}
 use Rattle.partition_world.specs.Worlds.{setup_of, run_of, leading_pair, Comes, HasRun}
 use Rattle.partition_world.proofs.Comings as comings
 use Rattle.partition_world.proofs.Quiet as quiet
@@ -486,7 +487,7 @@ module _ {S R Plan C State : Type 0} (k : Meaning S C State) (records : R → Re
       none)
 
   -- the code's recorder has the reset then
-  pub opening_recorded : (recorder : R) (version : ℕ) (made : Service) (leader : Option (ℕ × ℕ)) → version ≡ made.row.version
+  pub opening_recorded : (recorder : R) (version : ℕ) (made : Service) (leader : Option Pair) → version ≡ made.row.version
       → made ≡ reopening (setup_of world).partition (setup_of world).members (setup_of world).backups (service_of world.service)
       → leader ≡ leading_pair world (first_of opens_at.recorded.standing.members) → records recorder (with_reopening version leader opens_at.recorded) → records recorder with_opening
   opening_recorded recorder version made leader numbered is found recorded =
@@ -496,8 +497,8 @@ module _ {S R Plan C State : Type 0} (k : Meaning S C State) (records : R → Re
       same : version ≡ opens_at.service.row.version + 1
       same = numbered ∙ ap (λ (s : Service). s.row.version) is ∙ ap (λ (s : Service). s.row.version + 1) comes.stands.agrees.service
 
-      trails : trail_by opens_at.recorded (leader_pair leader) ≡ trail opens_at
-      trails = ap (λ x. trail_by opens_at.recorded (leader_pair x)) found ∙ sym (trail_found k records world opens_at comes.stands.agrees)
+      trails : trail_by opens_at.recorded leader ≡ trail opens_at
+      trails = ap (trail_by opens_at.recorded) found ∙ sym (trail_found k records world opens_at comes.stands.agrees)
 
   pub refused_opening : (within : ℕ → State → Type 0) (applied : List ℕ → State → Option State) (shelf : IsShelf k limits within applied) (service : TableService) (links : Net) → service_setup service ≡ setup_of world
       → service_of service ≡ service_of world.service → links.ends ≡ world.links.ends → HasLists links (list_of world.links) → (recorder : R) → records recorder opens_at.recorded → (refused : ReopenRefused)

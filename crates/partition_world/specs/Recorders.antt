@@ -15,21 +15,16 @@ use Rattle.partition_world.specs.Openings.{opening_of}
 abbrev pub first_record : {C : Type 0} → Row → Recorded C
 first_record row = record { standing = row; log = []; bases = record { version = 1; reset = 0; pair = no_pair } ∷ []; openings = [] }
 
--- the pair of a version and a count
-abbrev pub leader_pair : Option (ℕ × ℕ) → Option Pair
-leader_pair None = None
-leader_pair (Some leader) = Some (record { version = leader.0; count = leader.1 })
-
 -- The history by which the partition stands, where its first member has that pair: until it has adopted a row with the standing reset, the history at the reopening
 abbrev pub trail_by : {C : Type 0} → Recorded C → Option Pair → List (Entry C)
 trail_by r None = []
 trail_by r (Some p) = if nat_lt p.version r.standing.reset then opening_at r.standing.reset r.openings else history r.openings r.log r.bases p
 
 -- what is recorded once the partition was reopened by the row of that version: the reset, with the history so far
-abbrev pub with_reopening : {C : Type 0} → ℕ → Option (ℕ × ℕ) → Recorded C → Recorded C
+abbrev pub with_reopening : {C : Type 0} → ℕ → Option Pair → Recorded C → Recorded C
 with_reopening version leader r = record r {
   log = r.log ++ Reset version ∷ [];
-  openings = record { reset = version; entries = trail_by r (leader_pair leader) ++ Reset version ∷ [] } ∷ r.openings;
+  openings = record { reset = version; entries = trail_by r leader ++ Reset version ∷ [] } ∷ r.openings;
 }
 
 -- What is kept of a row by which the partition stands
@@ -71,8 +66,8 @@ abbrev pub HasRoom : {C : Type 0} → Recorder C → Type 0
 HasRoom recorder = HasEntryRoom recorder × HasBaseRoom recorder
 
 -- These places are those of a reopening, its reset last, where the contents of the standing row's first member have that pair; and the reopening takes no memory
-pub record IsReopening {C : Type 0} (recorder : Recorder C) (places : List ℕ) (leader : Option (ℕ × ℕ)) : Type 0 where
+pub record IsReopening {C : Type 0} (recorder : Recorder C) (places : List ℕ) (leader : Option Pair) : Type 0 where
   pub entry_room : HasEntryRoom recorder
   pub opening_room : vec_len recorder.openings < vec_capacity recorder.openings
   pub within : AreBelow (length recorder.log.items + 1) places
-  pub told : (r : Recorded C) → KeepsAll recorder r → (version : ℕ) → at_places (r.log ++ Reset version ∷ []) places ≡ trail_by r (leader_pair leader) ++ Reset version ∷ []
+  pub told : (r : Recorded C) → KeepsAll recorder r → (version : ℕ) → at_places (r.log ++ Reset version ∷ []) places ≡ trail_by r leader ++ Reset version ∷ []

@@ -120,9 +120,9 @@ pub record KeepsSetup {S R Plan C : Type 0} (old new : World S R Plan C) : Type 
   pub steps : steps_of new ≡ steps_of old
 
 -- the pair of a member's contents
-abbrev pub pair_of_member : {S R Plan C : Type 0} → World S R Plan C → ℕ → Option (ℕ × ℕ)
-pair_of_member {S = S} world m = option_map (λ (node : Node S). ((node_of node).pair.version, (node_of node).pair.count)) (slice_get world.nodes.items m)
+abbrev pub pair_of_member : {S R Plan C : Type 0} → World S R Plan C → ℕ → Option Pair
+pair_of_member {S = S} world m = option_map (λ (node : Node S). (node_of node).pair) (slice_get world.nodes.items m)
 
 -- and that of the member that leads, if there is one
-abbrev pub leading_pair : {S R Plan C : Type 0} → World S R Plan C → Option ℕ → Option (ℕ × ℕ)
+abbrev pub leading_pair : {S R Plan C : Type 0} → World S R Plan C → Option ℕ → Option Pair
 leading_pair world leader = option_and_then (pair_of_member world) leader

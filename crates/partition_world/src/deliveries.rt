@@ -26,7 +26,7 @@ fn most_sent(message: &MemberMessage) -> usize
     ensures { result ≡ most_of (message_of message.now) }
 {
     match message {
-        MemberMessage::Row { .. } | MemberMessage::Sync { .. } | MemberMessage::Bridge { .. } => {
+        MemberMessage::NewRow { .. } | MemberMessage::Sync { .. } | MemberMessage::Bridge { .. } => {
             MOST_SENT
         }
         _ => MOST_TOLD,

@@ -10,6 +10,7 @@ use crate::in_flight::MOST_TOLD;
 use crate::records::Records;
 use crate::world::World;
 use grid_base::{MemberId, Memory, Shelf};
+use partition_protocol::Pair;
 use std::alloc::Global;
 use table_service::{Advanced, ReopenRefused};
 
@@ -128,13 +129,12 @@ impl<S: Shelf, R: Records<S::Call>> World<S, R> {
         }
     }
 
-    /// The version and the count of the contents of the standing row's first member, if there is one.
-    pub(crate) fn leading_pair(&self) -> Option<(u32, u32)>
+    /// What names the contents of the standing row's first member, if there is one.
+    pub(crate) fn leading_pair(&self) -> Option<Pair>
         ensures { (r : Recorded S.Call) → R.records self.now.recorder r → result ≡ leading_pair self.now (first_of r.standing.members) }
     {
         let leader = self.recorder.leader()?;
         let node = self.nodes.get(usize::from(leader))?;
-        let pair = node.contents().pair;
-        Some((pair.version, pair.count))
+        Some(node.contents().pair)
     }
 }

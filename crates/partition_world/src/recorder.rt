@@ -93,7 +93,7 @@ impl<C: Drop> Records<C> for Recorder<C> {
     fn reopening_places(
         &mut self,
         alloc: Global,
-        leader: Option<(u32, u32)>,
+        leader: Option<Pair>,
     ) -> Result<Vec<usize>, Memory> {
         self.log.reserve(1)?;
         self.openings.reserve(1)?;
@@ -110,7 +110,7 @@ impl<C: Drop> Records<C> for Recorder<C> {
 }
 
 impl<C> Recorder<C> {
-    ghost use Rattle.partition_world.specs.Recorders.{KeepsAll, log_of, bases_of, openings_of, leader_pair, trail_by};
+    ghost use Rattle.partition_world.specs.Recorders.{KeepsAll, log_of, bases_of, openings_of, trail_by};
 
     /// The history by which the partition stands, where `leader` is the version and the count of the
     /// contents of the standing row's first member, if there is one. Costs a pass over the bases and
@@ -119,9 +119,9 @@ impl<C> Recorder<C> {
     pub(crate) fn trail(
         &self,
         alloc: Global,
-        leader: Option<(u32, u32)>,
+        leader: Option<Pair>,
     ) -> Result<Trail<'_, C>, Memory>
-        ensures { (r : Recorded C) → KeepsAll self.now r → IfOk result (λ trail. map entry_of trail ≡ trail_by r (leader_pair leader)) }
+        ensures { (r : Recorded C) → KeepsAll self.now r → IfOk result (λ trail. map entry_of trail ≡ trail_by r leader) }
     {
         let places = self.places(alloc, leader)?;
         Ok(Trail {
@@ -131,9 +131,9 @@ impl<C> Recorder<C> {
     }
 
     /// Where the entries of the trail stand in the log, and the reset of a reopening that comes next.
-    fn reset_places(&self, alloc: Global, leader: Option<(u32, u32)>) -> Result<Vec<usize>, Memory>
+    fn reset_places(&self, alloc: Global, leader: Option<Pair>) -> Result<Vec<usize>, Memory>
         ensures places { (r : Recorded C) → KeepsAll self.now r → IfOk result (λ places. (version : ℕ) →
-            at_places (r.log ++ HasReset version ∷ []) places.items ≡ trail_by r (leader_pair leader) ++ HasReset version ∷ []) }
+            at_places (r.log ++ HasReset version ∷ []) places.items ≡ trail_by r leader ++ HasReset version ∷ []) }
         ensures within { IfOk result (λ places. AreBelow (length self.now.log.items + 1) places.items) }
     {
         let mut places = self.places(alloc, leader)?;
@@ -142,16 +142,16 @@ impl<C> Recorder<C> {
     }
 
     /// Where the entries of the trail stand in the log.
-    fn places(&self, alloc: Global, leader: Option<(u32, u32)>) -> Result<Vec<usize>, Memory>
-        ensures places { (r : Recorded C) → KeepsAll self.now r → IfOk result (λ places. at_places (log_of self.now) places.items ≡ trail_by r (leader_pair leader)) }
+    fn places(&self, alloc: Global, leader: Option<Pair>) -> Result<Vec<usize>, Memory>
+        ensures places { (r : Recorded C) → KeepsAll self.now r → IfOk result (λ places. at_places (log_of self.now) places.items ≡ trail_by r leader) }
         ensures within { IfOk result (λ places. AreBelow (length self.now.log.items) places.items) }
     {
         match leader {
             None => Ok(Vec::new(alloc)),
-            Some((version, _)) if version < self.standing.reset => {
+            Some(pair) if pair.version < self.standing.reset => {
                 self.opening_places(alloc, self.standing.reset)
             },
-            Some((version, count)) => self.history_places(alloc, Pair { version, count }),
+            Some(pair) => self.history_places(alloc, pair),
         }
     }
 

@@ -4,6 +4,7 @@ use crate::recorder::Recorder;
 use crate::records::Records;
 use crate::standing_row::StandingRow;
 use grid_base::{Bytes, CallId};
+use partition_protocol::Pair;
 use partition_table::{Row, RowMember, RowMembers};
 use std::alloc::Global;
 use std::process::Abort;
@@ -66,11 +67,16 @@ fn reopen(
     alloc: Global,
     recorder: &mut Recorder<u8>,
     version: u32,
-    leader: Option<(u32, u32)>,
+    leader: Option<Pair>,
 ) -> Result<(), Fail> {
     let places = recorder.reopening_places(alloc, leader)?;
     recorder.reopen(version, places);
     Ok(())
+}
+
+/// What names the leader's contents.
+fn pair(version: u32, count: u32) -> Option<Pair> {
+    Some(Pair { version, count })
 }
 
 /// Calls are expected by their numbers, and resets by a hundred more than their versions.
@@ -78,7 +84,7 @@ fn assert_trail(
     rt: &impl Abort,
     alloc: Global,
     recorder: &Recorder<u8>,
-    leader: Option<(u32, u32)>,
+    leader: Option<Pair>,
     expected: &[u32],
 ) -> Result<(), Fail> {
     let trail = recorder.trail(alloc, leader)?;
@@ -114,10 +120,10 @@ fn two_versions(alloc: Global) -> Result<Recorder<u8>, Fail> {
 fn a_trail_goes_on_from_version_to_version(rt: HostRuntime) -> Result<(), Fail> {
     let recorder = two_versions(rt.alloc())?;
     assert_eq!(rt; recorder.leader(), Some(1));
-    assert_trail(&rt, rt.alloc(), &recorder, Some((2, 3)), &[0, 1, 3, 4])?;
-    assert_trail(&rt, rt.alloc(), &recorder, Some((2, 2)), &[0, 1])?;
-    assert_trail(&rt, rt.alloc(), &recorder, Some((1, 3)), &[0, 1, 2])?;
-    assert_trail(&rt, rt.alloc(), &recorder, Some((7, 3)), &[])?;
+    assert_trail(&rt, rt.alloc(), &recorder, pair(2, 3), &[0, 1, 3, 4])?;
+    assert_trail(&rt, rt.alloc(), &recorder, pair(2, 2), &[0, 1])?;
+    assert_trail(&rt, rt.alloc(), &recorder, pair(1, 3), &[0, 1, 2])?;
+    assert_trail(&rt, rt.alloc(), &recorder, pair(7, 3), &[])?;
     assert_trail(&rt, rt.alloc(), &recorder, None, &[])
 }
 
@@ -131,32 +137,32 @@ fn a_lost_row_is_not_stood_by(rt: HostRuntime) -> Result<(), Fail> {
         members: RowMembers::copied_from(rt.alloc(), &[])?,
     });
     assert_eq!(rt; recorder.leader(), Some(1));
-    assert_trail(&rt, rt.alloc(), &recorder, Some((2, 3)), &[0, 1, 3, 4])
+    assert_trail(&rt, rt.alloc(), &recorder, pair(2, 3), &[0, 1, 3, 4])
 }
 
 #[test]
 fn a_reopening_keeps_the_history(rt: HostRuntime) -> Result<(), Fail> {
     let mut recorder = two_versions(rt.alloc())?;
-    reopen(rt.alloc(), &mut recorder, 4, Some((2, 3)))?;
+    reopen(rt.alloc(), &mut recorder, 4, pair(2, 3))?;
     recorder.stand(&row(rt.alloc(), 4, 4)?);
-    assert_trail(&rt, rt.alloc(), &recorder, Some((2, 3)), &[0, 1, 3, 4, 104])?;
+    assert_trail(&rt, rt.alloc(), &recorder, pair(2, 3), &[0, 1, 3, 4, 104])?;
     begin(&mut recorder, 4, 4, (0, 0))?;
     call(rt.alloc(), &mut recorder, 5, 4, 1)?;
     assert_trail(
         &rt,
         rt.alloc(),
         &recorder,
-        Some((4, 1)),
+        pair(4, 1),
         &[0, 1, 3, 4, 104, 5],
     )?;
 
-    reopen(rt.alloc(), &mut recorder, 6, Some((4, 1)))?;
+    reopen(rt.alloc(), &mut recorder, 6, pair(4, 1))?;
     recorder.stand(&row(rt.alloc(), 6, 6)?);
     assert_trail(
         &rt,
         rt.alloc(),
         &recorder,
-        Some((4, 1)),
+        pair(4, 1),
         &[0, 1, 3, 4, 104, 5, 106],
     )?;
     begin(&mut recorder, 6, 6, (0, 0))?;
@@ -166,14 +172,14 @@ fn a_reopening_keeps_the_history(rt: HostRuntime) -> Result<(), Fail> {
         &rt,
         rt.alloc(),
         &recorder,
-        Some((6, 2)),
+        pair(6, 2),
         &[0, 1, 3, 4, 104, 5, 106, 6, 7],
     )?;
     assert_trail(
         &rt,
         rt.alloc(),
         &recorder,
-        Some((6, 0)),
+        pair(6, 0),
         &[0, 1, 3, 4, 104, 5, 106],
     )
 }
@@ -183,7 +189,7 @@ fn a_reopening_with_no_leader_has_no_history(rt: HostRuntime) -> Result<(), Fail
     let mut recorder = two_versions(rt.alloc())?;
     reopen(rt.alloc(), &mut recorder, 4, None)?;
     recorder.stand(&row(rt.alloc(), 4, 4)?);
-    assert_trail(&rt, rt.alloc(), &recorder, Some((0, 0)), &[104])
+    assert_trail(&rt, rt.alloc(), &recorder, pair(0, 0), &[104])
 }
 
 #[test]
@@ -201,7 +207,7 @@ fn a_standing_row_keeps_no_history(rt: HostRuntime) -> Result<(), Fail> {
     let places = <StandingRow as Records<u8>>::reopening_places(
         &mut standing,
         alloc,
-        Some((1, 3)),
+        pair(1, 3),
     )?;
     assert_eq!(rt; places.len(), 0);
     Ok(())

@@ -1,5 +1,6 @@
 ghost use Rattle.std.specs.Prelude.{ℕ, List, ◌≡◌, ◌++◌, ◌∷◌, [], if◌then◌else◌, Option, IfOk, OnOk};
 ghost use Rattle.partition_table.specs.Rows.{first_of};
+ghost use Rattle.partition_protocol.specs.Node.{Pair};
 ghost use Rattle.partition_protocol.specs.Recorded.{Recorded};
 ghost use Rattle.partition_world.specs.Recorders.{first_record, with_reopening};
 ghost use Rattle.partition_world.specs.RecordedEntries.{entry_of};
@@ -7,6 +8,7 @@ ghost use Rattle.partition_world.specs.RecordedEntries.{entry_of};
 use crate::base::Base;
 use crate::entry::Entry;
 use grid_base::{MemberId, Memory};
+use partition_protocol::Pair;
 use partition_table::Row;
 use std::alloc::Global;
 
@@ -23,7 +25,7 @@ pub trait Records<C>: Sized + Drop {
 
     /// These places are what it keeps of a reopening, where the contents of the standing row's first member have that
     /// pair, and the reopening takes no memory.
-    ghost reopens: { Self → List ℕ → Option (ℕ × ℕ) → Type 0 };
+    ghost reopens: { Self → List ℕ → Option Pair → Type 0 };
 
     /// Nothing has happened since this row, which is the first one of the partition.
     fn new(alloc: Global, row: &Row) -> Result<Self, Memory>
@@ -54,18 +56,18 @@ pub trait Records<C>: Sized + Drop {
     fn stand(&mut self, row: &Row)
         ensures { (r : Recorded C) → records self.old r → records self.new (record r { standing = if row.now.lost then r.standing else row.now }) };
 
-    /// What is to be kept of a reopening, where `leader` is the version and the count of the contents of the standing
+    /// What is to be kept of a reopening, where `leader` names the contents of the standing
     /// row's first member. Makes room for the reopening.
     fn reopening_places(
         &mut self,
         alloc: Global,
-        leader: Option<(u32, u32)>,
+        leader: Option<Pair>,
     ) -> Result<Vec<usize>, Memory>
         ensures records { (r : Recorded C) → records self.old r → records self.new r }
         ensures reopens { IfOk result (λ places. reopens self.new places.items leader) };
 
     /// The partition is reopened by the row of that version, and these places are kept of it. Takes no memory.
     fn reopen(&mut self, version: u32, places: Vec<usize>)
-        requires { (leader : Option (ℕ × ℕ)) × reopens self.old places.items leader }
-        ensures { (r : Recorded C) (leader : Option (ℕ × ℕ)) → reopens self.old places.items leader → records self.old r → records self.new (with_reopening version leader r) };
+        requires { (leader : Option Pair) × reopens self.old places.items leader }
+        ensures { (r : Recorded C) (leader : Option Pair) → reopens self.old places.items leader → records self.old r → records self.new (with_reopening version leader r) };
 }

@@ -8,6 +8,7 @@ use crate::base::Base;
 use crate::entry::Entry;
 use crate::records::Records;
 use grid_base::{MemberId, Memory};
+use partition_protocol::Pair;
 use partition_table::Row;
 use std::alloc::Global;
 
@@ -74,7 +75,7 @@ impl<C> Records<C> for StandingRow {
     fn reopening_places(
         &mut self,
         alloc: Global,
-        _leader: Option<(u32, u32)>,
+        _leader: Option<Pair>,
     ) -> Result<Vec<usize>, Memory> {
         Ok(Vec::new(alloc))
     }

@@ -25,9 +25,7 @@ pub struct Answers {
 impl Model for Answers {
     ghost use Rattle.std.specs.Prelude.{◌≤◌, ◌-◌, length, take, drop};
     ghost use Rattle.std.specs.VecDeque.{deque_len, deque_capacity};
-    ghost use Rattle.partition_protocol.specs.Node.{is_released};
-ghost use Rattle.primary_hold.specs.Views.{viewed};
-ghost use Rattle.primary_hold.specs.Answering.{AnswerQueue};
+    ghost use Rattle.primary_hold.specs.Answering.{AnswerQueue};
 
     ghost Value = { AnswerQueue };
 
@@ -131,10 +129,7 @@ impl Answers {
         ensures released { self.new.released ≡ self.old.released }
         ensures held { self.new.held ≡ self.old.held ++ answer ∷ [] }
     {
-        match self.list.push_back(answer) {
-            Ok(()) => {}
-            Err(_) => unreachable!(),
-        }
+        self.list.push_back_reserved(answer);
     }
 
     /// Releases the oldest held answer. Takes no memory.

@@ -74,7 +74,7 @@ module _ {State : Type 0} (within : ℕ → State → Type 0) (empty : State) (a
       → Leaves within empty applied snapshot_of m node message (took_of t) old new
   leaves_so (said.Sync row count bytes) t change old new is does = by_sync row count bytes t change old new is does
   leaves_so (said.Effect version number bytes) t change old new is does = by_effect version number bytes t change old new is does
-  leaves_so (said.Row row) t change old new is does = kept change _ new is does
+  leaves_so (said.NewRow row) t change old new is does = kept change _ new is does
   leaves_so (said.Bridge row base count) t change old new is does = kept change _ new is does
   leaves_so (said.Ack version count) t change old new is does = kept change _ new is does
   leaves_so (said.Joined version member) t change old new is does = kept change _ new is does

@@ -37,7 +37,7 @@ ring_after_row m row node ring = if is_newer row node then ring_in m row node ri
 
 -- the row that a message brings
 abbrev pub row_in : MemberMessage → Option Row
-row_in (said.Row row) = Some row
+row_in (said.NewRow row) = Some row
 row_in (said.Sync row count snapshot) = Some row
 row_in (said.Bridge row base count) = Some row
 row_in (said.Effect version number effect) = None
@@ -56,7 +56,7 @@ abbrev pub Leaves : {State : Type 0} → (ℕ → State → Type 0) → State �
 Leaves {State} within empty applied snapshot_of m node (said.Sync row count snapshot) Synced old new =
     (x : State) → IsSmall within x → snapshot_of x ≡ snapshot → new ≡ x
 Leaves within empty applied snapshot_of m node (said.Effect version number effect) took old new = EffectLeaves applied effect took old new
-Leaves within empty applied snapshot_of m node (said.Row row) took old new = new ≡ state_after_row empty m row node old
+Leaves within empty applied snapshot_of m node (said.NewRow row) took old new = new ≡ state_after_row empty m row node old
 Leaves within empty applied snapshot_of m node (said.Sync row count snapshot) took old new = new ≡ state_after_row empty m row node old
 Leaves within empty applied snapshot_of m node (said.Bridge row base count) took old new = new ≡ state_after_row empty m row node old
 Leaves within empty applied snapshot_of m node (said.Ack version count) took old new = new ≡ old

@@ -78,7 +78,7 @@ pub(crate) fn decide<'a>(facts: &Facts, from: MemberId, message: &'a MemberMessa
     ensures sound { IsSoundly (member_of facts.now) from result (node_of facts.now) }
 {
     match message {
-        MemberMessage::Row { row } => decide_row(facts, row),
+        MemberMessage::NewRow { row } => decide_row(facts, row),
         MemberMessage::Sync {
             row,
             count,

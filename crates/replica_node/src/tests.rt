@@ -150,7 +150,7 @@ fn a_joiner_is_told_of_once(rt: HostRuntime) -> Result<(), Fail> {
         return Err("it knows the initial row".into());
     }
     let row = leader.known().with_joiner(alloc, 2)?;
-    let message = MemberMessage::Row { row };
+    let message = MemberMessage::NewRow { row };
     let sent = hand(&rt, alloc, &mut leader, SERVICE, &message, Took::Adopted)?;
     assert_eq!(rt; (sent.len(), leader.known().version), (2, 2));
     let ack = MemberMessage::Ack {

@@ -149,7 +149,7 @@ fn standing_text(alloc: Global, service: &Service) -> Result<String, Fail> {
 /// What the service says is of its newest row: the row itself, or a freeze in its version.
 fn newest_text(rt: &impl Abort, row: &Row, message: &MemberMessage) -> &'static str {
     match message {
-        MemberMessage::Row { row: told } => {
+        MemberMessage::NewRow { row: told } => {
             assert_eq!(rt; told.version, row.version);
             assert_eq!(rt; told.members.as_slice(), row.members.as_slice());
             ""
@@ -425,7 +425,7 @@ fn what_is_said_to_members_is_for_others(rt: HostRuntime) -> Result<(), Fail> {
     let (number, count) = (1, 1);
     let effect = Bytes::new(alloc);
     let row = Row::initial(alloc, 6, 5, 2)?;
-    assert_other(&rt, &mut service, &MemberMessage::Row { row });
+    assert_other(&rt, &mut service, &MemberMessage::NewRow { row });
     assert_other(
         &rt,
         &mut service,

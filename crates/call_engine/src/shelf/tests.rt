@@ -8,7 +8,7 @@ ghost use Rattle.call_engine.specs.Limits.{RequestFits, IsWithin};
 
 use super::*;
 use entry_processors::{Add, Processor, Registry};
-use fixed_fields::write_answer;
+use fixed_fields::write_reply;
 use grid_base::{Answer, CallId, Change, ClientKey, MapCall, Owner, QueueCall};
 use std::test::Fail;
 
@@ -195,7 +195,7 @@ fn installed(
 fn is_reply(alloc: Global, executed: &Executed, answer: &Answer) -> Result<bool, Memory>
     requires { AnswerFits answer.now }
 {
-    let reply = write_answer(alloc, KIND, CORRELATION, answer)?;
+    let reply = write_reply(alloc, KIND, CORRELATION, answer)?;
     Ok(executed.reply == reply)
 }
 

@@ -3,7 +3,7 @@ use Rattle.std.proofs.Common.{◌≡◌, ◌∙◌, map, IfOk, ap, sym, subst}
 use Rattle.partition_protocol.specs.World.{trail}
 use Rattle.grid_base.specs.Shelves.{meaning}
 use Rattle.partition_world.specs.RecordedEntries.{entry_of}
-use Rattle.partition_world.specs.Recorders.{KeepsAll, leader_pair, trail_by}
+use Rattle.partition_world.specs.Recorders.{KeepsAll, trail_by}
 use Rattle.partition_world.specs.Worlds.{run_of}
 use Rattle.partition_world.proofs.Leaders.{trail_found}
 use Rattle.partition_world.proofs.readers.World+S+Recorder+S+Call.trail.Goals as goal
@@ -14,6 +14,6 @@ returns g c plan events stands =
     let k = meaning S.model plan in
     let world = c.args.self.now in
     let w = run_of k world events in
-    let told : trail_by w.recorded (leader_pair c.leading_pair.result) ≡ trail w =
-    ap (λ p. trail_by w.recorded (leader_pair p)) (c.leading_pair.ensures w.recorded stands.agrees.recorded) ∙ sym (trail_found k KeepsAll world w stands.agrees) in
+    let told : trail_by w.recorded c.leading_pair.result ≡ trail w =
+    ap (trail_by w.recorded) (c.leading_pair.ensures w.recorded stands.agrees.recorded) ∙ sym (trail_found k KeepsAll world w stands.agrees) in
     subst (λ es. IfOk c.trail.result (λ entries. map entry_of entries ≡ es)) told (c.trail.ensures w.recorded stands.agrees.recorded)
