@@ -97,8 +97,8 @@ impl Outbox {
 
     /// Writes a row's message and puts it last, as `write` does, with no copy of the row.
     pub fn write_row(&mut self, alloc: Global, to: MemberId, row: &Row) -> Result<(), Memory>
-        ensures ok { OnOk result (self.new ≡ self.old ++ (to, spelling (MemberMessage.Row row.now)) ∷ []) }
-        ensures fits { OnOk result (LengthsFit (MemberMessage.Row row.now)) }
+        ensures ok { OnOk result (self.new ≡ self.old ++ (to, spelling (MemberMessage.NewRow row.now)) ∷ []) }
+        ensures fits { OnOk result (LengthsFit (MemberMessage.NewRow row.now)) }
         ensures err { OnErr result (self.new ≡ self.old) }
     {
         let bytes = row_message(alloc, row)?;

@@ -105,7 +105,11 @@ fn a_row_of_too_many_members_is_refused(rt: HostRuntime) -> Result<(), Fail> {
     assert!(rt; outbox.write_bridge(alloc, 0, &row, 1, 1).is_err());
     let none = Bytes::new(alloc);
     assert!(rt; outbox.write_sync(alloc, 0, &row, 1, &none).is_err());
-    assert!(rt; outbox.write(alloc, 0, &MemberMessage::NewRow { row }).is_err());
+    assert!(rt;
+        outbox
+            .write(alloc, 0, &MemberMessage::NewRow { row })
+            .is_err()
+    );
     assert_eq!(rt; outbox.len(), 1);
     Ok(())
 }

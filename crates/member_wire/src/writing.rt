@@ -88,8 +88,8 @@ fn begun(alloc: Global, kind: Kind, room: usize) -> Result<Vec<u8>, Memory>
 
 /// A row's message, written once into a buffer of its length.
 pub(crate) fn row_message(alloc: Global, row: &Row) -> Result<Bytes, Memory>
-    ensures spelled { IfOk result (λ bytes. bytes ≡ spelling (MemberMessage.Row row.now)) }
-    ensures fits { OnOk result (LengthsFit (MemberMessage.Row row.now)) }
+    ensures spelled { IfOk result (λ bytes. bytes ≡ spelling (MemberMessage.NewRow row.now)) }
+    ensures fits { OnOk result (LengthsFit (MemberMessage.NewRow row.now)) }
 {
     let mut out = begun(alloc, Kind::NewRow, 1 + row_length(row)?)?;
     put_row(&mut out, row)?;

@@ -7,7 +7,6 @@ pub mod Openings
 pub mod Places
 pub mod RecordedEntries
 pub mod Recorders
-pub mod Registers
 pub mod Sending
 pub mod Shelves
 pub mod Worlds

@@ -35,7 +35,11 @@ impl Base {
           pair = if nat_lt had.version row.now.reset then no_pair else had;
         } }
     {
-        let begins = if had.version < row.reset { Pair::none() } else { had };
+        let begins = if had.version < row.reset {
+            Pair::none()
+        } else {
+            had
+        };
         Base {
             version: row.version,
             reset: row.reset,

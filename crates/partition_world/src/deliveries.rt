@@ -26,9 +26,8 @@ fn most_sent(message: &MemberMessage) -> usize
     ensures { result ≡ most_of (message_of message.now) }
 {
     match message {
-        MemberMessage::NewRow { .. } | MemberMessage::Sync { .. } | MemberMessage::Bridge { .. } => {
-            MOST_SENT
-        }
+        MemberMessage::NewRow { .. } | MemberMessage::Sync { .. } | MemberMessage::Bridge { .. } =>
+            { MOST_SENT }
         _ => MOST_TOLD,
     }
 }

@@ -2,8 +2,8 @@ ghost use Rattle.std.specs.Prelude.{◌≡◌};
 ghost use Rattle.partition_protocol.specs.History.{is_in_pair};
 ghost use Rattle.partition_world.specs.RecordedEntries.{entry_of};
 
-use partition_protocol::Pair;
 use grid_base::{Bytes, CallId, Moment};
+use partition_protocol::Pair;
 
 /// What stands in a partition's history.
 #[derive(Debug, Drop)]

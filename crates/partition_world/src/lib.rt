@@ -29,8 +29,3 @@ pub use records::Records;
 pub use standing_row::StandingRow;
 pub use steps::{MOST_EVENTS, every_world_is_safe};
 pub use world::World;
-
-#[cfg(test)]
-mod recorder_tests;
-#[cfg(test)]
-mod tests;

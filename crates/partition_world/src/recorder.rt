@@ -112,15 +112,11 @@ impl<C: Drop> Records<C> for Recorder<C> {
 impl<C> Recorder<C> {
     ghost use Rattle.partition_world.specs.Recorders.{KeepsAll, log_of, bases_of, openings_of, trail_by};
 
-    /// The history by which the partition stands, where `leader` is the version and the count of the
+    /// The history by which the partition stands, where `leader` names the
     /// contents of the standing row's first member, if there is one. Costs a pass over the bases and
     /// one over the log for each version in which the history goes on, and memory for the places of
     /// its entries.
-    pub(crate) fn trail(
-        &self,
-        alloc: Global,
-        leader: Option<Pair>,
-    ) -> Result<Trail<'_, C>, Memory>
+    pub fn trail(&self, alloc: Global, leader: Option<Pair>) -> Result<Trail<'_, C>, Memory>
         ensures { (r : Recorded C) → KeepsAll self.now r → IfOk result (λ trail. map entry_of trail ≡ trail_by r leader) }
     {
         let places = self.places(alloc, leader)?;

@@ -146,7 +146,11 @@ impl Facts {
         requires { is_primary row.now (member_of self.now) ≡ true }
         ensures { result ≡ (adopted_row (member_of self.now) row.now (node_of self.now)).pair }
     {
-        let count = if self.is_since_reset(row) { self.pair.count } else { 0 };
+        let count = if self.is_since_reset(row) {
+            self.pair.count
+        } else {
+            0
+        };
         Pair {
             version: row.version,
             count,

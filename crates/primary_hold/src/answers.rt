@@ -51,7 +51,10 @@ fn has_call(answers: &VecDeque<CallAnswer>, first: usize, id: CallId) -> bool
 fn are_released(answers: &VecDeque<CallAnswer>, first: usize, view: &View<'_>) -> bool
     ensures { result ≡ list_all (λ (a : Answer). is_released (viewed view.now) a.seen) (drop first answers.now.items) }
 {
-    answers.iter().skip(first).all(|answer| view.is_released(answer.seen))
+    answers
+        .iter()
+        .skip(first)
+        .all(|answer| view.is_released(answer.seen))
 }
 
 impl Answers {

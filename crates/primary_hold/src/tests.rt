@@ -68,7 +68,9 @@ fn holds_an_answer_until_each_backup_has_what_it_saw(rt: HostRuntime) -> Result<
     assert!(rt; facts.pop_released().is_none());
     acknowledge(&mut facts, 2, 1);
     assert!(rt; !facts.holds_any());
-    let seen = facts.pop_released().map(|answer| (answer.version, answer.seen));
+    let seen = facts
+        .pop_released()
+        .map(|answer| (answer.version, answer.seen));
     assert_eq!(rt; seen, Some((1, 1)));
     Ok(())
 }
@@ -115,7 +117,10 @@ fn a_primary_that_leads_on_keeps_what_it_holds(rt: HostRuntime) -> Result<(), Fa
         version: 1,
         count: 0,
     };
-    assert_eq!(rt; facts.view().catch_up(&may_lead(1)), CatchUp::Bridged { base });
+    assert_eq!(rt;
+        facts.view().catch_up(&may_lead(1)),
+        CatchUp::Bridged { base }
+    );
     assert_eq!(rt; facts.view().catch_up(&may_lead(2)), CatchUp::Whole);
     Ok(())
 }

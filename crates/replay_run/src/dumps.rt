@@ -26,11 +26,7 @@ fn push_decimal(out: &mut Vec<u8>, n: u64) -> Result<(), Memory>
 }
 
 /// Appends the outcome of a line that prints what a member has: the version of its contents, and how many effects they count.
-pub(crate) fn push_dump(
-    out: &mut Vec<u8>,
-    line: u32,
-    pair: Pair,
-) -> Result<(), Memory>
+pub(crate) fn push_dump(out: &mut Vec<u8>, line: u32, pair: Pair) -> Result<(), Memory>
     ensures { OnOk result (out.new.items ≡ out.old.items ++ dump_text line pair) }
 {
     push_number(out, u64::from(line))?;

@@ -16,7 +16,8 @@ ghost use Rattle.replay_run.specs.Grids.{boxed, Stands, MayRun, HasRun, IsGivenU
 ghost use Rattle.replay_run.specs.WorldCalls.{HasRoomAt, IsAmid, HasTaken, HasFlowed, HasTakenInAll, taker_of, event_in_all, line_of_fate};
 ghost use Rattle.replay_run.specs.declared.run_end.RunEnd.TheVariants as RunEnds;
 
-use crate::grid::{Grid, give_out};
+use crate::calls::give_out;
+use crate::grid::Grid;
 use crate::links::{Link, is_full, next_link};
 use crate::outcomes::{done_word, push_fate, push_flow, push_happened};
 use crate::print::push_text;

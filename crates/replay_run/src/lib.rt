@@ -1,11 +1,13 @@
 //! A script, line by line: what each line does to a grid, and the text that it prints.
 #![tactic(auto)]
 
+mod calls;
 mod connections;
 mod dumps;
 mod entries;
 mod events;
 mod grid;
+mod histories;
 mod laws;
 mod links;
 mod outcomes;

@@ -45,7 +45,6 @@ left_at false waits held = append-nil waits
 
 module _ {S State : Type 0} (within : ℕ → State → Type 0) (empty : State) (applied : List ℕ → State → Option State) (snapshot_of : State → List ℕ) (state : S → State)
     (old new : Node S) (from : ℕ) (row : Row) (next : BackupStep) (adopted noted : Facts) (taken : Taken) (before between : List (ℕ × List ℕ)) where
-
   abbrev m : ℕ
   m = member_of old
 

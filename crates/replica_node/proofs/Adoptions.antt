@@ -115,6 +115,7 @@ sent_kept m row node p s d =
     other_at true true e f = absurd (cc e)
     other_at true false e f = f
     other_at false r e f = refl
+
     was_other : is_before_reset row node ≡ false → stays_primary row node m ≡ false → is_primary node.known m ≡ false
     was_other r s = other_at (is_primary node.known m) (is_before_reset row node) r s
 
@@ -131,10 +132,13 @@ sent_staying m row node p s =
     both_of true true e = absurd (cc e)
     both_of true false e = (refl, refl)
     both_of false r e = absurd (cc e)
+
     next : Node
     next = adopt_as_primary row true node.held node
+
     stays : is_primary row m ≡ true → (is_primary node.known m ≡ true) × (is_before_reset row node ≡ false) → adopted_row m row node ≡ next
     stays p (k, r) = rw (p, k, r) refl
+
     each : lagging (bare next) ≡ sent_on_adopting m next
     each = rw p refl
 

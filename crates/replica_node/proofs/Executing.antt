@@ -5,7 +5,6 @@ use Rattle.backup_apply.specs.declared.contents.ContentsChange.TheVariants.{Keep
 use Rattle.backup_apply.specs.Contents.{Does, IsOfEffect, IsPossible}
 
 module _ {State : Type 0} (within : ℕ → State → Type 0) (applied : List ℕ → State → Option State) (snapshot_of : State → List ℕ) where
-
   pub effect_leaves : (e : Option (List ℕ)) (change : ContentsChange) (old new after : State) → IsOfEffect e change → (e ≡ None → after ≡ old)
       → ((bytes : List ℕ) → e ≡ Some bytes → applied bytes old ≡ Some after) → Does within applied snapshot_of change old new → new ≡ after
   effect_leaves None Keep old new after is none some does = does ∙ sym (none refl)

@@ -29,7 +29,6 @@ left_by empty m None node old = old
 left_by empty m (Some row) node old = state_after_row empty m row node old
 
 module _ {State : Type 0} (within : ℕ → State → Type 0) (empty : State) (applied : List ℕ → State → Option State) (snapshot_of : State → List ℕ) (m : ℕ) (node : Node) where
-
   kept : (change : ContentsChange) (base new : State) → change ≡ Keep → Does within applied snapshot_of change base new → new ≡ base
   kept change base new is does = subst (λ c. Does within applied snapshot_of c base new) is does
 

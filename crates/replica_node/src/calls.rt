@@ -132,7 +132,14 @@ impl<S: Shelf> Node<S> {
         if let Some(effect) = effect {
             let pair = self.facts.pair();
             let backups = self.facts.known().backups();
-            send_to_all(alloc, backups, pair.version, pair.count + 1, effect, &mut sent)?;
+            send_to_all(
+                alloc,
+                backups,
+                pair.version,
+                pair.count + 1,
+                effect,
+                &mut sent,
+            )?;
         }
         Ok(sent)
     }

@@ -16,8 +16,8 @@ use crate::node::Node;
 use crate::reaction::write_joined;
 use grid_base::{Bytes, MemberId, Memory, Shelf};
 use member_wire::Outbox;
-use partition_table::{Row, RowMember};
 use partition_protocol::Pair;
+use partition_table::{Row, RowMember};
 use primary_hold::{CatchUp, View};
 use std::alloc::Global;
 
@@ -226,5 +226,12 @@ fn send_if_joined(
     ensures { (k : Contents) → OnOk result (Sends k (joined_again service (viewed view.now) backup.now) out.old out.new) }
 {
     let joined = view.acked(backup.member).is_some() && !backup.eligible;
-    write_joined(alloc, service, view.row().version, backup.member, joined, out)
+    write_joined(
+        alloc,
+        service,
+        view.row().version,
+        backup.member,
+        joined,
+        out,
+    )
 }

@@ -15,6 +15,3 @@ pub use calls::{Called, Execution};
 pub use contents::Contents;
 pub use node::Node;
 pub use taking::Taken;
-
-#[cfg(test)]
-mod tests;

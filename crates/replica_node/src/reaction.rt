@@ -26,7 +26,9 @@ pub(crate) enum Reaction<'a> {
         drained: bool,
     },
     /// A primary executes no more, and tells the service at once where it holds no answer.
-    Freezes { drained: bool },
+    Freezes {
+        drained: bool,
+    },
 }
 
 impl<'a> Reaction<'a> {
@@ -35,7 +37,8 @@ impl<'a> Reaction<'a> {
         ensures { result ≡ took_by self.entry }
     {
         match self {
-            Reaction::Backup(BackupStep::Acknowledges { took, .. } | BackupStep::Silent(took)) => took,
+            Reaction::Backup(BackupStep::Acknowledges { took, .. } | BackupStep::Silent(took)) =>
+                took,
             Reaction::KeepsAck { .. } => Took::Acked,
             Reaction::Freezes { .. } => Took::Frozen,
         }
@@ -68,7 +71,9 @@ impl<'a> Reaction<'a> {
             }
             Reaction::Backup(BackupStep::Silent(_)) => Ok(()),
             Reaction::KeepsAck {
-                joined, drained, ..
+                joined,
+                drained,
+                ..
             } => {
                 write_joined(alloc, service, version, from, joined, out)?;
                 write_drained(alloc, service, version, drained, out)?;

@@ -26,7 +26,13 @@ impl<S: Shelf> Node<S> {
         self.send_lagging(alloc, &view, &mut out)?;
         send_joined(alloc, self.service, &view, &mut out)?;
         let drained = self.facts.is_drained();
-        write_drained(alloc, self.service, self.facts.known().version, drained, &mut out)?;
+        write_drained(
+            alloc,
+            self.service,
+            self.facts.known().version,
+            drained,
+            &mut out,
+        )?;
         Ok(Some(out))
     }
 }

@@ -19,6 +19,3 @@ pub use moves::Advanced;
 pub use refusals::{MoveRefused, ReopenRefused};
 pub use service::Service;
 pub use told::Told;
-
-#[cfg(test)]
-mod tests;

@@ -1,0 +1,300 @@
+//! Calls on their way through a grid: bytes that arrive, calls that reach their partitions, and answers that go out.
+
+ghost use Rattle.std.specs.Prelude.{◌≡◌, ℕ, true, ◌+◌, ◌-◌, ◌*◌, ◌<◌, ◌^◌, List, [], ◌∷◌, ◌++◌, ◌⊎◌, Some, map, OnOk, IsErrOf, ◌||◌, length};
+ghost use Rattle.grid_base.specs.declared.calls.Request.{Request as Call};
+ghost use Rattle.partition_protocol.specs.Events.{Event as ProtocolEvent};
+ghost use Rattle.partition_protocol.specs.Arrivals.{NamedOnce, arrivals, name};
+ghost use Rattle.grid_base.specs.Limits.{CallFits};
+ghost use Rattle.call_engine.specs.Calls.{Settings};
+ghost use Rattle.call_engine.specs.Env.{settings_of};
+ghost use Rattle.call_engine.specs.Objects.{partition_object};
+ghost use Rattle.partition_world.specs.Events.{happened_of};
+ghost use Rattle.grid_base.specs.Shelves.{meaning};
+ghost use Rattle.partition_world.specs.Worlds.{steps_of, waiting};
+ghost use Rattle.replay_run.specs.Runs.{Run, Connection as RunConnection, partitions, call_of, refused_by, connection_of, is_open, is_full, world_at};
+ghost use Rattle.replay_run.specs.Printing.{appended_text};
+ghost use Rattle.replay_run.specs.Tables.{with_answer};
+ghost use Rattle.replay_run.specs.ScriptRuns.{IsRun, IsNext};
+ghost use Rattle.replay_run.specs.Grids.{boxed, HasConnections, AreFew, Stands, StandsForEvents, Holds, IsCounting, MayRun, HasRun, IsGivenUp};
+ghost use Rattle.replay_run.specs.WorldCalls.{arrival_to, refusals, texts_of, message_of, with_answers, IsCalled, IsSkipped, is_own, going_out, GivesOut, HasAsked, HasTold, HasRoom, open_member_in, Brings, HasHandledSome, IsGivenUpMidway};
+ghost use Rattle.replay_run.specs.declared.run_end.RunEnd.TheVariants as RunEnds;
+
+use crate::connections::Connections;
+use crate::grid::Grid;
+use crate::links::is_full;
+use crate::print::{push_appended, push_close};
+use crate::run_end::RunEnd;
+use call_engine::{GridEnv, GridShelf};
+use client_codecs::write_error;
+use grid_base::errors::WANT_OF_MEMORY;
+use grid_base::{Bytes, MemberId, Memory, Moment, Request, Shelf};
+use partition_world::{CallOutcome, Event, Happened, Recorder, Records, World};
+use primary_hold::CallAnswer;
+use script_lang::Line;
+use session_core::Item;
+use std::alloc::Global;
+
+/// The error that answers a call which was not run: its number, and the version of the row that its
+/// member knows.
+#[derive(Clone, Copy, Debug, PartialEq, Eq)]
+struct Refusal {
+    code: i32,
+    version: u32,
+}
+
+/// A call found no memory.
+const NO_MEMORY: Refusal = Refusal {
+    code: WANT_OF_MEMORY,
+    version: 0,
+};
+
+/// How a call is refused, if it is.
+fn refusal_of(happened: Happened) -> Option<Refusal>
+    ensures { (line : ℕ) (request : Call) → refusals line request result ≡ refused_by line request (happened_of happened) }
+{
+    match happened {
+        Happened::Called(CallOutcome::Refused(why)) => Some(Refusal {
+            code: why.code(),
+            version: why.version(),
+        }),
+        _ => None,
+    }
+}
+
+/// What an error that answers a call carries of it.
+#[derive(Clone, Copy)]
+struct Caller {
+    line: u32,
+    conn: u32,
+    correlation: i64,
+}
+
+/// Appends the error that refuses a call, if it is refused.
+fn push_refusal(
+    alloc: Global,
+    out: &mut Vec<u8>,
+    to: Caller,
+    refusal: Option<Refusal>,
+) -> Result<(), Memory>
+    ensures { (request : Call) → request.id.conn ≡ to.conn → request.correlation ≡ to.correlation
+        → OnOk result (out.new.items ≡ out.old.items ++ texts_of (refusals to.line request refusal)) }
+{
+    let Some(Refusal { code, version }) = refusal else {
+        return Ok(());
+    };
+    let error = write_error(alloc, to.correlation, code, version.cast_signed(), 0)?;
+    push_appended(alloc, out, to.line, to.conn, error.as_slice())
+}
+
+/// What a call of a request meets at a member: its moment there, and the line at which it arrives.
+#[derive(Clone, Copy)]
+struct Arriving {
+    line: u32,
+    member: MemberId,
+    now: Moment,
+}
+
+/// A call reaches a member at a line. It is answered at once where it is refused or finds no memory.
+fn call(
+    alloc: Global,
+    world: &mut World<GridShelf, Recorder<Request>>,
+    env: &GridEnv,
+    at: Arriving,
+    request: Request,
+    out: &mut Vec<u8>,
+) -> Result<(), Memory>
+    requires limits { CallFits request.call }
+    requires room { steps_of world.old + 1 < 2 ^ 32 - 1 }
+    requires stands { (events : List (ProtocolEvent Call)) × StandsForEvents (settings_of (boxed form) env.now) world.old events
+        × NamedOnce (map name (arrivals (events ++ call_of (arrival_to at.line at.member at.now request) ∷ []))) }
+    ensures { (events : List (ProtocolEvent Call)) → StandsForEvents (settings_of (boxed form) env.now) world.old events
+        → NamedOnce (map name (arrivals (events ++ call_of (arrival_to at.line at.member at.now request) ∷ [])))
+        → OnOk result ((text : List ℕ) × (out.new.items ≡ out.old.items ++ text)
+        × (IsCalled (settings_of (boxed form) env.now) world.old world.new events (arrival_to at.line at.member at.now request) text ⊎ IsSkipped (settings_of (boxed form) env.now) world.old world.new events (arrival_to at.line at.member at.now request) text)) }
+{
+    request.call.numbers_fit();
+    let id = request.id;
+    let to = Caller {
+        line: at.line,
+        conn: id.conn,
+        correlation: request.correlation,
+    };
+    let event = Event::Call {
+        member: at.member,
+        id,
+        call: request,
+        now: at.now,
+    };
+    match world.step(alloc, env, event) {
+        Ok(happened) => push_refusal(alloc, out, to, refusal_of(happened)),
+        Err(_) => push_refusal(alloc, out, to, Some(NO_MEMORY)),
+    }
+}
+
+/// Gives out an answer: marks its call as answered, and appends it as a message.
+fn give(
+    alloc: Global,
+    connections: &mut Connections,
+    line: u32,
+    answer: CallAnswer,
+    out: &mut Vec<u8>,
+) -> Result<(), Memory>
+    ensures table { connections.new ≡ with_answer connections.old answer.id line }
+    ensures text { OnOk result (out.new.items ≡ out.old.items ++ appended_text (message_of line answer)) }
+{
+    connections.answer(answer.id, line);
+    push_appended(alloc, out, line, answer.id.conn, answer.reply.as_slice())
+}
+
+/// Whether an answer to a connection goes out: where that is open, or is the one of the call at hand, whose close comes
+/// after all that its bytes bring.
+fn goes_out(connections: &Connections, own: Option<u32>, conn: u32) -> bool
+    ensures { (r : Run) → HasConnections connections.now r → result ≡ (is_own own conn || is_open (connection_of r conn)) }
+{
+    own == Some(conn) || connections.is_open(conn)
+}
+
+/// Takes the answers that wait at a member, the oldest first, and gives those out whose connections are open or are the
+/// one of the call at hand.
+pub(crate) fn give_out<S: Shelf, R: Records<S::Call>>(
+    alloc: Global,
+    world: &mut World<S, R>,
+    member: MemberId,
+    connections: &mut Connections,
+    own: Option<u32>,
+    line: u32,
+    out: &mut Vec<u8>,
+) -> Result<(), Memory>
+    ensures text { (r : Run) → HasConnections connections.old r → OnOk result (out.new.items ≡ out.old.items ++ texts_of (map (message_of line) (going_out r own (waiting world.old member)))) }
+    ensures table { (r : Run) → HasConnections connections.old r → OnOk result (connections.new ≡ with_answers connections.old line (going_out r own (waiting world.old member))) }
+    ensures world { OnOk result (GivesOut (meaning S.model) R.records S.model.within_limits world.old world.new member) }
+{
+    while let Some(answer) = world.pop_released(member) {
+        if goes_out(connections, own, answer.id.conn) {
+            give(alloc, connections, line, answer, out)?;
+        }
+    }
+    Ok(())
+}
+
+impl Grid {
+    /// `bytes C HEX`: the messages that the bytes complete are handled in order, and a fault closes the connection.
+    /// Where it is closed or wasn't opened, or its member has crashed, nothing happens.
+    pub(crate) fn arrive(
+        &mut self,
+        alloc: Global,
+        number: u32,
+        conn: u32,
+        bytes: &[u8],
+        out: &mut Vec<u8>,
+    ) -> Result<(), RunEnd>
+        requires { MayRun (boxed form) self.old number (Line.Arrive conn bytes.now) }
+        ensures ok { (settings : Settings) (r : Run) → Stands (boxed form) settings self.old r → OnOk result (HasRun (boxed form) settings self.new r (Line.Arrive conn bytes.now) out.old.items out.new.items) }
+        ensures full { (settings : Settings) (r : Run) → Stands (boxed form) settings self.old r → IsErrOf result RunEnds.InFlight → IsGivenUp settings r (Line.Arrive conn bytes.now) }
+    {
+        let Some(member) = self.open_member(conn) else {
+            return Ok(self.pass(number, out)?);
+        };
+        let Some(fed) = self.connections.feed(alloc, conn, bytes)? else {
+            return Ok(self.pass(number, out)?);
+        };
+        self.count(number, out)?;
+        self.handle_all(alloc, conn, member, fed.items, out)?;
+        Ok(push_close(out, number, conn, fed.closed)?)
+    }
+
+    /// The member of a connection, where bytes can arrive on it.
+    fn open_member(&self, conn: u32) -> Option<MemberId>
+        requires { (settings : Settings) × (r : Run) × Stands (boxed form) settings self.now r }
+        ensures { (settings : Settings) (r : Run) → Stands (boxed form) settings self.now r → result ≡ open_member_in settings r conn }
+    {
+        let session = &self.connections.get(conn)?.session;
+        let member = session.member();
+        if session.closed().is_none() && self.is_live(member) {
+            Some(member)
+        } else {
+            None
+        }
+    }
+
+    /// The items of a connection are handled one after the other.
+    fn handle_all(
+        &mut self,
+        alloc: Global,
+        conn: u32,
+        member: MemberId,
+        items: Vec<Item>,
+        out: &mut Vec<u8>,
+    ) -> Result<(), RunEnd>
+        requires { (settings : Settings) × (r : Run) × (k : RunConnection) × (bytes : List ℕ) × Brings settings r k bytes items.items × HasHandledSome (boxed form) settings self.old r k bytes [] out.old.items out.old.items × (k.conn ≡ conn) × (k.member ≡ member) × HasRoom r k bytes × AreFew r }
+        ensures ok { (settings : Settings) (r : Run) (k : RunConnection) (bytes : List ℕ) → Brings settings r k bytes items.items → k.conn ≡ conn → k.member ≡ member
+            → HasHandledSome (boxed form) settings self.old r k bytes [] out.old.items out.old.items
+            → OnOk result (HasHandledSome (boxed form) settings self.new r k bytes items.items out.old.items out.new.items) }
+        ensures full { (settings : Settings) (r : Run) (k : RunConnection) (bytes : List ℕ) → Brings settings r k bytes items.items → k.conn ≡ conn → k.member ≡ member
+            → HasHandledSome (boxed form) settings self.old r k bytes [] out.old.items out.old.items
+            → IsErrOf result RunEnds.InFlight → IsGivenUpMidway settings r k bytes items.items }
+    {
+        for item in items {
+            match item {
+                Item::Reply(answer) => self.tell(alloc, conn, answer, out)?,
+                Item::Call(request) => self.ask(alloc, member, request, out)?,
+            }
+        }
+        Ok(())
+    }
+
+    /// A session's own answer is appended to its connection.
+    fn tell(
+        &mut self,
+        alloc: Global,
+        conn: u32,
+        answer: Bytes,
+        out: &mut Vec<u8>,
+    ) -> Result<(), Memory>
+        ensures { (settings : Settings) (r : Run) (number : ℕ) → IsRun (partition_object settings) r → Holds (boxed form) settings self.old r → IsCounting self.old.connections r conn number
+            → OnOk result (HasTold (boxed form) settings self.new r conn number answer out.old.items out.new.items) }
+    {
+        self.connections.reply(conn)?;
+        push_appended(alloc, out, self.lines, conn, answer.as_slice())
+    }
+
+    /// A call arrives at its connection's member. A full partition takes none.
+    fn ask(
+        &mut self,
+        alloc: Global,
+        member: MemberId,
+        request: Request,
+        out: &mut Vec<u8>,
+    ) -> Result<(), RunEnd>
+        requires limits { CallFits request.call }
+        requires placed { request.partition < partitions }
+        requires member { member < self.old.members }
+        requires stands { (settings : Settings) × (r : Run) × Holds (boxed form) settings self.old r × (length r.arrivals + 1001 * r.lines + 1 < 2 ^ 32 - 1) × IsRun (partition_object settings) r × IsNext r request × AreFew r }
+        ensures ok { (settings : Settings) (r : Run) → IsRun (partition_object settings) r → Holds (boxed form) settings self.old r → IsNext r request → IsCounting self.old.connections r request.id.conn request.id.number
+            → OnOk result (HasAsked (boxed form) settings self.new r member request out.old.items out.new.items) }
+        ensures full { (settings : Settings) (r : Run) → Holds (boxed form) settings self.old r → IsErrOf result RunEnds.InFlight → is_full (world_at (partition_object settings) r request.partition) ≡ true }
+    {
+        let conn = request.id.conn;
+        let world = &mut self.worlds[usize::from(request.partition)];
+        if is_full(self.links.as_slice(), world) {
+            return Err(RunEnd::InFlight);
+        }
+        self.connections.arrive(conn, self.lines)?;
+        let at = Arriving {
+            line: self.lines,
+            member,
+            now: self.moments[usize::from(member)],
+        };
+        call(alloc, world, &self.env, at, request, out)?;
+        give_out(
+            alloc,
+            world,
+            member,
+            &mut self.connections,
+            Some(conn),
+            self.lines,
+            out,
+        )?;
+        Ok(())
+    }
+}

@@ -1,0 +1,5 @@
+//! Tests of `replica_node` over its public calls.
+#![tactic(auto)]
+
+#[cfg(test)]
+mod nodes;
