@@ -22,7 +22,7 @@ use Rattle.message_frames.proofs.TurnSteps.{none_or_some}
 
 -- a reader after a text with a fault, and after one without
 
-pub standing_failed : (prefix : Bool) (text : List ℕ) (fault : Malformed) → fault_of prefix text ≡ Some fault → standing prefix text ≡ Failed fault
+pub standing_failed : (prefix : Bool) (text : List ℕ) (fault : Malformed) → fault_of prefix text ≡ Some fault → standing prefix text ≡ Failed prefix fault
 unfolding standing
 standing_failed prefix text fault some = rw (some, standing) refl
 
@@ -45,22 +45,22 @@ live_is prefix text own begun frame assembly stands = go (none_or_some (fault_of
     go (inl none) =
         let is : Live own begun frame assembly ≡ live prefix text = stands ∙ standing_live prefix text none in
         record { none = none; same = cc is; count = cc is; frames = cc is; state = cc is }
-    go (inr some) = let clash : Live own begun frame assembly ≡ Failed some.0 = stands ∙ standing_failed prefix text some.0 some.1 in absurd (cc clash)
+    go (inr some) = let clash : Live own begun frame assembly ≡ Failed prefix some.0 = stands ∙ standing_failed prefix text some.0 some.1 in absurd (cc clash)
 
-pub failed_is : (prefix : Bool) (text : List ℕ) (fault : Malformed) → StandsFor (Failed fault) prefix text → fault_of prefix text ≡ Some fault
-failed_is prefix text fault stands = sym (ap shown_fault stands ∙ shown_fault-standing prefix text)
+pub failed_is : (prefix : Bool) (text : List ℕ) (own : Bool) (fault : Malformed) → StandsFor (Failed own fault) prefix text → fault_of prefix text ≡ Some fault
+failed_is prefix text own fault stands = sym (ap shown_fault stands ∙ shown_fault-standing prefix text)
 
 -- After a fault a piece changes nothing.
 
-module _ (prefix : Bool) (text piece : List ℕ) (fault : Malformed) (stands : StandsFor (Failed fault) prefix text) where
+module _ (prefix : Bool) (text piece : List ℕ) (own : Bool) (fault : Malformed) (stands : StandsFor (Failed own fault) prefix text) where
   stays : heard prefix (text ++ piece) ≡ heard prefix text
-  stays = faults_stay prefix text piece fault (failed_is prefix text fault stands)
+  stays = faults_stay prefix text piece fault (failed_is prefix text own fault stands)
 
   pub failed_fault : fault_of prefix (text ++ piece) ≡ Some fault
-  failed_fault = ap (λ (h : Heard). h.fault) stays ∙ failed_is prefix text fault stands
+  failed_fault = ap (λ (h : Heard). h.fault) stays ∙ failed_is prefix text own fault stands
 
-  pub failed_stands : StandsFor (Failed fault) prefix (text ++ piece)
-  failed_stands = sym (standing_failed prefix (text ++ piece) fault failed_fault)
+  pub failed_stands : StandsFor (Failed own fault) prefix (text ++ piece)
+  failed_stands = stands ∙ standing_failed prefix text fault (failed_is prefix text own fault stands) ∙ sym (standing_failed prefix (text ++ piece) fault failed_fault)
 
   pub failed_messages : messages_of prefix text ++ [] ≡ messages_of prefix (text ++ piece)
   failed_messages = append-nil (messages_of prefix text) ∙ sym (ap (λ (h : Heard). h.messages) stays)
@@ -95,7 +95,7 @@ module _ (prefix : Bool) (text piece : List ℕ) (begun : ℕ) (none : fault_of 
     pub other_fault : fault_of prefix (text ++ piece) ≡ Some (record { at = at; why = Prefix })
     other_fault = ap (λ (h : Heard). h.fault) heard_other
 
-    pub other_stands : StandsFor (Failed (record { at = at; why = Prefix })) prefix (text ++ piece)
+    pub other_stands : StandsFor (Failed prefix (record { at = at; why = Prefix })) prefix (text ++ piece)
     other_stands = sym (standing_failed prefix (text ++ piece) (record { at = at; why = Prefix }) other_fault)
 
     pub other_messages : messages_of prefix text ++ [] ≡ messages_of prefix (text ++ piece)
@@ -250,29 +250,29 @@ is_fed prefix text piece own begun now frame later before after messages fault s
 -- A byte that differs from the prefix.
 pub is_other : (prefix : Bool) (text piece : List ℕ) (own : Bool) (begun at : ℕ) (frame : InProgress) (before : Assembly) (messages : List Message) →
     StandsFor (hearing None own begun frame before) prefix text → differing begun (drop begun (prefix_of own)) piece ≡ Some at → messages ≡ [] →
-    IsFed prefix text piece (Failed (record { at = at; why = Prefix })) messages (Some (record { at = at; why = Prefix }))
+    IsFed prefix text piece (Failed own (record { at = at; why = Prefix })) messages (Some (record { at = at; why = Prefix }))
 is_other prefix text piece own begun at frame before messages stands other no_messages =
     let is = live_is prefix text own begun frame before stands in
     let here : differing begun (drop begun (prefix_of prefix)) piece ≡ Some at = subst (λ p. differing begun (drop begun (prefix_of p)) piece ≡ Some at) is.same other in
     record {
-      stands = other_stands prefix text piece begun is.none is.count at here;
+      stands = ap (λ p. Failed p (record { at = at; why = Prefix })) is.same ∙ other_stands prefix text piece begun is.none is.count at here;
       given = ap (λ ms. messages_of prefix text ++ ms) no_messages ∙ other_messages prefix text piece begun is.none is.count at here;
       first = sym (other_fault prefix text piece begun is.none is.count at here);
     }
 
 -- After a fault.
-pub is_failed : (prefix : Bool) (text piece : List ℕ) (fault : Malformed) (messages : List Message) → StandsFor (Failed fault) prefix text → messages ≡ [] →
-    IsFed prefix text piece (Failed fault) messages (Some fault)
-is_failed prefix text piece fault messages stands no_messages = record {
-  stands = failed_stands prefix text piece fault stands;
-  given = ap (λ ms. messages_of prefix text ++ ms) no_messages ∙ failed_messages prefix text piece fault stands;
-  first = sym (failed_fault prefix text piece fault stands);
+pub is_failed : (prefix : Bool) (text piece : List ℕ) (own : Bool) (fault : Malformed) (messages : List Message) → StandsFor (Failed own fault) prefix text → messages ≡ [] →
+    IsFed prefix text piece (Failed own fault) messages (Some fault)
+is_failed prefix text piece own fault messages stands no_messages = record {
+  stands = failed_stands prefix text piece own fault stands;
+  given = ap (λ ms. messages_of prefix text ++ ms) no_messages ∙ failed_messages prefix text piece own fault stands;
+  first = sym (failed_fault prefix text piece own fault stands);
 }
 
 pub stays_failed : (prefix : Bool) (text piece : List ℕ) (fault : Option Malformed) (own : Bool) (begun : ℕ) (frame : InProgress) (state : Assembly) (messages : List Message) → is_some fault ≡ true →
     StandsFor (hearing fault own begun frame state) prefix text → messages ≡ [] → IsFed prefix text piece (hearing fault own begun frame state) messages fault
 stays_failed prefix text piece None own begun frame state messages shown stands no_messages = absurd (false≢true shown)
-stays_failed prefix text piece (Some fault) own begun frame state messages shown stands no_messages = is_failed prefix text piece fault messages stands no_messages
+stays_failed prefix text piece (Some fault) own begun frame state messages shown stands no_messages = is_failed prefix text piece own fault messages stands no_messages
 
 pub none_shown : (fault : Option Malformed) → is_some fault ≡ false → fault ≡ None
 none_shown None shown = refl

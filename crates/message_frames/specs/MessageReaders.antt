@@ -10,7 +10,7 @@ pub data Hearing : Type 0 where
   -- Without a fault so far: how many bytes of the prefix have come, the frame in progress, and the messages in progress.
   Live : (prefix : Bool) (begun : ℕ) (frame : InProgress) (assembly : Assembly) → Hearing
   -- after the first fault
-  Failed : (fault : Malformed) → Hearing
+  Failed : (prefix : Bool) (fault : Malformed) → Hearing
 
 -- the bytes after the prefix, whose first has the prefix's length as its place
 abbrev pub after_prefix : Bool → List ℕ → List ℕ
@@ -25,7 +25,7 @@ live prefix text =
 
 -- a reader after a text
 unfoldable pub standing : Bool → List ℕ → Hearing
-standing prefix text = elim (fault_of prefix text) [ None ↦ live prefix text | Some fault ↦ Failed fault ]
+standing prefix text = elim (fault_of prefix text) [ None ↦ live prefix text | Some fault ↦ Failed prefix fault ]
 
 abbrev pub StandsFor : Hearing → Bool → List ℕ → Type 0
 StandsFor reader prefix text = reader ≡ standing prefix text
@@ -33,9 +33,9 @@ StandsFor reader prefix text = reader ≡ standing prefix text
 -- a reader with these fields
 abbrev pub hearing : Option Malformed → Bool → ℕ → InProgress → Assembly → Hearing
 hearing None prefix begun frame assembly = Live prefix begun frame assembly
-hearing (Some fault) prefix begun frame assembly = Failed fault
+hearing (Some fault) prefix begun frame assembly = Failed prefix fault
 
 -- the fault shown so far
 abbrev pub shown_fault : Hearing → Option Malformed
 shown_fault (Live prefix begun frame assembly) = None
-shown_fault (Failed fault) = Some fault
+shown_fault (Failed prefix fault) = Some fault

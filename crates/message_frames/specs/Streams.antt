@@ -37,9 +37,10 @@ abbrev pub heard_in : Bool → Option (Box MarkedStream) → Hearing
 heard_in prefix None = standing prefix []
 heard_in prefix (Some heard) = heard_by heard.value.stream
 
-abbrev pub RestsIn : Option (Box MarkedStream) → Type 0
-RestsIn None = Unit {0}
-RestsIn (Some heard) = IsAtRest heard.value.stream
+-- The stream that a reader keeps is at rest, and begins as the reader says.
+abbrev pub RestsIn : Bool → Option (Box MarkedStream) → Type 0
+RestsIn prefix None = Unit {0}
+RestsIn prefix (Some heard) = IsAtRest heard.value.stream × (heard.value.stream.prefix ≡ prefix)
 
 -- the way back
 

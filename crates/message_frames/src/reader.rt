@@ -1,6 +1,5 @@
-ghost use Rattle.std.specs.Prelude.{◌≡◌, ℕ, ◌≤◌, Bool, List, [], ◌++◌, IfOk, OnOk, OnErr};
+ghost use Rattle.std.specs.Prelude.{◌≡◌, ℕ, Bool, List, [], ◌++◌, IfOk, OnOk, OnErr};
 ghost use Rattle.message_frames.specs.Messages.{messages_of, fault_of};
-ghost use Rattle.message_frames.specs.Assemblers.{most_lists};
 ghost use Rattle.message_frames.specs.MessageReaders.{StandsFor, shown_fault};
 ghost use Rattle.message_frames.specs.Streams.{heard_by, IsAtRest};
 
@@ -36,7 +35,7 @@ impl Model for MessageReader {
 
     ghost view = { λ r. heard_in r.prefix r.heard };
 
-    ghost invariant = { λ r. RestsIn r.heard };
+    ghost invariant = { λ r. RestsIn r.prefix r.heard };
 }
 
 /// A feed that isn't settled: the state of its reader, and the way back to the one before it. `MessageReader::commit`
@@ -95,16 +94,6 @@ impl MessageReader {
         }
     }
 
-    /// How many lists of frames the reader keeps: no more than there can be open chains, and one.
-    pub fn kept_lists(&self) -> usize
-        ensures { result ≤ most_lists }
-    {
-        match &self.heard {
-            Some(heard) => heard.stream.assembler.lists.len(),
-            None => 0,
-        }
-    }
-
     /// Takes the next piece of the stream, at the cost of its length, and gives the messages that it completes.
     /// Each byte is copied once, and each frame moved a few times, however the stream is cut.
     /// After the stream's first fault each feed gives no message and that fault. Want of memory changes nothing.
@@ -123,8 +112,9 @@ impl MessageReader {
 
     /// Takes the next piece as `feed` does, but lets the caller see what it gives before the reader stands there: `commit`
     /// settles the feed, `cancel` takes it back. All that needs memory is done here. Want of memory changes nothing.
-    /// Until one of the two the reader lends its state to the feed, and stands where a new one does. A piece that completes
-    /// no frame costs its bytes and a constant; the first piece also takes memory for the state, of a constant size.
+    /// Until one of the two the reader lends its state to the feed, and stands where a new one of its prefix does. A piece
+    /// that completes no frame costs its bytes and a constant; the first piece also takes memory for the state, of a constant
+    /// size.
     pub fn prepare(&mut self, alloc: Global, piece: &[u8]) -> Result<PendingFeed, Memory>
         ensures before { IfOk result (λ feed. feed.before ≡ self.old) }
         ensures after { IfOk result (λ feed. (prefix : Bool) (text : List ℕ) → StandsFor self.old prefix text → StandsFor feed.after prefix (text ++ piece.now)) }
@@ -132,30 +122,39 @@ impl MessageReader {
             messages_of prefix text ++ feed.messages ≡ messages_of prefix (text ++ piece.now)) }
         ensures fault { IfOk result (λ feed. (prefix : Bool) (text : List ℕ) → StandsFor self.old prefix text →
             shown_fault feed.after ≡ fault_of prefix (text ++ piece.now)) }
-        ensures lent { OnOk result ((prefix : Bool) × StandsFor self.new prefix []) }
+        ensures lent { OnOk result ((prefix : Bool) (text : List ℕ) → StandsFor self.old prefix text → StandsFor self.new prefix []) }
         ensures err { OnErr result (self.new ≡ self.old) }
     {
         let mut heard = self.take_heard(alloc)?;
         match heard.take_piece(alloc, piece) {
             Ok(taken) => Ok(PendingFeed { heard, taken }),
             Err(memory) => {
-                self.heard = Some(heard);
+                self.stand_with(heard);
                 Err(memory)
             }
         }
     }
 
-    /// What the reader has heard. It then stands where a new one does.
+    /// What the reader has heard. It then stands where a new one of its prefix does.
     fn take_heard(&mut self, alloc: Global) -> Result<Box<MarkedStream>, Memory>
         ensures heard { IfOk result (λ heard. heard_by heard.value.stream ≡ self.old) }
         ensures rest { IfOk result (λ heard. IsAtRest heard.value.stream) }
-        ensures lent { OnOk result ((prefix : Bool) × StandsFor self.new prefix []) }
+        ensures lent { OnOk result ((prefix : Bool) (text : List ℕ) → StandsFor self.old prefix text → StandsFor self.new prefix []) }
         ensures err { OnErr result (self.new ≡ self.old) }
     {
         match self.heard.take() {
             Some(heard) => Ok(heard),
             None => Ok(Box::new(alloc, MarkedStream::new(alloc, self.prefix))?),
         }
+    }
+
+    /// The reader stands where this stream does, whose prefix is then its own. Takes no memory.
+    fn stand_with(&mut self, heard: Box<MarkedStream>)
+        requires { IsAtRest heard.value.stream }
+        ensures { self.new ≡ heard_by heard.value.stream }
+    {
+        self.prefix = heard.stream.prefix;
+        self.heard = Some(heard);
     }
 
     /// Settles a feed: the reader stands after its piece. Takes no memory, and costs no more than a few moves.
@@ -167,7 +166,7 @@ impl MessageReader {
         let PendingFeed { mut heard, taken } = feed;
         heard.keep(alloc, taken.kept);
         let fault = heard.stream.fault;
-        self.heard = Some(heard);
+        self.stand_with(heard);
         FedMessages {
             messages: taken.messages,
             fault,
@@ -181,7 +180,7 @@ impl MessageReader {
     {
         let PendingFeed { mut heard, taken } = feed;
         heard.put_back(taken);
-        self.heard = Some(heard);
+        self.stand_with(heard);
     }
 }
 

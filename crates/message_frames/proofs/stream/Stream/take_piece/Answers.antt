@@ -83,7 +83,7 @@ returns-in_ok-taken-in-Ok-clause-messages c = λ prefix text stands. (fed c pref
 -- a byte that differs from the prefix
 
 other : (c : goal.After-nothing-in-Err) (prefix : Bool) (text : List ℕ) → StandsFor (heard_by c.args.self.now) prefix text →
-    IsFed prefix text c.args.piece.now (Failed (record { at = c.in-Err.at; why = Prefix })) c.nothing-in-Err.result.messages.items (Some (record { at = c.in-Err.at; why = Prefix }))
+    IsFed prefix text c.args.piece.now (Failed c.args.self.now.prefix (record { at = c.in-Err.at; why = Prefix })) c.nothing-in-Err.result.messages.items (Some (record { at = c.in-Err.at; why = Prefix }))
 other c prefix text stands =
     let r = c.args.self.now in
     let none : r.fault ≡ None = none_shown r.fault (sym c.is_some.ensures ∙ c.if-is_some.false) in
