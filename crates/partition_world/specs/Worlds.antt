@@ -11,6 +11,7 @@ use Rattle.link_net.specs.Links.{HasLists}
 use Rattle.primary_hold.specs.declared.answer.CallAnswer.{CallAnswer}
 use Rattle.primary_hold.specs.Rings.{kept}
 use Rattle.replica_node.specs.declared.node.Node.{Node}
+use Rattle.partition_protocol.specs.Node.{Pair}
 use Rattle.replica_node.specs.Nodes.{node_of, contents_of, waiting as node_waiting, held_answers, ring_of, ends_of}
 use Rattle.table_service.specs.Services.{Setup, service_of, setup_of as service_setup}
 use Rattle.partition_world.specs.declared.world.World.{World}
