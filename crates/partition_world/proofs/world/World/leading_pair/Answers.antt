@@ -21,5 +21,5 @@ returns g c r kept =
     let node = c.in_ok-node.node.now in
     let found = c.in_ok-node.ensures.lookup in
     let there : slice_get c.deref.result.now c.in_ok-leader.leader ≡ Some node = stands_there c.deref.result.now c.in_ok-leader.leader c.from.result node c.from.ensures (omega (arith, found.3.0, c.from.ensures)) found.1 in
-    leading_at c.args.self.now _ c.in_ok-leader.leader node c.contents-pair.result.pair (c.in_ok-leader.ensures r kept)
-    (ap (λ ns. slice_get ns c.in_ok-leader.leader) (sym c.deref.ensures.value) ∙ there) c.contents-pair.ensures.pair
+    leading_at c.args.self.now _ c.in_ok-leader.leader node c.contents.result.pair (c.in_ok-leader.ensures r kept)
+    (ap (λ ns. slice_get ns c.in_ok-leader.leader) (sym c.deref.ensures.value) ∙ there) c.contents.ensures.pair
