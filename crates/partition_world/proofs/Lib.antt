@@ -18,6 +18,7 @@ pub mod InTransit
 pub mod KeptRings
 pub mod Leaders
 pub mod LinkBytes
+pub mod LinkOrder
 pub mod Newest
 pub mod Places
 pub mod Quiet

@@ -3,6 +3,7 @@ pub mod Chains
 pub mod ContentsOf
 pub mod Events
 pub mod InFlight
+pub mod LinkOrder
 pub mod Openings
 pub mod Places
 pub mod RecordedEntries

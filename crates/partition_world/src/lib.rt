@@ -24,6 +24,7 @@ pub use base::Base;
 pub use entry::Entry;
 pub use event::{CallOutcome, Event, Happened};
 pub use history::Trail;
+pub use link_net::Link;
 pub use recorder::Recorder;
 pub use records::Records;
 pub use standing_row::StandingRow;

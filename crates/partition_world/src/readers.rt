@@ -6,6 +6,7 @@ ghost use Rattle.partition_protocol.specs.World.{is_live, trail};
 ghost use Rattle.partition_protocol.specs.Events.{Event as ProtocolEvent};
 ghost use Rattle.partition_world.specs.ContentsOf.{pair_at, contents_at, holds_at};
 ghost use Rattle.grid_base.specs.Shelves.{meaning};
+ghost use Rattle.partition_world.specs.LinkOrder.{next_link, has_crowded_link};
 ghost use Rattle.partition_world.specs.RecordedEntries.{entry_of};
 ghost use Rattle.partition_world.specs.Recorders.{KeepsAll};
 ghost use Rattle.partition_world.specs.Sending.{flying};
@@ -16,6 +17,7 @@ use crate::recorder::Recorder;
 use crate::records::Records;
 use crate::world::World;
 use grid_base::{Bytes, CallId, MemberId, Memory, Shelf};
+use link_net::Link;
 use partition_table::Row;
 use replica_node::Contents;
 use std::alloc::Global;
@@ -107,6 +109,25 @@ impl<S: Shelf, R: Records<S::Call>> World<S, R> {
             StandsFor k R.records S.model.within_limits self.now events → result.now ≡ flying k (run_of k self.now events) from to }
     {
         self.links.list(from, to)
+    }
+
+    /// The first link that has a message in flight, if one has, in order of senders and takers. These are the members by
+    /// their numbers, and the table service by the number of members. In constant time and with no memory.
+    pub fn next_link(&self) -> Option<Link>
+        ensures { (plan : S.Plan) (events : List (ProtocolEvent S.Call)) → let k = meaning S.model plan in
+            StandsFor k R.records S.model.within_limits self.now events → result ≡ next_link (run_of k self.now events) }
+    {
+        self.links.next_link()
+    }
+
+    /// Whether so many messages or more are in flight on a link. Takes no memory.
+    ///
+    /// Costs a constant while fewer are in flight in all, and else the number of links.
+    pub fn has_crowded_link(&self, most: usize) -> bool
+        ensures { (plan : S.Plan) (events : List (ProtocolEvent S.Call)) → let k = meaning S.model plan in
+            StandsFor k R.records S.model.within_limits self.now events → result ≡ has_crowded_link most (run_of k self.now events) }
+    {
+        self.links.has_crowded_link(most)
     }
 }
 
