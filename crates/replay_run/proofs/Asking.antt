@@ -1,5 +1,5 @@
 -- The world of a call's partition, where the code reads it.
-use Rattle.std.proofs.Common.{◌≡◌, ℕ, ◌+◌, ◌-◌, ◌*◌, ◌<◌, ◌^◌, Bool, true, List, [], ◌∷◌, length, get_or, map, Result, Err, Some, slice_get, refl, ap, sym, subst, ◌∙◌, ◌++◌, ◌⊎◌, arith}
+use Rattle.std.proofs.Common.{◌≡◌, ℕ, ◌+◌, ◌-◌, ◌*◌, ◌<◌, ◌^◌, true, List, [], ◌∷◌, length, get_or, map, Result, Err, Some, slice_get, refl, ap, sym, subst, ◌∙◌, ◌++◌, ◌⊎◌, arith}
 use Rattle.std.specs.Result.{IsErrAnd}
 use Rattle.std.specs.Prelude.{Option, unwrap_or}
 use Rattle.std.proofs.lemmas.Bool.{eq-eqb}
@@ -17,12 +17,10 @@ use Rattle.call_engine.specs.Objects.{partition_object}
 use Rattle.object_store.specs.Partitions.{Partition}
 use Rattle.partition_world.specs.declared.entry.Entry.{Entry}
 use Rattle.partition_world.specs.RecordedEntries.{entry_of}
-use Rattle.partition_world.specs.Worlds.{steps_of, setup_of, run_of, Comes}
+use Rattle.partition_world.specs.Worlds.{steps_of, run_of, Comes}
 use Rattle.partition_world.proofs.Places.{read_there}
 use Rattle.replay_run.specs.declared.grid.Grid.{Grid}
-use Rattle.replay_run.specs.declared.links.Link.{Link}
-use Rattle.table_service.specs.Services.{Setup}
-use Rattle.replay_run.specs.Runs.{Run, Arrival, events_at, moment_of, world_at, call_of, arrival_at, arrived, happening, is_full, links_of, partitions}
+use Rattle.replay_run.specs.Runs.{Run, Arrival, events_at, moment_of, world_at, call_of, arrival_at, arrived, happening, partitions}
 use Rattle.replay_run.specs.Shelves.{grid_meaning}
 use Rattle.replay_run.specs.Grids.{FormOf, GridWorld, StandsForEvents, IsWorld, Holds, Stands, AreFew}
 use Rattle.replay_run.specs.ScriptRuns.{IsRun, IsNext, call_asked}
@@ -128,13 +126,3 @@ pub told_history : {V : Type 0} {T : V → Type 0} {settings : Settings} (form :
     → (entries : List (Entry Request)) → ((events : List (Event Request)) → StandsForEvents (settings_of form grid.env) world events → map entry_of entries ≡ trail (run_of (grid_meaning (settings_of form grid.env)) world events))
     → map entry_of entries ≡ trail (world_at (partition_object settings) r p)
 told_history form grid r s p i low same world read entries = told_of form grid r s.holds p i low same world read trail (map entry_of entries)
-
--- whether it is full
-pub told_full : {V : Type 0} {T : V → Type 0} {settings : Settings} (form : FormOf V T) (grid : Grid V T) (r : Run) → Holds form settings grid r → (p i : ℕ) → p < partitions → i ≡ p → (world : GridWorld) → world ≡ get_or grid.worlds.items i world
-    → (links : List Link) → links ≡ grid.links.items → (full : Bool)
-    → ((events : List (Event Request)) → StandsForEvents (settings_of form grid.env) world events → links ≡ links_of (setup_of world).members → full ≡ is_full (run_of (grid_meaning (settings_of form grid.env)) world events))
-    → full ≡ is_full (world_at (partition_object settings) r p)
-told_full form grid r h p i low same world read links links_are full by =
-    let is = world_is grid r h p i low same world read in
-    let its : links ≡ links_of (setup_of world).members = links_are ∙ h.links ∙ ap (λ (x : Setup). links_of x.members) (sym is.setup) in
-    told_of form grid r h p i low same world read is_full full (λ events stands. by events stands its)

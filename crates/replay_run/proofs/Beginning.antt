@@ -8,7 +8,8 @@ use Rattle.call_engine.specs.Calls.{Settings}
 use Rattle.call_engine.specs.Env.{settings_of}
 use Rattle.partition_world.specs.Worlds.{waiting}
 use Rattle.replay_run.specs.declared.grid.Grid.{Grid}
-use Rattle.replay_run.specs.Runs.{Run, begun, partitions, links_of}
+use Rattle.partition_world.specs.LinkOrder.{links_of}
+use Rattle.replay_run.specs.Runs.{Run, begun, partitions}
 use Rattle.replay_run.specs.Tables.{most_connections, unopened, no_connections, opened_at}
 use Rattle.replay_run.specs.ScriptRuns.{grid_begun}
 use Rattle.replay_run.specs.Grids.{FormOf, GridWorld, IsWorld, Matches, HasTable, IsSettled, HasWorld, Stands}

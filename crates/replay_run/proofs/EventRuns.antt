@@ -13,8 +13,9 @@ use Rattle.partition_protocol.proofs.Lists.{on_if}
 use Rattle.partition_protocol.proofs.RowFacts.{number_other, number_cases}
 use Rattle.session_core.specs.declared.item.Item.{Item}
 use Rattle.session_core.specs.declared.item.Item.TheVariants.{Call as Asks, Reply}
-use Rattle.replay_run.specs.declared.links.Link.{Link}
-use Rattle.replay_run.specs.Runs.{Run, At, Connection, Arrival, is_at, events_at, world_at, is_full, is_skipped, arrived, asked, given_up, asks, arrival_at, occurred, meets_full, takes, takes_in, next_link, delivery_on, flowed, flowed_in, handled, handled_all}
+use Rattle.partition_world.specs.declared.Link.{Link}
+use Rattle.partition_world.specs.LinkOrder.{next_link}
+use Rattle.replay_run.specs.Runs.{Run, At, Connection, Arrival, is_at, events_at, world_at, is_full, is_skipped, arrived, asked, given_up, asks, arrival_at, occurred, meets_full, takes, takes_in, delivery_on, flowed, flowed_in, handled, handled_all}
 use Rattle.replay_run.specs.ScriptRuns.{IsRun, event_occurred, run_given_up}
 
 -- what holds of a run given up, and after the event, holds where the event meets the partition

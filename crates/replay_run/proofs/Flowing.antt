@@ -12,8 +12,9 @@ use Rattle.call_engine.specs.Calls.{Settings}
 use Rattle.call_engine.specs.Objects.{partition_object}
 use Rattle.object_store.specs.Partitions.{Partition}
 use Rattle.replay_run.specs.declared.grid.Grid.{Grid}
-use Rattle.replay_run.specs.declared.links.Link.{Link}
-use Rattle.replay_run.specs.Runs.{Run, At, Appended, events_at, world_at, meets_full, next_link, delivery_on, occurred, takes, takes_in, flowed, flowed_in}
+use Rattle.partition_world.specs.declared.Link.{Link}
+use Rattle.partition_world.specs.LinkOrder.{next_link}
+use Rattle.replay_run.specs.Runs.{Run, At, Appended, events_at, world_at, meets_full, delivery_on, occurred, takes, takes_in, flowed, flowed_in}
 use Rattle.replay_run.specs.Printing.{outcome_at}
 use Rattle.replay_run.specs.Grids.{FormOf}
 use Rattle.replay_run.specs.WorldCalls.{texts_of, HasRoomAt, IsAmid, HasGoneOn, HasTaken, HasFlowed}

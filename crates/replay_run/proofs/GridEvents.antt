@@ -12,7 +12,6 @@ use Rattle.partition_protocol.specs.Events.{Event, Call, Deliver, Lose, Repeat, 
 use Rattle.partition_protocol.specs.Arrivals.{asked_by, arrivals, name, NamedOnce}
 use Rattle.partition_protocol.proofs.Lists.{set_get_same, set_get_other}
 use Rattle.primary_hold.specs.declared.answer.CallAnswer.{CallAnswer}
-use Rattle.table_service.specs.Services.{Setup}
 use Rattle.partition_world.specs.Answers.{released_at, released_by as answers_by}
 use Rattle.partition_world.specs.Events.{EventWithin, event_of, happened_of}
 use Rattle.partition_world.specs.declared.event.Event.{Event as CodeEvent}
@@ -27,8 +26,7 @@ use Rattle.call_engine.specs.Limits.{RequestFits}
 use Rattle.call_engine.specs.Objects.{partition_object}
 use Rattle.object_store.specs.Partitions.{Partition}
 use Rattle.replay_run.specs.declared.grid.Grid.{Grid}
-use Rattle.replay_run.specs.declared.links.Link.{Link}
-use Rattle.replay_run.specs.Runs.{Run, Appended, Reopened, partitions, messages_on, events_at, world_at, links_of, answer_to, executed_for, is_heard, given_out, reopening_by, occurred, meets_full}
+use Rattle.replay_run.specs.Runs.{Run, Appended, Reopened, partitions, messages_on, events_at, world_at, answer_to, executed_for, is_heard, given_out, reopening_by, occurred, meets_full}
 use Rattle.replay_run.specs.ScriptRuns.{event_occurred}
 use Rattle.replay_run.specs.Shelves.{grid_meaning}
 use Rattle.replay_run.specs.Tables.{Table}
@@ -289,14 +287,6 @@ module _ {V : Type 0} {T : V → Type 0} {form : FormOf V T} {settings : Setting
 module _ {V : Type 0} {T : V → Type 0} {form : FormOf V T} {settings : Settings} (grid : Grid V T) (r : Run) (h : Holds form settings grid r) (p i : ℕ) (low : p < partitions) (same : i ≡ p) (world : GridWorld) (read : world ≡ get_or grid.worlds.items i world) where
   is_its : IsWorld settings world r p
   is_its = world_is grid r h p i low same world read
-
-  pub told_of : {X : Type 0} (f : World Request → X) (result : X) (links : List Link) → links ≡ grid.links.items
-      → ((events : List (Event Request)) → StandsForEvents (settings_of form grid.env) world events → links ≡ links_of (setup_of world).members → result ≡ f (run_of (grid_meaning (settings_of form grid.env)) world events))
-      → result ≡ f (world_at (partition_object settings) r p)
-  told_of f result links all told =
-      let ends : links ≡ links_of (setup_of world).members = all ∙ h.links ∙ ap (λ (s : Setup). links_of s.members) (sym is_its.setup) in
-      subst (λ s. StandsForEvents s world (events_at p r.events) → result ≡ f (run_of (grid_meaning s) world (events_at p r.events))) h.goes_by (λ s. told (events_at p r.events) s ends) is_its.stands
-      ∙ ap f (run_is world r p is_its)
 
   -- It has as much room in another run that it stands for.
   pub room_in : {form2 : FormOf V T} {settings2 : Settings} (r2 : Run) (h2 : Holds form2 settings2 grid r2) (most : ℕ) → HasRoomAt r p most → HasRoomAt r2 p most

@@ -6,8 +6,9 @@ use Rattle.grid_base.specs.declared.calls.Request.{Request}
 use Rattle.partition_world.specs.Sending.{flying}
 use Rattle.partition_world.specs.Worlds.{run_of}
 use Rattle.call_engine.specs.Calls.{Settings}
-use Rattle.replay_run.specs.declared.links.Link.{Link}
-use Rattle.replay_run.specs.Runs.{Run, events_at, links_of}
+use Rattle.partition_world.specs.declared.Link.{Link}
+use Rattle.partition_world.specs.LinkOrder.{links_of}
+use Rattle.replay_run.specs.Runs.{Run, events_at}
 use Rattle.replay_run.specs.Printing.{in_flight, link_text, link_text_from}
 use Rattle.replay_run.specs.Shelves.{grid_meaning}
 use Rattle.replay_run.specs.Grids.{GridWorld, IsWorld}

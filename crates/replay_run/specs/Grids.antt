@@ -20,7 +20,8 @@ use Rattle.call_engine.specs.Calls.{Settings}
 use Rattle.call_engine.specs.Env.{settings_of}
 use Rattle.call_engine.specs.Limits.{RequestFits}
 use Rattle.call_engine.specs.Objects.{partition_object}
-use Rattle.replay_run.specs.Runs.{Run, Connection, Arrival, Appended, partitions, connection_of, messages_on, bytes_of, events_at, links_of, after_line}
+use Rattle.partition_world.specs.LinkOrder.{links_of}
+use Rattle.replay_run.specs.Runs.{Run, Connection, Arrival, Appended, partitions, connection_of, messages_on, bytes_of, events_at, after_line}
 use Rattle.replay_run.specs.Shelves.{grid_meaning}
 use Rattle.replay_run.specs.Printing.{arrival_of, answer_of, line_text}
 use Rattle.replay_run.specs.ScriptRuns.{IsRun}

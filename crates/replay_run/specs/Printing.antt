@@ -27,9 +27,10 @@ use Rattle.partition_world.specs.ContentsOf.{pair_at, contents_at}
 use Rattle.partition_world.specs.Sending.{flying}
 use Rattle.replay_run.specs.Dumps.{word, number, line_end, hex_word, number_or_dash, object_words, dumped_text}
 use Rattle.partition_world.specs.Answers.{id_of}
-use Rattle.replay_run.specs.Runs.{Run, Connection, Arrival, Appended, At, partitions, reopened_at, world_at, connection_of, fault_on, can_open, takes_bytes, links_of, event_by}
+use Rattle.partition_world.specs.LinkOrder.{links_of}
+use Rattle.replay_run.specs.Runs.{Run, Connection, Arrival, Appended, At, partitions, reopened_at, world_at, connection_of, fault_on, can_open, takes_bytes, event_by}
 use Rattle.replay_run.specs.Shelves.{grid_meaning}
-use Rattle.replay_run.specs.declared.links.Link.{Link}
+use Rattle.partition_world.specs.declared.Link.{Link}
 use Rattle.script_lang.specs.declared.line.Line.{Line}
 use Rattle.script_lang.specs.declared.line.Line.TheVariants.{Grid, OpenConn, Arrive, Flow, FlowAll, Crash, Detect, Dump, Links, Trail, End}
 use Rattle.frame_codec.specs.declared.malformed.Malformed.{Malformed}

@@ -1,7 +1,7 @@
 -- The run of a script: what its lines so far have made. The worlds of the partitions are not kept: each is the protocol's run of its events.
-use Rattle.std.specs.Prelude.{ℕ, zero, suc, ◌+◌, ◌==◌, Bool, true, false, not, ◌&&◌, ◌||◌, nat_le, if◌then◌else◌, ℤ, pos, List, [], ◌∷◌, ◌++◌, length, map, filter, drop, sum_by, replicate, slice_get, slice_set, Option, Some, None, is_some, unwrap_or}
+use Rattle.std.specs.Prelude.{ℕ, zero, suc, ◌+◌, ◌==◌, Bool, true, false, not, ◌&&◌, ◌||◌, if◌then◌else◌, ℤ, pos, List, [], ◌∷◌, ◌++◌, length, map, filter, drop, sum_by, replicate, slice_get, slice_set, Option, Some, None, is_some, unwrap_or}
 use Rattle.std.specs.Int.{w32, cast_signed}
-use Rattle.std.specs.List.{list_any, find, filter_map, flat_map}
+use Rattle.std.specs.List.{list_any, find, filter_map}
 use Rattle.grid_base.specs.Objects.{Object}
 use Rattle.grid_base.specs.Names.{is_same_call}
 use Rattle.frame_codec.specs.declared.malformed.Malformed.{Malformed}
@@ -12,13 +12,12 @@ use Rattle.grid_base.specs.declared.calls.Request.{Request}
 use Rattle.partition_protocol.specs.Node.{Held}
 use Rattle.partition_protocol.specs.History.{Executed}
 use Rattle.partition_protocol.specs.Execution.{Reached, Executes, PartitionLost, WrongTarget, Migrating}
-use Rattle.partition_protocol.specs.Messages.{Packet}
-use Rattle.partition_protocol.specs.Links.{link}
 use Rattle.partition_protocol.specs.Service.{numbers_below}
 use Rattle.partition_protocol.specs.World.{World, start, is_live}
 use Rattle.partition_protocol.specs.Events.{Event, Call, Outcome, Refused, RowMadeAt, happens, run}
 use Rattle.partition_protocol.specs.Events as event
 use Rattle.partition_world.specs.Answers.{id_of, newest_call}
+use Rattle.partition_world.specs.LinkOrder.{next_link, has_crowded_link}
 use Rattle.grid_base.specs.Errors.{partition_lost, wrong_target, migrating, want_of_memory}
 use Rattle.fixed_fields.specs.Responses.{error_bytes}
 use Rattle.session_core.specs.Items.{items_of}
@@ -26,7 +25,7 @@ use Rattle.session_core.specs.declared.item.Item.{Item}
 use Rattle.session_core.specs.declared.item.Item.TheVariants.{Call as Asks, Reply}
 use Rattle.script_lang.specs.declared.line.Line.{Line}
 use Rattle.script_lang.specs.declared.line.Line.TheVariants.{OpenConn, Arrive, Clock, Deliver, Lose, Repeat, Flow, FlowAll, Resend, Crash, Detect, Move, Join, Handover, Advance, Reopen}
-use Rattle.replay_run.specs.declared.links.Link.{Link}
+use Rattle.partition_world.specs.declared.Link.{Link}
 
 -- a connection: its number, the member that it is to, and all the bytes that arrived on it, however they were cut
 pub record Connection : Type 0 where
@@ -129,33 +128,12 @@ takes_bytes o r connection = is_open (Some connection) && lives o r connection.m
 
 -- links
 
--- in order of their senders and takers, which are the members and the table service
-abbrev pub links_from : ℕ → ℕ → List Link
-links_from members from = map (λ to. record { from = from; to = to }) (numbers_below (members + 1))
-
-abbrev pub links_of : ℕ → List Link
-links_of members = flat_map (links_from members) (numbers_below (members + 1))
-
--- the messages in flight on a link
-abbrev pub packets_on : {C : Type 0} → World C → Link → List Packet
-packets_on w l = link l.from l.to w.packets
-
--- the first link that has a message
-abbrev pub is_busy : {C : Type 0} → World C → Link → Bool
-is_busy w l = not (length (packets_on w l) == 0)
-
-abbrev pub next_link : {C : Type 0} → World C → Option Link
-next_link w = find (is_busy w) (links_of w.members)
-
 -- A partition is full where one of its links has so many messages.
 abbrev pub most_in_flight : ℕ
 most_in_flight = 65400
 
-abbrev pub is_crowded : {C : Type 0} → World C → Link → Bool
-is_crowded w l = nat_le most_in_flight (length (packets_on w l))
-
 abbrev pub is_full : {C : Type 0} → World C → Bool
-is_full w = list_any (is_crowded w) (links_of w.members)
+is_full w = has_crowded_link most_in_flight w
 
 -- answers
 

@@ -21,7 +21,7 @@ ghost use Rattle.replay_run.specs.declared.run_end.RunEnd.TheVariants as RunEnds
 
 use crate::connections::Connections;
 use crate::grid::Grid;
-use crate::links::is_full;
+use crate::links::MOST_IN_FLIGHT;
 use crate::print::{push_appended, push_close};
 use crate::run_end::RunEnd;
 use call_engine::{GridEnv, GridShelf};
@@ -276,7 +276,7 @@ impl Grid {
     {
         let conn = request.id.conn;
         let world = &mut self.worlds[usize::from(request.partition)];
-        if is_full(self.links.as_slice(), world) {
+        if world.has_crowded_link(MOST_IN_FLIGHT) {
             return Err(RunEnd::InFlight);
         }
         self.connections.arrive(conn, self.lines)?;

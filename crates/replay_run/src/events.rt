@@ -5,26 +5,26 @@ ghost use Rattle.partition_protocol.specs.Service.{numbers_below};
 ghost use Rattle.partition_protocol.specs.Events.{Event as ProtocolEvent, Reopen as Reopens};
 ghost use Rattle.partition_protocol.specs.Arrivals.{asked_by};
 ghost use Rattle.grid_base.specs.Shelves.{meaning};
-ghost use Rattle.partition_world.specs.Worlds.{StandsFor, run_of, setup_of};
+ghost use Rattle.partition_world.specs.Worlds.{StandsFor, run_of};
 ghost use Rattle.partition_world.specs.Events.{event_of, happened_of};
 ghost use Rattle.call_engine.specs.Calls.{Settings};
 ghost use Rattle.call_engine.specs.Objects.{partition_object};
 ghost use Rattle.script_lang.specs.declared.line.Line.{Line as ScriptLine};
 ghost use Rattle.script_lang.specs.declared.line.Line.TheVariants as ScriptLines;
-ghost use Rattle.replay_run.specs.Runs.{Run, partitions, links_of, world_at, meets_full, event_by, delivery_on, flowed, flowed_in, takes_in, reopening_by};
+ghost use Rattle.replay_run.specs.Runs.{Run, partitions, world_at, meets_full, event_by, delivery_on, flowed, flowed_in, takes_in, reopening_by};
 ghost use Rattle.replay_run.specs.Grids.{boxed, Stands, MayRun, HasRun, IsGivenUp};
 ghost use Rattle.replay_run.specs.WorldCalls.{HasRoomAt, IsAmid, HasTaken, HasFlowed, HasTakenInAll, taker_of, event_in_all, line_of_fate};
 ghost use Rattle.replay_run.specs.declared.run_end.RunEnd.TheVariants as RunEnds;
 
 use crate::calls::give_out;
 use crate::grid::Grid;
-use crate::links::{Link, is_full, next_link};
+use crate::links::MOST_IN_FLIGHT;
 use crate::outcomes::{done_word, push_fate, push_flow, push_happened};
 use crate::print::push_text;
 use crate::reopened::Reopened;
 use crate::run_end::RunEnd;
 use grid_base::{MemberId, Memory, PARTITIONS, PartitionId, Request, Shelf};
-use partition_world::{Event, Happened, Records, World};
+use partition_world::{Event, Happened, Link, Records, World};
 use script_lang::Line;
 use std::alloc::Global;
 
@@ -132,15 +132,11 @@ fn delivery_on(link: Link) -> Event<Request>
 }
 
 /// Whether an event is one that its partition doesn't take now, as too many messages are in flight.
-fn meets_full<S: Shelf, R: Records<S::Call>>(
-    links: &[Link],
-    world: &World<S, R>,
-    event: &Event<S::Call>,
-) -> bool
+fn meets_full<S: Shelf, R: Records<S::Call>>(world: &World<S, R>, event: &Event<S::Call>) -> bool
     ensures { (plan : S.Plan) (events : List (ProtocolEvent S.Call)) → let k = meaning S.model plan in
-        StandsFor k R.records S.model.within_limits world.now events → links.now ≡ links_of (setup_of world.now).members → result ≡ meets_full (run_of k world.now events) (event_of event.now) }
+        StandsFor k R.records S.model.within_limits world.now events → result ≡ meets_full (run_of k world.now events) (event_of event.now) }
 {
-    !matches!(event, Event::Lose { .. }) && is_full(links, world)
+    !matches!(event, Event::Lose { .. }) && world.has_crowded_link(MOST_IN_FLIGHT)
 }
 
 /// The member at which an event may release answers: the one that takes a message.
@@ -170,7 +166,7 @@ impl Grid {
         ensures full { (settings : Settings) (r : Run) → IsAmid (boxed form) settings self.old r → IsErrOf result RunEnds.InFlight → meets_full (world_at (partition_object settings) r partition) (event_of event) ≡ true }
     {
         let world = &mut self.worlds[usize::from(partition)];
-        if meets_full(self.links.as_slice(), world, &event) {
+        if meets_full(world, &event) {
             return Err(RunEnd::InFlight);
         }
         let reopens = matches!(event, Event::Reopen);
@@ -250,7 +246,7 @@ impl Grid {
     {
         let mut deliveries = 0;
         'deliveries: while deliveries < most {
-            let next = next_link(self.links.as_slice(), &self.worlds[usize::from(partition)]);
+            let next = self.worlds[usize::from(partition)].next_link();
             let Some(link) = next else {
                 return Ok(deliveries);
             };

@@ -9,14 +9,14 @@ ghost use Rattle.replay_run.specs.declared.run_end.RunEnd.TheVariants as RunEnds
 
 use crate::connections::Connections;
 use crate::events::{Fate, event_by};
-use crate::links::{Link, links_of};
+use crate::links::links_of;
 use crate::print::{push_nothing, push_ok};
 use crate::reopened::Reopened;
 use crate::run_end::RunEnd;
 use call_engine::{GridEnv, GridShelf};
 use entry_processors::{Processor, Registry};
 use grid_base::{MemberId, Memory, Moment, PARTITIONS, Request};
-use partition_world::{Recorder, World};
+use partition_world::{Link, Recorder, World};
 use script_lang::Line;
 use std::alloc::Global;
 
@@ -86,11 +86,12 @@ impl Grid {
     /// are given up: for want of memory, or where an event other than a loss met a partition with 65,400 messages or more
     /// in flight on one link.
     ///
-    /// A line costs its own work: it looks up its connection and its partition by their numbers, and an event looks at the
-    /// length of each of its partition's links. A delivery costs in addition at most the length of its link; `flow` looks
-    /// for each of its deliveries through the partition's links, and the lines of all partitions cost that for each. The
-    /// lines `dump` and `links` cost sorting and printing what their member keeps of the partition, and printing the
-    /// messages in flight. The line `trail` costs the entries of its partition's history, and the line `end` those of all.
+    /// A line costs its own work: it looks up its connection and its partition by their numbers. An event looks at the
+    /// length of each of its partition's links only while 65,400 messages or more are in flight on all of them together. A
+    /// delivery costs in addition at most the length of its link; `flow` finds each in constant time, and the lines of all
+    /// partitions cost a constant for each. The lines `dump` and `links` cost sorting and printing what their member keeps
+    /// of the partition, and printing the messages in flight. The line `trail` costs the entries of its partition's history,
+    /// and the line `end` those of all.
     pub fn run_line(
         &mut self,
         alloc: Global,

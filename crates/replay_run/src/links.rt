@@ -5,25 +5,17 @@ ghost use Rattle.std.specs.List.{flat_map};
 ghost use Rattle.partition_protocol.specs.Events.{Event as ProtocolEvent};
 ghost use Rattle.grid_base.specs.Shelves.{meaning};
 ghost use Rattle.partition_world.specs.Sending.{flying};
-ghost use Rattle.partition_world.specs.Worlds.{StandsFor, run_of, setup_of};
-ghost use Rattle.replay_run.specs.Runs.{links_from, links_of, is_full, next_link};
+ghost use Rattle.partition_world.specs.Worlds.{StandsFor, run_of};
+ghost use Rattle.partition_world.specs.LinkOrder.{links_from, links_of};
 ghost use Rattle.replay_run.specs.Printing.{link_text_from, message_text};
 
 use crate::print::{push_hex, push_number, push_text, push_word};
 use grid_base::{Bytes, Memory, Shelf};
-use partition_world::{Records, World};
+use partition_world::{Link, Records, World};
 use std::alloc::Global;
 
-/// The way of messages from one end to another. The ends are the members by their numbers, and the table service by the
-/// number of members.
-#[derive(Clone, Copy, Debug, PartialEq, Eq)]
-pub(crate) struct Link {
-    pub(crate) from: u8,
-    pub(crate) to: u8,
-}
-
 /// A partition with so many messages on one link takes no event but a loss.
-const MOST_IN_FLIGHT: usize = 65_400;
+pub(crate) const MOST_IN_FLIGHT: usize = 65_400;
 
 /// Adds the links from one end to each of so many.
 fn push_links_from(links: &mut Vec<Link>, from: u8, ends: u8) -> Result<(), Memory>
@@ -47,35 +39,6 @@ pub(crate) fn links_of(alloc: Global, members: u8) -> Result<Vec<Link>, Memory>
         push_links_from(&mut links, from, ends)?;
     }
     Ok(links)
-}
-
-/// Whether a partition takes no event but a loss. Looks at the length of each of its links.
-pub(crate) fn is_full<S: Shelf, R: Records<S::Call>>(links: &[Link], world: &World<S, R>) -> bool
-    ensures { (plan : S.Plan) (events : List (ProtocolEvent S.Call)) → let k = meaning S.model plan in
-        StandsFor k R.records S.model.within_limits world.now events → links.now ≡ links_of (setup_of world.now).members → result ≡ is_full (run_of k world.now events) }
-{
-    for link in links {
-        if world.in_flight(link.from, link.to).len() >= MOST_IN_FLIGHT {
-            return true;
-        }
-    }
-    false
-}
-
-/// The first link that has a message, if one has.
-pub(crate) fn next_link<S: Shelf, R: Records<S::Call>>(
-    links: &[Link],
-    world: &World<S, R>,
-) -> Option<Link>
-    ensures { (plan : S.Plan) (events : List (ProtocolEvent S.Call)) → let k = meaning S.model plan in
-        StandsFor k R.records S.model.within_limits world.now events → links.now ≡ links_of (setup_of world.now).members → result ≡ next_link (run_of k world.now events) }
-{
-    for link in links {
-        if !world.in_flight(link.from, link.to).is_empty() {
-            return Some(*link);
-        }
-    }
-    None
 }
 
 /// How many messages of a partition are in flight.

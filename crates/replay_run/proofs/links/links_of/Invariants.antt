@@ -1,7 +1,7 @@
 use Rattle.std.proofs.Common.{◌≡◌}
 use Rattle.std.specs.List.{flat_map}
 use Rattle.partition_protocol.specs.Service.{numbers_below}
-use Rattle.replay_run.specs.Runs.{links_from}
+use Rattle.partition_world.specs.LinkOrder.{links_from}
 use Rattle.replay_run.proofs.links.links_of.Given as goal
 
 -- the links from the ends so far were added

@@ -4,7 +4,7 @@ use Rattle.partition_protocol.specs.Events.{Event as ProtocolEvent}
 use Rattle.grid_base.specs.Shelves.{meaning}
 use Rattle.partition_world.specs.Worlds.{StandsFor, run_of}
 use Rattle.partition_world.specs.Sending.{flying}
-use Rattle.replay_run.specs.declared.links.Link.{Link}
+use Rattle.partition_world.specs.declared.Link.{Link}
 use Rattle.replay_run.specs.Printing.{link_text_from}
 use Rattle.replay_run.proofs.links.push_in_flight.Given as goal
 

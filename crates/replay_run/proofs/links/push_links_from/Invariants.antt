@@ -1,6 +1,6 @@
 use Rattle.std.proofs.Common.{◌≡◌, ℕ, ◌++◌, map}
 use Rattle.partition_protocol.specs.Service.{numbers_below}
-use Rattle.replay_run.specs.declared.links.Link.{Link}
+use Rattle.partition_world.specs.declared.Link.{Link}
 use Rattle.replay_run.proofs.links.push_links_from.Given as goal
 
 -- the links to the ends so far were added

@@ -5,7 +5,7 @@ use Rattle.replay_run.specs.Runs.{events_at, world_at, is_full}
 use Rattle.replay_run.specs.Tables.{Table}
 use Rattle.replay_run.specs.Grids.{HasConnections}
 use Rattle.replay_run.specs.WorldCalls.{arrival_to, texts_of, message_of, with_answers, going_out}
-use Rattle.replay_run.proofs.Asking.{world_within, world_there, world_is, world_room, did_by, stands_by, moment_within, moment_there, named_next, told_full}
+use Rattle.replay_run.proofs.Asking.{world_within, world_there, world_is, world_room, did_by, stands_by, moment_within, moment_there, named_next, told_of}
 use Rattle.replay_run.proofs.GivingOut.{has_given_out}
 use Rattle.replay_run.proofs.TableRuns.{connections_called}
 use Rattle.replay_run.proofs.GridCalls.{asked_grid}
@@ -36,10 +36,10 @@ index-requires g c =
     omega (arith, within, c.args.self.now.moments.ok.0)
 
 -- The partition is full.
-pub returns-then-is_full-clause-full : goal.returns-then-is_full-clause-full
-returns-then-is_full-clause-full g c = λ settings r h fails.
-    sym (told_full _ c.args.self.now r h c.args.request.partition c.from.result c.requires.placed c.from.ensures c.index_mut-world.result.now c.index_mut-world.ensures.value c.as_slice.result.now c.as_slice.ensures.value c.is_full.result (c.is_full.ensures (settings_of _ c.args.self.now.env)))
-    ∙ c.if-is_full.true
+pub returns-then-has_crowded_link-clause-full : goal.returns-then-has_crowded_link-clause-full
+returns-then-has_crowded_link-clause-full g c = λ settings r h fails.
+    sym (told_of _ c.args.self.now r h c.args.request.partition c.from.result c.requires.placed c.from.ensures c.index_mut-world.result.now c.index_mut-world.ensures.value is_full c.has_crowded_link.result (c.has_crowded_link.ensures (settings_of _ c.args.self.now.env)))
+    ∙ c.if-has_crowded_link.true
 
 pub returns-clause-ok : goal.returns-clause-ok
 returns-clause-ok g c = λ settings r run h next count.
@@ -53,7 +53,7 @@ returns-clause-ok g c = λ settings r run h next count.
     let now = c.index.result.now in
     let events = events_at partition r.events in
     let goes : is_full (world_at (partition_object settings) r partition) ≡ false =
-    sym (told_full _ grid r h partition c.from.result c.requires.placed c.from.ensures old read c.as_slice.result.now c.as_slice.ensures.value c.is_full.result (c.is_full.ensures (settings_of _ grid.env))) ∙ c.if-is_full.false in
+    sym (told_of _ grid r h partition c.from.result c.requires.placed c.from.ensures old read is_full c.has_crowded_link.result (c.has_crowded_link.ensures (settings_of _ grid.env))) ∙ c.if-has_crowded_link.false in
     let did = did_by _ grid.env settings h.goes_by old c.call.new.world events (arrival_to line c.args.member now c.args.request) c.args.out.now.items c.call.new.out.items (c.in_ok-call.ensures events)
     (world_is grid r h partition c.from.result c.requires.placed c.from.ensures old read).stands
     (named_next settings r run c.args.member line now c.args.request next h.lines (moment_there grid r h c.args.member c.from-2.result c.requires.member c.from-2.ensures now c.index.ensures)) in

@@ -1,9 +1,8 @@
 use Rattle.std.proofs.Common.{◌∙◌, Err, sym, ap, arith}
 use Rattle.partition_world.specs.Events.{event_of}
-use Rattle.replay_run.specs.Runs.{next_link}
+use Rattle.partition_world.specs.LinkOrder.{next_link}
 use Rattle.replay_run.specs.declared.run_end.RunEnd.TheVariants.{InFlight}
-use Rattle.replay_run.proofs.Asking.{handed_on, world_within}
-use Rattle.replay_run.proofs.GridEvents.{told_of}
+use Rattle.replay_run.proofs.Asking.{handed_on, world_within, told_of}
 use Rattle.replay_run.proofs.Flowing.{none_delivered, delivered_room, one_delivered, meets_one, none_next, all_flowed}
 use Rattle.replay_run.proofs.grid.Grid.deliver_first.Goals as goal
 use Rattle.call_engine.specs.Env.{settings_of}
@@ -21,7 +20,7 @@ pub returns-in_default-clause-ok : goal.returns-in_default-clause-ok
 returns-in_default-clause-ok g c = λ settings r amid.
     let did = c.deliveries.invariant.delivered settings r amid in
     none_next r c.args.partition c.args.most c.deliveries.self c.deliveries.deliveries c.args.out.now.items c.deliveries.out.items did c.deliveries.invariant.below
-    (sym (told_of c.deliveries.self did.now did.on.amid.holds c.args.partition c.from.result c.requires.placed c.from.ensures c.index.result.now c.index.ensures next_link c.next_link-next.result c.as_slice.result.now c.as_slice.ensures.value (c.next_link-next.ensures (settings_of _ c.deliveries.self.env)))
+    (sym (told_of _ c.deliveries.self did.now did.on.amid.holds c.args.partition c.from.result c.requires.placed c.from.ensures c.index.result.now c.index.ensures next_link c.next_link-next.result (c.next_link-next.ensures (settings_of _ c.deliveries.self.env)))
     ∙ c.in_default.is)
 
 pub take-requires-clause-stands : goal.take-requires-clause-stands
@@ -32,7 +31,7 @@ take-requires-clause-stands g c =
 pub returns-in_err-take-clause-full : goal.returns-in_err-take-clause-full
 returns-in_err-take-clause-full g c = λ settings r amid was.
     let did = c.deliveries.invariant.delivered settings r amid in
-    let next = sym (told_of c.deliveries.self did.now did.on.amid.holds c.args.partition c.from.result c.requires.placed c.from.ensures c.index.result.now c.index.ensures next_link c.next_link-next.result c.as_slice.result.now c.as_slice.ensures.value (c.next_link-next.ensures (settings_of _ c.deliveries.self.env))) ∙ c.in-Some.is in
+    let next = sym (told_of _ c.deliveries.self did.now did.on.amid.holds c.args.partition c.from.result c.requires.placed c.from.ensures c.index.result.now c.index.ensures next_link c.next_link-next.result (c.next_link-next.ensures (settings_of _ c.deliveries.self.env))) ∙ c.in-Some.is in
     let why = handed_on c.from_residual.result c.in_err-take.field-0.0 InFlight c.from_residual.ensures.1 was in
     meets_one r c.args.partition c.args.most c.deliveries.self c.deliveries.deliveries c.args.out.now.items c.deliveries.out.items did c.in-Some.link next c.deliveries-test.true (event_of c.delivery_on.result) c.delivery_on.ensures
     (c.in_err-take.ensures.full settings did.now did.on.amid (ap Err why))
@@ -42,7 +41,7 @@ deliveries-preserved g c = record {
   below = omega (arith, c.deliveries-test.true);
   delivered = λ settings r amid.
       (let did = c.deliveries.invariant.delivered settings r amid in
-      let next = sym (told_of c.deliveries.self did.now did.on.amid.holds c.args.partition c.from.result c.requires.placed c.from.ensures c.index.result.now c.index.ensures next_link c.next_link-next.result c.as_slice.result.now c.as_slice.ensures.value (c.next_link-next.ensures (settings_of _ c.deliveries.self.env))) ∙ c.in-Some.is in
+      let next = sym (told_of _ c.deliveries.self did.now did.on.amid.holds c.args.partition c.from.result c.requires.placed c.from.ensures c.index.result.now c.index.ensures next_link c.next_link-next.result (c.next_link-next.ensures (settings_of _ c.deliveries.self.env))) ∙ c.in-Some.is in
       one_delivered r c.args.partition c.args.most c.deliveries.self c.deliveries.deliveries c.args.out.now.items c.deliveries.out.items did c.in-Some.link next c.deliveries-test.true c.take.new.self (event_of c.delivery_on.result) c.delivery_on.ensures
       c.in_ok-take.field-0 c.take.new.out.items (c.in_ok-take.ensures.ok settings did.now did.on.amid));
 }

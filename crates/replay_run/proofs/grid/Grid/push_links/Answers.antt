@@ -5,8 +5,9 @@ use Rattle.std.proofs.lemmas.Result.{on_ok_weaker}
 use Rattle.script_lang.specs.declared.line.Line.TheVariants.{Links}
 use Rattle.partition_world.specs.Worlds.{run_of}
 use Rattle.call_engine.specs.Calls.{Settings}
-use Rattle.replay_run.specs.declared.links.Link.{Link}
-use Rattle.replay_run.specs.Runs.{next_line, events_at, partitions, links_of}
+use Rattle.partition_world.specs.declared.Link.{Link}
+use Rattle.partition_world.specs.LinkOrder.{links_of}
+use Rattle.replay_run.specs.Runs.{next_line, events_at, partitions}
 use Rattle.replay_run.specs.Printing.{links_text, in_flight, link_text, link_text_from}
 use Rattle.replay_run.specs.Shelves.{grid_meaning}
 use Rattle.replay_run.specs.Grids.{StandsForEvents}

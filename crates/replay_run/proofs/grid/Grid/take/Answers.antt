@@ -3,9 +3,9 @@ use Rattle.call_engine.specs.Objects.{partition_object}
 use Rattle.partition_protocol.specs.Events.{Reopen as Reopens}
 use Rattle.partition_world.specs.Events.{event_of, happened_of}
 use Rattle.replay_run.specs.Runs.{Reopened, events_at, meets_full, reopening_by, world_at}
-use Rattle.replay_run.proofs.Asking.{world_within}
+use Rattle.replay_run.proofs.Asking.{world_within, told_of}
 use Rattle.replay_run.proofs.GivingOut.{has_given_out}
-use Rattle.replay_run.proofs.GridEvents.{HasReleased, told_of, room_in, comes_in, stepped_by, released_some, released_none, has_taken, not_reopened}
+use Rattle.replay_run.proofs.GridEvents.{HasReleased, room_in, comes_in, stepped_by, released_some, released_none, has_taken, not_reopened}
 use Rattle.replay_run.proofs.grid.Grid.take.Goals as goal
 use Rattle.replay_run.proofs.grid.Grid.take.Goals.{in-Some+in_ok-give_out, in_default-taker, in-Reopen, in_default}
 use Rattle.call_engine.specs.Env.{settings_of}
@@ -17,8 +17,8 @@ index_mut-world-requires g c =
 
 pub returns-then-meets_full-clause-full : goal.returns-then-meets_full-clause-full
 returns-then-meets_full-clause-full g c = λ settings r amid was.
-    sym (told_of c.args.self.now r amid.holds c.args.partition c.from.result c.requires.placed c.from.ensures c.index_mut-world.result.now c.index_mut-world.ensures.value
-    (λ w. meets_full w (event_of c.args.event)) c.meets_full.result c.as_slice.result.now c.as_slice.ensures.value (c.meets_full.ensures (settings_of _ c.args.self.now.env)))
+    sym (told_of _ c.args.self.now r amid.holds c.args.partition c.from.result c.requires.placed c.from.ensures c.index_mut-world.result.now c.index_mut-world.ensures.value
+    (λ w. meets_full w (event_of c.args.event)) c.meets_full.result (c.meets_full.ensures (settings_of _ c.args.self.now.env)))
     ∙ c.if-meets_full.true
 
 pub step-requires : goal.step-requires
@@ -42,7 +42,7 @@ returns-clause-ok g c = λ settings r amid.
     let room = room_in grid c.requires.stands.1 c.requires.stands.2.holds p c.from.result c.requires.placed c.from.ensures old read r amid.holds 1 c.requires.stands.3 in
     let comes = comes_in grid r amid.holds p c.from.result c.requires.placed c.from.ensures old read event c.requires.unasked room in
     let goes : meets_full (world_at (partition_object settings) r p) event ≡ false =
-    sym (told_of grid r amid.holds p c.from.result c.requires.placed c.from.ensures old read (λ w. meets_full w event) c.meets_full.result c.as_slice.result.now c.as_slice.ensures.value (c.meets_full.ensures (settings_of _ grid.env))) ∙ c.if-meets_full.false in
+    sym (told_of _ grid r amid.holds p c.from.result c.requires.placed c.from.ensures old read (λ w. meets_full w event) c.meets_full.result (c.meets_full.ensures (settings_of _ grid.env))) ∙ c.if-meets_full.false in
     let did = stepped_by _ grid.env settings amid.holds.goes_by old called events event happened
     (record { stands = c.in_ok-happened.ensures.stands events comes; setup = c.in_ok-happened.ensures.setup; waits = c.in_ok-happened.ensures.waiting events comes; outcome = c.in_ok-happened.ensures.outcome events comes }) in
     let gave : HasReleased settings grid c.match-taker.self r p called taker start c.match-taker.out.items = elim c.match-taker.branch [
