@@ -1,10 +1,10 @@
--- One link of a net changes, and the others stay.
+-- One lane of a net changes, and the others stay.
 use Rattle.std.proofs.Common.{◌≡◌, ◌≢◌, ℕ, zero, suc, ◌+◌, ◌*◌, ◌<◌, ◌≤◌, Bool, true, false, ltb, ◌==◌, ◌&&◌, List, [], ◌∷◌, length, get_or, slice_get, slice_set, ◌++◌, ◌-◌, Option, Some, None, refl, sym, ap, subst, ◌∙◌, ◌⊎◌, inl, inr, ⊎_elim, eq-eqb, arith}
 use Rattle.std.specs.Prelude.{option_and_then}
 use Rattle.std.proofs.lemmas.Bool.{cases_lt, and_from, false≢true, and_parts, ltb-true, eqb-true}
 use Rattle.std.proofs.lemmas.Option.{cond_some, slice_get_read}
 use Rattle.std.proofs.lemmas.Nat.{mul-add-lt, same_from_place}
-use Rattle.link_net.specs.Links.{Link, Net, place_of, link_between, list_in, spare_in, list_of, spare_of, except, HasLists, HasSpares, LowersNoSpare, LowersByOneAtMost}
+use Rattle.link_net.specs.Links.{Lane, Net, place_of, lane_between, list_in, spare_in, list_of, spare_of, except, HasLists, HasSpares, LowersNoSpare, LowersByOneAtMost}
 
 -- ---- a pair, or another one
 
@@ -36,7 +36,7 @@ except_each P from to x others here there f t =
     (λ other. subst (P f t) (sym (except_there from to f t x others other.0)) (there f t other.1))
     (pair_cases from to f t)
 
--- ---- the place of a link
+-- ---- the place of a lane
 
 record StandsAt (ends from to at : ℕ) : Type 0 where
   from_end : from < ends
@@ -56,7 +56,7 @@ one_pair ends from to f t at one two =
     let same = same_from_place f t from to ends b.to_end a.to_end (sym b.at_is ∙ a.at_is) in
     record { from_is = same.0; to_is = same.1 }
 
--- ---- one link of the list
+-- ---- one lane of the list
 
 get_set_same : {X : Type 0} (xs : List X) (k : ℕ) (x : X) → k < length xs → slice_get (slice_set xs k x) k ≡ Some x
 get_set_same [] k x few = absurd (omega (arith, few))
@@ -77,90 +77,90 @@ room_stands net from to some =
     (true_or_false (ltb from net.ends && ltb to net.ends))
 
 abbrev pub IsSquare : Net → Type 0
-IsSquare net = length net.links ≡ net.ends * net.ends
+IsSquare net = length net.lanes ≡ net.ends * net.ends
 
-abbrev pub with_link : Net → ℕ → Link → Net
-with_link net at link = record { ends = net.ends; links = slice_set net.links at link }
+abbrev pub with_lane : Net → ℕ → Lane → Net
+with_lane net at lane = record { ends = net.ends; lanes = slice_set net.lanes at lane }
 
 module _ (net : Net) (square : IsSquare net) (from to at : ℕ) (stands : place_of net.ends from to ≡ Some at) where
-  within : at < length net.links
+  within : at < length net.lanes
   within =
       let s = stands_at net.ends from to at stands in
       let below = mul-add-lt from net.ends to net.ends s.from_end s.to_end in
       omega (arith, below, square, s.at_is)
 
-  pub link_there : (old : Link) → old ≡ get_or net.links at old → link_between net from to ≡ Some old
-  link_there old is = ap (option_and_then (slice_get net.links)) stands ∙ slice_get_read net.links (length net.links) at old refl within is
+  pub lane_there : (old : Lane) → old ≡ get_or net.lanes at old → lane_between net from to ≡ Some old
+  lane_there old is = ap (option_and_then (slice_get net.lanes)) stands ∙ slice_get_read net.lanes (length net.lanes) at old refl within is
 
-  module _ (link : Link) where
-    link_changed : link_between (with_link net at link) from to ≡ Some link
-    link_changed = ap (option_and_then (slice_get (slice_set net.links at link))) stands ∙ get_set_same net.links at link within
+  module _ (lane : Lane) where
+    lane_changed : lane_between (with_lane net at lane) from to ≡ Some lane
+    lane_changed = ap (option_and_then (slice_get (slice_set net.lanes at lane))) stands ∙ get_set_same net.lanes at lane within
 
-    other_stays : (f t : ℕ) (o : Option ℕ) → place_of net.ends f t ≡ o → (IsPair from to f t → ⊥) → option_and_then (slice_get (slice_set net.links at link)) o ≡ option_and_then (slice_get net.links) o
+    other_stays : (f t : ℕ) (o : Option ℕ) → place_of net.ends f t ≡ o → (IsPair from to f t → ⊥) → option_and_then (slice_get (slice_set net.lanes at lane)) o ≡ option_and_then (slice_get net.lanes) o
     other_stays f t None is apart = refl
     other_stays f t (Some k) is apart =
-        get_set_other net.links at k link (λ same. apart (one_pair net.ends from to f t at stands (is ∙ ap Some same)))
+        get_set_other net.lanes at k lane (λ same. apart (one_pair net.ends from to f t at stands (is ∙ ap Some same)))
 
-    -- the lists and the spare room of the net in which that link has changed
-    pub lists_changed : HasLists (with_link net at link) (except from to link.list (list_of net))
+    -- the lists and the spare room of the net in which that lane has changed
+    pub lists_changed : HasLists (with_lane net at lane) (except from to lane.list (list_of net))
     lists_changed =
-        except_each (λ f t x. list_of (with_link net at link) f t ≡ x) from to link.list (list_of net) (ap list_in link_changed)
+        except_each (λ f t x. list_of (with_lane net at lane) f t ≡ x) from to lane.list (list_of net) (ap list_in lane_changed)
         (λ f t apart. ap list_in (other_stays f t (place_of net.ends f t) refl apart))
 
-    pub spares_changed : HasSpares (with_link net at link) (except from to link.spare (spare_of net))
+    pub spares_changed : HasSpares (with_lane net at lane) (except from to lane.spare (spare_of net))
     spares_changed =
-        except_each (λ f t x. spare_of (with_link net at link) f t ≡ x) from to link.spare (spare_of net) (ap spare_in link_changed)
+        except_each (λ f t x. spare_of (with_lane net at lane) f t ≡ x) from to lane.spare (spare_of net) (ap spare_in lane_changed)
         (λ f t apart. ap spare_in (other_stays f t (place_of net.ends f t) refl apart))
 
-    -- where the link has no less room than before
-    pub lowers_none : (old : Link) → old ≡ get_or net.links at old → old.spare ≤ link.spare → LowersNoSpare net (with_link net at link)
+    -- where the lane has no less room than before
+    pub lowers_none : (old : Lane) → old ≡ get_or net.lanes at old → old.spare ≤ lane.spare → LowersNoSpare net (with_lane net at lane)
     lowers_none old is more f t =
         subst (λ n. spare_of net f t ≤ n) (sym (spares_changed f t))
-        (except_each (λ f t n. spare_of net f t ≤ n) from to link.spare (spare_of net) (subst (λ n. n ≤ link.spare) (sym (ap spare_in (link_there old is))) more) (λ f t apart. omega arith) f t)
+        (except_each (λ f t n. spare_of net f t ≤ n) from to lane.spare (spare_of net) (subst (λ n. n ≤ lane.spare) (sym (ap spare_in (lane_there old is))) more) (λ f t apart. omega arith) f t)
 
-    pub lowers_one : (old : Link) → old ≡ get_or net.links at old → old.spare ≤ link.spare + 1 → LowersByOneAtMost net (with_link net at link)
+    pub lowers_one : (old : Lane) → old ≡ get_or net.lanes at old → old.spare ≤ lane.spare + 1 → LowersByOneAtMost net (with_lane net at lane)
     lowers_one old is more f t =
         subst (λ n. spare_of net f t ≤ n + 1) (sym (spares_changed f t))
-        (except_each (λ f t n. spare_of net f t ≤ n + 1) from to link.spare (spare_of net) (subst (λ n. n ≤ link.spare + 1) (sym (ap spare_in (link_there old is))) more) (λ f t apart. omega arith) f t)
+        (except_each (λ f t n. spare_of net f t ≤ n + 1) from to lane.spare (spare_of net) (subst (λ n. n ≤ lane.spare + 1) (sym (ap spare_in (lane_there old is))) more) (λ f t apart. omega arith) f t)
 
     -- the list is changed so
-    pub list_put : (old : Link) → old ≡ get_or net.links at old → (change : List (List ℕ) → List (List ℕ)) → link.list ≡ change old.list
-        → HasLists (with_link net at link) (except from to (change (list_of net from to)) (list_of net))
+    pub list_put : (old : Lane) → old ≡ get_or net.lanes at old → (change : List (List ℕ) → List (List ℕ)) → lane.list ≡ change old.list
+        → HasLists (with_lane net at lane) (except from to (change (list_of net from to)) (list_of net))
     list_put old is change e f t =
-        lists_changed f t ∙ ap (λ list. except from to list (list_of net) f t) (e ∙ ap change (sym (ap list_in (link_there old is))))
+        lists_changed f t ∙ ap (λ list. except from to list (list_of net) f t) (e ∙ ap change (sym (ap list_in (lane_there old is))))
 
     -- or kept
-    pub list_kept : (old : Link) → old ≡ get_or net.links at old → link.list ≡ old.list → HasLists (with_link net at link) (list_of net)
+    pub list_kept : (old : Lane) → old ≡ get_or net.lanes at old → lane.list ≡ old.list → HasLists (with_lane net at lane) (list_of net)
     list_kept old is e f t =
         lists_changed f t
-        ∙ except_each (λ f t list. list ≡ list_of net f t) from to link.list (list_of net) (e ∙ sym (ap list_in (link_there old is))) (λ f t apart. refl) f t
+        ∙ except_each (λ f t list. list ≡ list_of net f t) from to lane.list (list_of net) (e ∙ sym (ap list_in (lane_there old is))) (λ f t apart. refl) f t
 
     -- or one spare message's room is taken
-    pub spare_put : (old : Link) → old ≡ get_or net.links at old → link.spare + 1 ≡ old.spare → HasSpares (with_link net at link) (except from to (spare_of net from to - 1) (spare_of net))
+    pub spare_put : (old : Lane) → old ≡ get_or net.lanes at old → lane.spare + 1 ≡ old.spare → HasSpares (with_lane net at lane) (except from to (spare_of net from to - 1) (spare_of net))
     spare_put old is e f t =
-        let was : spare_of net from to ≡ old.spare = ap spare_in (link_there old is) in
-        let less : link.spare ≡ spare_of net from to - 1 = omega (arith, was, e) in
+        let was : spare_of net from to ≡ old.spare = ap spare_in (lane_there old is) in
+        let less : lane.spare ≡ spare_of net from to - 1 = omega (arith, was, e) in
         spares_changed f t ∙ ap (λ spare. except from to spare (spare_of net) f t) less
 
-    pub room_made : (extra : ℕ) → extra ≤ link.spare → extra ≤ spare_of (with_link net at link) from to
-    room_made extra enough = subst (λ n. extra ≤ n) (sym (ap spare_in link_changed)) enough
+    pub room_made : (extra : ℕ) → extra ≤ lane.spare → extra ≤ spare_of (with_lane net at lane) from to
+    room_made extra enough = subst (λ n. extra ≤ n) (sym (ap spare_in lane_changed)) enough
 
--- ---- all links
+-- ---- all lanes
 
 -- each place of the list is without messages
-abbrev pub AreEmpty : List Link → Type 0
-AreEmpty links = (k : ℕ) → list_in (slice_get links k) ≡ []
+abbrev pub AreEmpty : List Lane → Type 0
+AreEmpty lanes = (k : ℕ) → list_in (slice_get lanes k) ≡ []
 
-pub AreEmpty-push : (links : List Link) (link : Link) → AreEmpty links → link.list ≡ [] → AreEmpty (links ++ link ∷ [])
-AreEmpty-push [] link empty is zero = is
-AreEmpty-push [] link empty is (suc k) = refl
-AreEmpty-push (l ∷ links) link empty is zero = empty zero
-AreEmpty-push (l ∷ links) link empty is (suc k) = AreEmpty-push links link (λ j. empty (suc j)) is k
+pub AreEmpty-push : (lanes : List Lane) (lane : Lane) → AreEmpty lanes → lane.list ≡ [] → AreEmpty (lanes ++ lane ∷ [])
+AreEmpty-push [] lane empty is zero = is
+AreEmpty-push [] lane empty is (suc k) = refl
+AreEmpty-push (l ∷ lanes) lane empty is zero = empty zero
+AreEmpty-push (l ∷ lanes) lane empty is (suc k) = AreEmpty-push lanes lane (λ j. empty (suc j)) is k
 
-pub no_messages : (ends : ℕ) (links : List Link) → AreEmpty links → HasLists (record { ends = ends; links = links }) (λ _ _. [])
-no_messages ends links empty from to = at_place (place_of ends from to)
+pub no_messages : (ends : ℕ) (lanes : List Lane) → AreEmpty lanes → HasLists (record { ends = ends; lanes = lanes }) (λ _ _. [])
+no_messages ends lanes empty from to = at_place (place_of ends from to)
   where
-    at_place : (o : Option ℕ) → list_in (option_and_then (slice_get links) o) ≡ []
+    at_place : (o : Option ℕ) → list_in (option_and_then (slice_get lanes) o) ≡ []
     at_place None = refl
     at_place (Some k) = empty k
 

@@ -17,9 +17,9 @@ pub(crate) struct Lane {
 
 impl Model for Lane {
     ghost use Rattle.std.specs.Prelude.{◌≡◌, ◌-◌, ◌≤◌, length, drop, vec_len, vec_capacity};
-    ghost use Rattle.link_net.specs.Links.{Link};
+    ghost use Rattle.link_net.specs.Links.{Lane};
 
-    ghost Value = { Link };
+    ghost Value = { Lane };
 
     ghost view = { λ l. record {
       list = drop l.left l.messages.items;
@@ -54,6 +54,12 @@ impl Lane {
         ensures { result.now ≡ self.now.list }
     {
         &self.messages[self.left..]
+    }
+
+    pub fn len(&self) -> usize
+        ensures { result ≡ length self.now.list }
+    {
+        self.as_slice().len()
     }
 
     /// Makes room for so many messages more.
@@ -99,7 +105,7 @@ impl Lane {
         ensures list { self.new.list ≡ remove self.old.list place }
         ensures spare { self.old.spare ≤ self.new.spare }
     {
-        let count = self.as_slice().len();
+        let count = self.len();
         if place >= count {
             None
         } else if place > count / 2 {

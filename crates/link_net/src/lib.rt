@@ -2,8 +2,11 @@
 #![tactic(auto)]
 
 mod lane;
+mod link;
 mod links;
+mod tally;
 
+pub use link::Link;
 pub use links::Links;
 
 #[cfg(test)]

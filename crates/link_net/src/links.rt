@@ -1,8 +1,11 @@
-ghost use Rattle.std.specs.Prelude.{◌≡◌, ℕ, ◌↔◌, ◌+◌, ◌-◌, ◌*◌, ◌≤◌, ◌<◌, ◌++◌, ◌∷◌, [], length, remove, slice_get, IsTrue, IfOk, IfSome, OnOk, OnErr};
+ghost use Rattle.std.specs.Prelude.{◌≡◌, ℕ, ◌↔◌, ◌+◌, ◌-◌, ◌*◌, ◌/◌, ◌%◌, ◌≤◌, ◌<◌, ◌++◌, ◌∷◌, [], nat_le, length, remove, slice_get, IsTrue, IfOk, IfSome, OnOk, OnErr};
+ghost use Rattle.std.specs.List.{list_any};
 ghost use Rattle.std.specs.Option.{option_to_list};
-ghost use Rattle.link_net.specs.Links.{place_of, list_of, spare_of, except, sent_to, with_sent, HasLists, HasSpares, LowersNoSpare, LowersByOneAtMost, HasRoom};
+ghost use Rattle.link_net.specs.Links.{place_of, list_of, spare_of, except, sent_to, with_sent, less_sent, next_link, has_crowded_link, HasLists, HasSpares, LowersNoSpare, LowersByOneAtMost, HasRoom};
 
 use crate::lane::Lane;
+use crate::link::Link;
+use crate::tally::Tally;
 use grid_base::{Bytes, Memory};
 use std::alloc::Global;
 use std::marker::Model;
@@ -11,22 +14,27 @@ use std::marker::Model;
 ///
 /// Ends are numbered from 0, and there is a link from each to each. A number that is no end's has no messages,
 /// and nothing happens there. On a link beside its messages there is room for some more, the spare ones.
+///
+/// It is kept which links have messages, and how many messages all have. So a call by which a link gets its first message
+/// or loses its last costs in addition the number of the links that have some.
 #[derive(Debug, Drop)]
 pub struct Links {
     ends: u8,
     /// Those from the first end, to each end in order; then those from the next.
     lanes: Vec<Lane>,
+    tally: Tally,
 }
 
 impl Model for Links {
     ghost use Rattle.std.specs.Prelude.{◌≡◌, ◌*◌, length, vec_len};
     ghost use Rattle.link_net.specs.Links.{Net};
+    ghost use Rattle.link_net.specs.Counting.{AreCountsOf};
 
     ghost Value = { Net };
 
-    ghost view = { λ l. record { ends = l.ends; links = l.lanes.items } };
+    ghost view = { λ l. record { ends = l.ends; lanes = l.lanes.items } };
 
-    ghost invariant = { λ l. (vec_len l.lanes ≡ l.ends * l.ends) × (length l.lanes.items ≡ l.ends * l.ends) };
+    ghost invariant = { λ l. (vec_len l.lanes ≡ l.ends * l.ends) × (length l.lanes.items ≡ l.ends * l.ends) × AreCountsOf l.lanes.items l.tally };
 }
 
 fn place_of(ends: u8, from: u8, to: u8) -> Option<usize>
@@ -40,6 +48,24 @@ fn place_of(ends: u8, from: u8, to: u8) -> Option<usize>
     }
 }
 
+/// The link whose lane stands at a place.
+fn link_at(ends: u8, at: usize) -> Link
+    requires { at < ends * ends }
+    ensures { result ≡ record { from = at / ends; to = at % ends } }
+{
+    Link {
+        from: (at / ends as usize) as u8,
+        to: (at % ends as usize) as u8,
+    }
+}
+
+/// Whether a lane has so many messages or more.
+fn has_crowded_lane(lanes: &[Lane], most: usize) -> bool
+    ensures { result ≡ list_any (λ lane. nat_le most (length lane.list)) lanes.now }
+{
+    lanes.iter().any(|lane| lane.len() >= most)
+}
+
 impl Links {
     /// The links between so many ends, without messages, at the cost of the square of the ends.
     pub fn new(alloc: Global, ends: u8) -> Result<Links, Memory>
@@ -47,11 +73,12 @@ impl Links {
         ensures lists { IfOk result (λ links. HasLists links (λ _ _. [])) }
     {
         let count = ends as usize * ends as usize;
+        let tally = Tally::new(alloc, count)?;
         let mut lanes = Vec::with_capacity(alloc, count)?;
         for _ in 0..count {
             lanes.push(Lane::new(alloc))?;
         }
-        Ok(Links { ends, lanes })
+        Ok(Links { ends, lanes, tally })
     }
 
     /// The messages from one end to another. Takes no memory.
@@ -62,6 +89,24 @@ impl Links {
             None => &[],
             Some(at) => self.lanes[at].as_slice(),
         }
+    }
+
+    /// The first link that has a message, if one has, in order of the ends that the links are from, and then of those that
+    /// they are to. In constant time and with no memory.
+    pub fn next_link(&self) -> Option<Link>
+        ensures { result ≡ next_link self.now }
+    {
+        let at = self.tally.first_busy()?;
+        Some(link_at(self.ends, at))
+    }
+
+    /// Whether a link has so many messages or more. Takes no memory.
+    ///
+    /// Costs a constant while all links together have fewer, and else the square of the ends.
+    pub fn has_crowded_link(&self, most: usize) -> bool
+        ensures { result ≡ has_crowded_link most self.now }
+    {
+        self.tally.messages() >= most as u128 && has_crowded_lane(self.lanes.as_slice(), most)
     }
 
     /// Takes the message at a place out, if there is one. Takes no memory.
@@ -76,7 +121,11 @@ impl Links {
         ensures ends { self.new.ends ≡ self.old.ends }
     {
         let at = place_of(self.ends, from, to)?;
-        self.lanes[at].take(place)
+        let lane = &mut self.lanes[at];
+        let before = lane.len();
+        let taken = lane.take(place);
+        self.tally.change(at, before, lane.len());
+        taken
     }
 
     /// Drops the message at a place, if there is one. Takes no memory, and costs what a delivery does.
@@ -102,10 +151,14 @@ impl Links {
         ensures spare { LowersByOneAtMost self.old self.new }
         ensures ends { self.new.ends ≡ self.old.ends }
     {
-        match place_of(self.ends, from, to) {
-            None => Ok(false),
-            Some(at) => self.lanes[at].repeat(alloc, place),
-        }
+        let Some(at) = place_of(self.ends, from, to) else {
+            return Ok(false);
+        };
+        let lane = &mut self.lanes[at];
+        let before = lane.len();
+        let repeated = lane.repeat(alloc, place);
+        self.tally.change(at, before, lane.len());
+        repeated
     }
 
     /// Makes room for so many messages more on each link from an end. Want of memory leaves the lists as they were.
@@ -146,13 +199,17 @@ impl Links {
         ensures ends { self.new.ends ≡ self.old.ends }
     {
         let at = from as usize * self.ends as usize + to as usize;
-        self.lanes[at].send(bytes);
+        let lane = &mut self.lanes[at];
+        let before = lane.len();
+        lane.send(bytes);
+        self.tally.change(at, before, lane.len());
     }
 
     /// Puts each message last on its link from that end, in order, each as `send` does.
     pub fn send_all(&mut self, from: u8, messages: Vec<(u8, Bytes)>)
         requires { (to : ℕ) → length (sent_to to messages.items) ≤ spare_of self.old from to }
         ensures lists { HasLists self.new (with_sent from messages.items (list_of self.old)) }
+        ensures spare { HasSpares self.new (less_sent from messages.items (spare_of self.old)) }
         ensures ends { self.new.ends ≡ self.old.ends }
     {
         for (to, bytes) in messages {

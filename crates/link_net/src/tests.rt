@@ -1,4 +1,4 @@
-ghost use Rattle.std.specs.Prelude.{◌≡◌, OnOk};
+ghost use Rattle.std.specs.Prelude.{◌≡◌, ◌<◌, IfOk, OnOk};
 
 use super::*;
 use grid_base::Bytes;
@@ -6,25 +6,29 @@ use std::alloc::Global;
 use std::process::Abort;
 use std::test::Fail;
 
-/// Sends a message of one byte from end 2 to end 0.
-fn send(alloc: Global, links: &mut Links, byte: u8) -> Result<(), Fail>
-    requires { links.old.ends ≡ 4 }
+/// Sends a message of one byte between two of four ends.
+fn send(alloc: Global, links: &mut Links, from: u8, to: u8, byte: u8) -> Result<(), Fail>
+    requires ends { links.old.ends ≡ 4 }
+    requires from { from < 4 }
+    requires to { to < 4 }
     ensures { OnOk result (links.new.ends ≡ 4) }
 {
     let message = Bytes::copied_from(alloc, &[byte])?;
-    links.reserve(2, 1)?;
-    links.send(2, 0, message);
+    links.reserve(from, 1)?;
+    links.send(from, to, message);
     Ok(())
 }
 
 /// Links between four ends, with the messages 0 to 4 from end 2 to end 0.
-fn five_sent(alloc: Global) -> Result<Links, Fail> {
+fn five_sent(alloc: Global) -> Result<Links, Fail>
+    ensures { IfOk result (λ links. links.ends ≡ 4) }
+{
     let mut links = Links::new(alloc, 4)?;
-    send(alloc, &mut links, 0)?;
-    send(alloc, &mut links, 1)?;
-    send(alloc, &mut links, 2)?;
-    send(alloc, &mut links, 3)?;
-    send(alloc, &mut links, 4)?;
+    send(alloc, &mut links, 2, 0, 0)?;
+    send(alloc, &mut links, 2, 0, 1)?;
+    send(alloc, &mut links, 2, 0, 2)?;
+    send(alloc, &mut links, 2, 0, 3)?;
+    send(alloc, &mut links, 2, 0, 4)?;
     Ok(links)
 }
 
@@ -58,5 +62,35 @@ fn nothing_leaves_from_elsewhere(rt: HostRuntime) -> Result<(), Fail> {
         assert!(rt; !links.repeat(rt.alloc(), from, to, place)?);
     }
     assert_list(&rt, &links, &[0, 1, 2, 3, 4]);
+    Ok(())
+}
+
+#[test]
+fn the_first_busy_link_is_next(rt: HostRuntime) -> Result<(), Fail> {
+    let mut links = Links::new(rt.alloc(), 4)?;
+    assert_eq!(rt; links.next_link(), None);
+    send(rt.alloc(), &mut links, 2, 3, 7)?;
+    send(rt.alloc(), &mut links, 3, 0, 7)?;
+    send(rt.alloc(), &mut links, 2, 0, 7)?;
+    send(rt.alloc(), &mut links, 2, 0, 7)?;
+    send(rt.alloc(), &mut links, 0, 1, 7)?;
+    for (from, to) in [(0, 1), (2, 0), (2, 0), (2, 3), (3, 0)] {
+        assert_eq!(rt; links.next_link(), Some(Link { from, to }));
+        assert!(rt; links.lose(from, to, 0));
+    }
+    assert_eq!(rt; links.next_link(), None);
+    Ok(())
+}
+
+#[test]
+fn a_link_is_crowded_by_its_own_messages(rt: HostRuntime) -> Result<(), Fail> {
+    let mut links = five_sent(rt.alloc())?;
+    send(rt.alloc(), &mut links, 0, 2, 5)?;
+    assert!(rt; links.has_crowded_link(5));
+    assert!(rt; !links.has_crowded_link(6));
+    assert!(rt; links.repeat(rt.alloc(), 2, 0, 0)?);
+    assert!(rt; links.has_crowded_link(6));
+    assert!(rt; links.lose(2, 0, 1));
+    assert!(rt; !links.has_crowded_link(6));
     Ok(())
 }

@@ -5,25 +5,25 @@ use Rattle.link_net.specs.Links.{Net}
 use Rattle.link_net.proofs.Nets.{lowers_one, list_put, list_kept}
 use Rattle.link_net.proofs.links.Links.repeat.Goals as goal
 
-pub returns-in-Some-clause-ok : goal.returns-in-Some-clause-ok
-returns-in-Some-clause-ok c =
-    let net : Net = record { ends = c.self.inside.ends; links = c.self.inside.lanes.items } in
+pub returns-clause-ok : goal.returns-clause-ok
+returns-clause-ok c =
+    let net : Net = record { ends = c.self.inside.ends; lanes = c.self.inside.lanes.items } in
     rw (← c.self.view_is)
-    (on_ok_weaker c.repeat.result
-    (list_put net c.self.invariant.1 c.args.from c.args.to c.in-Some.at (sym c.in-Some.ensures.place) c.repeat.new.self
-    c.index_mut.result.now c.index_mut.ensures.value (λ list. list ++ option_to_list (slice_get list c.args.place)))
-    c.repeat.ensures.ok)
+    (on_ok_weaker c.repeat-repeated.result
+    (list_put net c.self.invariant.1 c.args.from c.args.to c.in-Some.at (sym c.in-Some.ensures.place) c.repeat-repeated.new.self
+    c.index_mut-lane.result.now c.index_mut-lane.ensures.value (λ list. list ++ option_to_list (slice_get list c.args.place)))
+    c.repeat-repeated.ensures.ok)
 
-pub returns-in-Some-clause-err : goal.returns-in-Some-clause-err
-returns-in-Some-clause-err c =
-    let net : Net = record { ends = c.self.inside.ends; links = c.self.inside.lanes.items } in
+pub returns-clause-err : goal.returns-clause-err
+returns-clause-err c =
+    let net : Net = record { ends = c.self.inside.ends; lanes = c.self.inside.lanes.items } in
     rw (← c.self.view_is)
-    (on_err_weaker c.repeat.result
-    (list_kept net c.self.invariant.1 c.args.from c.args.to c.in-Some.at (sym c.in-Some.ensures.place) c.repeat.new.self c.index_mut.result.now c.index_mut.ensures.value)
-    c.repeat.ensures.err)
+    (on_err_weaker c.repeat-repeated.result
+    (list_kept net c.self.invariant.1 c.args.from c.args.to c.in-Some.at (sym c.in-Some.ensures.place) c.repeat-repeated.new.self c.index_mut-lane.result.now c.index_mut-lane.ensures.value)
+    c.repeat-repeated.ensures.err)
 
-pub returns-in-Some-clause-spare : goal.returns-in-Some-clause-spare
-returns-in-Some-clause-spare c =
-    let net : Net = record { ends = c.self.inside.ends; links = c.self.inside.lanes.items } in
+pub returns-clause-spare : goal.returns-clause-spare
+returns-clause-spare c =
+    let net : Net = record { ends = c.self.inside.ends; lanes = c.self.inside.lanes.items } in
     rw (← c.self.view_is)
-    (lowers_one net c.self.invariant.1 c.args.from c.args.to c.in-Some.at (sym c.in-Some.ensures.place) c.repeat.new.self c.index_mut.result.now c.index_mut.ensures.value c.repeat.ensures.spare)
+    (lowers_one net c.self.invariant.1 c.args.from c.args.to c.in-Some.at (sym c.in-Some.ensures.place) c.repeat-repeated.new.self c.index_mut-lane.result.now c.index_mut-lane.ensures.value c.repeat-repeated.ensures.spare)
