@@ -1,7 +1,7 @@
 -- What a member acknowledged, by a list with one acknowledgement more.
-use Rattle.std.proofs.Common.{◌≡◌, ℕ, max, Bool, true, false, ◌==◌, List, [], ◌∷◌, Option, Some, None, unwrap_or, refl, ap, sym, ◌∙◌, arith}
+use Rattle.std.proofs.Common.{◌≡◌, ℕ, max, Bool, true, false, ◌==◌, List, [], ◌∷◌, Some, unwrap_or, refl, ap, sym, ◌∙◌, arith}
 use Rattle.partition_protocol.specs.Node.{Acknowledged, acked_by, with_ack}
-use Rattle.partition_protocol.proofs.RowFacts.{same_number, number_same, other_number}
+use Rattle.partition_protocol.proofs.RowFacts.{same_number, number_same}
 use Rattle.primary_hold.proofs.AckLists.{with_ack_same, with_ack_other, acked_by_same, acked_by_other}
 
 same_at : (m c : ℕ) (a : Acknowledged) (xs : List Acknowledged) (b : Bool) → (a.member == m) ≡ b

@@ -1,5 +1,5 @@
 -- What a newer row leaves of a member's contents, answers and newest effects.
-use Rattle.std.specs.Prelude.{◌≡◌, ℕ, Bool, true, false, not, ◌&&◌, ◌||◌, if◌then◌else◌, List, []}
+use Rattle.std.specs.Prelude.{◌≡◌, ℕ, Bool, not, ◌&&◌, ◌||◌, if◌then◌else◌, List, []}
 use Rattle.partition_table.specs.declared.Row.{Row}
 use Rattle.partition_table.specs.Rows.{is_primary, is_in}
 use Rattle.partition_protocol.specs.Node.{Node, Pair, no_pair}

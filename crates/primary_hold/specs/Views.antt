@@ -1,8 +1,8 @@
 -- What a primary knows of its backups, and what it sends each of them to catch up.
-use Rattle.std.specs.Prelude.{◌≤◌, ℕ, ◌+◌, min, false, List, [], ◌∷◌, ◌++◌, Option, Some, None}
+use Rattle.std.specs.Prelude.{ℕ, false, List, [], ◌∷◌, ◌++◌, Option, Some, None}
 use Rattle.partition_protocol.specs.Messages.{Message, Bridge}
 use Rattle.partition_protocol.specs.Node.{Acknowledged, Earlier, Node, with_ack}
-use Rattle.partition_protocol.specs.CatchUp.{effects, whole_snapshot, recent_limit}
+use Rattle.partition_protocol.specs.CatchUp.{effects, whole_snapshot}
 use Rattle.primary_hold.specs.declared.acks.EarlierView.{EarlierView}
 use Rattle.primary_hold.specs.declared.view.View.{View}
 use Rattle.primary_hold.specs.declared.view.CatchUp.{CatchUp}

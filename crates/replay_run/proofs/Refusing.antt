@@ -2,7 +2,7 @@
 use Rattle.std.proofs.Common.{◌≡◌, ℕ, List, Option, Some, None, pos, ap, sym, ◌∙◌, append-nil}
 use Rattle.std.specs.Prelude.{ℤ}
 use Rattle.grid_base.specs.declared.calls.Request.{Request}
-use Rattle.replay_run.specs.declared.grid.Refusal.{Refusal}
+use Rattle.replay_run.specs.declared.calls.Refusal.{Refusal}
 use Rattle.std.specs.Int.{w32, cast_signed}
 use Rattle.fixed_fields.specs.Responses.{error_bytes}
 use Rattle.replay_run.specs.Runs.{refusal}

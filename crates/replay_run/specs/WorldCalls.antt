@@ -13,7 +13,7 @@ use Rattle.partition_world.specs.declared.world.World.{World}
 use Rattle.grid_base.specs.Shelves.{Meaning}
 use Rattle.partition_world.specs.Answers.{released_at}
 use Rattle.partition_world.specs.Worlds.{StandsFor, run_of, setup_of, waiting}
-use Rattle.replay_run.specs.declared.grid.Refusal.{Refusal}
+use Rattle.replay_run.specs.declared.calls.Refusal.{Refusal}
 use Rattle.script_lang.specs.declared.line.Line.{Line}
 use Rattle.script_lang.specs.declared.line.Line.TheVariants as line
 use Rattle.replay_run.specs.declared.events.Fate.{Fate}

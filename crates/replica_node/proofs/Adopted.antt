@@ -12,7 +12,6 @@ use Rattle.partition_protocol.proofs.Lists.{cases}
 use Rattle.member_wire.specs.Said.{Contents, took_of, written}
 use Rattle.backup_apply.specs.declared.steps.BackupStep.{BackupStep}
 use Rattle.backup_apply.specs.declared.steps.BackupStep.TheVariants.{Silent}
-use Rattle.backup_apply.specs.declared.contents.ContentsChange.{ContentsChange}
 use Rattle.backup_apply.specs.Contents.{Does}
 use Rattle.backup_apply.specs.Steps.{step_of as backup_step, took_by as took_by_backup, change_by}
 use Rattle.primary_hold.specs.declared.answer.CallAnswer.{CallAnswer}
@@ -24,7 +23,7 @@ use Rattle.replica_node.specs.declared.node.Node.{Node}
 use Rattle.replica_node.specs.declared.reaction.Reaction.TheVariants.{Backup}
 use Rattle.replica_node.specs.declared.taking.Taken.{Taken}
 use Rattle.replica_node.specs.Decisions.{adoption_step, node_by, sent_by, IsSoundIn}
-use Rattle.replica_node.specs.Nodes.{node_of, contents_of, waiting, held_answers, ring_of, ends_of, Ends, member_of, carried_by}
+use Rattle.replica_node.specs.Nodes.{node_of, contents_of, waiting, held_answers, ring_of, Ends, member_of, carried_by}
 use Rattle.replica_node.specs.Sending.{Fits, Sends, carried}
 use Rattle.replica_node.specs.Taken.{HasTaken}
 use Rattle.replica_node.specs.Takings.{state_in, DoesIn, answers_left}

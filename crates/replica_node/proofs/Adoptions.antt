@@ -5,7 +5,7 @@ use Rattle.partition_table.specs.declared.Row.{Row}
 use Rattle.partition_table.specs.declared.RowMember.{RowMember}
 use Rattle.partition_table.specs.Rows.{is_primary, is_backup, is_in, backups_of}
 use Rattle.partition_protocol.specs.Messages.{Sync, Sent}
-use Rattle.partition_protocol.specs.Node.{Held, Node, no_pair}
+use Rattle.partition_protocol.specs.Node.{Held, Node}
 use Rattle.partition_protocol.specs.CatchUp.{catch_up}
 use Rattle.partition_protocol.specs.Adoption.{adopted_row, adopt_as_primary, adopt_as_other, is_before_reset, stays_primary, carried_answers, sent_on_adopting}
 use Rattle.partition_protocol.specs.Replica.{to_one, lags}

@@ -1,11 +1,11 @@
 -- How a member takes a row that is sent with something for its backups, case by case.
-use Rattle.std.proofs.Common.{◌≡◌, ℕ, Bool, true, false, nat_lt, if◌then◌else◌, refl, sym, ◌∙◌, ap, arith}
+use Rattle.std.proofs.Common.{◌≡◌, ℕ, true, false, nat_lt, if◌then◌else◌, refl, sym, ◌∙◌, arith}
 use Rattle.std.proofs.lemmas.Bool.Decides.{nat_tests}
 use Rattle.partition_table.specs.declared.Row.{Row}
 use Rattle.partition_table.specs.Rows.{is_backup}
 use Rattle.partition_protocol.specs.Took.{Other}
 use Rattle.partition_protocol.specs.Node.{Node}
-use Rattle.partition_protocol.specs.Replica.{Step, unanswered, with_sent, is_newer, after_row, sent_by_row}
+use Rattle.partition_protocol.specs.Replica.{Step, unanswered, with_sent, after_row, sent_by_row}
 use Rattle.replica_node.specs.declared.decision.Carried.{Carried}
 use Rattle.replica_node.specs.declared.decision.Carried.TheVariants.{Whole, Bridge}
 use Rattle.replica_node.specs.Carried.{on_carried, backup_carries}

@@ -1,6 +1,5 @@
 -- What a backup does, as a member's reaction, and what follows for what it knows and sends.
-use Rattle.std.proofs.Common.{◌≡◌, ℕ, [], true, refl, sym, ◌∙◌, ap}
-use Rattle.partition_table.specs.declared.Row.{Row}
+use Rattle.std.proofs.Common.{◌≡◌, ℕ, refl}
 use Rattle.partition_protocol.specs.Node.{Node, settled}
 use Rattle.member_wire.specs.Said.{took_of}
 use Rattle.backup_apply.specs.declared.steps.BackupStep.{BackupStep}

@@ -1,9 +1,8 @@
 -- What a row and any other message leave of a member's contents, effects and answers, and what they ask of it.
-use Rattle.std.specs.Prelude.{◌≡◌, ℕ, Bool, true, false, not, ◌&&◌, ◌||◌, if◌then◌else◌, List, [], ◌++◌, Option, Some, None, is_some}
+use Rattle.std.specs.Prelude.{◌≡◌, ℕ, Bool, true, false, if◌then◌else◌, List, ◌++◌, Option, Some, None, is_some}
 use Rattle.grid_base.specs.Objects.{IsSmall}
 use Rattle.partition_table.specs.declared.Row.{Row}
-use Rattle.partition_table.specs.Rows.{is_primary, is_in, is_eligible}
-use Rattle.partition_protocol.specs.Node.{Node, Pair, acked, no_pair}
+use Rattle.partition_protocol.specs.Node.{Node}
 use Rattle.partition_protocol.specs.Took.{Took, Synced, Applied}
 use Rattle.partition_protocol.specs.Replica.{is_newer}
 use Rattle.member_wire.specs.declared.message.MemberMessage.{MemberMessage}

@@ -1,4 +1,4 @@
-use Rattle.std.proofs.Common.{◌==◌, ap, sym, ◌∙◌, max, Some, unwrap_or}
+use Rattle.std.proofs.Common.{ap, sym, ◌∙◌, max, Some, unwrap_or}
 use Rattle.partition_protocol.specs.Node.{acked_by}
 use Rattle.partition_protocol.proofs.RowFacts.{number_other}
 use Rattle.primary_hold.specs.Views.{with_latest}

@@ -1,7 +1,6 @@
 use Rattle.std.proofs.Common.{◌≡◌, ◌<◌, ◌+◌, ◌∙◌, [], ◌++◌, append-nil, ap, sym, subst, refl, arith}
 use Rattle.std.proofs.lemmas.Result.{on_ok_weaker}
 use Rattle.script_lang.specs.declared.line.Line.TheVariants.{Dump}
-use Rattle.replica_node.specs.Contents.{pair_of}
 use Rattle.partition_world.specs.ContentsOf.{pair_at, contents_at}
 use Rattle.table_service.specs.Services.{Setup}
 use Rattle.partition_world.specs.Worlds.{run_of}
@@ -24,8 +23,8 @@ index-requires g c =
     let within = world_within c.args.self.now c.requires.run c.requires.stands.holds c.args.partition c.from.result low c.from.ensures in
     omega (arith, within, c.args.self.now.worlds.ok.0)
 
-pub contents-version-requires : goal.contents-version-requires
-contents-version-requires g c =
+pub contents-pair-requires : goal.contents-pair-requires
+contents-pair-requires g c =
     let low : c.args.partition < partitions = omega (arith, c.requires.read.0) in
     let is = world_is c.args.self.now c.requires.run c.requires.stands.holds c.args.partition c.from.result low c.from.ensures c.index.result.now c.index.ensures in
     let members = ap (λ (x : Setup). x.members) is.setup in
@@ -45,10 +44,10 @@ returns g c = λ settings r s.
     let is = world_is (counted grid number) (next_line r) stands.holds p c.from.result low c.from.ensures world c.index.ensures in
     let events = events_at p r.events in
     let o = partition_object settings in
-    let pair : pair_of c.contents-version.result ≡ pair_at (world_at o (next_line r) p) member =
-    told_of _ (counted grid number) (next_line r) stands.holds p c.from.result low c.from.ensures world c.index.ensures (λ w. pair_at w member) (pair_of c.contents-version.result) (c.contents-version.ensures.pair (settings_of _ grid.env)) in
-    let shown : c.contents-version.result.shelf.now ≡ contents_at o (world_at o (next_line r) p) member =
-    subst (λ (x : Settings). StandsForEvents x world events → c.contents-version.result.shelf.now ≡ contents_at (partition_object x) (run_of (grid_meaning x) world events) member) s.holds.goes_by (c.contents-version.ensures.state (settings_of _ grid.env) events) is.stands
+    let pair : c.contents-pair.result.pair ≡ pair_at (world_at o (next_line r) p) member =
+    told_of _ (counted grid number) (next_line r) stands.holds p c.from.result low c.from.ensures world c.index.ensures (λ w. pair_at w member) c.contents-pair.result.pair (c.contents-pair.ensures.pair (settings_of _ grid.env)) in
+    let shown : c.contents-pair.result.shelf.now ≡ contents_at o (world_at o (next_line r) p) member =
+    subst (λ (x : Settings). StandsForEvents x world events → c.contents-pair.result.shelf.now ≡ contents_at (partition_object x) (run_of (grid_meaning x) world events) member) s.holds.goes_by (c.contents-pair.ensures.state (settings_of _ grid.env) events) is.stands
     ∙ ap (λ w. contents_at o w member) (run_is world (next_line r) p is) in
     let outcome = dump_text (r.lines + 1) (pair_at (world_at o (next_line r) p) member) in
     let dumped = dumped_text (r.lines + 1) (contents_at o (world_at o (next_line r) p) member) in

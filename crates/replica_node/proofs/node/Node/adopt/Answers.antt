@@ -1,5 +1,5 @@
 -- The member has adopted a copy of the row, and all that this changes is told by the steps.
-use Rattle.std.proofs.Common.{◌≡◌, sym, ◌∙◌, ap, subst}
+use Rattle.std.proofs.Common.{subst}
 use Rattle.partition_table.specs.declared.Row.{Row}
 use Rattle.backup_apply.specs.declared.contents.ContentsChange.{ContentsChange}
 use Rattle.backup_apply.specs.Steps.{change_by}

@@ -1,9 +1,8 @@
 -- The call's effect makes the state after it, by the shelf's laws, and the answer is held behind the others.
-use Rattle.std.proofs.Common.{◌≡◌, ℕ, Bool, true, List, [], ◌∷◌, ◌++◌, Option, Some, None, is_some, option_copied, sym, ◌∙◌, ap}
+use Rattle.std.proofs.Common.{◌≡◌, ℕ, List, [], ◌∷◌, ◌++◌, Option, is_some, option_copied, sym, ◌∙◌, ap}
 use Rattle.grid_base.specs.declared.calls.Change.{Change}
 use Rattle.partition_protocol.specs.Node.{Node as ProtocolNode, Pair, settled}
 use Rattle.partition_protocol.specs.Execution.{executing}
-use Rattle.primary_hold.specs.declared.answer.CallAnswer.{CallAnswer}
 use Rattle.primary_hold.specs.Answering.{all_of}
 use Rattle.primary_hold.specs.Changes.{answer_at}
 use Rattle.primary_hold.specs.Facts.{node_of, answers_of, ring_of}

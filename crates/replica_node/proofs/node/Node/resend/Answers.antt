@@ -1,9 +1,8 @@
 -- The three kinds of messages, one behind the other.
-use Rattle.std.proofs.Common.{◌≡◌, ℕ, Bool, List, [], sym, ◌∙◌, ap, subst, ◌++◌, ◌&&◌, true}
+use Rattle.std.proofs.Common.{◌≡◌, ℕ, List, [], sym, ◌∙◌, ap, subst, ◌++◌, ◌&&◌, true}
 use Rattle.std.specs.List.{flat_map}
 use Rattle.partition_table.specs.declared.Row.{Row}
 use Rattle.partition_table.specs.Rows.{backups_of, is_empty, is_primary}
-use Rattle.partition_protocol.specs.Messages.{Sent}
 use Rattle.partition_protocol.specs.Node.{Node as ProtocolNode}
 use Rattle.partition_protocol.specs.Replica.{joined_again, sent_again}
 use Rattle.primary_hold.specs.Facts.{node_of, member_of}

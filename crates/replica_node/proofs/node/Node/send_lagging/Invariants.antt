@@ -1,4 +1,4 @@
-use Rattle.std.proofs.Common.{◌≡◌, take}
+use Rattle.std.proofs.Common.{take}
 use Rattle.std.specs.List.{flat_map}
 use Rattle.partition_table.specs.declared.RowMember.{RowMember}
 use Rattle.replica_node.specs.Nodes.{contents_of, carried_by}

@@ -1,5 +1,5 @@
 -- What was decided is what the protocol says of the message.
-use Rattle.std.proofs.Common.{◌≡◌, sym, ◌∙◌, ap, subst, ◌++◌}
+use Rattle.std.proofs.Common.{◌≡◌, sym, ◌∙◌, ap, subst}
 use Rattle.partition_protocol.specs.Replica.{Step, taking}
 use Rattle.partition_protocol.specs.Took.{Took}
 use Rattle.member_wire.specs.Said.{message_of, took_of}
@@ -7,7 +7,7 @@ use Rattle.backup_apply.specs.Contents.{Does}
 use Rattle.backup_apply.specs.Steps.{took_by as took_by_backup, change_by}
 use Rattle.replica_node.specs.Nodes.{node_of, contents_of, ring_of, member_of, service_of}
 use Rattle.replica_node.specs.Decisions.{took_by, change_in}
-use Rattle.replica_node.specs.Takings.{Leaves, row_in}
+use Rattle.replica_node.specs.Takings.{Leaves}
 use Rattle.replica_node.proofs.Leaving.{leaves_so, adopted_ring, adopted_state, staying_ring, staying_state}
 use Rattle.replica_node.proofs.Reactions.{backup_took}
 use Rattle.replica_node.proofs.Takes.{if_ok, taken_as}
