@@ -20,7 +20,7 @@ either true x y n e f = e
 either false x y n e f = f
 
 members_asked : (o : Object Request Partition) (skips : List CallId) (r : Run) (a : Arrival) → (asked o skips r a).members ≡ r.members
-members_asked o skips r a = either (is_skipped skips a.id) _ _ r.members refl refl
+members_asked o skips r a = either (is_skipped skips a.request.id) _ _ r.members refl refl
 
 members_asks : (o : Object Request Partition) (skips : List CallId) (r : Run) (a : Arrival) → (asks o skips r a).members ≡ r.members
 members_asks o skips r a = either (is_full (world_at o r a.request.partition)) _ _ r.members refl (members_asked o skips r a)

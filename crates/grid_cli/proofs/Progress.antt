@@ -69,7 +69,7 @@ run_line o s r text texts line read = ap (λ (x : Result Line LineWhy). elim x [
 module _ (forms : List ProcessorForm) (capacity : ℕ) (r : Run) (skips : List CallId) (done : List (List ℕ)) (written text : List ℕ) (at : IsAt forms capacity r skips done written)
     (line : Line) (read : line_of false r.members text ≡ Ok line)
     (k : List CallId) (of_line : AreOfLine (partition_object (settings forms capacity)) r line k) (next : Run) (after : after_line (partition_object (settings forms capacity)) k r line ≡ next)
-    (new : (b : Arrival) (id : CallId) → In b r.arrivals → In id (calls_at (partition_object (settings forms capacity)) r line) → b.id ≢ id) where
+    (new : (b : Arrival) (id : CallId) → In b r.arrivals → In id (calls_at (partition_object (settings forms capacity)) r line) → b.request.id ≢ id) where
   abbrev by : Settings
   by = settings forms capacity
 
@@ -80,10 +80,10 @@ module _ (forms : List ProcessorForm) (capacity : ℕ) (r : Run) (skips : List C
   counts = subst (λ (x : Run). Counts r x (calls_at o r line)) after (line_counts o k r line)
 
   -- those that had arrived are skipped or not as before
-  before_line : (a : Arrival) → In a r.arrivals → is_skipped (k ++ skips) a.id ≡ is_skipped skips a.id
+  before_line : (a : Arrival) → In a r.arrivals → is_skipped (k ++ skips) a.request.id ≡ is_skipped skips a.request.id
   before_line a i =
-      skipped_by_either k skips a.id ∙ ap (λ b. b || is_skipped skips a.id)
-      (not_skipped k a.id (λ x j. unless_same a.id x (new a x i (in_contains x (calls_at o r line) (of_line x (contains_in x k j))))))
+      skipped_by_either k skips a.request.id ∙ ap (λ b. b || is_skipped skips a.request.id)
+      (not_skipped k a.request.id (λ x j. unless_same a.request.id x (new a x i (in_contains x (calls_at o r line) (of_line x (contains_in x k j))))))
 
   -- the line's own calls are skipped or not by its own skips
   its_calls : Alike (k ++ skips) k (calls_at o r line)
@@ -98,9 +98,9 @@ module _ (forms : List ProcessorForm) (capacity : ℕ) (r : Run) (skips : List C
   agree_before : (s : List CallId) → AgreeOn next.arrivals s (k ++ skips) → AgreeOn r.arrivals s skips
   agree_before s agree a c = agree a (arrived_stays a c) ∙ before_line a (in_contains a r.arrivals c)
 
-  call_arrived : (id : CallId) → In id (calls_at o r line) → (a : Arrival) × Contains next.arrivals a × (a.id ≡ id)
+  call_arrived : (id : CallId) → In id (calls_at o r line) → (a : Arrival) × Contains next.arrivals a × (a.request.id ≡ id)
   call_arrived id i =
-      let a = in_mapped (λ (a : Arrival). a.id) counts.come id (subst (λ ids. In id ids) (sym counts.names) i) in
+      let a = in_mapped (λ (a : Arrival). a.request.id) counts.come id (subst (λ ids. In id ids) (sym counts.names) i) in
       (a.0, contains_in a.0 next.arrivals (subst (In a.0) (sym counts.arrivals) (in_right a.0 r.arrivals counts.come a.1)), a.2)
 
   runs_alike : (s : List CallId) → AgreeOn next.arrivals s (k ++ skips) → after_line o s r line ≡ next

@@ -45,5 +45,5 @@ pub record IsAt (forms : List ProcessorForm) (capacity : ℕ) (r : Run) (skips :
   pub runs : (s : List CallId) → AgreeOn r.arrivals s skips → (texts : List (List ℕ)) → run_of forms s (done ++ texts) ≡ run_after (partition_object (settings forms capacity)) s r texts
   pub keeps : (texts : List (List ℕ)) → capacity_of (done ++ texts) ≡ capacity
   -- the skips are calls that arrived
-  pub skipped : (id : CallId) → Contains skips id → (a : Arrival) × Contains r.arrivals a × (a.id ≡ id)
+  pub skipped : (id : CallId) → Contains skips id → (a : Arrival) × Contains r.arrivals a × (a.request.id ≡ id)
   pub count : r.lines ≡ length done

@@ -43,11 +43,11 @@ module _ {State : Type 0} (o : Object Request State) (r : Run) (ok : RunOk o r) 
   one_call p x y i j e = named_same executed_name (executed (world_at o r p).recorded.log) x y (log_once o r ok.members ok.of_arrivals p) i j e
 
   -- an answer is given in the partition in which its call arrived
-  pub given_at : (a : Arrival) (m : Appended) → In a r.arrivals → In m r.appended → m.answers ≡ Some a.id → IsGivenIn o r a.request.partition m a.id
+  pub given_at : (a : Arrival) (m : Appended) → In a r.arrivals → In m r.appended → m.answers ≡ Some a.request.id → IsGivenIn o r a.request.partition m a.request.id
   given_at a m i j e =
-      let q = ok.of_answers.given m a.id j e in
-      let there = partition_of_call o r ok.members ok.of_arrivals a q.0 q.1.call i (given_executed m a.id q.1) (ap id_name q.1.call_is) in
-      subst (λ k. IsGivenIn o r k m a.id) (sym there) q.1
+      let q = ok.of_answers.given m a.request.id j e in
+      let there = partition_of_call o r ok.members ok.of_arrivals a q.0 q.1.call i (given_executed m a.request.id q.1) (ap id_name q.1.call_is) in
+      subst (λ k. IsGivenIn o r k m a.request.id) (sym there) q.1
 
   -- the answer that is printed with a call
   pub record PrintedAnswer (p : ℕ) (x : Executed Request) (line : ℕ) : Type 0 where
@@ -65,10 +65,10 @@ module _ {State : Type 0} (o : Object Request State) (r : Run) (ok : RunOk o r) 
       message : (m : Appended) → In m r.appended → m.answers ≡ Some (id_of x) → m.line ≡ line → PrintedAnswer p x line
       message m j s l =
           let from = origin o r ok.members ok.of_arrivals p x i in
-          let named : from.0.id ≡ id_of x = ap id_of_name (ap name from.3) in
+          let named : from.0.request.id ≡ id_of x = ap id_of_name (ap name from.3) in
           let there : from.0.request.partition ≡ p = same_number from.0.request.partition p from.2 in
           let at_arrival = given_at from.0 m from.1 j (s ∙ ap (λ c. Some c) (sym named)) in
-          let g : IsGivenIn o r p m (id_of x) = subst (λ c. IsGivenIn o r p m c) named (subst (λ k. IsGivenIn o r k m from.0.id) there at_arrival) in
+          let g : IsGivenIn o r p m (id_of x) = subst (λ c. IsGivenIn o r p m c) named (subst (λ k. IsGivenIn o r k m from.0.request.id) there at_arrival) in
           record { message = m; there = j; answers = s; at_line = l; given = g; is = one_call p g.call x (given_executed m (id_of x) g) i (ap id_name g.call_is) }
 
       go : (found : Option Appended) → ((m : Appended) → found ≡ Some m → In m r.appended × (is_answer_to (id_of x) m ≡ true))

@@ -99,7 +99,7 @@ quiet o r moments ks ok apart grows = record {
   of_arrivals = record {
     placed = ok.of_arrivals.placed;
     once = ok.of_arrivals.once;
-    counted = λ a i. let k = ok.of_arrivals.counted a i in let j = grows a.id.conn k.0 k.1 in (j.0, j.1, omega (arith, k.2, j.2));
+    counted = λ a i. let k = ok.of_arrivals.counted a i in let j = grows a.request.id.conn k.0 k.1 in (j.0, j.1, omega (arith, k.2, j.2));
     in_order = ok.of_arrivals.in_order;
     rising = ok.of_arrivals.rising;
     of_line = ok.of_arrivals.of_line;
@@ -189,7 +189,7 @@ module _ (r : Run) (ok : ArrivalsOk r) (member : ℕ) (request : Request) (next 
   -- its name is new
   pub fresh : (b : Arrival) → In b r.arrivals → arrival_name b ≢ arrival_name a
   fresh b i e =
-      let number : b.id.number ≡ request.id.number = ap (λ (n : CallName). n.number) e in
+      let number : b.request.id.number ≡ request.id.number = ap (λ (n : CallName). n.number) e in
       let before = next.may.after b (contains_in b r.arrivals i) (ap (λ (n : CallName). n.conn) e ∙ next.on) in
       omega (arith, number, before)
 
@@ -219,30 +219,30 @@ module _ (r : Run) (ok : ArrivalsOk r) (member : ℕ) (request : Request) (next 
       last_placed (inl e) = subst (λ (c : Arrival). IsPlaced c.request) e next.placed
       last_placed (inr i) = absurd i
 
-      last_counted : {b : Arrival} → In b (a ∷ []) → (k : Connection) × (connection_of r b.id.conn ≡ Some k) × (b.id.number < length (messages_on k))
-      last_counted (inl e) = subst (λ (c : Arrival). (k : Connection) × (connection_of r c.id.conn ≡ Some k) × (c.id.number < length (messages_on k))) e (next.connection, ap (connection_of r) next.on ∙ next.may.there, next.complete)
+      last_counted : {b : Arrival} → In b (a ∷ []) → (k : Connection) × (connection_of r b.request.id.conn ≡ Some k) × (b.request.id.number < length (messages_on k))
+      last_counted (inl e) = subst (λ (c : Arrival). (k : Connection) × (connection_of r c.request.id.conn ≡ Some k) × (c.request.id.number < length (messages_on k))) e (next.connection, ap (connection_of r) next.on ∙ next.may.there, next.complete)
       last_counted (inr i) = absurd i
 
       last_line : (b c : Arrival) → In b r.arrivals × (a ≡ c) → b.line ≤ c.line
       last_line b c (i, e) = let now = ok.by_now b i in let line = ap (λ (d : Arrival). d.line) e in omega (arith, now, line)
 
-      last_number : (b c : Arrival) → In b r.arrivals × (a ≡ c) → b.id.conn ≡ c.id.conn → b.id.number < c.id.number
+      last_number : (b c : Arrival) → In b r.arrivals × (a ≡ c) → b.request.id.conn ≡ c.request.id.conn → b.request.id.number < c.request.id.number
       last_number b c (i, e) s =
-          let before = next.may.after b (contains_in b r.arrivals i) (s ∙ ap (λ (d : Arrival). d.id.conn) (sym e) ∙ next.on) in
-          let number = ap (λ (d : Arrival). d.id.number) e in
+          let before = next.may.after b (contains_in b r.arrivals i) (s ∙ ap (λ (d : Arrival). d.request.id.conn) (sym e) ∙ next.on) in
+          let number = ap (λ (d : Arrival). d.request.id.number) e in
           omega (arith, before, number)
 
       -- an earlier call of this line
-      earlier : (b : Arrival) → In b r.arrivals → b.line ≡ r.lines → b.id.conn ≡ request.id.conn
+      earlier : (b : Arrival) → In b r.arrivals → b.line ≡ r.lines → b.request.id.conn ≡ request.id.conn
       earlier b i s = next.may.of_line b (contains_in b r.arrivals i) s ∙ sym next.on
 
-      with_last : (b c : Arrival) → In b r.arrivals ⊎ In b (a ∷ []) → In c r.arrivals ⊎ In c (a ∷ []) → b.line ≡ c.line → b.id.conn ≡ c.id.conn
+      with_last : (b c : Arrival) → In b r.arrivals ⊎ In b (a ∷ []) → In c r.arrivals ⊎ In c (a ∷ []) → b.line ≡ c.line → b.request.id.conn ≡ c.request.id.conn
       with_last b c (inl i) (inl j) s = ok.of_line b c i j s
-      with_last b c (inl i) (inr (inl e)) s = earlier b i (s ∙ ap (λ (d : Arrival). d.line) (sym e)) ∙ ap (λ (d : Arrival). d.id.conn) e
+      with_last b c (inl i) (inr (inl e)) s = earlier b i (s ∙ ap (λ (d : Arrival). d.line) (sym e)) ∙ ap (λ (d : Arrival). d.request.id.conn) e
       with_last b c (inl i) (inr (inr j)) s = absurd j
-      with_last b c (inr (inl e)) (inl j) s = ap (λ (d : Arrival). d.id.conn) (sym e) ∙ sym (earlier c j (sym s ∙ ap (λ (d : Arrival). d.line) (sym e)))
+      with_last b c (inr (inl e)) (inl j) s = ap (λ (d : Arrival). d.request.id.conn) (sym e) ∙ sym (earlier c j (sym s ∙ ap (λ (d : Arrival). d.line) (sym e)))
       with_last b c (inr (inr i)) (inl j) s = absurd i
-      with_last b c (inr (inl e)) (inr (inl f)) s = ap (λ (d : Arrival). d.id.conn) (sym e ∙ f)
+      with_last b c (inr (inl e)) (inr (inl f)) s = ap (λ (d : Arrival). d.request.id.conn) (sym e ∙ f)
       with_last b c (inr (inl e)) (inr (inr j)) s = absurd j
       with_last b c (inr (inr i)) (inr j) s = absurd i
 

@@ -87,22 +87,22 @@ messages_fewer r = all_sized r.connections
 -- the calls of a connection
 
 abbrev pub is_on_conn : ℕ → Arrival → Bool
-is_on_conn c a = a.id.conn == c
+is_on_conn c a = a.request.id.conn == c
 
 -- numbers that rise below a bound are no more than it
-rising_fewer : (c low high : ℕ) (xs : List Arrival) → low ≤ high → ((a b : Arrival) → Before xs a b → a.id.conn ≡ b.id.conn → a.id.number < b.id.number)
-    → ((a : Arrival) → In a xs → a.id.conn ≡ c → (low ≤ a.id.number) × (a.id.number < high)) → count (is_on_conn c) xs + low ≤ high
+rising_fewer : (c low high : ℕ) (xs : List Arrival) → low ≤ high → ((a b : Arrival) → Before xs a b → a.request.id.conn ≡ b.request.id.conn → a.request.id.number < b.request.id.number)
+    → ((a : Arrival) → In a xs → a.request.id.conn ≡ c → (low ≤ a.request.id.number) × (a.request.id.number < high)) → count (is_on_conn c) xs + low ≤ high
 rising_fewer c low high [] l rising within = omega (arith, l)
 rising_fewer c low high (x ∷ xs) l rising within =
-    ⊎_elim (λ e. here e (λ m w. rising_fewer c (x.id.number + 1) high xs m (λ a b h. rising a b (inr h)) w))
+    ⊎_elim (λ e. here e (λ m w. rising_fewer c (x.request.id.number + 1) high xs m (λ a b h. rising a b (inr h)) w))
     (λ e. let rest = rising_fewer c low high xs l (λ a b h. rising a b (inr h)) (λ a i. within a (inr i)) in rw e (omega (arith, rest)))
     (cases (is_on_conn c x))
   where
     here : is_on_conn c x ≡ true
-        → (x.id.number + 1 ≤ high → ((a : Arrival) → In a xs → a.id.conn ≡ c → (x.id.number + 1 ≤ a.id.number) × (a.id.number < high)) → count (is_on_conn c) xs + (x.id.number + 1) ≤ high)
+        → (x.request.id.number + 1 ≤ high → ((a : Arrival) → In a xs → a.request.id.conn ≡ c → (x.request.id.number + 1 ≤ a.request.id.number) × (a.request.id.number < high)) → count (is_on_conn c) xs + (x.request.id.number + 1) ≤ high)
         → count (is_on_conn c) (x ∷ xs) + low ≤ high
     here e more =
-        let conn = same_number x.id.conn c e in
+        let conn = same_number x.request.id.conn c e in
         let at = within x (inl refl) conn in
         let rest = more (omega (arith, at.1)) (λ a i s.
         (let later = rising x a (inl (refl, contains_in a xs i)) (conn ∙ sym s) in
@@ -111,14 +111,14 @@ rising_fewer c low high (x ∷ xs) l rising within =
         rw e (omega (arith, rest, at.0))
 
 -- each call is of a connection, so all calls are no more than those of each connection together
-all_counted : (xs : List Arrival) (ks : List Connection) → ((a : Arrival) → In a xs → (k : Connection) × In k ks × (a.id.conn ≡ k.conn))
+all_counted : (xs : List Arrival) (ks : List Connection) → ((a : Arrival) → In a xs → (k : Connection) × In k ks × (a.request.id.conn ≡ k.conn))
     → length xs ≤ sum_by (λ (k : Connection). count (is_on_conn k.conn) xs) ks
 all_counted [] ks h = omega arith
 all_counted (x ∷ xs) ks h =
     let rest = all_counted xs ks (λ a i. h a (inr i)) in
     let at = h x (inl refl) in
     let its = sum_has (λ (k : Connection). cond (is_on_conn k.conn x) 1 0) ks at.0 at.1 in
-    let test : is_on_conn at.0.conn x ≡ true = same_test x.id.conn at.0.conn at.2 in
+    let test : is_on_conn at.0.conn x ≡ true = same_test x.request.id.conn at.0.conn at.2 in
     let one = ap {B = ℕ} (λ b. cond b 1 0) test in
     let both = sum_both (λ (k : Connection). cond (is_on_conn k.conn x) 1 0) (λ (k : Connection). count (is_on_conn k.conn) xs) ks in
     omega (arith, rest, its, one, both)
@@ -142,18 +142,18 @@ arrivals_fewer {o} r is =
     ok : RunOk o r
     ok = run_ok is
 
-    there : (a : Arrival) → In a r.arrivals → (k : Connection) × In k r.connections × (a.id.conn ≡ k.conn)
+    there : (a : Arrival) → In a r.arrivals → (k : Connection) × In k r.connections × (a.request.id.conn ≡ k.conn)
     there a i =
         let k = ok.of_arrivals.counted a i in
-        let found = find_some (is_connection a.id.conn) r.connections k.0 k.1 in
-        (k.0, found.0, sym (same_number k.0.conn a.id.conn found.1))
+        let found = find_some (is_connection a.request.id.conn) r.connections k.0 k.1 in
+        (k.0, found.0, sym (same_number k.0.conn a.request.id.conn found.1))
 
-    below : (k : Connection) → In k r.connections → (a : Arrival) → In a r.arrivals → a.id.conn ≡ k.conn → (0 ≤ a.id.number) × (a.id.number < length (messages_on k))
+    below : (k : Connection) → In k r.connections → (a : Arrival) → In a r.arrivals → a.request.id.conn ≡ k.conn → (0 ≤ a.request.id.number) × (a.request.id.number < length (messages_on k))
     below k j a i e =
         let c = ok.of_arrivals.counted a i in
         let found : Some c.0 ≡ Some k = sym c.1 ∙ ap (connection_of r) e ∙ apart_found r.connections k ok.connections j in
         let one : c.0 ≡ k = cc in
-        (omega arith, subst (λ (x : Connection). a.id.number < length (messages_on x)) one c.2)
+        (omega arith, subst (λ (x : Connection). a.request.id.number < length (messages_on x)) one c.2)
 
     fewer : (k : Connection) → In k r.connections → count (is_on_conn k.conn) r.arrivals ≤ messages_at k
     fewer k j = let messages = rising_fewer k.conn 0 (length (messages_on k)) r.arrivals (omega arith) ok.of_arrivals.rising (below k j) in omega (arith, messages)
@@ -225,7 +225,7 @@ handled_no_more o skips r k items = ap (sum_by bytes_at) (handled_all_come o ski
 
 module _ (o : Object Request Partition) (skips : List CallId) where
   pub asked_few : (r : Run) (a : Arrival) → AreFew r → AreFew (asked o skips r a)
-  asked_few r a few p = go (is_skipped skips a.id)
+  asked_few r a few p = go (is_skipped skips a.request.id)
     where
       go : (b : Bool) → let next = cond b (arrived r a [] (refusal a.line a.request (pos want_of_memory) 0 ∷ [])) (arrived r a (its_event a ∷ []) (happening o r a)) in
           length (events_at p next.events) ≤ length next.arrivals + 1001 * next.lines

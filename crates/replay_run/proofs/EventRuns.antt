@@ -118,7 +118,7 @@ module _ {State : Type 0} (o : Object Request State) where
 
   module _ (skips : List CallId) where
     pub asked_full : (r : Run) (a : Arrival) → r.full ≡ true → (asked o skips r a).full ≡ true
-    asked_full r a full = on_if IsFull (is_skipped skips a.id) _ _ full full
+    asked_full r a full = on_if IsFull (is_skipped skips a.request.id) _ _ full full
 
     pub asks_full : (r : Run) (a : Arrival) → r.full ≡ true → (asks o skips r a).full ≡ true
     asks_full r a full = on_if IsFull (is_full (world_at o r a.request.partition)) (given_up (arrived r a [] [])) (asked o skips r a) refl (asked_full r a full)

@@ -25,21 +25,21 @@ in_numbered conn number (Asks request ∷ items) id numbered (inl e) =
 in_numbered conn number (Asks request ∷ items) id numbered (inr i) = let more = in_numbered conn (number + 1) items id numbered.1 i in (more.0, omega (arith, more.1))
 
 module _ {o : Object Request Partition} (r : Run) (is : IsRun o r) (b : Arrival) (i : In b r.arrivals) (id : CallId) where
-  of_items : (k : Connection) (bytes : List ℕ) → connection_of r k.conn ≡ Some k → In id (calls_in (items_by k bytes)) → b.id ≢ id
+  of_items : (k : Connection) (bytes : List ℕ) → connection_of r k.conn ≡ Some k → In id (calls_in (items_by k bytes)) → b.request.id ≢ id
   of_items k bytes there j same =
       let at = in_numbered k.conn _ (items_by k bytes) id (items_room k bytes).0 j in
       let below = (has_taken r k bytes is there).may.after b (contains_in b r.arrivals i) (ap (λ (c : CallId). c.conn) same ∙ at.0) in
       let number = ap (λ (c : CallId). c.number) same in
       omega (arith, at.1, below, number)
 
-  of_open : (k : Connection) (bytes : List ℕ) → connection_of r k.conn ≡ Some k → (takes : Bool) → In id (calls_in (cond takes (items_by k bytes) [])) → b.id ≢ id
+  of_open : (k : Connection) (bytes : List ℕ) → connection_of r k.conn ≡ Some k → (takes : Bool) → In id (calls_in (cond takes (items_by k bytes) [])) → b.request.id ≢ id
   of_open k bytes there true j = of_items k bytes there j
   of_open k bytes there false j = absurd j
 
-  of_connection : (c : ℕ) (bytes : List ℕ) (found : Option Connection) → connection_of r c ≡ found → In id (calls_in (items_at o r found bytes)) → b.id ≢ id
+  of_connection : (c : ℕ) (bytes : List ℕ) (found : Option Connection) → connection_of r c ≡ found → In id (calls_in (items_at o r found bytes)) → b.request.id ≢ id
   of_connection c bytes None there j = absurd j
   of_connection c bytes (Some k) there j = of_open k bytes (connection_there r c k there) (takes_bytes o r k) j
 
-  pub calls_are_new : (line : Line) → In id (calls_at o r line) → b.id ≢ id
+  pub calls_are_new : (line : Line) → In id (calls_at o r line) → b.request.id ≢ id
   calls_are_new (Arrive c bytes) j = of_connection c bytes (connection_of r c) refl j
   calls_are_new line j = absurd j

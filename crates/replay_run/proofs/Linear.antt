@@ -82,7 +82,7 @@ module _ (settings : Settings) (r : Run) (ok : RunOk (partition_object settings)
     -- an entry is of the arrival of its call
     pub is_of_arrival : (a : Arrival) (x : Executed Request) (e : PrintedCall) → In a r.arrivals → asked_of a ≡ asked x → Prints r p x e → IsOf a e
     is_of_arrival a x e i same prints =
-        let named : id_of x ≡ a.id = ap (λ (k : Asked Request). record { conn = k.conn; number = k.number }) (sym same) in
+        let named : id_of x ≡ a.request.id = ap (λ (k : Asked Request). record { conn = k.conn; number = k.number }) (sym same) in
         let entry = sym prints.is in
         record {
           id = ap (λ (f : PrintedCall). f.id) entry ∙ named;
@@ -144,31 +144,31 @@ module _ (settings : Settings) (r : Run) (ok : RunOk (partition_object settings)
         (ap id_name (ap (λ (f : PrintedCall). f.id) k.prints_first.is ∙ same ∙ ap (λ (f : PrintedCall). f.id) (sym k.prints_second.is)))
 
     -- an entry of the call that an answer was given to
-    pub entry_of_answer : (a : Arrival) (m : Appended) (g : IsGivenIn o r p m a.id) (e : PrintedCall) → In a r.arrivals → is_on object a.request ≡ true
-        → answer_of r a.id ≡ Some m → In (Call e) entries → Prints r p g.call e
+    pub entry_of_answer : (a : Arrival) (m : Appended) (g : IsGivenIn o r p m a.request.id) (e : PrintedCall) → In a r.arrivals → is_on object a.request ≡ true
+        → answer_of r a.request.id ≡ Some m → In (Call e) entries → Prints r p g.call e
         → Contains h (Call e) × IsOf a e × (e.reply ≡ m.bytes) × (e.answered ≡ Some m.line)
     entry_of_answer a m g e i its found j prints =
-        let is = is_of_arrival a g.call e i (asked_as o r ok.members ok.of_arrivals a p g.call i (given_executed m a.id g) (ap id_name g.call_is)) prints in (
+        let is = is_of_arrival a g.call e i (asked_as o r ok.members ok.of_arrivals a p g.call i (given_executed m a.request.id g) (ap id_name g.call_is)) prints in (
           contains_in (Call e) h (in_filter (is_of object) entries (Call e) j (ap (is_on object) is.request ∙ its)),
           is,
           ap (λ (f : PrintedCall). f.reply) (sym prints.is) ∙ sym g.reply,
           ap (λ (f : PrintedCall). f.answered) (sym prints.is) ∙ ap (λ c. option_map (λ (n : Appended). n.line) (answer_of r c)) g.call_is ∙ ap (λ n. option_map (λ (n : Appended). n.line) n) found,
         )
 
-    pub answered_there : (a : Arrival) (m : Appended) (g : IsGivenIn o r p m a.id) → In a r.arrivals → is_on object a.request ≡ true → answer_of r a.id ≡ Some m
+    pub answered_there : (a : Arrival) (m : Appended) (g : IsGivenIn o r p m a.request.id) → In a r.arrivals → is_on object a.request ≡ true → answer_of r a.request.id ≡ Some m
         → (e : PrintedCall) × Contains h (Call e) × IsOf a e × (e.reply ≡ m.bytes) × (e.answered ≡ Some m.line)
     answered_there a m g i its found =
-        let k = in_printed r p 0 lines (trail w) g.call (answer_stands o r ok p m a.id g) in
+        let k = in_printed r p 0 lines (trail w) g.call (answer_stands o r ok p m a.request.id g) in
         let e = entry_of_answer a m g k.0 i its found k.1 k.2 in
         (k.0, e.0, e.1, e.2, e.3)
 
-    pub answered : (a : Arrival) (m : Appended) → Contains r.arrivals a → is_on object a.request ≡ true → Contains r.appended m → m.answers ≡ Some a.id
+    pub answered : (a : Arrival) (m : Appended) → Contains r.arrivals a → is_on object a.request ≡ true → Contains r.appended m → m.answers ≡ Some a.request.id
         → (e : PrintedCall) × Contains h (Call e) × IsOf a e × (e.reply ≡ m.bytes) × (e.answered ≡ Some m.line)
     answered a m c its d s =
         let i = in_contains a r.arrivals c in
         let j = in_contains m r.appended d in
         let there : a.request.partition ≡ p = sym (ok.of_arrivals.placed a i).own ∙ on_partition object a.request its in
-        answered_there a m (subst (λ k. IsGivenIn o r k m a.id) there (given_at o r ok a m i j s)) i its (answer_found o r ok m a.id j s)
+        answered_there a m (subst (λ k. IsGivenIn o r k m a.request.id) there (given_at o r ok a m i j s)) i its (answer_found o r ok m a.request.id j s)
 
     pub given : (e : PrintedCall) (line : ℕ) → Contains h (Call e) → e.answered ≡ Some line → (m : Appended) × Contains r.appended m × (m.answers ≡ Some e.id) × (m.line ≡ line) × (m.bytes ≡ e.reply)
     given e line c s =

@@ -56,7 +56,7 @@ come_both r mid next first then a b = record {
 }
 
 pub asked_come : {State : Type 0} (o : Object Request State) (skips : List CallId) (r : Run) (a : Arrival) → HasCome r (a ∷ []) (asked o skips r a)
-asked_come o skips r a = go (is_skipped skips a.id)
+asked_come o skips r a = go (is_skipped skips a.request.id)
   where
     is : (events : List At) (appended : List Appended) → HasCome r (a ∷ []) (arrived r a events appended)
     is events appended = record { members = refl; backups = refl; lines = refl; moments = refl; connections = refl; arrivals = refl; appended = (appended, refl) }
@@ -112,12 +112,12 @@ may_ask_come r next k number member request may named come = record {
     earlier : (b : Arrival) → Contains next.arrivals b → In b r.arrivals ⊎ In b (a ∷ [])
     earlier b c = in_cases b r.arrivals (a ∷ []) (subst (λ xs. In b xs) come.arrivals (in_contains b next.arrivals c))
 
-    last_number : (b : Arrival) → In b (a ∷ []) → b.id.number < number + 1
-    last_number b (inl e) = let n = ap (λ (c : Arrival). c.id.number) (sym e) ∙ ap (λ (c : CallId). c.number) named in omega (arith, n)
+    last_number : (b : Arrival) → In b (a ∷ []) → b.request.id.number < number + 1
+    last_number b (inl e) = let n = ap (λ (c : Arrival). c.request.id.number) (sym e) ∙ ap (λ (c : CallId). c.number) named in omega (arith, n)
     last_number b (inr i) = absurd i
 
-    last_conn : (b : Arrival) → In b (a ∷ []) → b.id.conn ≡ k.conn
-    last_conn b (inl e) = ap (λ (c : Arrival). c.id.conn) (sym e) ∙ ap (λ (c : CallId). c.conn) named
+    last_conn : (b : Arrival) → In b (a ∷ []) → b.request.id.conn ≡ k.conn
+    last_conn b (inl e) = ap (λ (c : Arrival). c.request.id.conn) (sym e) ∙ ap (λ (c : CallId). c.conn) named
     last_conn b (inr i) = absurd i
 
 module _ {State : Type 0} (o : Object Request State) (skips : List CallId) (r : Run) (k : Connection) (number member : ℕ) (request : Request) where
@@ -190,11 +190,11 @@ has_taken {o} r k bytes is there = record {
     itself : in_place (with_bytes k bytes) k ≡ with_bytes k bytes
     itself = rw (same_test k.conn k.conn refl) refl
 
-    counted : (a : Arrival) → (j : Connection) × (connection_of r a.id.conn ≡ Some j) × (a.id.number < length (messages_on j)) → a.id.conn ≡ k.conn → a.id.number < length (messages_on k)
+    counted : (a : Arrival) → (j : Connection) × (connection_of r a.request.id.conn ≡ Some j) × (a.request.id.number < length (messages_on j)) → a.request.id.conn ≡ k.conn → a.request.id.number < length (messages_on k)
     counted a (j, found, below) s =
         let both : Some j ≡ Some k = sym found ∙ ap (connection_of r) s ∙ there in
         let one : j ≡ k = cc in
-        subst (λ (x : Connection). a.id.number < length (messages_on x)) one below
+        subst (λ (x : Connection). a.request.id.number < length (messages_on x)) one below
 
 -- a front of the line's items
 pub part_run : {o : Object Request Partition} (skips : List CallId) (r : Run) (k : Connection) (bytes : List ℕ) (items more : List Item) → IsRun o r → connection_of r k.conn ≡ Some k → items_by k bytes ≡ items ++ more

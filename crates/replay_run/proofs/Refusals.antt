@@ -36,19 +36,19 @@ pub record IsLogged (a : Arrival) (log : List (Entry Request)) (h : Happened Req
 pub call_log : {State : Type 0} (o : Object Request State) (w : World Request) (a : Arrival)
     → let h = happens o w (call_of a) in (h.world.recorded.log ≡ w.recorded.log) ⊎ IsLogged a w.recorded.log h
 call_log o w a =
-    on_if Leaves (is_live w a.member) (map_or (slice_get w.nodes a.member) (nothing w) (calling o w a.member a.id.conn a.id.number a.request a.now)) (nothing w)
+    on_if Leaves (is_live w a.member) (map_or (slice_get w.nodes a.member) (nothing w) (calling o w a.member a.request.id.conn a.request.id.number a.request a.now)) (nothing w)
     (at (slice_get w.nodes a.member)) (inl refl)
   where
     Leaves : Happened Request → Type 0
     Leaves h = (h.world.recorded.log ≡ w.recorded.log) ⊎ IsLogged a w.recorded.log h
 
-    by : (node : Node) (why : Reached) → let h = if_executes w why (executes o w a.member a.id.conn a.id.number a.request a.now node) in
+    by : (node : Node) (why : Reached) → let h = if_executes w why (executes o w a.member a.request.id.conn a.request.id.number a.request a.now node) in
         (h.world.recorded.log ≡ w.recorded.log) ⊎ IsLogged a w.recorded.log h
     by node Executes =
         let s = pair_state o w node.pair in
-        let after = executing (o.changes s a.request a.now) a.id.conn a.id.number node in
+        let after = executing (o.changes s a.request a.now) a.request.id.conn a.request.id.number node in
         inr (record {
-          call = entry_of o s a.id.conn a.id.number a.request a.now after.pair;
+          call = entry_of o s a.request.id.conn a.request.id.number a.request a.now after.pair;
           named = refl;
           is_last = refl;
           unrefused = on_if (λ (out : Outcome). refused_by a.line a.request out ≡ []) (is_empty (settled after).held) (ReleasedAt after.pair.count) (HeldAt after.pair.count) refl refl;
@@ -57,7 +57,7 @@ call_log o w a =
     by node (WrongTarget version) = inl refl
     by node (Migrating version) = inl refl
 
-    at : (node : Option Node) → let h = map_or node (nothing w) (calling o w a.member a.id.conn a.id.number a.request a.now) in
+    at : (node : Option Node) → let h = map_or node (nothing w) (calling o w a.member a.request.id.conn a.request.id.number a.request a.now) in
         (h.world.recorded.log ≡ w.recorded.log) ⊎ IsLogged a w.recorded.log h
     at None = inl refl
     at (Some node) = by node (reached a.member node)
@@ -76,14 +76,14 @@ module _ {State : Type 0} (o : Object Request State) (r : Run) (ok : RunOk o r) 
   refused_more : (events : List At) (appended : List Appended)
       → ((p : ℕ) (x : Executed Request) → In x (executed (world_at o (arrived r a events appended) p).recorded.log) → In x (executed (world_at o r p).recorded.log) ⊎ (executed_name x ≡ arrival_name a))
       → ((m : Appended) (id : CallId) → In m appended → m.refuses ≡ Some id
-      → (id ≡ a.id) × ((p : ℕ) (x : Executed Request) → In x (executed (world_at o (arrived r a events appended) p).recorded.log) → executed_name x ≢ arrival_name a))
+      → (id ≡ a.request.id) × ((p : ℕ) (x : Executed Request) → In x (executed (world_at o (arrived r a events appended) p).recorded.log) → executed_name x ≢ arrival_name a))
       → RefusalsOk o (arrived r a events appended)
   refused_more events appended only new = record {
     arrived = λ m id i e. ⊎_elim (earlier m id e) (λ j. (a, in_right a r.arrivals (a ∷ []) (inl refl), sym (new m id j e).0)) (in_cases m r.appended appended i);
     unexecuted = λ m id i e p x j. ⊎_elim (λ l. still m id l e p x (only p x j)) (λ l s. (new m id l e).1 p x j (s ∙ ap id_name (new m id l e).0)) (in_cases m r.appended appended i);
   }
     where
-      earlier : (m : Appended) (id : CallId) → m.refuses ≡ Some id → In m r.appended → (b : Arrival) × In b (r.arrivals ++ a ∷ []) × (b.id ≡ id)
+      earlier : (m : Appended) (id : CallId) → m.refuses ≡ Some id → In m r.appended → (b : Arrival) × In b (r.arrivals ++ a ∷ []) × (b.request.id ≡ id)
       earlier m id e i = let from = ok.of_refusals.arrived m id i e in (from.0, in_left from.0 r.arrivals (a ∷ []) from.1, from.2)
 
       still : (m : Appended) (id : CallId) → In m r.appended → m.refuses ≡ Some id → (p : ℕ) (x : Executed Request)
@@ -110,7 +110,7 @@ module _ {State : Type 0} (o : Object Request State) (r : Run) (ok : RunOk o r) 
   skipped_refusals = refused_more [] (refusal a.line request (pos want_of_memory) 0 ∷ []) (λ p x i. inl (as_before (refusal a.line request (pos want_of_memory) 0 ∷ []) p x i)) refused
     where
       refused : (m : Appended) (id : CallId) → In m (refusal a.line request (pos want_of_memory) 0 ∷ []) → m.refuses ≡ Some id
-          → (id ≡ a.id) × ((p : ℕ) (x : Executed Request) → In x (executed (world_at o skipped p).recorded.log) → executed_name x ≢ arrival_name a)
+          → (id ≡ a.request.id) × ((p : ℕ) (x : Executed Request) → In x (executed (world_at o skipped p).recorded.log) → executed_name x ≢ arrival_name a)
       refused m id (inl s) e =
           let whose : Some request.id ≡ Some id = ap (λ (n : Appended). n.refuses) s ∙ e in
           let its : id ≡ request.id = cc in
@@ -159,7 +159,7 @@ module _ {State : Type 0} (o : Object Request State) (r : Run) (ok : RunOk o r) 
   refusals_after = refused_more (its_event a ∷ []) (happening o r a) (λ q x i. ⊎_elim (λ j. inl j) (λ j. inr j.0) (executed_after q x i)) refused
     where
       heard : List (Executed Request)
-      heard = filter (is_heard_by r a.id.conn) (released_by (world_at o r p) (happens o (world_at o r p) (call_of a)).world)
+      heard = filter (is_heard_by r a.request.id.conn) (released_by (world_at o r p) (happens o (world_at o r p) (call_of a)).world)
 
       given : (m : Appended) (id : CallId) → In m (map (answer_to a.line) heard) → m.refuses ≡ Some id → ⊥
       given m id i e =
@@ -167,14 +167,14 @@ module _ {State : Type 0} (o : Object Request State) (r : Run) (ok : RunOk o r) 
           let clash : None ≡ Some id = ap (λ (n : Appended). n.refuses) made.2 ∙ e in cc
 
       refused_here : (m : Appended) (id : CallId) → m.refuses ≡ Some id → In m (refused_by a.line request (happens o (world_at o r p) (call_of a)).outcome)
-          → (id ≡ a.id) × ((q : ℕ) (x : Executed Request) → In x (executed (world_at o after q).recorded.log) → executed_name x ≢ arrival_name a)
+          → (id ≡ a.request.id) × ((q : ℕ) (x : Executed Request) → In x (executed (world_at o after q).recorded.log) → executed_name x ≢ arrival_name a)
       refused_here m id e i =
           let whose : Some request.id ≡ Some id = sym (refusals_name_the_call a.line request (happens o (world_at o r p) (call_of a)).outcome m i) ∙ e in
           let its : id ≡ request.id = cc in
           (its, λ q x j. ⊎_elim (not_yet q x) (λ l. absurd (subst (λ ms. In m ms) l.1 i)) (executed_after q x j))
 
       refused : (m : Appended) (id : CallId) → In m (happening o r a) → m.refuses ≡ Some id
-          → (id ≡ a.id) × ((q : ℕ) (x : Executed Request) → In x (executed (world_at o after q).recorded.log) → executed_name x ≢ arrival_name a)
+          → (id ≡ a.request.id) × ((q : ℕ) (x : Executed Request) → In x (executed (world_at o after q).recorded.log) → executed_name x ≢ arrival_name a)
       refused m id i e =
           ⊎_elim (refused_here m id e) (λ j. absurd (given m id j e))
           (in_cases m (refused_by a.line request (happens o (world_at o r p) (call_of a)).outcome) (map (answer_to a.line) heard) i)

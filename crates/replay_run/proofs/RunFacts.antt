@@ -29,7 +29,7 @@ use Rattle.replay_run.proofs.Stamps.{AreStamped}
 -- arrivals
 
 abbrev pub asked_of : Arrival → Asked Request
-asked_of a = record { conn = a.id.conn; number = a.id.number; now = a.now; call = a.request }
+asked_of a = record { conn = a.request.id.conn; number = a.request.id.number; now = a.now; call = a.request }
 
 abbrev pub id_name : CallId → CallName
 id_name id = record { conn = id.conn; number = id.number }
@@ -46,12 +46,12 @@ pub record ArrivalsOk (r : Run) : Type 0 where
   -- no two have one name
   pub once : NamedOnce (map arrival_name r.arrivals)
   -- it is one of the messages of its connection
-  pub counted : (a : Arrival) → In a r.arrivals → (k : Connection) × (connection_of r a.id.conn ≡ Some k) × (a.id.number < length (messages_on k))
+  pub counted : (a : Arrival) → In a r.arrivals → (k : Connection) × (connection_of r a.request.id.conn ≡ Some k) × (a.request.id.number < length (messages_on k))
   -- they stand by line, and those of one connection by number
   pub in_order : (a b : Arrival) → Before r.arrivals a b → a.line ≤ b.line
-  pub rising : (a b : Arrival) → Before r.arrivals a b → a.id.conn ≡ b.id.conn → a.id.number < b.id.number
+  pub rising : (a b : Arrival) → Before r.arrivals a b → a.request.id.conn ≡ b.request.id.conn → a.request.id.number < b.request.id.number
   -- those of one line are of one connection
-  pub of_line : (a b : Arrival) → In a r.arrivals → In b r.arrivals → a.line ≡ b.line → a.id.conn ≡ b.id.conn
+  pub of_line : (a b : Arrival) → In a r.arrivals → In b r.arrivals → a.line ≡ b.line → a.request.id.conn ≡ b.request.id.conn
   pub by_now : (a : Arrival) → In a r.arrivals → a.line ≤ r.lines
   -- the calls that reach a partition's members are arrivals of that partition, in order
   pub calls : (p : ℕ) → IsPart (arrivals (events_at p r.events)) (map asked_of (filter (is_of p) r.arrivals))
@@ -84,7 +84,7 @@ pub record AnswersOk {State : Type 0} (o : Object Request State) (r : Run) : Typ
 
 pub record RefusalsOk {State : Type 0} (o : Object Request State) (r : Run) : Type 0 where
   -- a call that was refused arrived
-  pub arrived : (m : Appended) (id : CallId) → In m r.appended → m.refuses ≡ Some id → (a : Arrival) × In a r.arrivals × (a.id ≡ id)
+  pub arrived : (m : Appended) (id : CallId) → In m r.appended → m.refuses ≡ Some id → (a : Arrival) × In a r.arrivals × (a.request.id ≡ id)
   -- and is executed nowhere
   pub unexecuted : (m : Appended) (id : CallId) → In m r.appended → m.refuses ≡ Some id → (p : ℕ) (x : Executed Request) → In x (executed (world_at o r p).recorded.log) → executed_name x ≢ id_name id
 
@@ -158,18 +158,18 @@ module _ {State : Type 0} (o : Object Request State) (r : Run) (members : 1 ≤ 
       (m.0, (m.1.0, before_part (filter (is_of p) r.arrivals) r.arrivals m.0 m.1.0 (part_filter (is_of p) r.arrivals) m.1.1, m.1.2, m.1.3))
 
 -- two arrivals of one name are one
-pub find_named : (xs : List Arrival) (a : Arrival) → NamedOnce (map arrival_name xs) → In a xs → find (λ (b : Arrival). is_same_call b.id a.id) xs ≡ Some a
+pub find_named : (xs : List Arrival) (a : Arrival) → NamedOnce (map arrival_name xs) → In a xs → find (λ (b : Arrival). is_same_call b.request.id a.request.id) xs ≡ Some a
 find_named [] a n i = absurd i
-find_named (b ∷ bs) a n (inl s) = let p : is_same_call b.id a.id ≡ true = subst (λ (c : Arrival). is_same_call b.id c.id ≡ true) s (same_call_refl b.id) in rw p (ap (λ z. Some z) s)
+find_named (b ∷ bs) a n (inl s) = let p : is_same_call b.request.id a.request.id ≡ true = subst (λ (c : Arrival). is_same_call b.request.id c.request.id ≡ true) s (same_call_refl b.request.id) in rw p (ap (λ z. Some z) s)
 find_named (b ∷ bs) a n (inr i) =
-    let p : is_same_call b.id a.id ≡ false = false_or_not (is_same_call b.id a.id)
-    (λ e. n.0 (arrival_name a) (contains_in (arrival_name a) (map arrival_name bs) (in_map arrival_name bs a i)) (ap id_name (sym (same_call b.id a.id e)))) in
+    let p : is_same_call b.request.id a.request.id ≡ false = false_or_not (is_same_call b.request.id a.request.id)
+    (λ e. n.0 (arrival_name a) (contains_in (arrival_name a) (map arrival_name bs) (in_map arrival_name bs a i)) (ap id_name (sym (same_call b.request.id a.request.id e)))) in
     rw p (find_named bs a n.1 i)
 
 pub one_arrival : (r : Run) → ArrivalsOk r → (a b : Arrival) → In a r.arrivals → In b r.arrivals → arrival_name a ≡ arrival_name b → a ≡ b
 one_arrival r ok a b i j e = named_same arrival_name r.arrivals a b ok.once i j e
 
-pub arrival_found : (r : Run) → ArrivalsOk r → (a : Arrival) → In a r.arrivals → arrival_of r a.id ≡ Some a
+pub arrival_found : (r : Run) → ArrivalsOk r → (a : Arrival) → In a r.arrivals → arrival_of r a.request.id ≡ Some a
 arrival_found r ok a i = find_named r.arrivals a ok.once i
 
 -- a call was executed as it arrived, in the partition in which it arrived

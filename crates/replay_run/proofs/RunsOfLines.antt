@@ -173,6 +173,6 @@ unheard_unanswered {o} r is id unheard = go (answer_of r id) refl
         let there = find_some (is_answer_to id) r.appended m e in
         let given = ok.of_answers.given m id there.0 (named_answer id m there.1) in
         let from = given.1.arrived given.1.call given.1.has in
-        let named : from.0.id ≡ id = ap id_of_name from.2 ∙ given.1.call_is in
+        let named : from.0.request.id ≡ id = ap id_of_name from.2 ∙ given.1.call_is in
         let found : arrival_of r id ≡ Some from.0 = ap (arrival_of r) (sym named) ∙ arrival_found r ok.of_arrivals from.0 from.1 in
         absurd (let clash : None ≡ Some from.0 = sym unheard ∙ found in cc)

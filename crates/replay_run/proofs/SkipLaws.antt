@@ -37,18 +37,18 @@ unless_same a b different = false_or_not (is_same_call a b) (λ e. different (sa
 abbrev pub Alike : List CallId → List CallId → List CallId → Type 0
 Alike s k calls = (id : CallId) → In id calls → is_skipped s id ≡ is_skipped k id
 
-pub names_arriving : (line member now : ℕ) (items : List Item) → map (λ (a : Arrival). a.id) (all_arriving line member now items) ≡ calls_in items
+pub names_arriving : (line member now : ℕ) (items : List Item) → map (λ (a : Arrival). a.request.id) (all_arriving line member now items) ≡ calls_in items
 names_arriving line member now [] = refl
 names_arriving line member now (Reply bytes ∷ items) = names_arriving line member now items
 names_arriving line member now (Asks request ∷ items) = ap (λ ids. request.id ∷ ids) (names_arriving line member now items)
 
-pub asked_alike : {State : Type 0} (o : Object Request State) (s k : List CallId) (r : Run) (a : Arrival) → is_skipped s a.id ≡ is_skipped k a.id → asked o s r a ≡ asked o k r a
-asked_alike o s k r a e = same_choice (is_skipped s a.id) (is_skipped k a.id) _ _ e
+pub asked_alike : {State : Type 0} (o : Object Request State) (s k : List CallId) (r : Run) (a : Arrival) → is_skipped s a.request.id ≡ is_skipped k a.request.id → asked o s r a ≡ asked o k r a
+asked_alike o s k r a e = same_choice (is_skipped s a.request.id) (is_skipped k a.request.id) _ _ e
   where
     same_choice : (b d : Bool) (x y : Run) → b ≡ d → cond b x y ≡ cond d x y
     same_choice b d x y h = ap (λ t. cond t x y) h
 
-pub asks_alike : {State : Type 0} (o : Object Request State) (s k : List CallId) (r : Run) (a : Arrival) → is_skipped s a.id ≡ is_skipped k a.id → asks o s r a ≡ asks o k r a
+pub asks_alike : {State : Type 0} (o : Object Request State) (s k : List CallId) (r : Run) (a : Arrival) → is_skipped s a.request.id ≡ is_skipped k a.request.id → asks o s r a ≡ asks o k r a
 asks_alike o s k r a e = ap (λ next. cond (is_full (world_at o r a.request.partition)) (given_up (arrived r a [] [])) next) (asked_alike o s k r a e)
 
 pub handled_all_alike : {State : Type 0} (o : Object Request State) (s k : List CallId) (r : Run) (c : Connection) (items : List Item) → Alike s k (calls_in items)
@@ -90,7 +90,7 @@ pub record Counts (r next : Run) (calls : List CallId) : Type 0 where
   pub lines : next.lines ≡ r.lines + 1
   pub come : List Arrival
   pub arrivals : next.arrivals ≡ r.arrivals ++ come
-  pub names : map (λ (a : Arrival). a.id) come ≡ calls
+  pub names : map (λ (a : Arrival). a.request.id) come ≡ calls
 
 quiet : (r next : Run) → next.lines ≡ r.lines + 1 → next.arrivals ≡ r.arrivals → Counts r next []
 quiet r next lines arrivals = record { lines = lines; come = []; arrivals = arrivals ∙ sym (append-nil r.arrivals); names = refl }

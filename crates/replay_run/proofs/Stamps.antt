@@ -15,7 +15,7 @@ use Rattle.replay_run.proofs.Counts.{count, count_part}
 -- The entries were logged from one line to another: each call as it arrived, and the resets at these lines.
 abbrev pub AreStamped : List Arrival → ℕ → ℕ → List ℕ → List (Entry Request) → Type 0
 AreStamped come since now lines [] = (lines ≡ []) × (since ≤ now)
-AreStamped come since now lines (Called x ∷ es) = (a : Arrival) × In a come × (a.id ≡ id_of x) × (since ≤ a.line) × AreStamped come a.line now lines es
+AreStamped come since now lines (Called x ∷ es) = (a : Arrival) × In a come × (a.request.id ≡ id_of x) × (since ≤ a.line) × AreStamped come a.line now lines es
 AreStamped come since now [] (Reset version ∷ es) = ⊥
 AreStamped come since now (line ∷ lines) (Reset version ∷ es) = (since ≤ line) × AreStamped come line now lines es
 
@@ -36,7 +36,7 @@ stamped_sooner come sooner since now [] (Reset version ∷ es) l h = absurd h
 stamped_sooner come sooner since now (line ∷ lines) (Reset version ∷ es) l (k, h) = (omega (arith, l, k), h)
 
 -- one call more
-pub stamped_call : (come : List Arrival) (since now : ℕ) (lines : List ℕ) (es : List (Entry Request)) (x : Executed Request) (a : Arrival) → In a come → a.id ≡ id_of x → now ≤ a.line
+pub stamped_call : (come : List Arrival) (since now : ℕ) (lines : List ℕ) (es : List (Entry Request)) (x : Executed Request) (a : Arrival) → In a come → a.request.id ≡ id_of x → now ≤ a.line
     → AreStamped come since now lines es → AreStamped come since a.line lines (es ++ Called x ∷ [])
 stamped_call come since now lines [] x a i e l h = let before = h.1 in (a, i, e, omega (arith, l, before), (h.0, omega arith))
 stamped_call come since now lines (Called y ∷ es) x a i e l (b, j, f, k, h) = (b, j, f, k, stamped_call come b.line now lines es x a i e l h)
@@ -108,7 +108,7 @@ stands_first since (e ∷ es) a b h (inl s) (inr j) l = inl (s, contains_in b es
 stands_first since (e ∷ es) a b h (inr i) (inl t) l = let k = falls_after (stamp e) es a h.1 i in let m = ap stamp t in absurd (omega (arith, k, m, l))
 stands_first since (e ∷ es) a b h (inr i) (inr j) l = inr (stands_first (stamp e) es a b h.1 i j l)
 
-module _ (r : Run) (found : (a : Arrival) → In a r.arrivals → arrival_of r a.id ≡ Some a) where
+module _ (r : Run) (found : (a : Arrival) → In a r.arrivals → arrival_of r a.request.id ≡ Some a) where
   pub printed_falls : (p place since now : ℕ) (lines : List ℕ) (es : List (Entry Request)) → AreStamped r.arrivals since now lines es → NeverFalls since (printed_from r p place lines es)
   printed_falls p place since now lines [] h = tt
   printed_falls p place since now lines (Called x ∷ es) (a, i, e, l, h) =

@@ -172,42 +172,42 @@ module _ (t : Table) (r : Run) (h : HasTable t r) (c : ℕ) (k : Connection) (is
 
 -- a call arrives
 
-module _ (t : Table) (r : Run) (h : HasTable t r) (c : ℕ) (o : Opened) (there : opened_at t c ≡ Some o) (a : Arrival) (number : a.id ≡ record { conn = c; number = length o.calls }) (fresh : arrival_of r a.id ≡ None → answer_of r a.id ≡ None) where
+module _ (t : Table) (r : Run) (h : HasTable t r) (c : ℕ) (o : Opened) (there : opened_at t c ≡ Some o) (a : Arrival) (number : a.request.id ≡ record { conn = c; number = length o.calls }) (fresh : arrival_of r a.request.id ≡ None → answer_of r a.request.id ≡ None) where
   -- the call did not arrive before
-  unheard : arrival_of r a.id ≡ None
+  unheard : arrival_of r a.request.id ≡ None
   unheard =
-      map_none (with_lines (answer_of r a.id)) (arrival_of r a.id)
-      (sym (h.calls a.id) ∙ ap (lines_of t) number ∙ ap (option_and_then (line_at (length o.calls))) there ∙ ap present (slice_get_past o.calls (length o.calls) (omega arith)))
+      map_none (with_lines (answer_of r a.request.id)) (arrival_of r a.request.id)
+      (sym (h.calls a.request.id) ∙ ap (lines_of t) number ∙ ap (option_and_then (line_at (length o.calls))) there ∙ ap present (slice_get_past o.calls (length o.calls) (omega arith)))
 
-  in_table_now : lines_of (with_arrival t c a.line) a.id ≡ Some (record { arrived = a.line; answered = None })
+  in_table_now : lines_of (with_arrival t c a.line) a.request.id ≡ Some (record { arrived = a.line; answered = None })
   in_table_now =
       ap (lines_of (with_arrival t c a.line)) number
       ∙ ap (option_and_then (line_at (length o.calls))) (opened_changed t c (called a.line) ∙ ap (option_map (called a.line)) there)
       ∙ ap present (got_last o.calls (Some (record { arrived = a.line; answered = None })))
 
   arrival_calls : (id : CallId) → lines_of (with_arrival t c a.line) id ≡ lines_in (record r { arrivals = r.arrivals ++ a ∷ [] }) id
-  arrival_calls id = ⊎_elim here elsewhere (cases_Bool (is_same_call a.id id)) ∙ sym (ap (option_map (with_lines (answer_of r id))) (find-append (λ (x : Arrival). is_same_call x.id id) r.arrivals (a ∷ [])))
+  arrival_calls id = ⊎_elim here elsewhere (cases_Bool (is_same_call a.request.id id)) ∙ sym (ap (option_map (with_lines (answer_of r id))) (find-append (λ (x : Arrival). is_same_call x.request.id id) r.arrivals (a ∷ [])))
     where
-      itself : is_same_call a.id a.id ≡ true
-      itself = same_call_refl a.id
+      itself : is_same_call a.request.id a.request.id ≡ true
+      itself = same_call_refl a.request.id
 
-      at_it : lines_of (with_arrival t c a.line) a.id ≡ option_map (with_lines (answer_of r a.id)) (option_or (arrival_of r a.id) (cond (is_same_call a.id a.id) (Some a) None))
+      at_it : lines_of (with_arrival t c a.line) a.request.id ≡ option_map (with_lines (answer_of r a.request.id)) (option_or (arrival_of r a.request.id) (cond (is_same_call a.request.id a.request.id) (Some a) None))
       at_it =
           in_table_now ∙ ap (λ (m : Option Appended). Some (record { arrived = a.line; answered = option_map (λ (x : Appended). x.line) m })) (sym (fresh unheard))
-          ∙ sym (ap (λ b. option_map (with_lines (answer_of r a.id)) (option_or (arrival_of r a.id) (cond b (Some a) None))) itself ∙ ap (λ x. option_map (with_lines (answer_of r a.id)) (option_or x (Some a))) unheard)
+          ∙ sym (ap (λ b. option_map (with_lines (answer_of r a.request.id)) (option_or (arrival_of r a.request.id) (cond b (Some a) None))) itself ∙ ap (λ x. option_map (with_lines (answer_of r a.request.id)) (option_or x (Some a))) unheard)
 
-      here : is_same_call a.id id ≡ true → lines_of (with_arrival t c a.line) id ≡ option_map (with_lines (answer_of r id)) (option_or (arrival_of r id) (cond (is_same_call a.id id) (Some a) None))
-      here e = subst (λ j. lines_of (with_arrival t c a.line) j ≡ option_map (with_lines (answer_of r j)) (option_or (arrival_of r j) (cond (is_same_call a.id j) (Some a) None))) (same_call a.id id e) at_it
+      here : is_same_call a.request.id id ≡ true → lines_of (with_arrival t c a.line) id ≡ option_map (with_lines (answer_of r id)) (option_or (arrival_of r id) (cond (is_same_call a.request.id id) (Some a) None))
+      here e = subst (λ j. lines_of (with_arrival t c a.line) j ≡ option_map (with_lines (answer_of r j)) (option_or (arrival_of r j) (cond (is_same_call a.request.id j) (Some a) None))) (same_call a.request.id id e) at_it
 
       -- another number of the same connection
-      apart : is_same_call a.id id ≡ false → id.conn ≡ c → (x : Opened) → opened_at t c ≡ Some x → line_at id.number (called a.line x) ≡ line_at id.number x
+      apart : is_same_call a.request.id id ≡ false → id.conn ≡ c → (x : Opened) → opened_at t c ≡ Some x → line_at id.number (called a.line x) ≡ line_at id.number x
       apart e at_conn x same =
           let both : Some o ≡ Some x = sym there ∙ same in
           let one : o ≡ x = cc in
           subst (λ (y : Opened). line_at id.number (called a.line y) ≡ line_at id.number y) one
-          (ap present (got_before o.calls (Some (record { arrived = a.line; answered = None })) id.number (λ s. false≢true (sym e ∙ ap (is_same_call a.id) (sym (number ∙ (λ i. record { conn = sym at_conn i; number = sym s i }))) ∙ same_call_refl a.id))))
+          (ap present (got_before o.calls (Some (record { arrived = a.line; answered = None })) id.number (λ s. false≢true (sym e ∙ ap (is_same_call a.request.id) (sym (number ∙ (λ i. record { conn = sym at_conn i; number = sym s i }))) ∙ same_call_refl a.request.id))))
 
-      elsewhere : is_same_call a.id id ≡ false → lines_of (with_arrival t c a.line) id ≡ option_map (with_lines (answer_of r id)) (option_or (arrival_of r id) (cond (is_same_call a.id id) (Some a) None))
+      elsewhere : is_same_call a.request.id id ≡ false → lines_of (with_arrival t c a.line) id ≡ option_map (with_lines (answer_of r id)) (option_or (arrival_of r id) (cond (is_same_call a.request.id id) (Some a) None))
       elsewhere e = lines_elsewhere t c (called a.line) id (apart e) ∙ h.calls id ∙ sym (ap (option_map (with_lines (answer_of r id))) (ap (λ b. option_or (arrival_of r id) (cond b (Some a) None)) e ∙ or_none (arrival_of r id)))
 
   pub arrived_table : HasTable (with_arrival t c a.line) (record r { arrivals = r.arrivals ++ a ∷ [] })

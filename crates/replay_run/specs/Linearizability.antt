@@ -49,7 +49,7 @@ reset_lines (Reset e ∷ es) = e.line ∷ reset_lines es
 
 -- The entry is the call of this arrival, as it arrived.
 pub record IsOf (a : Arrival) (e : PrintedCall) : Type 0 where
-  pub id : e.id ≡ a.id
+  pub id : e.id ≡ a.request.id
   pub request : e.request ≡ a.request
   pub now : e.now ≡ a.now
   pub line : e.arrived ≡ a.line
@@ -64,7 +64,7 @@ pub record Fits {State : Type 0} (o : Object Request State) (object : GridObject
   -- no call stands twice
   pub once : (a b : PrintedCall) → Before h (Call a) (Call b) → a.id ≢ b.id
   -- each answered call on the object stands in it, with its answer and the line at which it was given
-  pub answered : (a : Arrival) (m : Appended) → Contains r.arrivals a → is_on object a.request ≡ true → Contains r.appended m → m.answers ≡ Some a.id
+  pub answered : (a : Arrival) (m : Appended) → Contains r.arrivals a → is_on object a.request ≡ true → Contains r.appended m → m.answers ≡ Some a.request.id
       → (e : PrintedCall) × Contains h (Call e) × IsOf a e × (e.reply ≡ m.bytes) × (e.answered ≡ Some m.line)
   -- no call is answered twice
   pub answered_once : (m n : Appended) (id : CallId) → Before r.appended m n → m.answers ≡ Some id → n.answers ≢ Some id

@@ -60,7 +60,7 @@ pub data Printed : Type 0 where
   Reset : PrintedReset → Printed
 
 abbrev pub arrival_of : Run → CallId → Option Arrival
-arrival_of r id = find (λ (a : Arrival). is_same_call a.id id) r.arrivals
+arrival_of r id = find (λ (a : Arrival). is_same_call a.request.id id) r.arrivals
 
 abbrev pub is_named : CallId → Option CallId → Bool
 is_named id None = false

@@ -40,7 +40,6 @@ pub record At : Type 0 where
 
 -- a call as it arrived: at which line, at which member, at which moment of that member
 pub record Arrival : Type 0 where
-  pub id : CallId
   pub line : ℕ
   pub member : ℕ
   pub now : ℕ
@@ -177,10 +176,10 @@ moment_of r member = unwrap_or (slice_get r.moments member) 0
 -- A message is complete and is a call: it arrives at the connection's member, at that member's moment.
 
 abbrev pub arrival_at : Run → ℕ → Request → Arrival
-arrival_at r member request = record { id = request.id; line = r.lines; member = member; now = moment_of r member; request = request }
+arrival_at r member request = record { line = r.lines; member = member; now = moment_of r member; request = request }
 
 abbrev pub call_of : Arrival → Event Request
-call_of a = Call a.member a.id.conn a.id.number a.request a.now
+call_of a = Call a.member a.request.id.conn a.request.id.number a.request a.now
 
 -- Of the answers that an event releases those go out whose connections are open.
 abbrev pub is_heard : Run → Executed Request → Bool
@@ -195,7 +194,7 @@ abbrev pub happening : {State : Type 0} → Object Request State → Run → Arr
 happening o r a =
     let before = world_at o r a.request.partition in
     let next = happens o before (call_of a) in
-    refused_by a.line a.request next.outcome ++ map (answer_to a.line) (filter (is_heard_by r a.id.conn) (released_by before next.world))
+    refused_by a.line a.request next.outcome ++ map (answer_to a.line) (filter (is_heard_by r a.request.id.conn) (released_by before next.world))
 
 abbrev pub arrived : Run → Arrival → List At → List Appended → Run
 arrived r a events appended = record r {
@@ -210,7 +209,7 @@ is_skipped skips id = list_any (is_same_call id) skips
 
 abbrev pub asked : {State : Type 0} → Object Request State → List CallId → Run → Arrival → Run
 asked o skips r a =
-    if is_skipped skips a.id then arrived r a [] (refusal a.line a.request (pos want_of_memory) 0 ∷ [])
+    if is_skipped skips a.request.id then arrived r a [] (refusal a.line a.request (pos want_of_memory) 0 ∷ [])
     else arrived r a (record { partition = a.request.partition; event = call_of a } ∷ []) (happening o r a)
 
 -- A full partition takes no event but a loss. The run is then given up: nothing is printed of that line, and no other line runs.

@@ -32,8 +32,8 @@ pub record IsPlaced (request : Request) : Type 0 where
 -- A call on this connection may be asked now and have this number: the calls so far of the connection have smaller ones, and those of the line are on it.
 pub record MayAsk (r : Run) (connection : Connection) (number : ℕ) : Type 0 where
   pub there : connection_of r connection.conn ≡ Some connection
-  pub after : (a : Arrival) → Contains r.arrivals a → a.id.conn ≡ connection.conn → a.id.number < number
-  pub of_line : (a : Arrival) → Contains r.arrivals a → a.line ≡ r.lines → a.id.conn ≡ connection.conn
+  pub after : (a : Arrival) → Contains r.arrivals a → a.request.id.conn ≡ connection.conn → a.request.id.number < number
+  pub of_line : (a : Arrival) → Contains r.arrivals a → a.line ≡ r.lines → a.request.id.conn ≡ connection.conn
 
 -- The call is one of the messages of its connection, and may be asked now.
 pub record IsNext (r : Run) (request : Request) : Type 0 where

@@ -25,4 +25,4 @@ AreOfLine o r line skips = (id : CallId) → Contains skips id → Contains (cal
 
 -- two lists skip the same of these calls
 abbrev pub AgreeOn : List Arrival → List CallId → List CallId → Type 0
-AgreeOn come s t = (a : Arrival) → Contains come a → is_skipped s a.id ≡ is_skipped t a.id
+AgreeOn come s t = (a : Arrival) → Contains come a → is_skipped s a.request.id ≡ is_skipped t a.request.id

@@ -36,7 +36,7 @@ use Rattle.partition_protocol.specs.Recorded.{Recorded}
 
 -- the call of a request that reaches a member at a line, at the member's moment
 abbrev pub arrival_to : ℕ → ℕ → ℕ → Request → Arrival
-arrival_to line member now request = record { id = request.id; line = line; member = member; now = now; request = request }
+arrival_to line member now request = record { line = line; member = member; now = now; request = request }
 
 -- the message that refuses a call, if it is refused
 abbrev pub refusals : ℕ → Request → Option Refusal → List Appended
