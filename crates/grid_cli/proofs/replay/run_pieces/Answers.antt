@@ -8,6 +8,11 @@ use Rattle.grid_cli.proofs.replay.run_pieces.Goals as goal
 pub pieces-init : goal.pieces-init
 pieces-init g c = (at_first c.new-replay.result _ _ c.new-replay.ensures, omega arith, omega arith, omega arith, c.requires.some, c.requires.size)
 
+pub returns-then-count-eq0-clause-text : goal.returns-then-count-eq0-clause-text
+returns-then-count-eq0-clause-text g c =
+    script_read c.pieces.replay c.pieces.read _ _ _ _ _ _ c.finish.result c.read.new.into c.in-Ok.count c.pieces.invariant.0 c.in-Ok.ensures.bytes (omega (arith, c.read.auto.into, c.pieces.invariant.5))
+    (c.in-Ok.ensures.end c.if-count-eq0.true (omega (arith, c.read.auto.into, c.pieces.invariant.4))) c.pieces.invariant.1 (c.finish.ensures.concludes _)
+
 pub returns-then-count-eq0-clause-runs : goal.returns-then-count-eq0-clause-runs
 returns-then-count-eq0-clause-runs g c =
     let p = c.pieces.invariant.0 in
@@ -54,11 +59,6 @@ returns-then-count-room-clause-read_fault g c = λ is.
 
 pub returns-in_default-clause-text : goal.returns-in_default-clause-text
 returns-in_default-clause-text g c = read_failed _ _ _ _ _ _ _ c.pieces.invariant.0 c.in_default.ensures.err c.pieces.invariant.1
-
-pub returns-then-count-eq0-clause-text : goal.returns-then-count-eq0-clause-text
-returns-then-count-eq0-clause-text g c =
-    script_read c.pieces.replay c.pieces.read _ _ _ _ _ _ c.finish.result c.read.new.into c.in-Ok.count c.pieces.invariant.0 c.in-Ok.ensures.bytes (omega (arith, c.read.auto.into, c.pieces.invariant.5))
-    (c.in-Ok.ensures.end c.if-count-eq0.true (omega (arith, c.read.auto.into, c.pieces.invariant.4))) c.pieces.invariant.1 (c.finish.ensures.concludes _)
 
 pub returns-in-Err-clause-text : goal.returns-in-Err-clause-text
 returns-in-Err-clause-text g c =

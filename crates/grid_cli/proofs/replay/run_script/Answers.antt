@@ -8,5 +8,17 @@ returns-in_default-clause-text g c = nothing_played _ _ _
 pub returns-in_default-clause-headline : goal.returns-in_default-clause-headline
 returns-in_default-clause-headline g c = prints_histories _ _ _ _ _ _ (nothing_played _ _ _)
 
+pub returns-clause-text : goal.returns-clause-text
+returns-clause-text g c = c.run_pieces.ensures.text
+
 pub returns-clause-headline : goal.returns-clause-headline
 returns-clause-headline g c = prints_histories _ c.run_pieces.result _ _ _ _ c.run_pieces.ensures.text
+
+pub returns-clause-runs : goal.returns-clause-runs
+returns-clause-runs g c = c.run_pieces.ensures.runs
+
+pub returns-clause-read_fault : goal.returns-clause-read_fault
+returns-clause-read_fault g c = c.run_pieces.ensures.read_fault
+
+pub returns-clause-write_fault : goal.returns-clause-write_fault
+returns-clause-write_fault g c = c.run_pieces.ensures.write_fault
