@@ -85,27 +85,28 @@ done
 timeout 60 "$grid" replay <. >"$room/out" 2>/dev/full
 compare 'a full standard error, exit status' 3 $?
 
-# Runs the program with these words and less and less memory, from this many kilobytes on. Did some run end for want of
-# it, tell so, and print nothing?
+# Runs the program with these words and less and less memory, from 16 megabytes on. Did some run end for want of it, tell
+# so, and print nothing?
 want_of_memory() {
-    local most=$1 kilobytes
-    shift
-    for ((kilobytes = most; kilobytes > 0; kilobytes -= most / 64)); do
-        (ulimit -v "$kilobytes" && run "$@" <"$script" && exit "$status") 2>/dev/null
+    local kilobytes
+    for ((kilobytes = 16384; kilobytes > 0; kilobytes -= 128)); do
+        timeout 60 prlimit --as=$((kilobytes * 1024)) "$grid" "$@" <"$script" >"$room/out" 2>"$room/err"
         status=$?
         if [ "$status" = 7 ] && [ "$(cat "$room/err")" = 'grid: out of memory' ] && [ ! -s "$room/out" ]; then
             echo yes
             return
         fi
+        # the system refuses to start it
+        [ "$status" -ge 126 ] && break
     done
     echo no
 }
 
 # Want of memory for a script, and for the words, before there is a command.
-compare 'a script in little memory, told' yes "$(want_of_memory 16384 replay)"
+compare 'a script in little memory, told' yes "$(want_of_memory replay)"
 printf -v long '%0100000d' 0
 compare 'long words in little memory, told' yes \
-    "$(want_of_memory 16384 "$long" "$long" "$long" "$long" "$long" "$long" "$long" "$long" "$long" "$long")"
+    "$(want_of_memory "$long" "$long" "$long" "$long" "$long" "$long" "$long" "$long" "$long" "$long")"
 
 echo "$passed passed, $failed failed"
 [ "$failed" = 0 ]
