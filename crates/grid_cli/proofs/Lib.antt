@@ -9,3 +9,4 @@ pub mod ReplaySteps
 pub mod ReplayEnds
 pub mod ReplayRuns
 pub mod CommandLaws
+pub mod SkippedCalls
