@@ -56,7 +56,7 @@ abbrev Tells : List CallId → Run → Type 0
 Tells skips r = r.full ≡ false → TellsOfSkips skips r
 
 module _ (skips : List CallId) (r next : Run) (grows : Grows r next) (tells : Tells skips r) where
-  told_before : next.full ≡ false → (a : Arrival) → In a r.arrivals → is_skipped skips a.id ≡ true → IsTold next a
+  told_before : next.full ≡ false → (a : Arrival) → In a r.arrivals → is_skipped skips a.request.id ≡ true → IsTold next a
   told_before lasts a i skipped =
       let lasted : r.full ≡ false = false_or_not r.full (λ full. true≢false (sym (grows.full full) ∙ lasts)) in
       told_still r next a grows (tells lasted a (contains_in a r.arrivals i) skipped)
@@ -66,13 +66,13 @@ module _ (skips : List CallId) (r next : Run) (grows : Grows r next) (tells : Te
   tells_still none lasts a there skipped = told_before lasts a (subst (In a) none (in_contains a next.arrivals there)) skipped
 
   -- a call arrives
-  tells_more : (a : Arrival) → HasCome r (a ∷ []) next → (is_skipped skips a.id ≡ true → next.full ≡ false → IsTold next a) → Tells skips next
+  tells_more : (a : Arrival) → HasCome r (a ∷ []) next → (is_skipped skips a.request.id ≡ true → next.full ≡ false → IsTold next a) → Tells skips next
   tells_more a come its lasts b there skipped =
       ⊎_elim (λ i. told_before lasts b i skipped) last
       (in_cases b r.arrivals (a ∷ []) (subst (In b) come.arrivals (in_contains b next.arrivals there)))
     where
       last : In b (a ∷ []) → IsTold next b
-      last (inl e) = subst (IsTold next) e (its (subst (λ (c : Arrival). is_skipped skips c.id ≡ true) (sym e) skipped) lasts)
+      last (inl e) = subst (IsTold next) e (its (subst (λ (c : Arrival). is_skipped skips c.request.id ≡ true) (sym e) skipped) lasts)
       last (inr i) = absurd i
 
 module _ {State : Type 0} (o : Object Request State) (skips : List CallId) where
@@ -86,7 +86,7 @@ module _ {State : Type 0} (o : Object Request State) (skips : List CallId) where
       let next = asks o skips r a in
       items_tell next c items (tells_more skips r next (asks_grows o skips r a) tells a (asks_come o skips r a) (asks_tells o skips r c.member request))
 
-no_names : (come : List Arrival) → map (λ (a : Arrival). a.id) come ≡ [] → come ≡ []
+no_names : (come : List Arrival) → map (λ (a : Arrival). a.request.id) come ≡ [] → come ≡ []
 no_names [] e = refl
 no_names (a ∷ come) e = absurd cc
 

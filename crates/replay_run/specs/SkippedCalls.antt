@@ -10,9 +10,9 @@ use Rattle.script_lang.specs.declared.line.Line.{Line}
 
 -- The message refuses the call that arrived so, with error 10.
 pub record TellsOfSkip (a : Arrival) (m : Appended) : Type 0 where
-  pub refuses : m.refuses ≡ Some a.id
+  pub refuses : m.refuses ≡ Some a.request.id
   pub bytes : m.bytes ≡ error_bytes a.request.correlation (pos want_of_memory) (pos 0) (pos 0)
-  pub conn : m.conn ≡ a.id.conn
+  pub conn : m.conn ≡ a.request.id.conn
   pub line : m.line ≡ a.line
 
 -- one of a run's messages does
@@ -21,7 +21,7 @@ IsTold r a = (m : Appended) × Contains r.appended m × TellsOfSkip a m
 
 -- Each arrival whose call is among the skips is told of.
 abbrev pub TellsOfSkips : List CallId → Run → Type 0
-TellsOfSkips skips r = (a : Arrival) → Contains r.arrivals a → is_skipped skips a.id ≡ true → IsTold r a
+TellsOfSkips skips r = (a : Arrival) → Contains r.arrivals a → is_skipped skips a.request.id ≡ true → IsTold r a
 
 -- no message of a run is an error 10
 abbrev pub TellsOfNoSkip : Run → Type 0
