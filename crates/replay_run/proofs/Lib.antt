@@ -19,6 +19,8 @@ pub mod Lines
 pub mod Locality
 pub mod Linear
 pub mod SkipLaws
+pub mod Growing
+pub mod Skipped
 pub mod Fresh
 pub mod Bounds
 pub mod Midway

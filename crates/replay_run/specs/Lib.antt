@@ -6,6 +6,7 @@ pub mod Printing
 pub mod Runs
 pub mod ScriptRuns
 pub mod Shelves
+pub mod SkippedCalls
 pub mod Skips
 pub mod Tables
 pub mod WorldCalls

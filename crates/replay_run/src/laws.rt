@@ -1,9 +1,21 @@
 //! What holds of every run of a script's lines.
 
 ghost use Rattle.replay_run.specs.Linearizability.{EveryRunIsLinearizable};
+ghost use Rattle.replay_run.specs.SkippedCalls.{EverySkippedCallIsTold, EveryRunThatTellsOfNoSkipHasNone};
 
 /// For every list of lines, whichever calls find no memory: what the run prints for each object is the history of one
 /// object used by one thread.
 pub fn every_run_is_linearizable()
     ensures { EveryRunIsLinearizable }
+{}
+
+/// A call that finds no memory is refused with error 10, on its connection and at the line at which it arrived, unless
+/// the run is given up.
+pub fn every_skipped_call_is_told()
+    ensures { EverySkippedCallIsTold }
+{}
+
+/// Where no message is an error 10, the run is the one in which every call found memory.
+pub fn every_run_that_tells_of_no_skip_has_none()
+    ensures { EveryRunThatTellsOfNoSkipHasNone }
 {}

@@ -16,5 +16,7 @@ mod reopened;
 mod run_end;
 
 pub use grid::Grid;
-pub use laws::every_run_is_linearizable;
+pub use laws::{
+    every_run_is_linearizable, every_run_that_tells_of_no_skip_has_none, every_skipped_call_is_told,
+};
 pub use run_end::RunEnd;
