@@ -1,7 +1,9 @@
 pub mod Commands
+pub mod PrintedRuns
 pub mod Progress
 pub mod Replays
 pub mod Scripts
+pub mod SkippedCalls
 pub mod Statuses
 pub mod Transcribing
 pub mod Transcripts

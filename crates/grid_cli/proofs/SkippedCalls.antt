@@ -1,0 +1,141 @@
+-- A transcript that tells of no skip is followed line by line by the one without skips.
+use Rattle.std.proofs.Common.{◌≡◌, ℕ, ◌+◌, Bool, true, false, cond, if◌then◌else◌, List, [], ◌∷◌, ◌++◌, Option, Result, Ok, Err, refl, ap, sym, ◌∙◌, subst, ◌⊎◌, inl, inr, append_assoc}
+use Rattle.grid_base.specs.Objects.{Object}
+use Rattle.grid_base.specs.declared.names.CallId.{CallId}
+use Rattle.grid_base.specs.declared.calls.Request.{Request}
+use Rattle.partition_protocol.proofs.Lists.{on_if}
+use Rattle.entry_processors.specs.Processors.{ProcessorForm}
+use Rattle.object_store.specs.Partitions.{Partition}
+use Rattle.call_engine.specs.Calls.{Settings}
+use Rattle.call_engine.specs.Objects.{partition_object}
+use Rattle.script_lang.specs.Lines.{line_of, is_end}
+use Rattle.script_lang.specs.declared.line.Line.{Line}
+use Rattle.script_lang.specs.declared.line.Line.TheVariants.{Grid}
+use Rattle.script_lang.specs.declared.refusal.LineWhy.{LineWhy}
+use Rattle.script_lang.specs.declared.refusal.LineWhy.TheVariants.{NoGrid}
+use Rattle.replay_run.specs.Runs.{Run, begun, after_line}
+use Rattle.replay_run.specs.Printing.{ok_text, line_text}
+use Rattle.replay_run.specs.SkippedCalls.{TellsOfNoSkip}
+use Rattle.replay_run.proofs.Growing.{Grows, grows_refl, grows_trans, line_grows}
+use Rattle.replay_run.proofs.Skipped.{none_before, line_none}
+use Rattle.grid_cli.specs.Scripts.{lines_of, limit_of}
+use Rattle.grid_cli.specs.Transcripts.{Transcript, Ended, settings, first_line, later_lines, after_first, following, refused, too_long}
+use Rattle.grid_cli.specs.PrintedRuns.{printed_after, printed_by_grid, printed_of}
+use Rattle.grid_cli.specs.SkippedCalls.{Agree, AgreeUntilGivenUp, EveryTranscriptThatTellsOfNoSkipHasNone}
+use Rattle.grid_cli.specs.declared.status.LimitWhat.{LimitWhat}
+use Rattle.grid_cli.specs.declared.status.LimitWhat.TheVariants.{InFlight}
+use Rattle.grid_cli.proofs.Progress.{continued, later_line}
+use Rattle.grid_cli.proofs.PrintedRuns.{printed_on, printed_at}
+
+printed_grows : {State : Type 0} (o : Object Request State) (skips : List CallId) (r : Run) (texts : List (List ℕ)) → Grows r (printed_after o skips r texts)
+printed_grows o skips r [] = grows_refl r
+printed_grows o skips r (text ∷ texts) = by_line (λ next. printed_grows o skips next texts) (line_of false r.members text)
+  where
+    by_line : ((next : Run) → Grows next (printed_after o skips next texts)) → (read : Result Line LineWhy) → Grows r (printed_at o skips r texts read)
+    by_line go (Err why) = grows_refl r
+    by_line go (Ok line) =
+        let next = after_line o skips r line in
+        let rest = printed_after o skips next texts in
+        let grows = line_grows o skips r line in
+        on_if (Grows r) next.full r (cond (is_end line) next rest) (grows_refl r) (on_if (Grows r) (is_end line) next rest grows (grows_trans r next rest grows (go next)))
+
+agree_behind : (text : List ℕ) (t u : Transcript) → Agree t u → Agree (following text t) (following text u)
+agree_behind text t u (inl e) = inl (ap (following text) e)
+agree_behind text t u (inr a) = inr (record {
+  text = text ++ a.text;
+  line = a.line;
+  stops = ap (following text) a.stops ∙ ap (λ all. record { text = all; ending = (too_long a.line InFlight).ending }) (sym (append_assoc text a.text (too_long a.line InFlight).text));
+  stands = (a.stands.0, append_assoc text a.text a.stands.0 ∙ ap (λ all. text ++ all) a.stands.1);
+})
+
+agree_as : (t u x y : Transcript) → t ≡ x → u ≡ y → Agree x y → Agree t u
+agree_as t u x y e f a = subst (λ z. Agree z u) (sym e) (subst (λ z. Agree x z) (sym f) a)
+
+abbrev LaterAgree : Settings → List CallId → Option LimitWhat → Run → List (List ℕ) → Type 0
+LaterAgree s skips limit r texts = TellsOfNoSkip (printed_after (partition_object s) skips r texts) → Agree (later_lines s skips limit r texts) (later_lines s [] limit r texts)
+
+-- a line that was read
+module _ (s : Settings) (skips : List CallId) (limit : Option LimitWhat) (r : Run) (text : List ℕ) (texts : List (List ℕ)) (rest : (next : Run) → LaterAgree s skips limit next texts)
+    (line : Line) (read : line_of false r.members text ≡ Ok line) where
+  abbrev o : Object Request Partition
+  o = partition_object s
+
+  abbrev next : Run
+  next = after_line o skips r line
+
+  printed_here : printed_after o skips r (text ∷ texts) ≡ printed_on o skips r texts line
+  printed_here = ap (printed_at o skips r texts) read
+
+  ran : (k : List CallId) → after_line o k r line ≡ next → later_lines s k limit r (text ∷ texts) ≡ continued s k limit texts r line next
+  ran k same = later_line s k limit r text texts line read ∙ ap (continued s k limit texts r line) same
+
+  given_up_there : next.full ≡ true → Agree (later_lines s skips limit r (text ∷ texts)) (later_lines s [] limit r (text ∷ texts))
+  given_up_there full = inr (record {
+    text = [];
+    line = r.lines + 1;
+    stops = ran skips refl ∙ rw full refl;
+    stands = ((later_lines s [] limit r (text ∷ texts)).text, refl);
+  })
+
+  -- The run goes on, and the line asks nothing of the skips.
+  same_line : TellsOfNoSkip next → after_line o [] r line ≡ next
+  same_line none = sym (line_none o skips r line none)
+
+  ended_there : next.full ≡ false → is_end line ≡ true → LaterAgree s skips limit r (text ∷ texts)
+  ended_there lasts ends none =
+      let shown : printed_after o skips r (text ∷ texts) ≡ next = printed_here ∙ rw (lasts, ends) refl in
+      let here = subst TellsOfNoSkip shown none in
+      let last : Transcript = record { text = line_text s r line next; ending = Ended } in
+      agree_as _ _ last last (ran skips refl ∙ rw (lasts, ends) refl) (ran [] (same_line here) ∙ rw (lasts, ends) refl) (inl refl)
+
+  went_on : next.full ≡ false → is_end line ≡ false → LaterAgree s skips limit r (text ∷ texts)
+  went_on lasts goes none =
+      let shown : printed_after o skips r (text ∷ texts) ≡ printed_after o skips next texts = printed_here ∙ rw (lasts, goes) refl in
+      let later = subst TellsOfNoSkip shown none in
+      let here = none_before next (printed_after o skips next texts) (printed_grows o skips next texts) later in
+      agree_as _ _
+      (following (line_text s r line next) (later_lines s skips limit next texts))
+      (following (line_text s r line next) (later_lines s [] limit next texts))
+      (ran skips refl ∙ rw (lasts, goes) refl) (ran [] (same_line here) ∙ rw (lasts, goes) refl)
+      (agree_behind (line_text s r line next) (later_lines s skips limit next texts) (later_lines s [] limit next texts) (rest next later))
+
+  by_end : next.full ≡ false → (b : Bool) → is_end line ≡ b → LaterAgree s skips limit r (text ∷ texts)
+  by_end lasts true ends none = ended_there lasts ends none
+  by_end lasts false goes none = went_on lasts goes none
+
+  by_full : (b : Bool) → next.full ≡ b → LaterAgree s skips limit r (text ∷ texts)
+  by_full true full none = given_up_there full
+  by_full false lasts none = by_end lasts (is_end line) refl none
+
+  line_agrees : LaterAgree s skips limit r (text ∷ texts)
+  line_agrees none = by_full next.full refl none
+
+later_agree : (s : Settings) (skips : List CallId) (limit : Option LimitWhat) (r : Run) (texts : List (List ℕ)) → LaterAgree s skips limit r texts
+later_agree s skips limit r [] none = inl refl
+later_agree s skips limit r (text ∷ texts) none = by_line (λ next. later_agree s skips limit next texts) (line_of false r.members text) refl none
+  where
+    by_line : ((next : Run) → LaterAgree s skips limit next texts) → (x : Result Line LineWhy) → line_of false r.members text ≡ x → LaterAgree s skips limit r (text ∷ texts)
+    by_line rest (Err why) read none =
+        let shown : (k : List CallId) → later_lines s k limit r (text ∷ texts) ≡ refused (r.lines + 1) why =
+        λ k. ap (λ (x : Result Line LineWhy). elim x [ Err why ↦ refused (r.lines + 1) why | Ok l ↦ continued s k limit texts r l (after_line (partition_object s) k r l) ]) read in
+        inl (shown skips ∙ sym (shown []))
+    by_line rest (Ok line) read none = line_agrees s skips limit r text texts rest line read none
+
+first_agree : (forms : List ProcessorForm) (skips : List CallId) (limit : Option LimitWhat) (texts : List (List ℕ)) → TellsOfNoSkip (printed_of forms skips texts)
+    → Agree (first_line forms skips limit texts) (first_line forms [] limit texts)
+first_agree forms skips limit [] none = inl refl
+first_agree forms skips limit (text ∷ texts) none = by_line (line_of true 0 text) refl
+  where
+    shown : (k : List CallId) (x : Result Line LineWhy) → line_of true 0 text ≡ x → first_line forms k limit (text ∷ texts) ≡ elim x [ Err why ↦ refused 1 why | Ok line ↦ after_first forms k limit texts line ]
+    shown k x read = ap (λ (x : Result Line LineWhy). elim x [ Err why ↦ refused 1 why | Ok line ↦ after_first forms k limit texts line ]) read
+
+    by_line : (x : Result Line LineWhy) → line_of true 0 text ≡ x → Agree (first_line forms skips limit (text ∷ texts)) (first_line forms [] limit (text ∷ texts))
+    by_line (Err why) read = inl (shown skips _ read ∙ sym (shown [] _ read))
+    by_line (Ok (Grid members backups capacity)) read =
+        let s : Settings = settings forms capacity in
+        let later = later_agree s skips limit (begun members backups) texts (subst (λ x. TellsOfNoSkip (printed_by_grid forms skips texts x)) read none) in
+        agree_as _ _ _ _ (shown skips _ read) (shown [] _ read) (agree_behind (ok_text 1) (later_lines s skips limit (begun members backups) texts) (later_lines s [] limit (begun members backups) texts) later)
+    by_line (Ok line) read = inl (shown skips _ read ∙ sym (shown [] _ read))
+
+pub every_transcript_that_tells_of_no_skip_has_none : EveryTranscriptThatTellsOfNoSkipHasNone
+every_transcript_that_tells_of_no_skip_has_none forms skips script = first_agree forms skips (limit_of script) (lines_of script)
