@@ -9,4 +9,5 @@ pub mod ReplaySteps
 pub mod ReplayEnds
 pub mod ReplayRuns
 pub mod CommandLaws
+pub mod PrintedRuns
 pub mod SkippedCalls

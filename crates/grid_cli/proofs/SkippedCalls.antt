@@ -20,21 +20,12 @@ use Rattle.replay_run.proofs.Growing.{Grows, grows_refl, grows_trans, line_grows
 use Rattle.replay_run.proofs.Skipped.{none_before, line_none}
 use Rattle.grid_cli.specs.Scripts.{lines_of, limit_of}
 use Rattle.grid_cli.specs.Transcripts.{Transcript, Ended, settings, first_line, later_lines, after_first, following, refused, too_long}
-use Rattle.grid_cli.specs.SkippedCalls.{printed_after, printed_by_grid, printed_of, Agree, AgreeUntilGivenUp, EveryTranscriptThatTellsOfNoSkipHasNone}
+use Rattle.grid_cli.specs.PrintedRuns.{printed_after, printed_by_grid, printed_of}
+use Rattle.grid_cli.specs.SkippedCalls.{Agree, AgreeUntilGivenUp, EveryTranscriptThatTellsOfNoSkipHasNone}
 use Rattle.grid_cli.specs.declared.status.LimitWhat.{LimitWhat}
 use Rattle.grid_cli.specs.declared.status.LimitWhat.TheVariants.{InFlight}
 use Rattle.grid_cli.proofs.Progress.{continued, later_line}
-
--- the run that is printed after a line that was read
-abbrev printed_on : {State : Type 0} → Object Request State → List CallId → Run → List (List ℕ) → Line → Run
-printed_on o skips r texts line =
-    let next = after_line o skips r line in
-    if next.full then r
-    else if is_end line then next
-    else printed_after o skips next texts
-
-abbrev printed_at : {State : Type 0} → Object Request State → List CallId → Run → List (List ℕ) → Result Line LineWhy → Run
-printed_at o skips r texts read = elim read [ Err why ↦ r | Ok line ↦ printed_on o skips r texts line ]
+use Rattle.grid_cli.proofs.PrintedRuns.{printed_on, printed_at}
 
 printed_grows : {State : Type 0} (o : Object Request State) (skips : List CallId) (r : Run) (texts : List (List ℕ)) → Grows r (printed_after o skips r texts)
 printed_grows o skips r [] = grows_refl r
