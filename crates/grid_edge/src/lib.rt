@@ -19,6 +19,7 @@ mod standard;
 mod unread;
 
 pub use clock::{Clock, FixedClock, StdClock};
+pub use count::next_count;
 pub use doors::{Accepted, DoorFault, Doors, Opening, Wakes};
 pub use memory_doors::{MemoryDoors, Returned, SilentWaker};
 pub use memory_ready::MemoryReady;
