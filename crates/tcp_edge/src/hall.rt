@@ -15,7 +15,9 @@ use std::time::Duration;
 // The tokens of what the poll looks at. Nobody reads them: a wait says that something changed, and who waits then
 // tries all that wasn't ready.
 const LISTENER: Token = Token(0);
+
 const CALLER: Token = Token(1);
+
 const BELL: Token = Token(2);
 
 // How many events one wait takes from the system. What is left ends the next wait at once.
@@ -86,9 +88,7 @@ impl Hall {
         // Without it small answers wait for larger ones, which is only slow.
         let _ = stream.set_nodelay(true);
         let changes = Interest::READABLE | Interest::WRITABLE;
-        self.poll
-            .registry()
-            .register(&mut stream, CALLER, changes)?;
+        self.poll.registry().register(&mut stream, CALLER, changes)?;
         let (from, to) = ends(Arc::new(self.alloc, stream)?)?;
         Ok(Some(Caller { member, from, to }))
     }

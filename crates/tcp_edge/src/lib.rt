@@ -13,3 +13,5 @@ pub use doors::TcpDoors;
 pub use stream::{TcpSink, TcpSource};
 pub use waker::TcpWaker;
 
+#[cfg(test)]
+mod tests;
