@@ -1,4 +1,6 @@
 pub mod FaultCounts
 pub mod Told
+mod Doorways
 mod Pieces
+pub mod Room
 mod Streams

@@ -2,3 +2,8 @@ pub mod Faults
 pub mod Sink
 pub mod Plan
 pub mod Memory
+pub mod Ready
+pub mod Unready
+pub mod Doors
+pub mod MemoryDoors
+pub mod Room

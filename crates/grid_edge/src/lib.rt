@@ -4,17 +4,28 @@
 //! contracts and fail at the calls that their maker names; the standard streams tell nothing.
 #![tactic(auto)]
 
+mod clock;
 mod count;
+mod doors;
+mod memory_doors;
+mod memory_ready;
 mod memory_sink;
 mod memory_source;
 mod plan;
+mod ready;
 mod sink;
 mod source;
 mod standard;
 mod unread;
 
+pub use clock::{Clock, FixedClock, StdClock};
+pub use count::next_count;
+pub use doors::{Accepted, DoorFault, Doors, Opening, Wakes};
+pub use memory_doors::{MemoryDoors, Returned, SilentWaker};
+pub use memory_ready::MemoryReady;
 pub use memory_sink::MemorySink;
 pub use memory_source::{MemorySource, SteadySource};
+pub use ready::{Ready, ReadySink, ReadySource};
 pub use sink::{Sink, WriteFault, write_all};
 pub use source::{ReadFault, Source};
 pub use standard::{StdSink, StdSource};

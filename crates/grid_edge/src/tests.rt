@@ -1,3 +1,7 @@
+mod clock;
+mod doors;
+mod ready;
+
 ghost use Rattle.std.specs.Prelude.{◌≤◌};
 
 use super::*;

@@ -1,0 +1,17 @@
+//! Doors that clients come through over TCP, each to a member of this machine.
+//!
+//! One thread serves them: it accepts, reads and writes without waiting, and sleeps in `TcpDoors::wait`. Nothing is
+//! told of what comes and goes, since the system keeps it; faults and empty looks are counted.
+#![tactic(auto)]
+
+mod doors;
+mod hall;
+mod stream;
+mod waker;
+
+pub use doors::TcpDoors;
+pub use stream::{TcpSink, TcpSource};
+pub use waker::TcpWaker;
+
+#[cfg(test)]
+mod tests;

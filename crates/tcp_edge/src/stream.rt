@@ -1,0 +1,182 @@
+// The two ends of a connection.
+ghost use Rattle.std.specs.Prelude.{◌≡◌, ◌≤◌, ◌<◌, length};
+ghost use Rattle.grid_edge.specs.Faults.{HasCause};
+ghost use Rattle.grid_edge.specs.Ready.{IfBytes, HasWaited};
+ghost use Rattle.tcp_edge.specs.declared.stream.Attempt.TheVariants.{Moved};
+ghost use Rattle.tcp_edge.specs.Counts.{IfMoved};
+
+use grid_edge::{ReadFault, Ready, ReadySink, ReadySource, WriteFault, next_count};
+use mio::net::TcpStream;
+use std::alloc::AllocError;
+use std::io::{ErrorKind, Read, Write};
+use std::marker::Model;
+use std::net::Shutdown;
+use std::sync::Arc;
+
+// What a call of a stream came to.
+#[derive(Clone, Copy, Debug, PartialEq, Eq)]
+enum Attempt {
+    Moved(usize),
+    WouldBlock,
+    Failed,
+}
+
+// How many calls failed, and how many would have had to wait.
+#[derive(Debug, Drop)]
+struct Counts {
+    faults: u64,
+    unready: u64,
+}
+
+impl Counts {
+    fn new() -> Counts
+        ensures { (result.faults ≡ 0) × (result.unready ≡ 0) }
+    {
+        Counts {
+            faults: 0,
+            unready: 0,
+        }
+    }
+
+    // The answer to a call that came to this, once it is counted.
+    fn answer<E: Drop>(&mut self, attempt: Attempt, fault: E) -> Result<Ready, E>
+        ensures bytes { IfBytes result (λ n. attempt ≡ Moved n) }
+        ensures cause { HasCause self.old.faults self.new.faults result }
+        ensures waited { HasWaited self.old.unready self.new.unready result }
+    {
+        match attempt {
+            Attempt::Moved(count) => Ok(Ready::Bytes(count)),
+            Attempt::WouldBlock => {
+                self.unready = next_count(self.unready);
+                Ok(Ready::NotYet)
+            }
+            Attempt::Failed => {
+                self.faults = next_count(self.faults);
+                Err(fault)
+            }
+        }
+    }
+}
+
+/// What comes from a client. Contracts see how many reads have failed and how many found nothing, each up to the
+/// last value of a `u64`.
+#[derive(Drop)]
+pub struct TcpSource {
+    stream: Arc<TcpStream>,
+    counts: Counts,
+}
+
+/// What goes to a client. Contracts see how many writes have failed and how many found no room, each up to the last
+/// value of a `u64`.
+#[derive(Drop)]
+pub struct TcpSink {
+    stream: Arc<TcpStream>,
+    counts: Counts,
+}
+
+impl Model for TcpSource {
+    ghost use Rattle.tcp_edge.specs.declared.stream.Counts.{Counts};
+
+    ghost Value = { Counts };
+
+    ghost view = { λ s. s.counts };
+}
+
+impl Model for TcpSink {
+    ghost use Rattle.tcp_edge.specs.declared.stream.Counts.{Counts};
+
+    ghost Value = { Counts };
+
+    ghost view = { λ s. s.counts };
+}
+
+/// The two ends of this connection.
+pub(crate) fn ends(stream: Arc<TcpStream>) -> Result<(TcpSource, TcpSink), AllocError> {
+    let other = Arc::try_clone(&stream)?;
+    let from = TcpSource {
+        stream,
+        counts: Counts::new(),
+    };
+    let to = TcpSink {
+        stream: other,
+        counts: Counts::new(),
+    };
+    Ok((from, to))
+}
+
+/// Closes the connection of these ends. The client's own end sees the end of what it was sent.
+pub(crate) fn close(from: TcpSource, to: TcpSink) {
+    // A connection that the client has closed can't be shut down, and needn't be.
+    let _ = to.stream.shutdown(Shutdown::Both);
+    drop(from);
+    drop(to);
+}
+
+impl ReadySource for TcpSource {
+    ghost use Rattle.std.specs.Prelude.{None};
+
+    ghost faults = { λ s. s.faults };
+
+    ghost unready = { λ s. s.unready };
+
+    ghost left = { λ _. None };
+
+    /// Costs a system call, and another one for each time that it is interrupted.
+    fn read_ready(&mut self, into: &mut [u8]) -> Result<Ready, ReadFault> {
+        let attempt = try_read(&mut &*self.stream, into);
+        self.counts.answer(attempt, ReadFault)
+    }
+}
+
+impl ReadySink for TcpSink {
+    ghost use Rattle.std.specs.Prelude.{None};
+
+    ghost faults = { λ s. s.faults };
+
+    ghost unready = { λ s. s.unready };
+
+    ghost taken = { λ _. None };
+
+    /// A write that takes nothing of a piece counts as a fault. Costs a system call, and another one for each time
+    /// that it is interrupted.
+    fn write_ready(&mut self, from: &[u8]) -> Result<Ready, WriteFault> {
+        let attempt = try_write(&mut &*self.stream, from);
+        self.counts.answer(attempt, WriteFault)
+    }
+}
+
+// Reads once, and again where the read was interrupted.
+fn try_read<R: Read>(reader: &mut R, into: &mut [u8]) -> Attempt
+    ensures { IfMoved result (λ n. n ≤ length into.new) }
+{
+    for _ in 0..u64::MAX {
+        match reader.read(into) {
+            Ok(count) => return Attempt::Moved(count),
+            Err(error) => match error.kind() {
+                ErrorKind::Interrupted => {}
+                ErrorKind::WouldBlock => return Attempt::WouldBlock,
+                _ => break,
+            },
+        }
+    }
+    Attempt::Failed
+}
+
+// Writes once, and again where the write was interrupted.
+fn try_write<W: Write>(writer: &mut W, from: &[u8]) -> Attempt
+    ensures within { IfMoved result (λ n. n ≤ length from.now) }
+    ensures progress { IfMoved result (λ n. 0 < length from.now → 0 < n) }
+{
+    for _ in 0..u64::MAX {
+        match writer.write(from) {
+            Ok(0) if !from.is_empty() => break,
+            Ok(count) => return Attempt::Moved(count),
+            Err(error) => match error.kind() {
+                ErrorKind::Interrupted => {}
+                ErrorKind::WouldBlock => return Attempt::WouldBlock,
+                _ => break,
+            },
+        }
+    }
+    Attempt::Failed
+}
