@@ -1,5 +1,5 @@
 -- What contracts see of an end of a connection.
-use Rattle.std.specs.Prelude.{◌≡◌, ℕ}
+use Rattle.std.specs.Prelude.{ℕ}
 use Rattle.tcp_edge.specs.declared.stream.Attempt.{Attempt}
 use Rattle.tcp_edge.specs.declared.stream.Attempt.TheVariants.{Moved, WouldBlock, Failed}
 

@@ -1,5 +1,5 @@
 -- What contracts see of the doors.
-use Rattle.std.specs.Prelude.{ℕ, List, Option, None, Some}
+use Rattle.std.specs.Prelude.{ℕ, Option, None, Some}
 use Rattle.grid_edge.specs.declared.doors.Opening.{Opening}
 use Rattle.grid_edge.specs.Doors.{Book}
 use Rattle.tcp_edge.specs.declared.hall.Hall.{Hall}
@@ -13,7 +13,11 @@ pub record TcpDoorway : Type 0 where
 
 abbrev pub opening_of : Option Hall → Option Opening
 opening_of None = None
-opening_of (Some hall) = Some hall.opening
+opening_of (Some hall) = Some hall.entrance.opening
+
+-- after an opening that went well
+abbrev pub opened_for : TcpDoorway → Opening → TcpDoorway
+opened_for d opening = record d { opening = Some opening; accepted = 0 }
 
 -- they tell which opening it was and how many came, and not which ones
 abbrev pub book_of : TcpDoorway → Book

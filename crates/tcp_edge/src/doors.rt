@@ -1,12 +1,13 @@
 // Doors over TCP.
-ghost use Rattle.std.specs.Prelude.{◌≡◌, ◌≤◌, None};
+ghost use Rattle.std.specs.Prelude.{◌≡◌, ◌≤◌, None, OnOk, OnErr};
 ghost use Rattle.grid_edge.specs.Faults.{Rose};
 
 use crate::hall::{Caller, Hall};
-use crate::stream::{TcpSink, TcpSource, close, ends};
+use crate::stream::{TcpSink, TcpSource, close};
 use crate::waker::TcpWaker;
 use grid_edge::{Accepted, DoorFault, Doors, Opening, next_count};
 use std::alloc::AllocGlobal;
+use std::io;
 use std::marker::Model;
 use std::net::Net;
 use std::sync::Arc;
@@ -57,6 +58,25 @@ impl<R> TcpDoors<R> {
     }
 }
 
+impl<R: Net + AllocGlobal> TcpDoors<R> {
+    ghost use Rattle.tcp_edge.specs.TcpDoors.{opened_for};
+
+    // Opens the hall, or opens it anew.
+    fn open_hall(&mut self, opening: Opening) -> io::Result<()>
+        requires few { opening.members ≤ 8 }
+        requires port { opening.port ≤ 65528 }
+        ensures ok { OnOk result (self.new ≡ opened_for self.old opening) }
+        ensures err { OnErr result (self.new ≡ self.old) }
+    {
+        match &mut self.hall {
+            Some(hall) => hall.open_anew(&self.rt, opening)?,
+            None => self.hall = Some(Hall::open(&self.rt, opening)?),
+        }
+        self.accepted = 0;
+        Ok(())
+    }
+}
+
 impl<R: Net + AllocGlobal + Copy + Send> Doors for TcpDoors<R> {
     ghost use Rattle.tcp_edge.specs.TcpDoors.{book_of};
 
@@ -75,15 +95,12 @@ impl<R: Net + AllocGlobal + Copy + Send> Doors for TcpDoors<R> {
     ghost counted = { λ _. tt };
 
     /// Takes memory, and its want is a fault. While the doors are open they can't be opened at the same ports again.
+    /// Connections and wakers from before stay.
     fn open(&mut self, members: u8, port: u16) -> Result<(), DoorFault> {
-        match Hall::open(&self.rt, Opening { members, port }) {
-            Ok(hall) => {
-                self.hall = Some(hall);
-                self.accepted = 0;
-                Ok(())
-            }
-            Err(_) => Err(self.fault()),
+        if self.open_hall(Opening { members, port }).is_err() {
+            return Err(self.fault());
         }
+        Ok(())
     }
 
     /// Costs a system call for each member to which none has come, and four for one that comes. A connection takes
@@ -126,8 +143,12 @@ impl<R: Net + AllocGlobal + Copy + Send> Doors for TcpDoors<R> {
         Err(self.fault())
     }
 
-    /// Closes the connection.
+    /// Closes the connection, and has the next `wait` come back at once: a connection that there was no descriptor for
+    /// may come in now.
     fn give_back(&mut self, _number: u32, from: TcpSource, to: TcpSink, _memory: bool) {
         close(from, to);
+        if let Some(hall) = &mut self.hall {
+            hall.closed = true;
+        }
     }
 }

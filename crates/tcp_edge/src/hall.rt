@@ -1,14 +1,14 @@
 // The sockets behind open doors.
-ghost use Rattle.std.specs.Prelude.{◌≡◌, ◌≤◌, ◌<◌, ◌+◌, IfOk, IfSome, length, vec_len};
+ghost use Rattle.std.specs.Prelude.{◌≡◌, ◌≤◌, ◌<◌, IfOk, IfSome, OnOk, OnErr};
 
+use crate::entrance::Entrance;
 use crate::stream::{TcpSink, TcpSource, ends};
 use crate::waker::Bell;
 use grid_edge::Opening;
-use mio::net::{TcpListener, TcpStream};
-use mio::{Events, Interest, Poll, Registry, Token};
+use mio::{Events, Interest, Poll, Token};
 use std::alloc::{AllocGlobal, Global};
-use std::io::{self, ErrorKind};
-use std::net::{Ipv4Addr, Net, SocketAddr};
+use std::io;
+use std::net::Net;
 use std::sync::Arc;
 use std::time::Duration;
 
@@ -23,26 +23,23 @@ const BELL: Token = Token(2);
 // How many events one wait takes from the system. What is left ends the next wait at once.
 const EVENTS: usize = 1024;
 
-// A listener for each member, and the poll that waits for them, for connections and for the bell.
+// The listeners, and the poll that waits for them, for connections and for the bell.
 //
 // The poll reports changes (`epoll(7)`, edge-triggered): what would have blocked and then needn't is reported once. So
 // a listener is asked until it has no connection left, and a connection that isn't read, since its last call is under
 // way, ends no wait again and again.
 #[derive(Drop)]
 pub(crate) struct Hall {
-    pub(crate) opening: Opening,
-    listeners: Vec<TcpListener>,
-    // The member whose listener is asked first.
-    first: u8,
+    pub(crate) entrance: Entrance,
     poll: Poll,
     events: Events,
     pub(crate) bell: Arc<Bell>,
     // How often the bell had rung as the last wait ended.
     heard: u64,
+    // A connection was closed since the last wait. One that there was no descriptor for may come in now, and the
+    // system reports it no more.
+    pub(crate) closed: bool,
     alloc: Global,
-    ghost each: { vec_len listeners ≡ opening.members },
-    ghost few: { opening.members ≤ 8 },
-    ghost within: { first ≤ opening.members },
 }
 
 // A connection to a member.
@@ -57,34 +54,47 @@ impl Hall {
     pub(crate) fn open<R: Net + AllocGlobal>(rt: &R, opening: Opening) -> io::Result<Hall>
         requires few { opening.members ≤ 8 }
         requires port { opening.port ≤ 65528 }
-        ensures { IfOk result (λ hall. hall.opening ≡ opening) }
+        ensures { IfOk result (λ hall. hall.entrance.opening ≡ opening) }
     {
         let alloc = rt.alloc();
         let poll = Poll::new(rt)?;
         let events = Events::with_capacity(alloc, EVENTS)?;
         let bell = Arc::new(alloc, Bell::new(poll.registry(), BELL)?)?;
-        let listeners = listen(rt, poll.registry(), opening)?;
+        let entrance = Entrance::open(rt, poll.registry(), LISTENER, opening)?;
         Ok(Hall {
-            opening,
-            listeners,
-            first: 0,
+            entrance,
             poll,
             events,
             bell,
             heard: 0,
+            closed: false,
             alloc,
         })
     }
 
+    // Listens at other ports in place of these. Connections and wakers stay.
+    pub(crate) fn open_anew<R: Net + AllocGlobal>(
+        &mut self,
+        rt: &R,
+        opening: Opening,
+    ) -> io::Result<()>
+        requires few { opening.members ≤ 8 }
+        requires port { opening.port ≤ 65528 }
+        ensures ok { OnOk result (self.new.entrance.opening ≡ opening) }
+        ensures err { OnErr result (self.new.entrance ≡ self.old.entrance) }
+    {
+        self.entrance = Entrance::open(rt, self.poll.registry(), LISTENER, opening)?;
+        Ok(())
+    }
+
     // The next connection, if one has come.
     pub(crate) fn accept(&mut self) -> io::Result<Option<Caller>>
-        ensures member { IfOk result (λ found. IfSome found (λ caller. caller.member < self.old.opening.members)) }
-        ensures same { self.new.opening ≡ self.old.opening }
+        ensures member { IfOk result (λ found. IfSome found (λ caller. caller.member < self.old.entrance.opening.members)) }
+        ensures same { self.new.entrance.opening ≡ self.old.entrance.opening }
     {
-        let Some((member, mut stream)) = next_stream(&self.listeners, self.first)? else {
+        let Some((member, mut stream)) = self.entrance.next_stream()? else {
             return Ok(None);
         };
-        self.first = member + 1;
         // Without it small answers wait for larger ones, which is only slow.
         let _ = stream.set_nodelay(true);
         let changes = Interest::READABLE | Interest::WRITABLE;
@@ -94,70 +104,14 @@ impl Hall {
     }
 
     pub(crate) fn wait(&mut self, millis: u32) -> io::Result<()>
-        ensures { self.new.opening ≡ self.old.opening }
+        ensures { self.new.entrance ≡ self.old.entrance }
     {
-        let millis = if self.bell.may_sleep(self.heard) {
-            millis
-        } else {
-            0
-        };
-        let time = Duration::from_millis(u64::from(millis));
+        let sleeps = self.bell.may_sleep(self.heard) && !self.closed;
+        let time = Duration::from_millis(if sleeps { u64::from(millis) } else { 0 });
         let waited = self.poll.poll(&mut self.events, Some(time));
         self.bell.awake();
         self.heard = self.bell.rings();
+        self.closed = false;
         waited
     }
-}
-
-// A listener for each member, which the registry looks at.
-fn listen<R: Net + AllocGlobal>(
-    rt: &R,
-    registry: &Registry,
-    opening: Opening,
-) -> io::Result<Vec<TcpListener>>
-    requires few { opening.members ≤ 8 }
-    requires port { opening.port ≤ 65528 }
-    ensures { IfOk result (λ listeners. vec_len listeners ≡ opening.members) }
-{
-    let mut listeners = Vec::new(rt.alloc());
-    for member in 0..opening.members {
-        let port = opening.port + u16::from(member);
-        let mut listener = TcpListener::bind(rt, SocketAddr::from((Ipv4Addr::LOCALHOST, port)))?;
-        registry.register(&mut listener, LISTENER, Interest::READABLE)?;
-        listeners.push(listener)?;
-    }
-    Ok(listeners)
-}
-
-// The next connection, if one has come, and the number of its listener. The listeners are asked in turn, from this one.
-fn next_stream(listeners: &[TcpListener], first: u8) -> io::Result<Option<(u8, TcpStream)>>
-    requires few { length listeners.now ≤ 8 }
-    requires within { first ≤ length listeners.now }
-    ensures { IfOk result (λ found. IfSome found (λ stream. stream.0 < length listeners.now)) }
-{
-    let count = listeners.len() as u8;
-    for turn in 0..count {
-        let member = (first + turn) % count;
-        if let Some(stream) = stream_of(&listeners[usize::from(member)])? {
-            return Ok(Some((member, stream)));
-        }
-    }
-    Ok(None)
-}
-
-// The next connection of a listener, if one waits. One that was given up before it was accepted is passed over. Where
-// the process has no descriptor left, connections wait on, as they do where the server serves as many as it may.
-fn stream_of(listener: &TcpListener) -> io::Result<Option<TcpStream>> {
-    for _ in 0..u64::MAX {
-        match listener.accept() {
-            Ok((stream, _)) => return Ok(Some(stream)),
-            Err(error) => match error.kind() {
-                ErrorKind::WouldBlock => return Ok(None),
-                ErrorKind::Interrupted | ErrorKind::ConnectionAborted => {}
-                _ if error.raw_os_error() == Some(libc::EMFILE) => return Ok(None),
-                _ => return Err(error),
-            },
-        }
-    }
-    Ok(None)
 }

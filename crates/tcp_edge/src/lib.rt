@@ -5,6 +5,7 @@
 #![tactic(auto)]
 
 mod doors;
+mod entrance;
 mod hall;
 mod stream;
 mod waker;
