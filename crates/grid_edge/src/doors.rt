@@ -73,9 +73,9 @@ pub trait Doors: Send {
         ensures looks { HasLooked (empty_looks self.old) (empty_looks self.new) result }
         ensures cause { HasCause (faults self.old) (faults self.new) result };
 
-    /// Sleeps until something that was `NotYet` may have changed, be it `accept` or a connection, or until a waker was
-    /// called, or the time is up. What was called since the last `wait` and didn't answer `NotYet` may not end it. It
-    /// may come back for no reason.
+    /// Sleeps until something that answered `NotYet` may have changed since, be it `accept` or a connection, or until a
+    /// waker was called, or the time is up. So who waits for more of a connection calls it until it is `NotYet`: what a
+    /// short read has left, be it only the end, may end no `wait`. It may come back for no reason.
     fn wait(&mut self, millis: u32) -> Result<(), DoorFault>
         ensures book { book self.new ≡ book self.old }
         ensures looks { empty_looks self.new ≡ empty_looks self.old }

@@ -2,6 +2,9 @@
 //!
 //! Code above reads from a `Source` and writes to a `Sink`. The objects in memory tell their bytes to
 //! contracts and fail at the calls that their maker names; the standard streams tell nothing.
+//!
+//! A server has its connections from `Doors`. It reads and writes them without waiting, as a `ReadySource` and a
+//! `ReadySink`, and sleeps at the doors. What time it is a `Clock` tells.
 #![tactic(auto)]
 
 mod clock;
