@@ -1,2 +1,2 @@
-pub mod Counts
+pub mod Attempt
 pub mod TcpDoors

@@ -3,7 +3,7 @@ ghost use Rattle.std.specs.Prelude.{◌≡◌, ◌≤◌, ◌<◌, length};
 ghost use Rattle.grid_edge.specs.Faults.{HasCause};
 ghost use Rattle.grid_edge.specs.Ready.{IfBytes, HasWaited};
 ghost use Rattle.tcp_edge.specs.declared.stream.Attempt.TheVariants.{Moved};
-ghost use Rattle.tcp_edge.specs.Counts.{IfMoved};
+ghost use Rattle.tcp_edge.specs.Attempt.{IfMoved};
 
 use grid_edge::{ReadFault, Ready, ReadySink, ReadySource, WriteFault, next_count};
 use mio::net::TcpStream;

@@ -1,6 +1,6 @@
-use Rattle.std.proofs.Common.{◌≡◌, ◌≢◌, ◌<◌, ℕ, ◌+◌, List, [], ◌∷◌, ◌++◌, All, IfSome, None, Some, Option, refl, arith}
+use Rattle.std.proofs.Common.{◌≡◌, ◌≢◌, ◌<◌, ℕ, ◌+◌, List, [], All, IfSome, None, Some, Option, refl, arith}
 use Rattle.std.proofs.lemmas.List.Elements.{All-push}
-use Rattle.grid_edge.specs.Doors.{Book, Arrival, Return, IsOut, entered, after_arrival, after_return}
+use Rattle.grid_edge.specs.Doors.{Book, Arrival, Return, entered, after_arrival, after_return}
 use Rattle.grid_edge.proofs.tests.doors.serve.Invariants.{HasServed}
 use Rattle.grid_edge.proofs.tests.doors.serve.Goals as goal
 use Rattle.grid_edge.proofs.tests.doors.serve.Goals.{in-Ok-Come+in_ok-push-in-Ok-Come, in-Ok-NotYet+in_ok-push-in-Ok-NotYet, in-Err+in_ok-push-in-Err}

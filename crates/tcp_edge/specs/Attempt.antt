@@ -1,4 +1,4 @@
--- What contracts see of an end of a connection.
+-- What a call of a stream came to.
 use Rattle.std.specs.Prelude.{ℕ}
 use Rattle.tcp_edge.specs.declared.stream.Attempt.{Attempt}
 use Rattle.tcp_edge.specs.declared.stream.Attempt.TheVariants.{Moved, WouldBlock, Failed}
