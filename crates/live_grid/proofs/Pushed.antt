@@ -1,12 +1,9 @@
 -- Cells of a list that grows by one.
-use Rattle.std.proofs.Common.{◌≡◌, ℕ, zero, suc, ◌⊎◌, inl, inr, ⊎_elim, List, [], ◌∷◌, ◌++◌, Option, Some, None, slice_get, get_or, length, All, sym, refl, ap, ◌∙◌, subst, arith}
-use Rattle.std.proofs.lemmas.Option.{slice_get-get_or}
+use Rattle.std.proofs.Common.{◌≡◌, ℕ, zero, suc, ◌⊎◌, inl, inr, ⊎_elim, List, [], ◌∷◌, ◌++◌, Option, Some, None, slice_get, length, All, sym, refl, ap, ◌∙◌, subst, arith}
 use Rattle.entry_processors.specs.declared.form.Form.{Form}
-use Rattle.call_engine.specs.Calls.{Settings}
 use Rattle.hand_cell.specs.declared.cell.Cell.{Cell}
 use Rattle.hand_cell.specs.Calls.{plan_of}
 use Rattle.live_grid.specs.declared.plan.GridPlan.{GridPlan}
-use Rattle.live_grid.specs.Plans.{settings_in, settings_for}
 use Rattle.live_grid.specs.Grids.{IsCellOf, AreCells}
 
 none_some : {A : Type 0} (a : A) → ◌≡◌ {A = Option A} None (Some a) → ⊥
@@ -33,9 +30,3 @@ module _ (members backups : ℕ) (forms : List Form) (capacity : ℕ) {T E O : T
       (λ (h : slice_get xs p ≡ Some y). all p y h)
       (λ (h : (p ≡ length xs) × (y ≡ x)). subst (λ (z : Cell T GridPlan E O). IsCellOf members backups forms capacity p z) (sym h.1) (subst (λ (k : ℕ). IsCellOf members backups forms capacity k x) (sym (h.0 ∙ long)) is))
       (pushed xs x p y e)
-
-  -- what the forms and the capacity mean is what each cell was made for
-  pub means_all : (m : Settings) → m ≡ settings_in forms capacity → (cells : List (Cell T GridPlan E O)) → AreCells members backups forms capacity cells
-      → All (λ (cell : Cell T GridPlan E O). m ≡ settings_for (plan_of cell)) cells
-  means_all m means cells are k d less = let is = are k (get_or cells k d) (slice_get-get_or cells k d less) in
-      means ∙ (λ i. settings_in (sym is.forms_are i) (sym is.capacity_is i))
