@@ -2,7 +2,6 @@
 use Rattle.std.proofs.Common.{◌≡◌, ℕ, zero, suc, ◌⊎◌, inl, inr, ⊎_elim, List, [], ◌∷◌, ◌++◌, Option, Some, None, slice_get, length, All, sym, refl, ap, ◌∙◌, subst, arith}
 use Rattle.entry_processors.specs.declared.form.Form.{Form}
 use Rattle.hand_cell.specs.declared.cell.Cell.{Cell}
-use Rattle.hand_cell.specs.Calls.{plan_of}
 use Rattle.live_grid.specs.declared.plan.GridPlan.{GridPlan}
 use Rattle.live_grid.specs.Grids.{IsCellOf, AreCells}
 

@@ -1,5 +1,6 @@
 -- What a live world stands for.
-use Rattle.std.specs.Prelude.{◌≡◌, List, map, All}
+use Rattle.std.specs.Prelude.{◌≡◌, ◌≢◌, ℕ, List, [], map, All}
+use Rattle.grid_base.specs.declared.names.CallId.{CallId}
 use Rattle.grid_base.specs.declared.calls.Request.{Request}
 use Rattle.grid_base.specs.Shelves.{Meaning, meaning}
 use Rattle.object_store.specs.Partitions.{Partition}
@@ -13,7 +14,7 @@ use Rattle.partition_world.specs.declared.standing_row.StandingRow.{StandingRow}
 use Rattle.partition_world.specs.declared.world.World.{World}
 use Rattle.partition_world.specs.Events.{event_of}
 use Rattle.partition_world.specs.Recorders.{KeepsStanding}
-use Rattle.partition_world.specs.Worlds.{StandsFor, IsReleased, setup_of}
+use Rattle.partition_world.specs.Worlds.{StandsFor, IsReleased, setup_of, waiting}
 use Rattle.live_grid.specs.declared.plan.GridPlan.{GridPlan}
 use Rattle.live_grid.specs.declared.world.LiveWorld.{LiveWorld}
 use Rattle.live_grid.specs.Plans.{settings_for, setup_for}
@@ -40,3 +41,8 @@ AreReleased plan history answers = All (IsReleased (cells plan history)) answers
 pub record LiveStands (live : LiveWorld) (plan : GridPlan) (history : List (Event Request)) : Type 0 where
   pub world : IsWorldOf live.world plan history
   pub answers : AreReleased plan history live.answers.items
+
+-- No answer of the call waits at the member, or was given out and waits to be fetched
+pub record HasNoAnswer (live : LiveWorld) (member : ℕ) (id : CallId) : Type 0 where
+  pub none_waits : waiting live.world member ≡ []
+  pub none_kept : All (λ (answer : CallAnswer). answer.id ≢ id) live.answers.items

@@ -15,7 +15,8 @@ pub(crate) fn take_answer(answers: &mut Vec<CallAnswer>, id: CallId) -> Option<C
     ensures kept { (plan : GridPlan) (history : List (EventOf RequestOf)) → AreReleased plan history answers.old.items → AreReleased plan history answers.new.items }
     ensures released { (plan : GridPlan) (history : List (EventOf RequestOf)) → AreReleased plan history answers.old.items → IfSome result (IsReleased (cells plan history)) }
     ensures named { IfSome result (λ answer. answer.id ≡ id) }
-    ensures none { IfNone result (All (λ answer. answer.id ≢ id) answers.old.items) }
+    ensures none { IfNone result (All (λ answer. answer.id ≢ id) answers.new.items) }
+    ensures same { IfNone result (answers.new.items ≡ answers.old.items) }
 {
     let place = answers.iter().position(|answer| answer.id == id)?;
     Some(answers.remove(place))

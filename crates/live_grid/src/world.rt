@@ -1,9 +1,9 @@
 //! The value of a partition's cell.
-ghost use Rattle.std.specs.Prelude.{◌≡◌, ◌++◌, ◌∷◌, [], List, IfOk, IfSome};
+ghost use Rattle.std.specs.Prelude.{◌≡◌, ◌++◌, ◌∷◌, [], List, IfOk, IfSome, IfNone};
 ghost use Rattle.grid_base.specs.declared.calls.Request.{Request as RequestOf};
 ghost use Rattle.partition_world.specs.declared.event.Event.{Event as EventOf};
 ghost use Rattle.live_grid.specs.declared.plan.GridPlan.{GridPlan as PlanOf};
-ghost use Rattle.live_grid.specs.Lives.{LiveStands};
+ghost use Rattle.live_grid.specs.Lives.{LiveStands, HasNoAnswer};
 
 use crate::answers::take_answer;
 use crate::plan::GridPlan;
@@ -86,13 +86,13 @@ impl Served for LiveWorld {
         settled_as(*outcome)
     }
 
-    /// Costs the answers that nobody has fetched yet, and those that the member gives out before this one. Takes memory
-    /// only for answers of other calls; for want of it nothing is told.
+    /// Costs the answers that nobody has fetched yet, and those that the member gives out before this one: where there is
+    /// none of these, a constant and no memory. For want of memory, where it is taken, nothing is told yet.
     fn outcome_of(&mut self, member: MemberId, id: CallId) -> Option<LiveOutcome> {
         match self.fetch(member, id) {
-            Some(reply) => Some(LiveOutcome::Replied(reply)),
-            None if self.is_gone(member, id) => Some(LiveOutcome::MemberGone),
-            None => None,
+            Ok(Some(reply)) => Some(LiveOutcome::Replied(reply)),
+            Ok(None) if self.is_gone(member, id) => Some(LiveOutcome::MemberGone),
+            Ok(None) | Err(_) => None,
         }
     }
 
@@ -123,22 +123,24 @@ impl LiveWorld {
     }
 
     /// The reply to a call that reached a member, if it was released: it is moved out. What the member gives out before
-    /// it is kept for those who ask for it.
-    fn fetch(&mut self, member: MemberId, id: CallId) -> Option<Bytes>
+    /// it is kept for those who ask for it. Costs the answers that are kept and those that it gives out.
+    fn fetch(&mut self, member: MemberId, id: CallId) -> Result<Option<Bytes>, Memory>
         ensures kept { (plan : PlanOf) (history : List (EventOf RequestOf)) → LiveStands self.old plan history → LiveStands self.new plan history }
-        ensures replied { (plan : PlanOf) (history : List (EventOf RequestOf)) → LiveStands self.old plan history → IfSome result (IsRepliedIn plan history id) }
+        ensures replied { (plan : PlanOf) (history : List (EventOf RequestOf)) → LiveStands self.old plan history → IfOk result (λ reply. IfSome reply (IsRepliedIn plan history id)) }
+        ensures none { IfOk result (λ reply. IfNone reply (HasNoAnswer self.new member id)) }
     {
         if let Some(answer) = take_answer(&mut self.answers, id) {
-            return Some(answer.reply);
+            return Ok(Some(answer.reply));
         }
-        'waiting: while self.answers.reserve(1).is_ok() {
-            let answer = self.world.pop_released(member)?;
+        self.answers.reserve(1)?;
+        'waiting: while let Some(answer) = self.world.pop_released(member) {
             if answer.id == id {
-                return Some(answer.reply);
+                return Ok(Some(answer.reply));
             }
             self.answers.push_reserved(answer);
+            self.answers.reserve(1)?;
         }
-        None
+        Ok(None)
     }
 
     /// Whether a member that takes no steps holds the answer of a call. Costs the member's answers.
