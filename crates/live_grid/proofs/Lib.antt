@@ -1,0 +1,9 @@
+mod Crashed
+mod Gone
+mod Missed
+mod Once
+mod Popped
+mod Pushed
+mod Settled
+mod Standing
+mod Unanswered

@@ -1,0 +1,25 @@
+-- What the cells of a grid are made for.
+use Rattle.std.specs.Prelude.{◌≡◌, ℕ, List, Some, slice_get}
+use Rattle.entry_processors.specs.declared.form.Form.{Form}
+use Rattle.hand_cell.specs.declared.cell.Cell.{Cell}
+use Rattle.hand_cell.specs.Calls.{plan_of}
+use Rattle.grid_base.specs.declared.calls.Request.{Request}
+use Rattle.partition_threads.specs.declared.workplace.Workplace.{Workplace}
+use Rattle.partition_world.specs.declared.event.Event.{Event}
+use Rattle.partition_world.specs.declared.event.Happened.{Happened}
+use Rattle.live_grid.specs.declared.grid.LiveGrid.{LiveGrid}
+use Rattle.live_grid.specs.declared.plan.GridPlan.{GridPlan}
+use Rattle.live_grid.specs.declared.world.LiveWorld.{LiveWorld}
+use Rattle.live_grid.specs.Plans.{IsPlanOf}
+
+module _ (members backups : ℕ) (forms : List Form) (capacity : ℕ) {T E O : Type 0} where
+  abbrev pub IsCellOf : ℕ → Cell T GridPlan E O → Type 0
+  IsCellOf partition cell = IsPlanOf members backups forms capacity partition (plan_of cell)
+
+  -- the cell of each partition was made for it
+  abbrev pub AreCells : List (Cell T GridPlan E O) → Type 0
+  AreCells cells = (partition : ℕ) (cell : Cell T GridPlan E O) → slice_get cells partition ≡ Some cell → IsCellOf partition cell
+
+-- the cells and the queues of a grid
+abbrev pub place_of : LiveGrid → Workplace LiveWorld GridPlan (Event Request) Happened
+place_of grid = grid.place

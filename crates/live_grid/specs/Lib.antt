@@ -1,0 +1,5 @@
+pub mod Plans
+pub mod Histories
+pub mod Outcomes
+pub mod Lives
+pub mod Grids

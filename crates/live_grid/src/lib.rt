@@ -1,0 +1,18 @@
+//! Worlds in turn cells: the grid whose partitions are run by threads.
+//!
+//! Each of the 271 partitions is a world in a cell, at which threads take turns, and each member has four workers that
+//! run the calls which reach it. A `LiveGrid` is shared by all threads; a `GridPass` has a pass of each cell and a token
+//! of each worker's queue, to be handed out among them.
+#![tactic(auto)]
+
+mod answers;
+mod grid;
+pub mod laws;
+mod opening;
+mod plan;
+mod settling;
+mod world;
+
+pub use grid::{GridPass, LiveGrid};
+pub use plan::GridPlan;
+pub use world::LiveWorld;
