@@ -27,8 +27,9 @@ module _ {T P E O : Type 0} (key_of : E → Key) (place : Workplace T P E O) (te
     came = ⊎_elim
         (λ (run : HasRun key_of tells terms answer.later o). inl (record {
           event_is = run.event_is;
-          first = still_new key_of terms.first.names (Call s.id) terms.first.seen run.event_is.before under.named under.unused run.event_is.none_before;
-          last = still_new key_of terms.first.names (Call s.id) [] run.event_is.after under.named tt run.event_is.none_after;
+          key = under.key;
+          none_earlier = still_new key_of terms.first.names (Call s.id) terms.first.seen run.event_is.before under.named under.unused run.event_is.none_before;
+          none_later = still_new key_of terms.first.names (Call s.id) [] run.event_is.after under.named tt run.event_is.none_after;
           told = run.told;
         }))
         (λ (not_run : HasNotRun key_of tells terms answer.later o). inr (record {

@@ -51,14 +51,14 @@ module _ {T P E O : Type 0} where
     pub partition : started.partition ≡ request.partition
     pub away : HasPassAt old new request.partition None
 
-  -- the count of full looks rose of the token for the partition
-  pub record WasFull (old new : SessionPass T P E O) (partition : ℕ) : Type 0 where
+  -- the token for the partition found its queue full: its count of full looks rose
+  pub record FoundFull (old new : SessionPass T P E O) (partition : ℕ) : Type 0 where
     pub token : Token P
     pub was : slice_get old.tokens.items (partition % 4) ≡ Some token
     pub rose : new.tokens.items ≡ slice_set old.tokens.items (partition % 4) (after_full_look token)
 
   abbrev pub IsWhyUnstarted : SessionPass T P E O → SessionPass T P E O → ℕ → Unstarted → Type 0
-  IsWhyUnstarted old new partition Busy = WasFull old new partition
+  IsWhyUnstarted old new partition Busy = FoundFull old new partition
   IsWhyUnstarted old new partition Memory = new.tokens.items ≡ old.tokens.items
 
   -- All passes are as before. Busy comes only where the worker's queue was full
@@ -83,6 +83,13 @@ module _ {T P E O : Type 0} where
     pub same_id : again.id ≡ started.id
     pub same_partition : again.partition ≡ started.partition
 
+  -- The call is under way as before, and nothing else has changed: its parcel was found empty once more
+  pub record IsNotYet (key_of : E → Key) (place : Workplace T P E O) (terms : Terms P E) (started again : Started T P E O) (old new : SessionPass T P E O) : Type 0 where
+    pub under_way : IsUnderWay key_of place terms again
+    pub same_call : IsSameCall started again
+    pub rose : again.awaited.end ≡ after_empty_look started.awaited.end
+    pub same_session : new ≡ old
+
 module _ {T P E O : Type 0} (key_of : E → Key) (tells : P → List E → E → LiveOutcome → Type 0) where
   -- The call has come to its outcome, and its pass is back
   pub record IsReady (terms : Terms P E) (started : Started T P E O) (old new : SessionPass T P E O) (outcome : LiveOutcome) : Type 0 where
@@ -90,13 +97,6 @@ module _ {T P E O : Type 0} (key_of : E → Key) (tells : P → List E → E →
     pub back : HasPassAt old new started.partition (Some pass)
     pub called : HasCalled key_of tells terms started.id pass outcome
 
-  -- The call is under way as before, and nothing else has changed: its parcel was found empty once more
-  pub record IsNotYet (place : Workplace T P E O) (terms : Terms P E) (started again : Started T P E O) (old new : SessionPass T P E O) : Type 0 where
-    pub under_way : IsUnderWay key_of place terms again
-    pub same_call : IsSameCall started again
-    pub rose : again.awaited.end ≡ after_empty_look started.awaited.end
-    pub same_session : new ≡ old
-
   abbrev pub HasEnded : Workplace T P E O → Terms P E → Started T P E O → SessionPass T P E O → SessionPass T P E O → Finished T P E O → Type 0
   HasEnded place terms started old new (Ready outcome) = IsReady terms started old new outcome
-  HasEnded place terms started old new (NotYet again) = IsNotYet place terms started again old new
+  HasEnded place terms started old new (NotYet again) = IsNotYet key_of place terms started again old new

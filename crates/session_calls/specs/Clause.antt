@@ -16,8 +16,9 @@ module _ {P E : Type 0} (key_of : E → Key) (tells : P → List E → E → Liv
   -- and there this is its outcome
   pub record StandsOnce (later : List E) (outcome : LiveOutcome) : Type 0 where
     pub event_is : HasEvent key_of tells terms later
-    pub first : Lacks key_of (Call id) (terms.first.seen ++ event_is.before)
-    pub last : Lacks key_of (Call id) event_is.after
+    pub key : key_of terms.event ≡ Call id
+    pub none_earlier : Lacks key_of (Call id) (terms.first.seen ++ event_is.before)
+    pub none_later : Lacks key_of (Call id) event_is.after
     pub told : tells terms.plan (terms.first.seen ++ later) terms.event outcome
 
   -- Of what was seen later, nothing has a name of the pass. In all that was seen nothing is known by the call's name: it was refused

@@ -5,12 +5,24 @@ use Rattle.hand_cell.specs.declared.names.Key.{Key}
 use Rattle.hand_cell.specs.declared.outcome.LiveOutcome.{LiveOutcome}
 use Rattle.hand_cell.specs.Told.{Told}
 use Rattle.job_queues.specs.Roster.{Roster, roster_of}
+use Rattle.job_queues.specs.Terms.{Terms}
 use Rattle.partition_threads.specs.declared.workplace.Workplace.{Workplace}
 use Rattle.session_calls.specs.declared.session.SessionPass.{SessionPass}
 use Rattle.session_calls.specs.declared.session.Started.{Started}
-use Rattle.session_calls.specs.Calls.{HasStarted, IsSameCall, IsReady}
+use Rattle.session_calls.specs.Calls.{HasStarted, MayFinish, IsSameCall, IsReady, IsNotYet}
 use Rattle.session_calls.specs.Clause.{HasCalled}
 use Rattle.session_calls.specs.Sessions.{pass_at, HasPassAt}
+
+module _ {T P E O : Type 0} (key_of : E → Key) where
+  -- a call that was started may be finished
+  abbrev pub StartedMayFinish : (ℕ → Request → ℕ → E) → Workplace T P E O → Type 0
+  StartedMayFinish call_of place = (before away : SessionPass T P E O) (request : Request) (now : ℕ) (started : Started T P E O)
+      → (start : HasStarted key_of call_of place before away request now started) → MayFinish key_of place start.terms away started
+
+  -- and one that was found not yet ended may be finished again
+  abbrev pub UnfinishedMayFinish : Workplace T P E O → Type 0
+  UnfinishedMayFinish place = (terms : Terms P E) (old new : SessionPass T P E O) (started again : Started T P E O)
+      → MayFinish key_of place terms old started → IsNotYet key_of place terms started again old new → MayFinish key_of place terms new again
 
 module _ {P E : Type 0} (key_of : E → Key) (call_of : ℕ → Request → ℕ → E) (tells : P → List E → E → LiveOutcome → Type 0) where
   -- A request was called at a member and at this moment, with this outcome: first is the pass as it went with the call, and last as it

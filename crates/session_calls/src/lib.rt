@@ -11,5 +11,5 @@ mod session;
 mod slots;
 
 pub use calls::{Finished, Unstarted};
-pub use laws::every_call_ends_as_it_was_started;
+pub use laws::{every_call_ends_as_it_was_started, every_started_call_may_be_finished};
 pub use session::{SessionPass, Started};
