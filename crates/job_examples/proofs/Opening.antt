@@ -1,10 +1,9 @@
 -- The sessions of the example, as they are opened.
-use Rattle.std.proofs.Common.{◌≡◌, ℕ, zero, suc, ◌+◌, ◌*◌, List, [], ◌∷◌, Option, Some, None, slice_get, length, sym, refl, ap, ◌∙◌, subst}
+use Rattle.std.proofs.Common.{◌≡◌, ℕ, zero, suc, ◌+◌, ◌*◌, List, [], ◌∷◌, Option, Some, None, slice_get, length, sym, ap, ◌∙◌, subst}
 use Rattle.hand_cell.specs.Told.{Told}
 use Rattle.job_queues.specs.Roster.{roster_of}
 use Rattle.job_queues.specs.Tokens.{Token}
 use Rattle.partition_threads.specs.Workplaces.{IsTokenAt}
-use Rattle.session_calls.specs.Sessions.{IsSessionOf}
 use Rattle.job_examples.specs.declared.relay.Event.{Event}
 use Rattle.job_examples.specs.Serving.{Place, IsNewPass}
 use Rattle.job_examples.specs.Sessions.{Session, IsNewSession}

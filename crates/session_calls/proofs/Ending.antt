@@ -1,5 +1,5 @@
 -- A call that has its outcome, or not yet.
-use Rattle.std.proofs.Common.{◌≡◌, ℕ, ◌⊎◌, inl, inr, ⊎_elim, List, [], ◌∷◌, ◌++◌, Some, slice_get, true, sym, ap, ◌∙◌, subst}
+use Rattle.std.proofs.Common.{◌≡◌, inl, inr, ⊎_elim, List, [], slice_get, true, sym, ap, ◌∙◌, subst}
 use Rattle.grid_base.specs.declared.names.CallId.{CallId}
 use Rattle.hand_cell.specs.declared.names.Key.{Key}
 use Rattle.hand_cell.specs.declared.names.Key.TheVariants.{Call}

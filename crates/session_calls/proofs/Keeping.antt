@@ -1,5 +1,5 @@
 -- A session keeps a place for a pass of each cell, and the tokens of its member's workers.
-use Rattle.std.proofs.Common.{◌≡◌, ℕ, ◌<◌, ◌+◌, ◌*◌, ◌⊎◌, ⊎_elim, List, Option, Some, None, slice_get, set, length, sym, refl, ap, ◌∙◌, subst}
+use Rattle.std.proofs.Common.{◌≡◌, ℕ, ◌+◌, ◌*◌, ⊎_elim, Option, Some, slice_get, set, length, sym, ap, ◌∙◌, subst}
 use Rattle.std.proofs.lemmas.List.{length-set}
 use Rattle.hand_cell.specs.Told.{Told}
 use Rattle.job_queues.specs.Roster.{roster_of}
@@ -8,7 +8,7 @@ use Rattle.partition_threads.specs.declared.workplace.Workplace.{Workplace}
 use Rattle.partition_threads.specs.Workplaces.{IsTokenAt}
 use Rattle.session_calls.specs.declared.session.SessionPass.{SessionPass}
 use Rattle.session_calls.specs.Sessions.{IsSessionOf, HasPassAt}
-use Rattle.session_calls.proofs.Places.{same_some, after_set}
+use Rattle.session_calls.proofs.Places.{after_set}
 
 module _ {T P E O : Type 0} (place : Workplace T P E O) (old new : SessionPass T P E O) (is : IsSessionOf place old) where
   -- with something else at a partition, but no pass of another cell

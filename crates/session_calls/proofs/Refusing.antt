@@ -1,5 +1,5 @@
 -- A call that a session doesn't start.
-use Rattle.std.proofs.Common.{◌≡◌, ℕ, ◌<◌, ◌%◌, ◌⊎◌, inl, inr, ⊎_elim, List, Option, Some, None, slice_get, get_or, set, length, sym, refl, ap, ◌∙◌, subst, arith}
+use Rattle.std.proofs.Common.{◌≡◌, ℕ, ◌<◌, ◌%◌, Some, slice_get, get_or, set, sym, ap, ◌∙◌, subst, arith}
 use Rattle.std.proofs.lemmas.Grind.{common_steps}
 use Rattle.std.proofs.lemmas.Option.{slice_get_read}
 use Rattle.hand_cell.specs.Told.{Told}
@@ -9,7 +9,6 @@ use Rattle.partition_threads.specs.declared.starting.StartRefused.TheVariants.{B
 use Rattle.partition_threads.specs.declared.workplace.Workplace.{Workplace}
 use Rattle.partition_threads.specs.Starting.{IsUnstarted}
 use Rattle.session_calls.specs.declared.calls.Unstarted.{Unstarted}
-use Rattle.session_calls.specs.declared.calls.Unstarted.TheVariants.{Busy, Memory}
 use Rattle.session_calls.specs.declared.session.SessionPass.{SessionPass}
 use Rattle.session_calls.specs.Calls.{HasRefused, IsWhyUnstarted, IsGivenBack}
 use Rattle.session_calls.specs.Sessions.{IsSessionOf}

@@ -1,5 +1,5 @@
 -- A call that a session starts.
-use Rattle.std.proofs.Common.{◌≡◌, ℕ, ◌<◌, List, Option, Some, None, slice_get, length, true, sym, refl, ap, ◌∙◌, subst}
+use Rattle.std.proofs.Common.{◌≡◌, ℕ, ◌<◌, Some, None, length, true, sym, refl, ap, ◌∙◌, subst}
 use Rattle.std.proofs.lemmas.Option.{slice_get_within}
 use Rattle.grid_base.specs.declared.calls.Request.{Request}
 use Rattle.hand_cell.specs.declared.names.Key.{Key}
@@ -7,7 +7,6 @@ use Rattle.hand_cell.specs.declared.names.Key.TheVariants.{Call}
 use Rattle.hand_cell.specs.Names.{has as has_name, IsNewKey}
 use Rattle.hand_cell.specs.Told.{Told}
 use Rattle.job_queues.specs.Roster.{roster_of}
-use Rattle.job_queues.specs.Terms.{Terms}
 use Rattle.partition_threads.specs.declared.starting.Awaited.{Awaited}
 use Rattle.partition_threads.specs.declared.workplace.Workplace.{Workplace}
 use Rattle.partition_threads.specs.Starting as starting

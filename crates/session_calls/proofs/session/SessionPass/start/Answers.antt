@@ -1,6 +1,4 @@
-use Rattle.std.proofs.Common.{◌≡◌, ℕ, ◌%◌, Option, Some, None, slice_get, set, subst, refl, sym, ap, ◌∙◌}
-use Rattle.hand_cell.specs.Told.{Told}
-use Rattle.session_calls.specs.Sessions.{HasPassAt}
+use Rattle.std.proofs.Common.{◌≡◌, ℕ, Some, None, slice_get, set, subst, refl}
 use Rattle.session_calls.proofs.Keeping.{with_pass}
 use Rattle.session_calls.proofs.Places.{put_back, none_some}
 use Rattle.session_calls.proofs.Refusing.{same_pass, same_tokens, refused, still_session}
