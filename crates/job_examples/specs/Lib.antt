@@ -1,2 +1,3 @@
 pub mod Relays
 pub mod Serving
+pub mod Sessions

@@ -1,14 +1,16 @@
-//! Two examples of job queues and workers: a queue of one place hands a job back, and workers serve calls that are
-//! held.
+//! Examples of job queues, workers and sessions: a queue of one place hands a job back, workers serve calls that are
+//! held, and sessions start and finish calls without waiting.
 #![tactic(auto)]
 
 mod queue_of_one;
 mod relay;
 mod requests;
 mod serving;
+mod sessions;
 
 use grid_base::Memory;
 use queue_of_one::OneByOne;
+use sessions::Story;
 use std::alloc::{AllocError, Global};
 use std::io;
 use std::sync::Wait;
@@ -41,6 +43,11 @@ fn is_in_order(seen: &OneByOne) -> bool {
     seen.handed_back == 2 && seen.taken == (Some(1), Some(2), None)
 }
 
+/// Whether the first call was ended by its worker alone, and the second session found the queue full.
+fn is_told(story: &Story) -> bool {
+    story.not_yet && story.busy && story.replied == Some(1)
+}
+
 fn main(rt: HostRuntime) -> io::Result<()> {
     match queue_of_one::put_one_by_one(&rt, rt.alloc()) {
         Ok(Some(seen)) if is_in_order(&seen) => {
@@ -49,6 +56,15 @@ fn main(rt: HostRuntime) -> io::Result<()> {
             )?
         }
         Ok(_) => println!(rt; "a queue of one place: a job is missing, or too many")?,
+        Err(AllocError) => println!(rt; "want of memory")?,
+    }
+    match sessions::call_alone(&rt, rt.alloc()) {
+        Ok(story) if is_told(&story) => {
+            println!(rt;
+                "two sessions: one call was ended by its worker, the other wasn't started"
+            )?
+        }
+        Ok(_) => println!(rt; "two sessions: an answer is missing, or a pass")?,
         Err(AllocError) => println!(rt; "want of memory")?,
     }
     for pauses in [0, PAUSES] {

@@ -94,7 +94,7 @@ pub struct Exchange {
 }
 
 /// The connection's number that a reply has.
-fn number_in(outcome: &LiveOutcome) -> Option<u32> {
+pub fn number_in(outcome: &LiveOutcome) -> Option<u32> {
     match outcome {
         LiveOutcome::Replied(reply) => match reply.as_slice().first_chunk::<4>() {
             Some(bytes) => Some(u32::from_be_bytes(*bytes)),
@@ -162,7 +162,7 @@ fn work<R: Wait>(
 }
 
 /// A token of a worker's queue.
-fn token_at(
+pub fn token_at(
     place: &Workplace<Relay>,
     worker: usize,
     tokens: &mut Vec<QueuePass<Relay>>,

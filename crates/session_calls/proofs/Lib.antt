@@ -1,0 +1,6 @@
+mod Ending
+mod Keeping
+pub mod WholeCalls
+mod Places
+mod Refusing
+mod Starting

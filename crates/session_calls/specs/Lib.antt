@@ -1,0 +1,4 @@
+pub mod Calls
+pub mod Clause
+pub mod Laws
+pub mod Sessions

@@ -1,0 +1,19 @@
+//! What holds of each call of a session. Nothing runs here.
+ghost use Rattle.partition_threads.specs.declared.workplace.Workplace.{Workplace};
+ghost use Rattle.session_calls.specs.Laws.{StartedMayFinish, UnfinishedMayFinish, CallsEndAsStarted};
+
+use hand_cell::Served;
+
+/// A call that was started may be finished, and again where it was found not yet ended.
+pub fn every_started_call_may_be_finished<T: Served>()
+    ensures started { (place : Workplace T T.Plan T.Event T.Outcome) → StartedMayFinish T.key_of T.call_of place }
+    ensures unfinished { (place : Workplace T T.Plan T.Event T.Outcome) → UnfinishedMayFinish T.key_of place }
+{}
+
+/// What `SessionPass::start` and `SessionPass::finish` say together of a call that was started and found ready. What the
+/// pass of its partition had seen before the start is a beginning of what the pass has seen that is back. There the
+/// event of that request stands once, and the outcome is what became of it; or it stands nowhere, and the outcome is
+/// why not.
+pub fn every_call_ends_as_it_was_started<T: Served>()
+    ensures { (place : Workplace T T.Plan T.Event T.Outcome) → CallsEndAsStarted T.key_of T.call_of T.tells place }
+{}
