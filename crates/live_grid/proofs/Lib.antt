@@ -1,5 +1,6 @@
 mod Crashed
 mod Gone
+mod Kept
 mod Missed
 mod Once
 mod Popped

@@ -1,5 +1,5 @@
 -- What a live world stands for.
-use Rattle.std.specs.Prelude.{◌≡◌, ◌≢◌, ℕ, List, [], map, All}
+use Rattle.std.specs.Prelude.{◌≡◌, ◌≢◌, ℕ, ◌⊎◌, List, [], map, All, Contains}
 use Rattle.grid_base.specs.declared.names.CallId.{CallId}
 use Rattle.grid_base.specs.declared.calls.Request.{Request}
 use Rattle.grid_base.specs.Shelves.{Meaning, meaning}
@@ -41,6 +41,10 @@ AreReleased plan history answers = All (IsReleased (cells plan history)) answers
 pub record LiveStands (live : LiveWorld) (plan : GridPlan) (history : List (Event Request)) : Type 0 where
   pub world : IsWorldOf live.world plan history
   pub answers : AreReleased plan history live.answers.items
+
+-- The answer waits at the member, or was given out and waits to be fetched
+abbrev pub IsThere : LiveWorld → ℕ → CallAnswer → Type 0
+IsThere live member answer = Contains (waiting live.world member) answer ⊎ Contains live.answers.items answer
 
 -- No answer of the call waits at the member, or was given out and waits to be fetched
 pub record HasNoAnswer (live : LiveWorld) (member : ℕ) (id : CallId) : Type 0 where

@@ -1,9 +1,10 @@
 //! The value of a partition's cell.
-ghost use Rattle.std.specs.Prelude.{◌≡◌, ◌++◌, ◌∷◌, [], List, IfOk, IfSome, IfNone};
+ghost use Rattle.std.specs.Prelude.{◌≡◌, ◌≢◌, ◌++◌, ◌∷◌, [], ℕ, List, IfOk, IfSome, IfNone};
 ghost use Rattle.grid_base.specs.declared.calls.Request.{Request as RequestOf};
 ghost use Rattle.partition_world.specs.declared.event.Event.{Event as EventOf};
 ghost use Rattle.live_grid.specs.declared.plan.GridPlan.{GridPlan as PlanOf};
-ghost use Rattle.live_grid.specs.Lives.{LiveStands, HasNoAnswer};
+ghost use Rattle.live_grid.specs.Lives.{LiveStands, IsThere, HasNoAnswer};
+ghost use Rattle.primary_hold.specs.declared.answer.CallAnswer.{CallAnswer as AnswerOf};
 
 use crate::answers::take_answer;
 use crate::plan::GridPlan;
@@ -103,6 +104,7 @@ impl LiveWorld {
     ghost use Rattle.std.specs.Prelude.{not, ◌&&◌, ◌≤◌};
     ghost use Rattle.partition_protocol.specs.World.{is_live};
     ghost use Rattle.partition_world.specs.ContentsOf.{holds_at};
+    ghost use Rattle.partition_world.specs.Worlds.{waiting};
     ghost use Rattle.partition_world.specs.Events.{IsWithinLimits};
     ghost use Rattle.call_engine.specs.Limits.{RequestFits};
     ghost use Rattle.hand_cell.specs.declared.names.Key.TheVariants.{Free};
@@ -128,6 +130,10 @@ impl LiveWorld {
         ensures kept { (plan : PlanOf) (history : List (EventOf RequestOf)) → LiveStands self.old plan history → LiveStands self.new plan history }
         ensures replied { (plan : PlanOf) (history : List (EventOf RequestOf)) → LiveStands self.old plan history → IfOk result (λ reply. IfSome reply (IsRepliedIn plan history id)) }
         ensures none { IfOk result (λ reply. IfNone reply (HasNoAnswer self.new member id)) }
+
+        // No answer of another call is lost.
+        ensures others { (answer : AnswerOf) → answer.id ≢ id → IsThere self.old member answer → IsThere self.new member answer }
+        ensures elsewhere { (other : ℕ) → other ≢ member → waiting self.new.world other ≡ waiting self.old.world other }
     {
         if let Some(answer) = take_answer(&mut self.answers, id) {
             return Ok(Some(answer.reply));

@@ -1,7 +1,9 @@
-use Rattle.std.proofs.Common.{◌≢◌, All, rules, sym, subst}
+use Rattle.std.proofs.Common.{◌∙◌, refl, ◌≢◌, All, rules, sym, subst}
 use Rattle.std.proofs.lemmas.List.Elements.{All-push}
 use Rattle.primary_hold.specs.declared.answer.CallAnswer.{CallAnswer}
+use Rattle.partition_world.specs.Worlds.{waiting}
 use Rattle.live_grid.specs.Lives.{AreReleased}
+use Rattle.live_grid.proofs.Kept.{opened, unmoved, fetched, set_aside}
 use Rattle.live_grid.proofs.Popped.{still_world, replied, pushed_too}
 use Rattle.live_grid.proofs.world.LiveWorld.fetch.Goals as goal
 
@@ -9,8 +11,14 @@ pub waiting-init : goal.waiting-init
 waiting-init c = record {
   stands = λ plan history stands. stands;
   none = subst (All (λ (answer : CallAnswer). answer.id ≢ c.args.id)) (sym c.reserve.ensures.items) c.in_default.ensures.none;
+  others = λ answer other there. there;
+  elsewhere = λ other apart. refl;
   room = search rules;
 }
+
+pub returns-in_err-reserve-clause-others : goal.returns-in_err-reserve-clause-others
+returns-in_err-reserve-clause-others c answer other there =
+    opened answer (waiting c.args.self.now.world c.args.member) c.args.self.now.answers.items c.take_answer.new.answers.items c.reserve.new.self.items c.reserve.ensures.items (c.take_answer.ensures.others answer other) there
 
 pub returns-then-eq-clause-kept : goal.returns-then-eq-clause-kept
 returns-then-eq-clause-kept c plan history stands =
@@ -33,6 +41,9 @@ waiting-preserved c = record {
   });
   none = subst (All (λ (answer : CallAnswer). answer.id ≢ c.args.id)) (sym c.reserve-in-Some-pop_released.ensures.items)
       (subst (All (λ (answer : CallAnswer). answer.id ≢ c.args.id)) (sym c.push_reserved.ensures.items) (All-push (λ (answer : CallAnswer). answer.id ≢ c.args.id) _ _ c.waiting.invariant.none (search rules)));
+  others = λ answer other there. set_aside answer c.in-Some-pop_released.answer (waiting c.waiting.self.world c.args.member) (waiting c.pop_released.new.self c.args.member) c.waiting.self.answers.items c.push_reserved.new.self.items
+      c.reserve-in-Some-pop_released.new.self.items c.in-Some-pop_released.ensures.given c.push_reserved.ensures.items c.reserve-in-Some-pop_released.ensures.items (c.waiting.invariant.others answer other there);
+  elsewhere = λ other apart. c.pop_released.ensures.others other apart ∙ c.waiting.invariant.elsewhere other apart;
   room = search rules;
 }
 
@@ -50,3 +61,20 @@ returns-clause-kept c plan history stands =
       world = still_world plan history c.waiting.self.world was.world c.pop_released.new.self c.pop_released.ensures.stands c.pop_released.ensures.setup;
       answers = was.answers;
     }
+
+pub returns-then-eq-clause-others : goal.returns-then-eq-clause-others
+returns-then-eq-clause-others c answer other there =
+    let begun = opened answer (waiting c.args.self.now.world c.args.member) c.args.self.now.answers.items c.take_answer.new.answers.items c.reserve.new.self.items c.reserve.ensures.items (c.take_answer.ensures.others answer other) there in
+    fetched answer c.args.id c.in-Some-pop_released.answer (waiting c.waiting.self.world c.args.member) (waiting c.pop_released.new.self c.args.member) c.waiting.self.answers.items c.in-Some-pop_released.ensures.given (search rules) other
+    (c.waiting.invariant.others answer other begun)
+
+pub returns-in_err-reserve-2-clause-others : goal.returns-in_err-reserve-2-clause-others
+returns-in_err-reserve-2-clause-others c answer other there =
+    let begun = opened answer (waiting c.args.self.now.world c.args.member) c.args.self.now.answers.items c.take_answer.new.answers.items c.reserve.new.self.items c.reserve.ensures.items (c.take_answer.ensures.others answer other) there in
+    set_aside answer c.in-Some-pop_released.answer (waiting c.waiting.self.world c.args.member) (waiting c.pop_released.new.self c.args.member) c.waiting.self.answers.items c.push_reserved.new.self.items c.reserve-in-Some-pop_released.new.self.items
+    c.in-Some-pop_released.ensures.given c.push_reserved.ensures.items c.reserve-in-Some-pop_released.ensures.items (c.waiting.invariant.others answer other begun)
+
+pub returns-clause-others : goal.returns-clause-others
+returns-clause-others c answer other there =
+    let begun = opened answer (waiting c.args.self.now.world c.args.member) c.args.self.now.answers.items c.take_answer.new.answers.items c.reserve.new.self.items c.reserve.ensures.items (c.take_answer.ensures.others answer other) there in
+    unmoved answer (waiting c.waiting.self.world c.args.member) (waiting c.pop_released.new.self c.args.member) c.waiting.self.answers.items c.in_default-pop_released.ensures.kept (c.waiting.invariant.others answer other begun)
