@@ -1,0 +1,14 @@
+mod Numbers
+mod Places
+mod Passes
+mod Answering
+mod Sent
+mod Turning
+mod Ending
+mod Looking
+mod Starting
+mod Heard
+mod Beginning
+mod Choosing
+mod Saying
+mod Sayings

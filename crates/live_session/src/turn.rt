@@ -1,0 +1,53 @@
+//! A turn of a connection.
+ghost use Rattle.std.specs.Prelude.{◌≡◌, ℕ, List, [], None, IfSome};
+ghost use Rattle.live_session.specs.Connections.{IsServedTo, ServesCalls};
+ghost use Rattle.live_session.specs.Turns.{HasTurned};
+
+use crate::connection::Connection;
+use crate::turned::{ConnectionEnd, Turned};
+use grid_edge::{Clock, ReadySink, ReadySource};
+use hand_cell::Served;
+use partition_threads::Workplace;
+use session_core::Item;
+use std::alloc::Global;
+use std::sync::Wait;
+
+impl<T: Served> Connection<T> {
+    /// Goes on by one step: writes what is left to write; else looks for the outcome of the call under way; else answers
+    /// or starts what comes next; and else reads. At most one read or one write, and it waits for nobody.
+    ///
+    /// A turn that comes to `NotYet` makes no other system call than the one that wasn't ready.
+    pub fn turn<F: ReadySource, K: ReadySink, C: Clock, R: Wait>(
+        &mut self,
+        rt: &R,
+        alloc: Global,
+        place: &Workplace<T>,
+        from: &mut F,
+        to: &mut K,
+        clock: &C,
+    ) -> Turned
+        requires calls { ServesCalls T.fits place.now }
+        requires served { (seen : ℕ → List T.Event) × (moments read written : List ℕ) × IsServedTo T.key_of T.tells T.call_of moments place.now self.old seen read written }
+        ensures { (seen : ℕ → List T.Event) (moments read written : List ℕ)
+            → IsServedTo T.key_of T.tells T.call_of moments place.now self.old seen read written
+            → HasTurned T.key_of T.tells T.call_of place.now (λ now. C.gives clock.now now) self.old.asked self.new
+            (record { from = record { bytes = F.left from.old; faults = F.faults from.old; unready = F.unready from.old }; to = record { bytes = K.taken to.old; faults = K.faults to.old; unready = K.unready to.old } })
+            (record { from = record { bytes = F.left from.new; faults = F.faults from.new; unready = F.unready from.new }; to = record { bytes = K.taken to.new; faults = K.faults to.new; unready = K.unready to.new } })
+            seen moments read written result }
+    {
+        if !self.out.is_empty() {
+            return self.write(to);
+        }
+        if let Some(asked) = self.asked.take() {
+            return self.look(rt, alloc, place, asked);
+        }
+        match self.items.pop_front() {
+            Some(Item::Call(request)) => self.ask(rt, alloc, place, to, request, clock.moment()),
+            Some(Item::Reply(reply)) => self.reply(to, reply),
+            None => match self.session.closed() {
+                Some(fault) => Turned::Ended(ConnectionEnd::Closed(fault)),
+                None => self.read(alloc, from),
+            },
+        }
+    }
+}
