@@ -21,6 +21,10 @@ pub(crate) const PUT_REPLY: &[u8] =
 pub(crate) const GET_REPLY: &[u8] =
     b"\x13\0\0\0\0\xc0\x01\x02\x01\0\x02\0\0\0\0\0\0\0\0\x0f\0\0\0\0\x20\0\0\0\0\xff\xff\xff\xf5v";
 
+/// The reply to a get where there is no value.
+pub(crate) const NOTHING_REPLY: &[u8] =
+    b"\x13\0\0\0\0\xc0\x01\x02\x01\0\x02\0\0\0\0\0\0\0\0\x06\0\0\0\0\x24";
+
 fn owner() -> Owner {
     Owner {
         client: ClientKey::Known(7),

@@ -1,4 +1,4 @@
-use crate::requests::{GET_REPLY, PUT_REPLY};
+use crate::requests::{GET_REPLY, NOTHING_REPLY, PUT_REPLY};
 use crate::trial::{Trial, environment};
 use hand_cell::{LiveOutcome, Served};
 use live_grid::LiveWorld;
@@ -63,13 +63,14 @@ fn a_crashed_member_answers_what_it_released(rt: HostRuntime) -> Result<(), Fail
     let alloc = rt.alloc();
     let env = environment(alloc);
     let mut trial = Trial::new(alloc)?;
-    trial.put(alloc, &env, 2)?;
-    trial.deliver(&rt, alloc, &env, Took::Applied)?;
-    trial.deliver(&rt, alloc, &env, Took::Acked)?;
-    trial.put(alloc, &env, 2)?;
+    let get = trial.get(alloc, &env, 2)?;
+    assert_eq!(rt; get, Happened::Called(CallOutcome::Released { seen: 0 }));
+    let put = trial.put(alloc, &env, 2)?;
+    assert_eq!(rt; put, Happened::Called(CallOutcome::Held { seen: 1 }));
+    assert!(rt; trial.outcome_of(2, 1).is_none());
     trial.crash(&rt, alloc, &env, 2)?;
-    assert!(rt; is_gone(&trial.outcome_of(2, 3)));
-    assert!(rt; is_reply(&trial.outcome_of(2, 0), PUT_REPLY));
+    assert!(rt; is_gone(&trial.outcome_of(2, 1)));
+    assert!(rt; is_reply(&trial.outcome_of(2, 0), NOTHING_REPLY));
 
     // Nobody is there to take another call, there or at a number that is no member's.
     let missed = trial.put(alloc, &env, 2)?;
