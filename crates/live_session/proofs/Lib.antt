@@ -10,5 +10,5 @@ mod Starting
 mod Heard
 mod Beginning
 mod Choosing
-mod Saying
-mod Sayings
+mod Spoken
+mod Replied

@@ -24,6 +24,9 @@ pub record Stream : Type 0 where
   pub faults : ℕ
   pub unready : ℕ
 
+abbrev pub stream : Option (List ℕ) → ℕ → ℕ → Stream
+stream bytes faults unready = record { bytes = bytes; faults = faults; unready = unready }
+
 -- a client's streams
 pub record Streams : Type 0 where
   pub from : Stream

@@ -3,7 +3,7 @@ ghost use Rattle.std.specs.Prelude.{◌≡◌, ◌∷◌, [], ℕ, List, None};
 ghost use Rattle.grid_base.specs.Limits.{CallFits};
 ghost use Rattle.session_core.specs.declared.item.Item.TheVariants.{Call};
 ghost use Rattle.live_session.specs.Connections.{IsServedWith, ServesCalls};
-ghost use Rattle.live_session.specs.Turns.{Stream, HasTurned};
+ghost use Rattle.live_session.specs.Turns.{Stream, stream, HasTurned};
 
 use crate::connection::{Asked, Connection};
 use crate::replies::push_unstarted;
@@ -34,8 +34,8 @@ impl<T: Served> Connection<T> {
         ensures { (from : Stream) (seen : ℕ → List T.Event) (moments read written : List ℕ)
             → IsServedWith T.key_of T.tells T.call_of moments place.now self.old None (Call request ∷ self.old.items.items) seen read written
             → HasTurned T.key_of T.tells T.call_of place.now (λ moment. moment ≡ now) None self.new
-            (record { from = from; to = record { bytes = K.taken to.old; faults = K.faults to.old; unready = K.unready to.old } })
-            (record { from = from; to = record { bytes = K.taken to.new; faults = K.faults to.new; unready = K.unready to.new } })
+            (record { from = from; to = stream (K.taken to.old) (K.faults to.old) (K.unready to.old) })
+            (record { from = from; to = stream (K.taken to.new) (K.faults to.new) (K.unready to.new) })
             seen moments read written result }
     {
         request.call.numbers_fit();

@@ -3,7 +3,7 @@ ghost use Rattle.std.specs.Prelude.{◌≡◌, [], ℕ, List, None, OnOk, OnErr}
 ghost use Rattle.partition_threads.specs.declared.workplace.Workplace.{Workplace as WorkplaceOf};
 ghost use Rattle.live_session.specs.Connections.{IsServedTo};
 ghost use Rattle.live_session.specs.Hearing.{HasHeard};
-ghost use Rattle.live_session.specs.Turns.{Stream, HasTurned};
+ghost use Rattle.live_session.specs.Turns.{Stream, stream, HasTurned};
 
 use crate::connection::Connection;
 use crate::turned::{ConnectionEnd, Turned};
@@ -25,8 +25,8 @@ impl<T: Served> Connection<T> {
         ensures { (place : WorkplaceOf T T.Plan T.Event T.Outcome) (to : Stream) (seen : ℕ → List T.Event) (moments read written : List ℕ)
             → IsServedTo T.key_of T.tells T.call_of moments place self.old seen read written
             → HasTurned T.key_of T.tells T.call_of place (λ moment. ⊥) None self.new
-            (record { from = record { bytes = F.left from.old; faults = F.faults from.old; unready = F.unready from.old }; to = to })
-            (record { from = record { bytes = F.left from.new; faults = F.faults from.new; unready = F.unready from.new }; to = to })
+            (record { from = stream (F.left from.old) (F.faults from.old) (F.unready from.old); to = to })
+            (record { from = stream (F.left from.new) (F.faults from.new) (F.unready from.new); to = to })
             seen moments read written result }
     {
         let mut piece = [0; PIECE];

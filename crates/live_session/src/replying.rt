@@ -5,7 +5,7 @@ ghost use Rattle.session_core.specs.declared.item.Item.{Item as ItemOf};
 ghost use Rattle.session_core.specs.declared.item.Item.TheVariants.{Reply};
 ghost use Rattle.live_session.specs.Connections.{IsServedTo, IsServedWith};
 ghost use Rattle.live_session.specs.Replying.{HasReplied};
-ghost use Rattle.live_session.specs.Turns.{Stream, HasTurned};
+ghost use Rattle.live_session.specs.Turns.{Stream, stream, HasTurned};
 
 use crate::connection::Connection;
 use crate::outgoing::Outgoing;
@@ -34,8 +34,8 @@ impl<T: Served> Connection<T> {
         ensures { (place : WorkplaceOf T T.Plan T.Event T.Outcome) (from : Stream) (seen : ℕ → List T.Event) (moments read written : List ℕ)
             → IsServedTo T.key_of T.tells T.call_of moments place self.old seen read written
             → HasTurned T.key_of T.tells T.call_of place (λ moment. ⊥) self.old.asked self.new
-            (record { from = from; to = record { bytes = K.taken to.old; faults = K.faults to.old; unready = K.unready to.old } })
-            (record { from = from; to = record { bytes = K.taken to.new; faults = K.faults to.new; unready = K.unready to.new } })
+            (record { from = from; to = stream (K.taken to.old) (K.faults to.old) (K.unready to.old) })
+            (record { from = from; to = stream (K.taken to.new) (K.faults to.new) (K.unready to.new) })
             seen moments read written result }
     {
         match self.out.send(to) {
@@ -53,8 +53,8 @@ impl<T: Served> Connection<T> {
         ensures { (place : WorkplaceOf T T.Plan T.Event T.Outcome) (from : Stream) (seen : ℕ → List T.Event) (moments read written : List ℕ)
             → IsServedWith T.key_of T.tells T.call_of moments place self.old None (Reply reply ∷ self.old.items.items) seen read written
             → HasTurned T.key_of T.tells T.call_of place (λ moment. ⊥) None self.new
-            (record { from = from; to = record { bytes = K.taken to.old; faults = K.faults to.old; unready = K.unready to.old } })
-            (record { from = from; to = record { bytes = K.taken to.new; faults = K.faults to.new; unready = K.unready to.new } })
+            (record { from = from; to = stream (K.taken to.old) (K.faults to.old) (K.unready to.old) })
+            (record { from = from; to = stream (K.taken to.new) (K.faults to.new) (K.unready to.new) })
             seen moments read written result }
     {
         match self.push_next(reply) {

@@ -1,7 +1,7 @@
 //! A turn of a connection.
 ghost use Rattle.std.specs.Prelude.{◌≡◌, ℕ, List, [], None, IfSome};
 ghost use Rattle.live_session.specs.Connections.{IsServedTo, ServesCalls};
-ghost use Rattle.live_session.specs.Turns.{HasTurned};
+ghost use Rattle.live_session.specs.Turns.{stream, HasTurned};
 
 use crate::connection::Connection;
 use crate::turned::{ConnectionEnd, Turned};
@@ -31,8 +31,8 @@ impl<T: Served> Connection<T> {
         ensures { (seen : ℕ → List T.Event) (moments read written : List ℕ)
             → IsServedTo T.key_of T.tells T.call_of moments place.now self.old seen read written
             → HasTurned T.key_of T.tells T.call_of place.now (λ now. C.gives clock.now now) self.old.asked self.new
-            (record { from = record { bytes = F.left from.old; faults = F.faults from.old; unready = F.unready from.old }; to = record { bytes = K.taken to.old; faults = K.faults to.old; unready = K.unready to.old } })
-            (record { from = record { bytes = F.left from.new; faults = F.faults from.new; unready = F.unready from.new }; to = record { bytes = K.taken to.new; faults = K.faults to.new; unready = K.unready to.new } })
+            (record { from = stream (F.left from.old) (F.faults from.old) (F.unready from.old); to = stream (K.taken to.old) (K.faults to.old) (K.unready to.old) })
+            (record { from = stream (F.left from.new) (F.faults from.new) (F.unready from.new); to = stream (K.taken to.new) (K.faults to.new) (K.unready to.new) })
             seen moments read written result }
     {
         if !self.out.is_empty() {

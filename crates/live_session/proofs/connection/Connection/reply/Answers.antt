@@ -2,7 +2,7 @@ use Rattle.std.proofs.Common.{Option, refl, ap, ◌∙◌, subst}
 use Rattle.live_session.specs.declared.connection.Asked.{Asked}
 use Rattle.live_session.specs.declared.connection.Connection.{Connection}
 use Rattle.live_session.specs.Turns.{HasTurned}
-use Rattle.live_session.proofs.Sayings.{next_some, replied_with, replied_no_memory}
+use Rattle.live_session.proofs.Replied.{next_some, replied_with, replied_no_memory}
 use Rattle.live_session.proofs.connection.Connection.reply.Goals as goal
 
 pub write-requires-clause-left : goal.write-requires-clause-left

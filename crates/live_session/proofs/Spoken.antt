@@ -14,6 +14,7 @@ use Rattle.session_core.specs.Items.{kind_of, correlation_of, stated_partition, 
 use Rattle.session_core.specs.Places.{partition_of_call}
 use Rattle.session_core.specs.declared.item.Item.{Item}
 use Rattle.session_core.specs.declared.item.Item.TheVariants.{Call, Reply}
+use Rattle.live_session.proofs.Places.{same_some, none_some}
 
 -- an answer of the session that is not empty, or a call
 abbrev pub SaysSome : Item → Type 0
@@ -54,12 +55,6 @@ item_some member id identity message = go (kind_of message == authentication_kin
     go true known = authentication_some member message (authentication_of message)
     go false None = λ e. cc
     go false (Some client) = served_some id client message
-
-same_some : {A : Type 0} (x y : A) → ◌≡◌ {A = Option A} (Some x) (Some y) → x ≡ y
-same_some x y e = cc
-
-none_some : {A : Type 0} (x : A) → ◌≡◌ {A = Option A} None (Some x) → ⊥
-none_some x e = cc
 
 items_some : (conn member number : ℕ) (identity : Option ClientKey) (messages : List Message) (place : ℕ) (item : Item) → slice_get (items_from conn member number identity messages) place ≡ Some item → SaysSome item
 items_some conn member number identity [] place item e = absurd (none_some item e)
