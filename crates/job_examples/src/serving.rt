@@ -34,6 +34,8 @@ impl Gate for Turnstile {
         pause(self.pauses);
         self.passed.fetch_add(1, Ordering::SeqCst);
     }
+
+    fn answered(&self, _id: CallId) {}
 }
 
 impl Turnstile {

@@ -3,6 +3,7 @@ ghost use Rattle.std.specs.Prelude.{◌≡◌, None, IfSome};
 ghost use Rattle.job_queues.specs.Roster.{Roster};
 ghost use Rattle.partition_threads.specs.Calls.{IsCall};
 
+use crate::gate::Gate;
 use grid_base::{CallId, MemberId, PartitionId};
 use hand_cell::{LiveOutcome, Pass, Served};
 use job_queues::{Done, Parcel, ParcelEnd};
@@ -22,9 +23,10 @@ pub struct HeldCall<T: Served> {
     pub looked: Option<u64>,
 }
 
-/// Fills the parcel of a call whose outcome is known. Else the call comes back.
-pub(crate) fn settle<T: Served, R: Wait>(
+/// Fills the parcel of a call whose outcome is known, and tells the gate. Else the call comes back.
+pub(crate) fn settle<T: Served, G: Gate, R: Wait>(
     rt: &R,
+    gate: &G,
     call: HeldCall<T>,
     outcome: Option<LiveOutcome>,
 ) -> Option<HeldCall<T>>
@@ -41,6 +43,7 @@ pub(crate) fn settle<T: Served, R: Wait>(
                 ..
             } = call;
             parcel.put(rt, end, Done { pass, id, outcome });
+            gate.answered(id);
             None
         }
         None => Some(call),

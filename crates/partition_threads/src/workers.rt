@@ -49,11 +49,12 @@ enum Step<T: Served> {
     Rests(HeldCall<T>),
 }
 
-fn go_one<T: Served + Runs<N>, N, R: Wait>(
+fn go_one<T: Served + Runs<N>, N, G: Gate, R: Wait>(
     rt: &R,
     alloc: Global,
     place: &Workplace<T>,
     env: &N,
+    gate: &G,
     call: HeldCall<T>,
 ) -> Step<T>
     requires call { IsHeld T.key_of T.tells T.call_of (roster_of place.now.cells.items) call }
@@ -64,7 +65,7 @@ fn go_one<T: Served + Runs<N>, N, R: Wait>(
     if let Delivery::Ran = delivery {
         place.event_ran(call.partition);
     }
-    match settle(rt, call, outcome) {
+    match settle(rt, gate, call, outcome) {
         None => Step::Answered,
         Some(call) => match delivery {
             Delivery::Ran => Step::Delivered(call),
@@ -75,11 +76,12 @@ fn go_one<T: Served + Runs<N>, N, R: Wait>(
 
 /// Delivers what is in flight in a call's partition, a message a turn, until the call's outcome is known. The call
 /// comes back where nothing is in flight and the outcome isn't known, or for want of memory.
-fn go_on<T: Served + Runs<N>, N, R: Wait>(
+fn go_on<T: Served + Runs<N>, N, G: Gate, R: Wait>(
     rt: &R,
     alloc: Global,
     place: &Workplace<T>,
     env: &N,
+    gate: &G,
     call: HeldCall<T>,
 ) -> Option<HeldCall<T>>
     requires call { IsHeld T.key_of T.tells T.call_of (roster_of place.now.cells.items) call }
@@ -88,7 +90,7 @@ fn go_on<T: Served + Runs<N>, N, R: Wait>(
 {
     let mut going = call;
     for _ in rt.forever() {
-        match go_one(rt, alloc, place, env, going) {
+        match go_one(rt, alloc, place, env, gate, going) {
             Step::Answered => return None,
             Step::Rests(call) => return Some(call),
             Step::Delivered(call) => going = call,
@@ -112,18 +114,19 @@ fn run_job<T: Served + Runs<N>, N, G: Gate, R: Wait>(
 {
     let (call, outcome) = call_turn(rt, alloc, place, env, gate, job);
     place.event_ran(call.partition);
-    match settle(rt, call, outcome) {
-        Some(call) => go_on(rt, alloc, place, env, call),
+    match settle(rt, gate, call, outcome) {
+        Some(call) => go_on(rt, alloc, place, env, gate, call),
         None => None,
     }
 }
 
 /// Goes on with each held call in whose partition an event has run since it was looked at.
-fn look_again<T: Served + Runs<N>, N, R: Wait>(
+fn look_again<T: Served + Runs<N>, N, G: Gate, R: Wait>(
     rt: &R,
     alloc: Global,
     place: &Workplace<T>,
     env: &N,
+    gate: &G,
     held: &mut Vec<HeldCall<T>>,
 )
     requires held { AreHeld T.key_of T.tells T.call_of (roster_of place.now.cells.items) held.old.items }
@@ -138,7 +141,7 @@ fn look_again<T: Served + Runs<N>, N, R: Wait>(
         if has_news(place, &held[next]) {
             let call = held.remove(next);
             let partition = call.partition;
-            match go_on(rt, alloc, place, env, call) {
+            match go_on(rt, alloc, place, env, gate, call) {
                 Some(call) => held.push_reserved(call),
                 None => place.release(partition),
             }
@@ -237,7 +240,7 @@ pub fn worker<T: Served + Runs<N>, N, G: Gate, R: Wait>(
     for _ in rt.forever() {
         let rings = place.rings(number);
         let stopped = place.is_stopped();
-        look_again(rt, alloc, place, env, &mut held);
+        look_again(rt, alloc, place, env, gate, &mut held);
         match take_job(rt, alloc, number, place, env, gate, &mut queue, &mut held) {
             Looked::Ran => idle = 0,
             Looked::Empty if stopped && held.is_empty() => {

@@ -19,4 +19,6 @@ pub use grid::Grid;
 pub use laws::{
     every_run_is_linearizable, every_run_that_tells_of_no_skip_has_none, every_skipped_call_is_told,
 };
+pub use outcomes::{done_word, push_fate, push_happened};
+pub use print::{push_number, push_ok, push_text};
 pub use run_end::RunEnd;

@@ -36,7 +36,7 @@ fn reopen_refused_word(why: ReopenRefused) -> &'static str
 }
 
 /// What an event's line says where the event is done, and there is no more to tell.
-pub(crate) fn done_word(event: &Event<Request>) -> &'static str
+pub fn done_word(event: &Event<Request>) -> &'static str
     ensures { result.now ≡ done_word (event_of event.now) }
 {
     match event {
@@ -75,7 +75,7 @@ fn push_words(out: &mut Vec<u8>, done: &str, happened: Happened) -> Result<(), M
 }
 
 /// Appends the outcome of a line that is an event, with the word of one that is done.
-pub(crate) fn push_happened(
+pub fn push_happened(
     out: &mut Vec<u8>,
     line: u32,
     done: &str,
@@ -99,7 +99,7 @@ fn fate_word(happened: Happened) -> &'static str
 }
 
 /// Appends the outcome of a line that is a crash or a detection in all partitions.
-pub(crate) fn push_fate(out: &mut Vec<u8>, line: u32, happened: Happened) -> Result<(), Memory>
+pub fn push_fate(out: &mut Vec<u8>, line: u32, happened: Happened) -> Result<(), Memory>
     ensures { OnOk result (out.new.items ≡ out.old.items ++ words_line line (fate_words (happened_of happened))) }
 {
     push_number(out, u64::from(line))?;

@@ -10,7 +10,7 @@ use itoa::Buffer;
 use std::alloc::Global;
 
 /// Appends text.
-pub(crate) fn push_text(out: &mut Vec<u8>, text: &[u8]) -> Result<(), Memory>
+pub fn push_text(out: &mut Vec<u8>, text: &[u8]) -> Result<(), Memory>
     ensures { OnOk result (out.new.items ≡ out.old.items ++ text.now) }
 {
     Ok(out.extend_from_slice(text)?)
@@ -25,7 +25,7 @@ pub(crate) fn push_word(out: &mut Vec<u8>, text: &[u8]) -> Result<(), Memory>
 }
 
 /// Appends a number and the space after it.
-pub(crate) fn push_number(out: &mut Vec<u8>, n: u64) -> Result<(), Memory>
+pub fn push_number(out: &mut Vec<u8>, n: u64) -> Result<(), Memory>
     ensures { OnOk result (out.new.items ≡ out.old.items ++ number n) }
 {
     push_word(out, Buffer::new().format(n).as_bytes())
@@ -103,7 +103,7 @@ pub(crate) fn push_close(
 }
 
 /// Appends the outcome of a line that ran.
-pub(crate) fn push_ok(out: &mut Vec<u8>, line: u32) -> Result<(), Memory>
+pub fn push_ok(out: &mut Vec<u8>, line: u32) -> Result<(), Memory>
     ensures { OnOk result (out.new.items ≡ out.old.items ++ ok_text line) }
 {
     push_number(out, u64::from(line))?;
