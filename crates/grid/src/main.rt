@@ -88,6 +88,7 @@ fn cause(status: Status) -> Option<&'static str> {
         Status::Usage => Some(USAGE),
         Status::ReadFault => Some("grid: standard input can't be read"),
         Status::WriteFault => Some("grid: standard output can't be written"),
+        Status::DoorFault => Some("grid: the doors failed"),
         Status::Memory => Some("grid: out of memory"),
         Status::Done | Status::ScriptRefused { .. } | Status::Limit { .. } => None,
     }
