@@ -1,7 +1,7 @@
 ghost use Rattle.std.specs.Prelude.{◌≡◌, ◌↔◌, ◌<◌, ◌∷◌, length, IsNone, IfSome};
 ghost use Rattle.std.specs.Option.{option_map};
 ghost use Rattle.script_lang.specs.Words.{pieces_at, newline};
-ghost use Rattle.grid_scenarios.specs.Differences.{first_difference, differs_as, rest_lines};
+ghost use Rattle.grid_scenarios.specs.Differences.{first_difference, differs_as, rest_lines, nth_line};
 
 use memchr::memchr;
 use std::alloc::Global;
@@ -91,13 +91,19 @@ fn told_front(line: &[u8]) -> &str {
     as_text(line.get(..MOST_TOLD).unwrap_or(line))
 }
 
-/// The line of a text with that number from 1; nothing where the text has no such line.
-fn line_of(text: &[u8], number: usize) -> &[u8] {
+/// The line of a text with so many lines before it; nothing where the text has no more. Linear in the text before it.
+fn nth_line(text: &[u8], before: usize) -> &[u8]
+    ensures exact { result.now ≡ nth_line before (pieces_at newline text.now) }
+{
     let mut left = text;
-    for _ in 1..number {
+    let mut before_left = before;
+    'lines: while 0 < before_left {
         match first_line(left).1 {
             None => return &[],
-            Some(rest) => left = rest,
+            Some(rest) => {
+                left = rest;
+                before_left -= 1;
+            }
         }
     }
     first_line(left).0
@@ -114,10 +120,14 @@ fn script_line_of(told: &[u8]) -> Option<usize> {
     }
 }
 
-/// That line of the script in its own words, below the comment above it, if there is one.
-fn of_the_script(alloc: Global, script: &[u8], number: usize) -> io::Result<String> {
-    let words = told_front(line_of(script, number));
-    let above = line_of(script, number.saturating_sub(1));
+/// The line of the script with so many before it, in its own words, below the comment above it, if there is one.
+fn of_the_script(alloc: Global, script: &[u8], before: usize) -> io::Result<String> {
+    let words = told_front(nth_line(script, before));
+    let number = before.saturating_add(1);
+    let above = match before.checked_sub(1) {
+        None => &[],
+        Some(above) => nth_line(script, above),
+    };
     if above.starts_with(b"#") {
         let comment = as_text(above);
         Ok(format!(in alloc; "\n    {comment}\n    line {number} of the script: {words}")?)
@@ -142,7 +152,7 @@ pub(crate) fn told_difference(
     };
     let words = match line {
         None => String::new(alloc),
-        Some(line) => of_the_script(alloc, script, line)?,
+        Some(line) => of_the_script(alloc, script, line.saturating_sub(1))?,
     };
     Ok(format!(in alloc;
         "{name} differs in line {number}: '{printed}' in place of '{wanted}'{words}"
