@@ -1,0 +1,4 @@
+pub mod Serving
+pub mod Clients
+pub mod Standing
+pub mod Relays
