@@ -7,6 +7,7 @@
 
 mod answers;
 mod grid;
+mod handing;
 pub mod laws;
 mod opening;
 mod plan;
