@@ -31,7 +31,7 @@ const OF_PUT_AND_GET: &[u8] =
 
 /// What is answered at member 0 of three to one who pings.
 pub(crate) const PINGED_AT_0: &[u8] =
-    b"\x29\0\0\0\0\xe0\x01\x01\0\0\0\0\0\0\0\0\0\0\0\0\0\0\0\0\0\0\0\0\x01\0\0\0\0\0\0\0\x0f\x01\0\0\x13\0\0\0\0\xe0\x01\x0b\0\0\x01\0\0\0\0\0\0\0\0";
+    b"\x29\0\0\0\0\xe0\x01\x01\0\0\0\0\0\0\0\0\0\0\0\0\0\0\0\0\0\0\0\0\0\x01\0\0\0\0\0\0\0\x0f\x01\0\0\x13\0\0\0\0\xe0\x01\x0b\0\0\x01\0\0\0\0\0\0\0\0";
 
 fn joined(alloc: Global, parts: &[&[u8]]) -> Result<Vec<u8>, Memory> {
     let mut all = Vec::new(alloc);

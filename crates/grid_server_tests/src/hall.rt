@@ -27,6 +27,7 @@ pub(crate) fn guest(
 }
 
 /// How a server ended, what its operator was told, and the doors.
+#[derive(Drop)]
 pub(crate) struct Ran {
     pub(crate) status: Status,
     pub(crate) told: Vec<u8>,

@@ -13,6 +13,7 @@ use std::thread;
 const MOST_LOOKS: u32 = 100_000_000;
 
 /// Holds each of two calls inside its turn until the other has come inside its own.
+#[derive(Drop)]
 struct Meeting {
     inside: AtomicU64,
     given_up: AtomicU64,
