@@ -1,10 +1,11 @@
 -- How a server begins, and how it ends.
-use Rattle.std.proofs.Common.{◌≡◌, ◌⊎◌, inl, inr, ⊎_elim, ℕ, ◌+◌, ◌-◌, ◌^◌, ◌<◌, ◌≤◌, List, [], ◌∷◌, length, All, Option, Some, None, IfSome, refl, sym, ap, ◌∙◌, subst, arith}
+use Rattle.std.proofs.Common.{◌≡◌, ◌⊎◌, inl, inr, ⊎_elim, ℕ, ◌+◌, ◌-◌, ◌^◌, ◌<◌, ◌≤◌, List, [], ◌∷◌, length, All, Option, Some, None, IfSome, Result, Ok, Err, IsOk, IsErr, refl, sym, ap, ◌∙◌, subst, arith}
 use Rattle.std.proofs.lemmas.List.{nil_from_length}
 use Rattle.std.proofs.lemmas.List.Elements.{All-nil}
 use Rattle.grid_base.specs.declared.calls.Request.{Request}
 use Rattle.grid_edge.specs.Doors.{Arrival, Return, Book}
-use Rattle.grid_edge.specs.Faults.{Rose}
+use Rattle.grid_edge.specs.declared.doors.DoorFault.{DoorFault}
+use Rattle.grid_edge.specs.Faults.{Rose, HasCause}
 use Rattle.grid_edge.specs.MemoryDoors.{Telling}
 use Rattle.hand_cell.specs.declared.names.Key.{Key}
 use Rattle.hand_cell.specs.declared.outcome.LiveOutcome.{LiveOutcome}
@@ -110,3 +111,11 @@ module _ (looks_before looks looks_now faults_before faults faults_now accepted 
     faults_stay = let f : faults_before ≤ faults = since.faults_stay in omega (arith, f, more_faults);
     why = tt;
   }
+
+  -- after a sleep at the doors, which may have failed
+  pub after_rest : {A : Type 0} (rested : Result A DoorFault) (entrance now : Entrance) → (IsOk rested → now ≡ entrance) → (IsErr rested → now ≡ Failed) → looks_now ≡ looks → HasCause faults faults_now rested → accepted_now ≡ accepted
+      → IsSince entrance looks_before looks faults_before faults accepted → IsSince now looks_before looks_now faults_before faults_now accepted_now
+  after_rest (Ok slept) entrance now ok err same_looks cause same since =
+      subst (λ (e : Entrance). IsSince e looks_before looks_now faults_before faults_now accepted_now) (sym (ok refl)) (still_since entrance (omega (arith, same_looks)) cause.never_falls same since)
+  after_rest (Err fault) entrance now ok err same_looks cause same since =
+      subst (λ (e : Entrance). IsSince e looks_before looks_now faults_before faults_now accepted_now) (sym (err refl)) (has_failed (omega (arith, same_looks)) cause.never_falls cause.rose entrance since)

@@ -68,6 +68,11 @@ module _ {T P E O F K : Type 0} (key_of : E → Key) (tells : P → List E → E
       times_now number = ap (times_served number) clients_are
           ∙ times_set (λ (c : Client T F K P E O). c.number) number old.clients.items at client was within (same_number ∙ ap (λ (c : Client T F K P E O). c.number) was_there)
 
+  -- The client at a place
+  pub served_there : (old : Connections T F K P E O) (book : Book) (serving : IsServing key_of tells call_of place gives telling old book) (at : ℕ) (was : Client T F K P E O)
+      → at < length old.clients.items → was ≡ get_or old.clients.items at was → IsServedSince key_of tells call_of place gives telling serving.arrivals was
+  served_there old book serving at was within was_there = subst (IsServedSince key_of tells call_of place gives telling serving.arrivals) (sym was_there) (serving.clients at was within)
+
   module _ (connections : Connections T F K P E O) (book : Book) (at : ℕ) (memory : Bool) (one : HasOneEnded key_of tells call_of place gives telling connections book at memory) where
     left_within : at < length connections.clients.items
     left_within = subst (λ (n : ℕ). at < n) (sym (ap (λ l. length l) one.clients_are ∙ length-set one.before.clients.items at one.client)) one.within

@@ -44,7 +44,8 @@ impl<T: Served, F: ReadySource, K: ReadySink> Client<T, F, K> {
         requires calls { ServesCalls T.fits place.now }
         requires served { (arrivals : List Arrival)
             × IsServedSince T.key_of T.tells T.call_of place.now (λ now. C.gives clock.now now) (telling_by F.left F.faults K.taken K.faults) arrivals self.old }
-        ensures { (arrivals : List Arrival)
+        ensures number { self.new.number ≡ self.old.number }
+        ensures progress { (arrivals : List Arrival)
             → IsServedSince T.key_of T.tells T.call_of place.now (λ now. C.gives clock.now now) (telling_by F.left F.faults K.taken K.faults) arrivals self.old
             → IsProgress T.key_of T.tells T.call_of place.now (λ now. C.gives clock.now now) (telling_by F.left F.faults K.taken K.faults) result arrivals self.new }
     {
