@@ -1,16 +1,20 @@
 //! The command `serve`.
-ghost use Rattle.std.specs.Prelude.{◌≡◌, ◌≤◌, All, map};
+ghost use Rattle.std.specs.Prelude.{◌≡◌, ◌≤◌, All, List, map, OnOk};
 ghost use Rattle.call_engine.specs.Limits.{RequestFits};
 ghost use Rattle.entry_processors.specs.Forms.{form_of};
-ghost use Rattle.grid_edge.specs.Faults.{Rose};
+ghost use Rattle.entry_processors.specs.declared.form.Form.{Form as FormOf};
+ghost use Rattle.grid_edge.specs.Faults.{Rose, HasCause};
 ghost use Rattle.hand_cell.specs.Calls.{plan_of};
 ghost use Rattle.live_control.specs.Running.{MayServe as MayControl};
 ghost use Rattle.live_control.specs.Serving.{HasServed as HasControlled};
-ghost use Rattle.live_server.specs.Standing.{MayServe};
+ghost use Rattle.live_server.specs.Serving.{HasServedAll};
+ghost use Rattle.live_server.specs.Standing.{MayServe, Rests, HasLetAllIn};
 ghost use Rattle.live_session.specs.Connections.{ServesCalls};
 ghost use Rattle.live_grid.specs.Grids.{place_of};
-ghost use Rattle.live_grid.specs.Histories.{live_key};
-ghost use Rattle.grid_server.specs.Settings.{IsWorker, AreWorkers};
+ghost use Rattle.live_grid.specs.Histories.{live_key, live_call};
+ghost use Rattle.live_grid.specs.Outcomes.{LiveTells};
+ghost use Rattle.grid_server.specs.Serving.{HasServed, IsOpened, stream, at_doors};
+ghost use Rattle.grid_server.specs.Settings.{IsWorker, AreWorkers, IsSetting};
 
 use crate::ended::Ended;
 use crate::options::{OptionsRefused, ServeOptions, read_options};
@@ -98,7 +102,8 @@ where
     status
 }
 
-/// Serves clients on one thread, and runs the control script on this one. The workers are then stopped.
+/// Serves clients on one thread, and runs the control script on this one. The workers are then stopped. Gives how the doors
+/// and how the script ended.
 fn serve_both<N, R, S, K, C, D>(
     rt: &R,
     alloc: Global,
@@ -112,7 +117,7 @@ fn serve_both<N, R, S, K, C, D>(
     clock: &C,
     doors: &mut D,
     waker: &D::Waker,
-) -> Status
+) -> (Result<(), DoorFault>, Status)
 where
     N: Sync,
     R: Threads + Wait + Sync,
@@ -127,22 +132,27 @@ where
     requires pass { MayControl grid.now pass.old }
     requires calls { ServesCalls RequestFits (place_of grid.now) }
     requires may { MayServe live_key (place_of grid.now) connections.old (D.book doors.old) }
+    ensures control { HasControlled grid.now options.members result.1 (S.left script.old) (S.left script.new) (K.taken out.old) (K.taken out.new) pass.old pass.new }
+    ensures read_fault { result.1 ≡ Status.ReadFault → Rose (S.faults script.old) (S.faults script.new) }
+    ensures write_fault { result.1 ≡ Status.WriteFault → Rose (K.faults out.old) (K.faults out.new) }
+    ensures kept { MayControl grid.now pass.new }
+    ensures clients { HasServedAll live_key LiveTells live_call (place_of grid.now) (λ now. C.gives clock.now now) connections.new.passes.items (D.book doors.new) }
+    ensures let_in { OnOk result.0 (HasLetAllIn (D.empty_looks doors.old) (D.empty_looks doors.new) (D.book doors.new).accepted) }
+    ensures rests { Rests (place_of grid.now) connections.new }
+    ensures doors { HasCause (D.faults doors.old) (D.faults doors.new) result.0 }
 {
     let closing = Closing::new();
     let place = grid.workplace();
-    let (served, status) = join_mut(
+    let ended = join_mut(
         rt,
         &mut || serve(rt, alloc, place, connections, doors, clock, &closing),
         &mut || control(rt, alloc, options, grid, env, pass, script, out, &closing, waker),
     );
     place.stop();
-    match served {
-        Ok(()) => status,
-        Err(DoorFault) => Status::DoorFault,
-    }
+    ended
 }
 
-/// Runs a server on its threads to its end.
+/// Runs a server on its threads to its end, in a setting in which nothing has happened. The doors were just opened.
 fn run<N, R, S, K, C, D, G>(
     rt: &R,
     alloc: Global,
@@ -155,7 +165,7 @@ fn run<N, R, S, K, C, D, G>(
     doors: &mut D,
     gate: &G,
     waker: &D::Waker,
-) -> Ended
+) -> (Status, LiveGrid, GridPass)
 where
     N: Sync,
     R: Threads + Wait + Sync,
@@ -165,6 +175,19 @@ where
     D: Doors<From: Drop, To: Drop, Waker: Drop>,
     G: Gate,
     LiveWorld: Runs<N>,
+    requires some { 1 ≤ options.members }
+    requires most { options.members ≤ 8 }
+    requires env { All (λ cell. ⟦<LiveWorld as Runs<N>>⟧.means env.now (plan_of cell)) (place_of setting.grid).cells.items }
+    requires setting { (forms : List FormOf) × IsSetting options forms setting }
+    requires doors { IsOpened options (D.book doors.old) }
+    ensures served { (forms : List FormOf) → IsSetting options forms setting → HasServed options forms (λ now. C.gives clock.now now)
+        (record { script = stream (S.left script.old) (S.faults script.old); out = stream (K.taken out.old) (K.faults out.old) })
+        (record { script = stream (S.left script.new) (S.faults script.new); out = stream (K.taken out.new) (K.faults out.new) })
+        (at_doors (D.book doors.old) (D.empty_looks doors.old) (D.faults doors.old))
+        (at_doors (D.book doors.new) (D.empty_looks doors.new) (D.faults doors.new))
+        result.0 result.1 result.2 }
+    ensures read_fault { result.0 ≡ Status.ReadFault → Rose (S.faults script.old) (S.faults script.new) }
+    ensures write_fault { result.0 ≡ Status.WriteFault → Rose (K.faults out.old) (K.faults out.new) }
 {
     let Setting {
         grid,
@@ -175,7 +198,7 @@ where
     let waking = WakingGate { gate, waker };
     let place = grid.workplace();
     let slots = workers.as_mut_slice();
-    let (_, status) = join_mut(
+    let (_, (served, told)) = join_mut(
         rt,
         &mut || run_workers(rt, alloc, place, env, &waking, slots),
         &mut || {
@@ -197,14 +220,20 @@ where
     );
     let (passes, tokens) = connections.into_parts();
     grid.gather(&mut pass, GridPass { passes, tokens });
-    Ended {
-        status,
-        grid: Some((grid, pass)),
-    }
+    let status = match served {
+        Ok(()) => told,
+        Err(DoorFault) => Status::DoorFault,
+    };
+    (status, grid, pass)
 }
 
 /// Opens the doors for the members, and gives what wakes who waits there.
-fn open<D: Doors>(doors: &mut D, options: ServeOptions) -> Result<D::Waker, DoorFault> {
+fn open<D: Doors>(doors: &mut D, options: ServeOptions) -> Result<D::Waker, DoorFault>
+    requires some { 1 ≤ options.members }
+    requires most { options.members ≤ 8 }
+    requires port { options.port ≤ 65528 }
+    ensures ok { OnOk result (IsOpened options (D.book doors.new)) }
+{
     doors.open(options.members, options.port)?;
     doors.waker()
 }
@@ -246,7 +275,13 @@ where
     let Ok(waker) = open(doors, options) else {
         return Ended::without_grid(Status::DoorFault);
     };
-    run(rt, alloc, options, &env, setting, script, out, clock, doors, gate, &waker)
+    let (status, grid, pass) = run(
+        rt, alloc, options, &env, setting, script, out, clock, doors, gate, &waker,
+    );
+    Ended {
+        status,
+        grid: Some((grid, pass)),
+    }
 }
 
 /// Serves clients that come through the doors, and reads a control script meanwhile. The words are `serve` and options.
