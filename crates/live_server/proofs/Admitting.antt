@@ -1,32 +1,30 @@
 -- How a connection is let in.
-use Rattle.std.proofs.Common.{◌≡◌, ◌≢◌, ◌⊎◌, inl, inr, ⊎_elim, ℕ, ◌+◌, ◌*◌, ◌<◌, ◌≤◌, ◌==◌, Bool, true, false, cond, List, [], ◌∷◌, ◌++◌, length, map, get_or, All, Option, Some, None, IfSome, slice_get, refl, sym, ap, ◌∙◌, subst, append-nil, arith}
+use Rattle.std.proofs.Common.{◌≡◌, ◌≢◌, ◌⊎◌, inl, inr, ⊎_elim, ℕ, ◌+◌, ◌<◌, ◌≤◌, true, List, [], ◌∷◌, ◌++◌, length, map, get_or, All, Option, Some, None, IfSome, slice_get, refl, sym, ap, ◌∙◌, subst, append-nil, arith}
 use Rattle.std.specs.Vec.{vec_capacity}
 use Rattle.std.proofs.lemmas.List.{length-append, length-map}
 use Rattle.std.proofs.lemmas.List.Elements.{All-push, All-weaker, All-nil}
-use Rattle.std.proofs.lemmas.Option.{slice_get_within}
 use Rattle.grid_base.specs.declared.calls.Request.{Request}
-use Rattle.grid_edge.specs.Doors.{Arrival, Return, Book, entered, after_arrival, after_return, IsOpenTo, IsOut}
+use Rattle.grid_edge.specs.Doors.{Arrival, Return, Book, entered, after_arrival, after_return}
 use Rattle.grid_edge.specs.MemoryDoors.{Telling, connection_of}
 use Rattle.grid_edge.proofs.Told.{prepend_known-nil, append_known-nil}
 use Rattle.hand_cell.specs.declared.names.Key.{Key}
 use Rattle.hand_cell.specs.declared.names.Names.TheVariants.{One}
 use Rattle.hand_cell.specs.declared.outcome.LiveOutcome.{LiveOutcome}
-use Rattle.hand_cell.specs.Names.{has_number, without}
+use Rattle.hand_cell.specs.Names.{has_number}
 use Rattle.hand_cell.specs.Told.{Told}
-use Rattle.message_frames.specs.Messages.{messages_of}
 use Rattle.partition_threads.specs.declared.workplace.Workplace.{Workplace}
 use Rattle.partition_threads.specs.Workplaces.{AreTokensAt}
 use Rattle.session_calls.specs.declared.session.SessionPass.{SessionPass}
 use Rattle.session_calls.specs.Openings.{IsOpened}
 use Rattle.session_calls.specs.Passes.{ArePassesOf, HaveNumber, giving_up, given}
 use Rattle.session_core.specs.Items.{items_of}
-use Rattle.live_session.specs.Connections.{HasSeen, HaveSeen, AreBelow, IsFresh, IsServedTo}
+use Rattle.live_session.specs.Connections.{HasSeen, AreBelow, IsFresh, IsServedTo}
 use Rattle.live_session.proofs.Beginning.{no_messages}
 use Rattle.live_session.proofs.Places.{get_front, get_seam, same_some}
 use Rattle.live_server.specs.declared.client.Client.{Client}
 use Rattle.live_server.specs.declared.connections.Connections.{Connections}
 use Rattle.live_server.specs.declared.connections.TheConstants.{ROOM}
-use Rattle.live_server.specs.Serving.{AreEntries, AreSeen, times_returned, HaveMoved, WasAnswered, WasServed}
+use Rattle.live_server.specs.Serving.{AreEntries, times_returned, WasServed}
 use Rattle.live_server.specs.Clients.{IsServedSince}
 use Rattle.live_server.specs.Standing.{times_served, SawNone, IsServing}
 use Rattle.live_server.proofs.Named.{still_named, named_one}

@@ -1,12 +1,12 @@
 -- How a connection is given back that has ended, and how the others go on.
-use Rattle.std.proofs.Common.{◌≡◌, ◌≢◌, ◌⊎◌, inl, inr, ⊎_elim, ℕ, ◌+◌, ◌<◌, ◌≤◌, ◌==◌, Bool, true, false, cond, List, [], ◌∷◌, ◌++◌, length, get_or, slice_set, All, Option, Some, None, slice_get, refl, sym, ap, ◌∙◌, subst, append-nil, arith, length-set}
+use Rattle.std.proofs.Common.{◌≡◌, ◌≢◌, ◌⊎◌, inl, inr, ⊎_elim, ℕ, ◌+◌, ◌<◌, ◌≤◌, Bool, true, List, [], ◌∷◌, ◌++◌, length, get_or, slice_set, All, Option, Some, None, slice_get, refl, sym, ap, ◌∙◌, subst, append-nil, arith, length-set}
 use Rattle.std.specs.List.{swap_remove}
 use Rattle.std.specs.Vec.{vec_capacity}
 use Rattle.std.proofs.lemmas.List.{get_or-set_other, get_or-set_same}
 use Rattle.std.proofs.lemmas.List.Elements.{All-push, All-set}
 use Rattle.std.proofs.lemmas.Option.{slice_get_within}
 use Rattle.grid_base.specs.declared.calls.Request.{Request}
-use Rattle.grid_edge.specs.Doors.{Arrival, Return, Book, after_return, IsOut}
+use Rattle.grid_edge.specs.Doors.{Return, Book, after_return, IsOut}
 use Rattle.grid_edge.specs.MemoryDoors.{Telling}
 use Rattle.hand_cell.specs.declared.names.Key.{Key}
 use Rattle.hand_cell.specs.declared.outcome.LiveOutcome.{LiveOutcome}
@@ -16,21 +16,19 @@ use Rattle.partition_threads.specs.declared.workplace.Workplace.{Workplace}
 use Rattle.partition_threads.specs.Workplaces.{AreTokensAt}
 use Rattle.session_calls.specs.declared.session.SessionPass.{SessionPass}
 use Rattle.session_calls.specs.Openings.{HasAllPasses}
-use Rattle.session_calls.specs.Passes.{ArePassesOf, HaveNumber, IsJoinedWith, AreJoinedWith}
-use Rattle.session_calls.specs.Sessions.{pass_at}
-use Rattle.live_session.specs.Connections.{HasSeen, HaveSeen, AreBelow}
-use Rattle.live_session.proofs.Places.{same_some, none_some}
+use Rattle.session_calls.specs.Passes.{ArePassesOf, HaveNumber, AreJoinedWith}
+use Rattle.live_session.specs.Connections.{HasSeen, AreBelow}
 use Rattle.live_server.specs.declared.client.Client.{Client}
 use Rattle.live_server.specs.declared.connections.Connections.{Connections}
 use Rattle.live_server.specs.declared.connections.TheConstants.{ROOM}
 use Rattle.live_server.specs.Serving.{times_returned, WasServed}
-use Rattle.live_server.specs.Clients.{state_of, IsServedSince, HasEnded}
+use Rattle.live_server.specs.Clients.{state_of, IsServedSince}
 use Rattle.live_server.specs.Standing.{times_served, SawNone, IsServing, HasOneEnded}
 use Rattle.live_server.proofs.Admitting.{entries_more, is_out, given_back_on}
 use Rattle.live_server.proofs.Named.{named_both}
 use Rattle.live_server.proofs.Passing.{HaveGone, all_took_in, went_in, get_some, still_unseen, seen_by, seen_there, seen_on}
 use Rattle.live_server.proofs.Seen.{none_below, answered_on}
-use Rattle.live_server.proofs.Tallies.{times_push, times_set, times_removed, times_at, one_if, one_same, one_other, same_or_other, all_but}
+use Rattle.live_server.proofs.Tallies.{times_push, times_set, times_removed, times_at, one_if, one_other, same_or_other, all_but}
 
 module _ {T P E O F K : Type 0} (key_of : E → Key) (tells : P → List E → E → LiveOutcome → Type 0) (call_of : ℕ → Request → ℕ → E) (place : Workplace T P E O) (gives : ℕ → Type 0) (telling : Telling F K) where
   -- A client had turns, and is served still

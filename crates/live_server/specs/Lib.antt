@@ -1,4 +1,3 @@
 pub mod Serving
 pub mod Clients
 pub mod Standing
-pub mod Relays

@@ -1,9 +1,9 @@
 -- What a server does with the connections that come through its doors.
-use Rattle.std.specs.Prelude.{◌≡◌, ◌⊎◌, ℕ, ◌+◌, ◌*◌, ◌<◌, ◌≤◌, ◌==◌, Bool, true, List, [], ◌∷◌, length, All, Option, Some, None, IfSome, IsSome, slice_get}
+use Rattle.std.specs.Prelude.{◌≡◌, ◌⊎◌, ℕ, ◌<◌, ◌≤◌, ◌==◌, Bool, true, List, [], ◌∷◌, length, All, Option, Some, IfSome, IsSome, slice_get}
 use Rattle.std.specs.List.{count_by}
 use Rattle.std.specs.Io.KnownBytes.{prepend_known, append_known, IsAtEnd}
 use Rattle.grid_base.specs.declared.calls.Request.{Request}
-use Rattle.grid_edge.specs.Doors.{Connection, Arrival, Return, Book, IsOpenTo}
+use Rattle.grid_edge.specs.Doors.{Connection, Arrival, Return, Book}
 use Rattle.grid_edge.specs.Faults.{Rose}
 use Rattle.hand_cell.specs.declared.names.Key.{Key}
 use Rattle.hand_cell.specs.declared.outcome.LiveOutcome.{LiveOutcome}

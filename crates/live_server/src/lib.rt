@@ -16,6 +16,3 @@ pub use client::Client;
 pub use closing::Closing;
 pub use connections::{Connections, NoRoom, ROOM};
 pub use serving::serve;
-
-#[cfg(test)]
-mod tests;

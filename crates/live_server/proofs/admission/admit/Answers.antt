@@ -1,4 +1,4 @@
-use Rattle.std.proofs.Common.{◌≡◌, ◌+◌, ℕ, Some, true, refl, sym, ap, ◌∙◌, subst, map}
+use Rattle.std.proofs.Common.{◌+◌, ℕ, true, refl, sym, ap, ◌∙◌, subst, map}
 use Rattle.grid_edge.specs.Doors.{Connection, Book, after_arrival, after_return, IsOut}
 use Rattle.hand_cell.specs.declared.names.Names.TheVariants.{One}
 use Rattle.session_calls.specs.Passes.{HaveNumber, giving_up}
