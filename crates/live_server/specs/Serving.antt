@@ -15,7 +15,8 @@ use Rattle.session_core.specs.declared.item.Item.{Item}
 use Rattle.session_core.specs.declared.item.Item.TheVariants.{Call}
 use Rattle.live_session.specs.Connections.{IsServed, HasAnswered}
 
--- A connection was as the first, and is as the second: these bytes were read from it, and those were written to it. Faults were counted
+-- A connection was as the first, and is as the second: these bytes were read from it, and those were written to it. Its counts of
+-- faults have not fallen
 pub record HaveMoved (was is : Connection) (read written : List ℕ) : Type 0 where
   pub read_is : was.left ≡ prepend_known read is.left
   pub written_is : is.taken ≡ append_known was.taken written
