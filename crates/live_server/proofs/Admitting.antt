@@ -1,32 +1,30 @@
 -- How a connection is let in.
-use Rattle.std.proofs.Common.{◌≡◌, ◌≢◌, ◌⊎◌, inl, inr, ⊎_elim, ℕ, ◌+◌, ◌*◌, ◌<◌, ◌≤◌, ◌==◌, Bool, true, false, cond, List, [], ◌∷◌, ◌++◌, length, map, get_or, All, Option, Some, None, IfSome, slice_get, refl, sym, ap, ◌∙◌, subst, append-nil, arith}
+use Rattle.std.proofs.Common.{◌≡◌, ◌≢◌, ◌⊎◌, inl, inr, ⊎_elim, ℕ, ◌+◌, ◌<◌, ◌≤◌, true, List, [], ◌∷◌, ◌++◌, length, map, get_or, All, Option, Some, None, IfSome, slice_get, refl, sym, ap, ◌∙◌, subst, append-nil, arith}
 use Rattle.std.specs.Vec.{vec_capacity}
 use Rattle.std.proofs.lemmas.List.{length-append, length-map}
 use Rattle.std.proofs.lemmas.List.Elements.{All-push, All-weaker, All-nil}
-use Rattle.std.proofs.lemmas.Option.{slice_get_within}
 use Rattle.grid_base.specs.declared.calls.Request.{Request}
-use Rattle.grid_edge.specs.Doors.{Arrival, Return, Book, entered, after_arrival, after_return, IsOpenTo, IsOut}
+use Rattle.grid_edge.specs.Doors.{Arrival, Return, Book, entered, after_arrival, after_return, IsOut}
 use Rattle.grid_edge.specs.MemoryDoors.{Telling, connection_of}
 use Rattle.grid_edge.proofs.Told.{prepend_known-nil, append_known-nil}
 use Rattle.hand_cell.specs.declared.names.Key.{Key}
 use Rattle.hand_cell.specs.declared.names.Names.TheVariants.{One}
 use Rattle.hand_cell.specs.declared.outcome.LiveOutcome.{LiveOutcome}
-use Rattle.hand_cell.specs.Names.{has_number, without}
+use Rattle.hand_cell.specs.Names.{has_number}
 use Rattle.hand_cell.specs.Told.{Told}
-use Rattle.message_frames.specs.Messages.{messages_of}
 use Rattle.partition_threads.specs.declared.workplace.Workplace.{Workplace}
 use Rattle.partition_threads.specs.Workplaces.{AreTokensAt}
 use Rattle.session_calls.specs.declared.session.SessionPass.{SessionPass}
 use Rattle.session_calls.specs.Openings.{IsOpened}
 use Rattle.session_calls.specs.Passes.{ArePassesOf, HaveNumber, giving_up, given}
 use Rattle.session_core.specs.Items.{items_of}
-use Rattle.live_session.specs.Connections.{HasSeen, HaveSeen, AreBelow, IsFresh, IsServedTo}
+use Rattle.live_session.specs.Connections.{HasSeen, AreBelow, IsFresh, IsServedTo}
 use Rattle.live_session.proofs.Beginning.{no_messages}
 use Rattle.live_session.proofs.Places.{get_front, get_seam, same_some}
 use Rattle.live_server.specs.declared.client.Client.{Client}
 use Rattle.live_server.specs.declared.connections.Connections.{Connections}
 use Rattle.live_server.specs.declared.connections.TheConstants.{ROOM}
-use Rattle.live_server.specs.Serving.{AreEntries, AreSeen, times_returned, HaveMoved, WasAnswered, WasServed}
+use Rattle.live_server.specs.Serving.{AreEntries, times_returned, WasServed}
 use Rattle.live_server.specs.Clients.{IsServedSince}
 use Rattle.live_server.specs.Standing.{times_served, SawNone, IsServing}
 use Rattle.live_server.proofs.Named.{still_named, named_one}
@@ -147,7 +145,7 @@ module _ {T P E O F K : Type 0} (key_of : E → Key) (tells : P → List E → E
     }
 
   -- A connection came, and is served
-  pub admitted : (new : Connections T F K P E O) (client : Client T F K P E O) → client.number ≡ book.accepted → IsServedSince key_of tells call_of place gives telling (serving.arrivals ++ arrival ∷ []) client
+  admitted : (new : Connections T F K P E O) (client : Client T F K P E O) → client.number ≡ book.accepted → IsServedSince key_of tells call_of place gives telling (serving.arrivals ++ arrival ∷ []) client
       → new.passes.items ≡ map (giving_up (One book.accepted)) old.passes.items → new.tokens.items ≡ old.tokens.items → new.clients.items ≡ old.clients.items ++ client ∷ []
       → vec_capacity new.clients ≡ vec_capacity old.clients → new.accepted ≡ old.accepted + 1 → ArePassesOf place.cells.items new.passes.items
       → IsServing key_of tells call_of place gives telling new (after_arrival book (record { member = member; at = connection_of telling from to }))
@@ -190,7 +188,7 @@ module _ {T P E O F K : Type 0} (key_of : E → Key) (tells : P → List E → E
           subst (λ (t : Told E). has_number t.names.numbers number ≡ true) (sym was.2) (still_named book.accepted number was.0.names.numbers other (have p was.0 was.1))
 
   -- A connection came, and there was no memory for it: it was given back
-  pub refused : (new : Connections T F K P E O) → new.passes.items ≡ old.passes.items → new.tokens.items ≡ old.tokens.items → new.clients ≡ old.clients → new.accepted ≡ old.accepted + 1
+  refused : (new : Connections T F K P E O) → new.passes.items ≡ old.passes.items → new.tokens.items ≡ old.tokens.items → new.clients ≡ old.clients → new.accepted ≡ old.accepted + 1
       → IsServing key_of tells call_of place gives telling new
       (after_return (after_arrival book (record { member = member; at = connection_of telling from to })) (record { number = book.accepted; at = connection_of telling from to; memory = true }))
   refused new passes_are tokens_are clients_are accepted = record {
@@ -256,3 +254,28 @@ module _ {T P E O F K : Type 0} (key_of : E → Key) (tells : P → List E → E
           ended = inr (inl refl);
         };
       }
+
+  -- So it is at the books that tell of it
+
+  module _ (now : Book) (now_is : now ≡ after_arrival book (record { member = member; at = connection_of telling from to })) (number : ℕ) (number_is : number ≡ book.accepted) where
+    pub came_in : (new : Connections T F K P E O) (client : Client T F K P E O) → client.number ≡ number → IsServedSince key_of tells call_of place gives telling (serving.arrivals ++ arrival ∷ []) client
+        → new.passes.items ≡ map (giving_up (One number)) old.passes.items → new.tokens.items ≡ old.tokens.items → new.clients.items ≡ old.clients.items ++ client ∷ []
+        → vec_capacity new.clients ≡ vec_capacity old.clients → new.accepted ≡ old.accepted + 1 → ArePassesOf place.cells.items new.passes.items
+        → IsServing key_of tells call_of place gives telling new now
+    came_in new client its_number served passes_are tokens_are clients_are room accepted of_cells =
+        subst (λ (b : Book). IsServing key_of tells call_of place gives telling new b) (sym now_is)
+        (admitted new client (its_number ∙ number_is) served (passes_are ∙ ap (λ (n : ℕ). map (giving_up (One n)) old.passes.items) number_is) tokens_are clients_are room accepted of_cells)
+
+    pub turned_away : (last : Book) → last ≡ after_return now (record { number = number; at = connection_of telling from to; memory = true })
+        → (new : Connections T F K P E O) → new.passes.items ≡ old.passes.items → new.tokens.items ≡ old.tokens.items → new.clients ≡ old.clients → new.accepted ≡ old.accepted + 1
+        → IsServing key_of tells call_of place gives telling new last
+    turned_away last last_is new passes_are tokens_are clients_are accepted =
+        subst (λ (b : Book). IsServing key_of tells call_of place gives telling new b)
+        (sym (last_is ∙ (ap (λ (b : Book). after_return b (record { number = number; at = connection_of telling from to; memory = true })) now_is
+        ∙ ap (λ (n : ℕ). after_return (after_arrival book (record { member = member; at = connection_of telling from to })) (record { number = n; at = connection_of telling from to; memory = true })) number_is)))
+        (refused new passes_are tokens_are clients_are accepted)
+
+    -- and it may be given back
+    pub may_go_back : IsOut now number
+    may_go_back = subst (λ (b : Book). IsOut b number) (sym now_is) (subst (λ (n : ℕ). IsOut book n) (sym number_is)
+        (is_out book.accepted book.returns serving.returns serving.returns_are (next_rests key_of tells call_of place gives telling old book serving).1))

@@ -1,22 +1,20 @@
 -- How a client goes on by a turn.
 use Rattle.std.proofs.Common.{◌≡◌, ◌⊎◌, inl, inr, ⊎_elim, ℕ, ◌<◌, ◌≤◌, Bool, true, false, List, [], ◌∷◌, ◌++◌, All, Option, Some, None, IfSome, IsSome, slice_get, refl, sym, ap, ◌∙◌, subst, append_assoc, arith}
 use Rattle.std.proofs.lemmas.List.Elements.{All-cons}
-use Rattle.std.specs.Io.KnownBytes.{prepend_known, append_known, IsAtEnd}
+use Rattle.std.specs.Io.KnownBytes.{prepend_known, IsAtEnd}
 use Rattle.grid_base.specs.declared.calls.Request.{Request}
-use Rattle.grid_edge.specs.Doors.{Arrival, Connection as AtDoors}
+use Rattle.grid_edge.specs.Doors.{Arrival}
 use Rattle.grid_edge.specs.Faults.{Rose}
 use Rattle.grid_edge.specs.MemoryDoors.{Telling}
 use Rattle.grid_edge.proofs.Told.{more_read, more_taken}
 use Rattle.hand_cell.specs.declared.names.Key.{Key}
 use Rattle.hand_cell.specs.declared.outcome.LiveOutcome.{LiveOutcome}
 use Rattle.hand_cell.specs.declared.outcome.LiveOutcome.TheVariants.{MemberGone as IsGone}
-use Rattle.frame_codec.specs.declared.malformed.Malformed.{Malformed}
 use Rattle.message_frames.specs.Messages.{messages_of, fault_of}
 use Rattle.message_frames.proofs.Staying.{heard_messages_stay}
 use Rattle.partition_threads.specs.declared.workplace.Workplace.{Workplace}
-use Rattle.session_core.specs.Items.{items_of, items_from, identity_after_all}
+use Rattle.session_core.specs.Items.{items_of}
 use Rattle.session_core.specs.declared.item.Item.{Item}
-use Rattle.session_core.specs.declared.item.Item.TheVariants.{Call}
 use Rattle.session_core.proofs.ItemLists.{items_go_on}
 use Rattle.live_session.specs.declared.turned.ConnectionEnd.{ConnectionEnd}
 use Rattle.live_session.specs.declared.turned.ConnectionEnd.TheVariants.{Ended, Closed, ReadFault, WriteFault, MemberGone, Memory}

@@ -1,5 +1,5 @@
 -- A connection that is served, since it came.
-use Rattle.std.specs.Prelude.{◌≡◌, ◌⊎◌, ℕ, Bool, true, false, List, All, Option, Some, slice_get}
+use Rattle.std.specs.Prelude.{◌≡◌, ℕ, Bool, true, false, List, All, Option, Some, slice_get}
 use Rattle.grid_base.specs.declared.calls.Request.{Request}
 use Rattle.grid_edge.specs.Doors.{Arrival, Connection as AtDoors}
 use Rattle.grid_edge.specs.MemoryDoors.{Telling, connection_of}

@@ -1,9 +1,9 @@
 -- What a server does with the connections that come through its doors.
-use Rattle.std.specs.Prelude.{◌≡◌, ◌⊎◌, ℕ, ◌+◌, ◌*◌, ◌<◌, ◌≤◌, ◌==◌, Bool, true, List, [], ◌∷◌, length, All, Option, Some, None, IfSome, IsSome, slice_get}
+use Rattle.std.specs.Prelude.{◌≡◌, ◌⊎◌, ℕ, ◌<◌, ◌≤◌, ◌==◌, Bool, true, List, [], ◌∷◌, length, All, Option, Some, IfSome, IsSome, slice_get}
 use Rattle.std.specs.List.{count_by}
 use Rattle.std.specs.Io.KnownBytes.{prepend_known, append_known, IsAtEnd}
 use Rattle.grid_base.specs.declared.calls.Request.{Request}
-use Rattle.grid_edge.specs.Doors.{Connection, Arrival, Return, Book, IsOpenTo}
+use Rattle.grid_edge.specs.Doors.{Connection, Arrival, Return, Book}
 use Rattle.grid_edge.specs.Faults.{Rose}
 use Rattle.hand_cell.specs.declared.names.Key.{Key}
 use Rattle.hand_cell.specs.declared.outcome.LiveOutcome.{LiveOutcome}
@@ -15,7 +15,8 @@ use Rattle.session_core.specs.declared.item.Item.{Item}
 use Rattle.session_core.specs.declared.item.Item.TheVariants.{Call}
 use Rattle.live_session.specs.Connections.{IsServed, HasAnswered}
 
--- A connection was as the first, and is as the second: these bytes were read from it, and those were written to it. Faults were counted
+-- A connection was as the first, and is as the second: these bytes were read from it, and those were written to it. Its counts of
+-- faults have not fallen
 pub record HaveMoved (was is : Connection) (read written : List ℕ) : Type 0 where
   pub read_is : was.left ≡ prepend_known read is.left
   pub written_is : is.taken ≡ append_known was.taken written

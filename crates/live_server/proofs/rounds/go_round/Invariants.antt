@@ -1,4 +1,4 @@
-use Rattle.std.proofs.Common.{◌≡◌, ◌-◌, length}
+use Rattle.std.proofs.Common.{◌≡◌, ◌-◌}
 use Rattle.live_server.specs.Clients.{telling_by}
 use Rattle.live_server.specs.Standing.{IsServing}
 use Rattle.live_server.proofs.rounds.go_round.Given as goal

@@ -1,8 +1,7 @@
-use Rattle.std.proofs.Common.{rules, ◌≡◌, ◌≤◌, [], ap, arith}
+use Rattle.std.proofs.Common.{rules, ◌≡◌, ap, arith}
 use Rattle.std.proofs.lemmas.List.{nil_from_length}
 use Rattle.grid_edge.specs.Doors.{Book}
 use Rattle.live_server.specs.Clients.{telling_by}
-use Rattle.live_server.specs.Standing.{IsSince}
 use Rattle.live_server.proofs.Beginning.{begins, has_served, still_since, after_rest}
 use Rattle.live_server.proofs.serving.serve.Goals as goal
 

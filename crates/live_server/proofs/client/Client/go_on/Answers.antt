@@ -1,5 +1,5 @@
-use Rattle.std.proofs.Common.{refl, sym, subst}
-use Rattle.live_server.specs.Clients.{telling_by, HasEnded}
+use Rattle.std.proofs.Common.{refl}
+use Rattle.live_server.specs.Clients.{telling_by}
 use Rattle.live_server.proofs.Going.{after_moved, after_not_yet, after_end}
 use Rattle.live_server.proofs.client.Client.go_on.Goals as goal
 
