@@ -35,7 +35,8 @@ module _ {T P E O : Type 0} (key_of : E → Key) (tells : P → List E → E →
   pub grows_not : (conn number : ℕ) (seen : ℕ → List E) → Grows conn number seen seen
   grows_not conn number seen = record { by = λ partition. []; whole = λ partition. sym (append-nil (seen partition)); only = λ partition. tt }
 
-  still_served : AreAmong → (member : ℕ) (request : Request) (seen later : List E) (outcome : LiveOutcome) → Lacks key_of (CallKey request.id) later
+  -- a call's outcome stays what it was
+  pub still_served : AreAmong → (member : ℕ) (request : Request) (seen later : List E) (outcome : LiveOutcome) → Lacks key_of (CallKey request.id) later
       → IsServed key_of tells call_of moments place member request seen outcome → IsServed key_of tells call_of moments_now place member request (seen ++ later) outcome
   still_served among member request seen later outcome lacks served = record {
     now = served.now;

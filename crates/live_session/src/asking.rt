@@ -1,5 +1,5 @@
 //! How a connection starts a call.
-ghost use Rattle.std.specs.Prelude.{◌≡◌, ◌∷◌, [], ℕ, List, None};
+ghost use Rattle.std.specs.Prelude.{◌≡◌, ◌≤◌, ◌∷◌, [], ℕ, List, None};
 ghost use Rattle.grid_base.specs.Limits.{CallFits};
 ghost use Rattle.session_core.specs.declared.item.Item.TheVariants.{Call};
 ghost use Rattle.live_session.specs.Connections.{IsServedWith, ServesCalls};
@@ -31,12 +31,15 @@ impl<T: Served> Connection<T> {
         requires calls { ServesCalls T.fits place.now }
         requires served { (seen : ℕ → List T.Event) × (moments read written : List ℕ)
             × IsServedWith T.key_of T.tells T.call_of moments place.now self.old None (Call request ∷ self.old.items.items) seen read written }
-        ensures { (from : Stream) (seen : ℕ → List T.Event) (moments read written : List ℕ)
+        ensures turned { (from : Stream) (seen : ℕ → List T.Event) (moments read written : List ℕ)
             → IsServedWith T.key_of T.tells T.call_of moments place.now self.old None (Call request ∷ self.old.items.items) seen read written
             → HasTurned T.key_of T.tells T.call_of place.now (λ moment. moment ≡ now) None self.new
             (record { from = from; to = stream (K.taken to.old) (K.faults to.old) (K.unready to.old) })
             (record { from = from; to = stream (K.taken to.new) (K.faults to.new) (K.unready to.new) })
             seen moments read written result }
+        ensures same_conn { self.new.pass.conn ≡ self.old.pass.conn }
+        ensures same_member { self.new.pass.member ≡ self.old.pass.member }
+        ensures write_faults { K.faults to.old ≤ K.faults to.new }
     {
         request.call.numbers_fit();
         let correlation = request.correlation;

@@ -1,5 +1,5 @@
 //! How a connection reads.
-ghost use Rattle.std.specs.Prelude.{◌≡◌, [], ℕ, List, None, OnOk, OnErr};
+ghost use Rattle.std.specs.Prelude.{◌≡◌, ◌≤◌, [], ℕ, List, None, OnOk, OnErr};
 ghost use Rattle.partition_threads.specs.declared.workplace.Workplace.{Workplace as WorkplaceOf};
 ghost use Rattle.live_session.specs.Connections.{IsServedTo};
 ghost use Rattle.live_session.specs.Hearing.{HasHeard};
@@ -22,12 +22,15 @@ impl<T: Served> Connection<T> {
         requires idle { self.old.asked ≡ None }
         requires none_left { self.old.out ≡ [] }
         requires all_answered { self.old.items.items ≡ [] }
-        ensures { (place : WorkplaceOf T T.Plan T.Event T.Outcome) (to : Stream) (seen : ℕ → List T.Event) (moments read written : List ℕ)
+        ensures turned { (place : WorkplaceOf T T.Plan T.Event T.Outcome) (to : Stream) (seen : ℕ → List T.Event) (moments read written : List ℕ)
             → IsServedTo T.key_of T.tells T.call_of moments place self.old seen read written
             → HasTurned T.key_of T.tells T.call_of place (λ moment. ⊥) None self.new
             (record { from = stream (F.left from.old) (F.faults from.old) (F.unready from.old); to = to })
             (record { from = stream (F.left from.new) (F.faults from.new) (F.unready from.new); to = to })
             seen moments read written result }
+        ensures same_conn { self.new.pass.conn ≡ self.old.pass.conn }
+        ensures same_member { self.new.pass.member ≡ self.old.pass.member }
+        ensures read_faults { F.faults from.old ≤ F.faults from.new }
     {
         let mut piece = [0; PIECE];
         match from.read_ready(&mut piece) {

@@ -1,5 +1,5 @@
 //! How the session's own answers go out.
-ghost use Rattle.std.specs.Prelude.{◌≡◌, ◌≢◌, ◌∷◌, [], ℕ, List, None, OnOk, OnErr};
+ghost use Rattle.std.specs.Prelude.{◌≡◌, ◌≤◌, ◌≢◌, ◌∷◌, [], ℕ, List, None, OnOk, OnErr};
 ghost use Rattle.partition_threads.specs.declared.workplace.Workplace.{Workplace as WorkplaceOf};
 ghost use Rattle.session_core.specs.declared.item.Item.{Item as ItemOf};
 ghost use Rattle.session_core.specs.declared.item.Item.TheVariants.{Reply};
@@ -31,12 +31,15 @@ impl<T: Served> Connection<T> {
     /// Writes what is left to write in one write, as far as the sink takes it.
     pub(crate) fn write<K: ReadySink>(&mut self, to: &mut K) -> Turned
         requires left { self.old.out ≢ [] }
-        ensures { (place : WorkplaceOf T T.Plan T.Event T.Outcome) (from : Stream) (seen : ℕ → List T.Event) (moments read written : List ℕ)
+        ensures turned { (place : WorkplaceOf T T.Plan T.Event T.Outcome) (from : Stream) (seen : ℕ → List T.Event) (moments read written : List ℕ)
             → IsServedTo T.key_of T.tells T.call_of moments place self.old seen read written
             → HasTurned T.key_of T.tells T.call_of place (λ moment. ⊥) self.old.asked self.new
             (record { from = from; to = stream (K.taken to.old) (K.faults to.old) (K.unready to.old) })
             (record { from = from; to = stream (K.taken to.new) (K.faults to.new) (K.unready to.new) })
             seen moments read written result }
+        ensures same_conn { self.new.pass.conn ≡ self.old.pass.conn }
+        ensures same_member { self.new.pass.member ≡ self.old.pass.member }
+        ensures write_faults { K.faults to.old ≤ K.faults to.new }
     {
         match self.out.send(to) {
             Ok(Ready::Bytes(_)) => Turned::Moved,
@@ -50,12 +53,15 @@ impl<T: Served> Connection<T> {
         requires idle { self.old.asked ≡ None }
         requires served { (place : WorkplaceOf T T.Plan T.Event T.Outcome) × (seen : ℕ → List T.Event) × (moments read written : List ℕ)
             × IsServedWith T.key_of T.tells T.call_of moments place self.old None (Reply reply ∷ self.old.items.items) seen read written }
-        ensures { (place : WorkplaceOf T T.Plan T.Event T.Outcome) (from : Stream) (seen : ℕ → List T.Event) (moments read written : List ℕ)
+        ensures turned { (place : WorkplaceOf T T.Plan T.Event T.Outcome) (from : Stream) (seen : ℕ → List T.Event) (moments read written : List ℕ)
             → IsServedWith T.key_of T.tells T.call_of moments place self.old None (Reply reply ∷ self.old.items.items) seen read written
             → HasTurned T.key_of T.tells T.call_of place (λ moment. ⊥) None self.new
             (record { from = from; to = stream (K.taken to.old) (K.faults to.old) (K.unready to.old) })
             (record { from = from; to = stream (K.taken to.new) (K.faults to.new) (K.unready to.new) })
             seen moments read written result }
+        ensures same_conn { self.new.pass.conn ≡ self.old.pass.conn }
+        ensures same_member { self.new.pass.member ≡ self.old.pass.member }
+        ensures write_faults { K.faults to.old ≤ K.faults to.new }
     {
         match self.push_next(reply) {
             Ok(()) => self.write(to),

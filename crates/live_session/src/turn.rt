@@ -1,5 +1,5 @@
 //! A turn of a connection.
-ghost use Rattle.std.specs.Prelude.{◌≡◌, ℕ, List, [], None, IfSome};
+ghost use Rattle.std.specs.Prelude.{◌≡◌, ◌≤◌, ℕ, List, [], None, IfSome};
 ghost use Rattle.live_session.specs.Connections.{IsServedTo, ServesCalls};
 ghost use Rattle.live_session.specs.Turns.{stream, HasTurned};
 
@@ -28,12 +28,16 @@ impl<T: Served> Connection<T> {
     ) -> Turned
         requires calls { ServesCalls T.fits place.now }
         requires served { (seen : ℕ → List T.Event) × (moments read written : List ℕ) × IsServedTo T.key_of T.tells T.call_of moments place.now self.old seen read written }
-        ensures { (seen : ℕ → List T.Event) (moments read written : List ℕ)
+        ensures turned { (seen : ℕ → List T.Event) (moments read written : List ℕ)
             → IsServedTo T.key_of T.tells T.call_of moments place.now self.old seen read written
             → HasTurned T.key_of T.tells T.call_of place.now (λ now. C.gives clock.now now) self.old.asked self.new
             (record { from = stream (F.left from.old) (F.faults from.old) (F.unready from.old); to = stream (K.taken to.old) (K.faults to.old) (K.unready to.old) })
             (record { from = stream (F.left from.new) (F.faults from.new) (F.unready from.new); to = stream (K.taken to.new) (K.faults to.new) (K.unready to.new) })
             seen moments read written result }
+        ensures same_conn { self.new.pass.conn ≡ self.old.pass.conn }
+        ensures same_member { self.new.pass.member ≡ self.old.pass.member }
+        ensures read_faults { F.faults from.old ≤ F.faults from.new }
+        ensures write_faults { K.faults to.old ≤ K.faults to.new }
     {
         if !self.out.is_empty() {
             return self.write(to);
