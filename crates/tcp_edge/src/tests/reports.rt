@@ -46,12 +46,7 @@ fn who_comes_is_let_in_once_it_is_reported(rt: HostRuntime) -> Result<(), Fail> 
 }
 
 // Lets a client in, has it say this byte, and gives it back. The answer is what was heard.
-fn serve_briefly(
-    doors: &mut Doorway<'_>,
-    rt: &HostRuntime,
-    port: u16,
-    byte: u8,
-) -> Result<u8, Fail>
+fn serve_briefly(doors: &mut Doorway<'_>, rt: &HostRuntime, port: u16, byte: u8) -> Result<u8, Fail>
     requires few { doors.old.accepted ≤ 1000 }
     requires port { port ≤ 65528 }
     ensures { IfOk result (λ _. doors.new.accepted ≡ doors.old.accepted + 1) }
@@ -81,11 +76,8 @@ fn a_place_is_given_again(rt: HostRuntime) -> Result<(), Fail> {
     Ok(())
 }
 
-// Connections that wait for their clients.
-type Lines = Vec<(TcpSource, TcpSink)>;
-
 // Reads of each once. The answer is how many had something, and the number of the last one of them.
-fn find_speaker(lines: &mut Lines) -> Result<(usize, usize), Fail> {
+fn find_speaker(lines: &mut [(TcpSource, TcpSink)]) -> Result<(usize, usize), Fail> {
     let mut found = (0, 0);
     for number in 0..lines.len() {
         if lines[number].0.read_ready(&mut [0; 8])? != Ready::NotYet {
@@ -101,19 +93,21 @@ fn one_speaks_among_many(rt: HostRuntime) -> Result<(), Fail> {
     let port = open_somewhere(&mut doors, &rt, 1)?;
     let mut clients = Vec::new(rt.alloc());
     let mut lines = Vec::new(rt.alloc());
-    for _ in 0..300u32 {
+    for number in 0..300usize {
         clients.push(TcpStream::connect(&rt, place_of(port, 0))?)?;
         let (_, from, to) = next_caller(&mut doors)?;
+        assert_eq!(rt; from.place(), number);
         lines.push((from, to))?;
     }
+    assert_eq!(rt; clients.len(), 300);
     doors.wait(0)?;
-    assert_eq!(rt; find_speaker(&mut lines)?, (0, 0));
+    assert_eq!(rt; find_speaker(lines.as_mut_slice())?, (0, 0));
     for round in 0..200usize {
         let number = round * 7 % 300;
         (&clients[number]).write_all(b"hello")?;
         doors.wait(LONG)?;
-        assert_eq!(rt; find_speaker(&mut lines)?, (1, number));
-        assert_eq!(rt; find_speaker(&mut lines)?, (0, 0));
+        assert_eq!(rt; find_speaker(lines.as_mut_slice())?, (1, number));
+        assert_eq!(rt; find_speaker(lines.as_mut_slice())?, (0, 0));
     }
     Ok(())
 }
