@@ -8,3 +8,6 @@ mod Pushed
 mod Settled
 mod Standing
 mod Unanswered
+pub mod Following
+pub mod PassPlaces
+pub mod Trying

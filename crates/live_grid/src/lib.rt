@@ -6,9 +6,12 @@
 #![tactic(auto)]
 
 mod answers;
+mod control;
+mod control_turns;
 mod grid;
 pub mod laws;
 mod opening;
+mod pass_places;
 mod plan;
 mod settling;
 mod world;

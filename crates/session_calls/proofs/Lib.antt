@@ -1,6 +1,11 @@
 mod Ending
+mod Handed
+mod Joining
 mod Keeping
+mod Marching
+pub mod OfCells
+pub mod Opened
 pub mod WholeCalls
-mod Places
+pub mod Places
 mod Refusing
 mod Starting

@@ -1,5 +1,6 @@
 -- Lists in which one place was written.
-use Rattle.std.proofs.Common.{◌≡◌, ℕ, zero, suc, ◌⊎◌, inl, inr, ⊎_elim, List, [], ◌∷◌, Option, Some, None, slice_get, set, sym, refl, ap, ◌∙◌}
+use Rattle.std.proofs.Common.{◌≡◌, ℕ, ◌<◌, ◌≤◌, zero, suc, ◌⊎◌, inl, inr, ⊎_elim, List, [], ◌∷◌, Option, Some, None, IsSome, slice_get, set, sym, refl, ap, ◌∙◌, arith, rules}
+use Rattle.std.proofs.lemmas.Bool.{cases_lt}
 use Rattle.std.proofs.lemmas.List.{set-set}
 
 pub same_some : {A : Type 0} (a b : A) → ◌≡◌ {A = Option A} (Some a) (Some b) → a ≡ b
@@ -34,3 +35,16 @@ put_back {A} xs ys zs i v back there taken same put = put
     ∙ (ap (λ (l : List (Option A)). set l i (Some back)) taken
     ∙ (set-set xs i None (Some back)
     ∙ (ap (λ (w : A). set xs i (Some w)) same ∙ set_same xs i (Some v) there)))
+
+-- what isn't None is there
+pub is_there : {A : Type 0} (o : Option A) → (o ≡ None → ⊥) → IsSome o
+is_there (Some x) ne = search rules
+is_there None ne = absurd (ne refl)
+
+-- where nothing was taken there was nothing
+pub nothing_left : {A : Type 0} (o : Option A) (n : ℕ) → ((x : A) → o ≡ Some x → ⊥) → (0 < n → IsSome o) → n ≡ 0
+nothing_left (Some x) n none is = absurd (none x refl)
+nothing_left {A} None n none is = ⊎_elim (λ (more : 0 < n). absurd (differ (is more))) (λ (all : n ≤ 0). omega arith) (cases_lt 0 n)
+  where
+    differ : IsSome {T = A} None → ⊥
+    differ e = cc

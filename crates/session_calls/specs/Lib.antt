@@ -1,4 +1,6 @@
-pub mod Calls
-pub mod Clause
-pub mod Laws
+pub mod Passes
 pub mod Sessions
+pub mod Openings
+pub mod Clause
+pub mod Calls
+pub mod Laws

@@ -3,13 +3,19 @@
 //! A session has a pass of each cell of a workplace. `SessionPass::start` hands a call over to the worker of its
 //! partition, and the pass goes with it; `SessionPass::finish` looks whether the outcome has come, and the pass is then
 //! back. So a session has one call under way in a partition at most. For any served value.
+//!
+//! `SessionPass::open` splits a session's passes off those of a grid, and `SessionPass::close` joins them again. Whole
+//! lists of passes are shared out by `split_passes` and `join_passes`.
 #![tactic(auto)]
 
 mod calls;
 mod laws;
+mod opening;
 mod session;
+mod sharing;
 mod slots;
 
 pub use calls::{Finished, Unstarted};
 pub use laws::{every_call_ends_as_it_was_started, every_started_call_may_be_finished};
 pub use session::{SessionPass, Started};
+pub use sharing::{join_passes, split_passes, split_tokens};

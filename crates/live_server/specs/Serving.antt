@@ -1,0 +1,87 @@
+-- What a server does with the connections that come through its doors.
+use Rattle.std.specs.Prelude.{◌≡◌, ◌⊎◌, ℕ, ◌+◌, ◌*◌, ◌<◌, ◌≤◌, ◌==◌, Bool, true, List, [], ◌∷◌, length, All, Option, Some, None, IfSome, IsSome, slice_get}
+use Rattle.std.specs.List.{count_by}
+use Rattle.std.specs.Io.KnownBytes.{prepend_known, append_known, IsAtEnd}
+use Rattle.grid_base.specs.declared.calls.Request.{Request}
+use Rattle.grid_edge.specs.Doors.{Connection, Arrival, Return, Book, IsOpenTo}
+use Rattle.grid_edge.specs.Faults.{Rose}
+use Rattle.hand_cell.specs.declared.names.Key.{Key}
+use Rattle.hand_cell.specs.declared.outcome.LiveOutcome.{LiveOutcome}
+use Rattle.hand_cell.specs.declared.outcome.LiveOutcome.TheVariants.{MemberGone}
+use Rattle.hand_cell.specs.Told.{Told}
+use Rattle.message_frames.specs.Messages.{fault_of}
+use Rattle.partition_threads.specs.declared.workplace.Workplace.{Workplace}
+use Rattle.session_core.specs.declared.item.Item.{Item}
+use Rattle.session_core.specs.declared.item.Item.TheVariants.{Call}
+use Rattle.live_session.specs.Connections.{IsServed, HasAnswered}
+
+-- A connection was as the first, and is as the second: these bytes were read from it, and those were written to it. Faults were counted
+pub record HaveMoved (was is : Connection) (read written : List ℕ) : Type 0 where
+  pub read_is : was.left ≡ prepend_known read is.left
+  pub written_is : is.taken ≡ append_known was.taken written
+  pub read_faults : was.read_faults ≤ is.read_faults
+  pub write_faults : was.write_faults ≤ is.write_faults
+
+-- Nothing is left to write or to answer, and the client sent no more, or bytes at fault
+pub record IsComplete (is : Connection) (read left : List ℕ) (rest : List Item) : Type 0 where
+  pub none_left : left ≡ []
+  pub all_answered : rest ≡ []
+  pub no_more : IsAtEnd is.left ⊎ IsSome (fault_of true read)
+
+-- this was seen of each partition that there is a pass of
+abbrev pub AreSeen : {E : Type 0} → List (Told E) → (ℕ → List E) → Type 0
+AreSeen passes seen = (partition : ℕ) (pass : Told _) → slice_get passes partition ≡ Some pass → seen partition ≡ pass.seen
+
+-- `gives` says which moments the clock gives
+module _ {T P E O : Type 0} (key_of : E → Key) (tells : P → List E → E → LiveOutcome → Type 0) (call_of : ℕ → Request → ℕ → E) (place : Workplace T P E O) (gives : ℕ → Type 0) where
+  -- The next message is a call whose member has crashed before it was answered
+  pub record HasLostMember (member : ℕ) (moments : List ℕ) (seen : ℕ → List E) (rest : List Item) : Type 0 where
+    pub request : Request
+    pub behind : List Item
+    pub next : rest ≡ Call request ∷ behind
+    pub gone : IsServed key_of tells call_of moments place member request (seen request.partition) MemberGone
+
+  -- Why a connection ended before all was answered and written: there was no memory, its source or its sink had a fault, or its member is gone
+  abbrev pub IsCutShort : ℕ → (was is : Connection) → (memory : Bool) → List ℕ → (ℕ → List E) → List Item → Type 0
+  IsCutShort member was is memory moments seen rest =
+      (memory ≡ true) ⊎ Rose was.read_faults is.read_faults ⊎ Rose was.write_faults is.write_faults ⊎ HasLostMember member moments seen rest
+
+  -- A connection of this number to this member was as the first, and has ended as the second. What was written are the answers to the messages
+  -- that were read, in their order, by what was seen of each partition: the beginning of them, or all
+  pub record WasAnswered (number member : ℕ) (was is : Connection) (memory : Bool) (seen : ℕ → List E) : Type 0 where
+    pub read : List ℕ
+    pub written : List ℕ
+    pub moved : HaveMoved was is read written
+    pub moments : List ℕ
+    pub by_clock : All gives moments
+    pub left : List ℕ
+    pub rest : List Item
+    pub answers : HasAnswered key_of tells call_of moments place number member seen read written left rest
+    pub ended : IsComplete is read left rest ⊎ IsCutShort member was is memory moments seen rest
+
+  -- It came as one of these, and was answered before it was given back, by what these passes have seen
+  pub record WasServed (passes : List (Told E)) (arrivals : List Arrival) (given : Return) : Type 0 where
+    pub arrival : Arrival
+    pub came : slice_get arrivals given.number ≡ Some arrival
+    pub seen : ℕ → List E
+    pub seen_is : AreSeen passes seen
+    pub answered : WasAnswered given.number arrival.member arrival.at given.at given.memory seen
+
+-- these are the entries of a list, where it is told
+abbrev pub AreEntries : {A : Type 0} → Option (List A) → List A → Type 0
+AreEntries told entries = IfSome told (λ list. list ≡ entries)
+
+-- how many of these were the connection with this number
+abbrev pub times_returned : ℕ → List Return → ℕ
+times_returned number returns = count_by (λ given. given.number == number) returns
+
+module _ {T P E O : Type 0} (key_of : E → Key) (tells : P → List E → E → LiveOutcome → Type 0) (call_of : ℕ → Request → ℕ → E) (place : Workplace T P E O) (gives : ℕ → Type 0) where
+  -- Each connection that was accepted was served, and was given back once
+  pub record HasServedAll (passes : List (Told E)) (book : Book) : Type 0 where
+    pub arrivals : List Arrival
+    pub arrivals_are : AreEntries book.arrivals arrivals
+    pub accepted : length arrivals ≡ book.accepted
+    pub returns : List Return
+    pub returns_are : AreEntries book.returns returns
+    pub once : (number : ℕ) → number < book.accepted → times_returned number returns ≡ 1
+    pub served : All (WasServed key_of tells call_of place gives passes arrivals) returns
