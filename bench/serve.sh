@@ -22,7 +22,6 @@ started=()
 
 # Ends what this script started, by its number.
 stop_all() {
-    exec 7>&- || true
     local pid
     for pid in "${started[@]}"; do
         kill "$pid" 2>/dev/null || true
@@ -75,20 +74,11 @@ wait_for() {
 start_grid() {
     port=$(free_ports 3)
     members=3
-    mkfifo "$work/control"
+    # It goes on once its control script has ended.
     "$grid" serve --members 3 --backups 1 --capacity 1000 --port "$port" --stay \
-        <"$work/control" >"$work/grid.out" 2>"$work/grid.log" &
+        <<<end >"$work/grid.out" 2>"$work/grid.log" &
     started+=($!)
-    # Open until the end: the program ends with its control script.
-    exec 7>"$work/control"
     wait_for $! $((port + 2))
-}
-
-end_grid() {
-    (trap '' PIPE && echo end >&7) 2>/dev/null || true
-    exec 7>&-
-    timeout 5 tail --pid="${started[0]}" -f /dev/null || echo "grid serve didn't end" >&2
-    rm "$work/control"
 }
 
 start_redis() {
@@ -139,20 +129,13 @@ time_kind() {
     time_calls
     local rest
     rest=$(load 64 "$keys" idle 10 "${started[@]}")
-    stop_kind
+    stop_all
     "start_$kind"
     local memory
     memory=$(load 16 "$keys" memory 10000 1000000 "${started[@]}")
-    stop_kind
+    stop_all
     set -- $memory
     printf '%-6s %11.2f %16d %16d\n' "$kind" "$rest" "$1" "$2" >>"$work/rest"
-}
-
-stop_kind() {
-    if [ "$kind" = grid ]; then
-        end_grid
-    fi
-    stop_all
 }
 
 is_there() {
