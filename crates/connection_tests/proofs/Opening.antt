@@ -16,7 +16,7 @@ use Rattle.partition_world.specs.declared.event.Happened.{Happened}
 use Rattle.session_calls.specs.declared.session.SessionPass.{SessionPass}
 use Rattle.connection_tests.specs.Sessions.{AreTokensOfMember, none_seen}
 
-abbrev Place : Type 0
+abbrev pub Place : Type 0
 Place = Workplace LiveWorld GridPlan (Event Request) Happened
 
 same_some : {A : Type 0} (a b : A) → ◌≡◌ {A = Option A} (Some a) (Some b) → a ≡ b

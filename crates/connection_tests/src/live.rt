@@ -4,7 +4,7 @@ ghost use Rattle.call_engine.specs.Limits.{RequestFits};
 ghost use Rattle.hand_cell.specs.Calls.{first_pass, plan_of};
 ghost use Rattle.live_grid.specs.Grids.{place_of};
 ghost use Rattle.live_grid.specs.Histories.{live_key};
-ghost use Rattle.live_grid.specs.Plans.{settings_for};
+ghost use Rattle.live_grid.specs.Plans.{settings_in, settings_for};
 ghost use Rattle.live_session.specs.Connections.{IsFresh, ServesCalls};
 ghost use Rattle.partition_threads.specs.Workplaces.{IsTokenAt, AreTokensAt};
 ghost use Rattle.connection_tests.specs.Sessions.{AreTokensOfMember, none_seen};
@@ -25,9 +25,18 @@ const MEMBER: MemberId = 2;
 /// The worker that runs the member's calls in partition 5.
 pub(crate) const WORKER: usize = 9;
 
-/// A grid, what its calls are run in, a session of connection 0, and what the worker needs.
+/// What calls are run in: they may name no processor, and a queue holds ten values.
+pub(crate) fn environment(alloc: Global) -> GridEnv
+    ensures { ⟦<GridShelf as Executes<GridEnv>>⟧.plan_of result ≡ settings_in [] 10 }
+{
+    GridEnv {
+        registry: Registry::new(Vec::new(alloc)),
+        capacity: 10,
+    }
+}
+
+/// A grid, a session of connection 0, and what the worker needs.
 pub(crate) struct Live {
-    pub(crate) env: GridEnv,
     pub(crate) grid: LiveGrid,
     pub(crate) session: SessionPass<LiveWorld>,
     pub(crate) tokens: WorkerTokens<LiveWorld>,
@@ -39,19 +48,15 @@ impl Live {
         ensures serves { IfOk result (λ live. ServesCalls RequestFits (place_of live.grid)) }
         ensures token { IfOk result (λ live. IsTokenAt (place_of live.grid) 9 live.tokens.queue) }
         ensures none_held { IfOk result (λ live. live.tokens.held.items ≡ []) }
-        ensures means { IfOk result (λ live. All (λ cell. ⟦<GridShelf as Executes<GridEnv>>⟧.plan_of live.env ≡ settings_for (plan_of cell)) (place_of live.grid).cells.items) }
+        ensures plans { IfOk result (λ live. All (λ cell. settings_for (plan_of cell) ≡ settings_in [] 10) (place_of live.grid).cells.items) }
     {
-        let env = GridEnv {
-            registry: Registry::new(Vec::new(alloc)),
-            capacity: 10,
-        };
+        let env = environment(alloc);
         let (grid, pass) = LiveGrid::new(alloc, 3, 1, &env, &[], 10)?;
         let GridPass { passes, mut tokens } = pass;
         let queue = token_at(&grid, WORKER, &mut tokens);
         let session = session_with(alloc, &grid, passes, &mut tokens)?;
         let tokens = WorkerTokens::new(alloc, queue, 4)?;
         Ok(Live {
-            env,
             grid,
             session,
             tokens,
@@ -71,13 +76,22 @@ fn session_with(
     requires tokens { AreTokensAt (place_of grid.now) tokens.old.items }
     ensures { IfOk result (λ session. IsFresh live_key (place_of grid.now) session none_seen) }
 {
-    let places = passes.into_iter().map(|pass| Some(pass)).collect(alloc)?;
     Ok(SessionPass {
         conn: 0,
         member: MEMBER,
-        passes: places,
+        passes: places_of(alloc, passes)?,
         tokens: member_tokens(alloc, grid, tokens)?,
     })
+}
+
+/// The passes, each in its place.
+fn places_of(
+    alloc: Global,
+    passes: Vec<Pass<LiveWorld>>,
+) -> Result<Vec<Option<Pass<LiveWorld>>>, Memory>
+    ensures { IfOk result (λ places. places.items ≡ map (λ pass. Some pass) passes.items) }
+{
+    passes.into_iter().map(|pass| Some(pass)).collect(alloc)
 }
 
 /// A token of each of the member's workers.

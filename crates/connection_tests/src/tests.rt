@@ -3,19 +3,18 @@ ghost use Rattle.call_engine.specs.Limits.{RequestFits};
 ghost use Rattle.hand_cell.specs.Calls.{plan_of};
 ghost use Rattle.live_grid.specs.Grids.{place_of};
 ghost use Rattle.live_grid.specs.Histories.{live_key};
-ghost use Rattle.live_grid.specs.Plans.{settings_for};
+ghost use Rattle.live_grid.specs.Plans.{settings_in, settings_for};
 ghost use Rattle.live_session.specs.Connections.{IsFresh, ServesCalls};
 ghost use Rattle.partition_threads.specs.Workplaces.{IsTokenAt};
 ghost use Rattle.connection_tests.specs.Sessions.{none_seen};
 
 use crate::client::{ANSWERS, every_other, put_and_get};
-use crate::live::{Live, WORKER};
-use call_engine::{GridEnv, GridShelf};
-use grid_base::{Executes, Memory};
+use crate::live::{Live, WORKER, environment};
+use grid_base::Memory;
 use grid_edge::{FixedClock, MemoryReady, MemorySink, MemorySource};
 use live_grid::{LiveGrid, LiveWorld};
 use live_session::{Blocking, Connection, ConnectionEnd, Turned, serve_connection};
-use partition_threads::{OpenGate, WorkerTokens, worker};
+use partition_threads::{OpenGate, WorkerTokens, Workplace, worker};
 use session_calls::SessionPass;
 use std::alloc::Global;
 use std::sync::Wait;
@@ -39,18 +38,17 @@ fn unready_streams(alloc: Global) -> Result<Unready, Memory> {
 fn take_turns<R: Wait>(
     rt: &R,
     alloc: Global,
-    grid: &LiveGrid,
+    place: &Workplace<LiveWorld>,
     session: SessionPass<LiveWorld>,
     streams: Unready,
 ) -> (ConnectionEnd, Unready)
-    requires fresh { IsFresh live_key (place_of grid.now) session none_seen }
-    requires serves { ServesCalls RequestFits (place_of grid.now) }
+    requires fresh { IsFresh live_key place.now session none_seen }
+    requires serves { ServesCalls RequestFits place.now }
 {
     let (mut from, mut to) = streams;
     let clock = FixedClock::new(7);
     let mut connection = Connection::new(alloc, session);
     for _ in rt.forever() {
-        let place = grid.workplace();
         match connection.turn(rt, alloc, place, &mut from, &mut to, &clock) {
             Turned::Moved => {}
             Turned::NotYet => thread::yield_now(),
@@ -63,28 +61,37 @@ fn take_turns<R: Wait>(
     unreachable!()
 }
 
-/// Runs the worker of the session's calls.
-fn work<R: Wait>(
+/// Serves a client of the grid by turns.
+fn serve_by_turns<R: Wait>(
     rt: &R,
     alloc: Global,
     grid: &LiveGrid,
-    env: &GridEnv,
-    tokens: WorkerTokens<LiveWorld>,
-)
-    requires token { IsTokenAt (place_of grid.now) 9 tokens.queue }
-    requires none_held { tokens.held.items ≡ [] }
-    requires means { All (λ cell. ⟦<GridShelf as Executes<GridEnv>>⟧.plan_of env.now ≡ settings_for (plan_of cell)) (place_of grid.now).cells.items }
+    session: SessionPass<LiveWorld>,
+    streams: Unready,
+) -> (ConnectionEnd, Unready)
+    requires fresh { IsFresh live_key (place_of grid.now) session none_seen }
+    requires serves { ServesCalls RequestFits (place_of grid.now) }
 {
-    worker(rt, alloc, WORKER, grid.workplace(), env, &OpenGate, tokens);
+    take_turns(rt, alloc, grid.workplace(), session, streams)
 }
 
-/// Serves a connection by turns, beside a worker on another thread.
-fn serve_by_turns<R: Threads + Wait + Sync>(
+/// Runs the worker of the session's calls.
+fn work<R: Wait>(rt: &R, alloc: Global, grid: &LiveGrid, tokens: WorkerTokens<LiveWorld>)
+    requires token { IsTokenAt (place_of grid.now) 9 tokens.queue }
+    requires none_held { tokens.held.items ≡ [] }
+    requires plans { All (λ cell. settings_for (plan_of cell) ≡ settings_in [] 10) (place_of grid.now).cells.items }
+{
+    let env = environment(alloc);
+    let place = grid.workplace();
+    worker(rt, alloc, WORKER, place, &env, &OpenGate, tokens);
+}
+
+/// Serves a client by turns, beside a worker on another thread.
+fn by_turns<R: Threads + Wait + Sync>(
     rt: &R,
     alloc: Global,
 ) -> Result<(ConnectionEnd, Unready), Memory> {
     let Live {
-        env,
         grid,
         session,
         tokens,
@@ -92,15 +99,17 @@ fn serve_by_turns<R: Threads + Wait + Sync>(
     let streams = unready_streams(alloc)?;
     let (served, ()) = join(
         rt,
-        || take_turns(rt, alloc, &grid, session, streams),
-        || work(rt, alloc, &grid, &env, tokens),
+        || serve_by_turns(rt, alloc, &grid, session, streams),
+        || -> ()
+            requires { IsTokenAt (place_of grid) 9 tokens.queue × (tokens.held.items ≡ []) × All (λ cell. settings_for (plan_of cell) ≡ settings_in [] 10) (place_of grid).cells.items }
+        { work(rt, alloc, &grid, tokens) },
     );
     Ok(served)
 }
 
 #[test]
 fn a_put_and_a_get_over_streams_that_are_often_unready(rt: HostRuntime) -> Result<(), Fail> {
-    let (end, (_, to)) = serve_by_turns(&rt, rt.alloc())?;
+    let (end, (_, to)) = by_turns(&rt, rt.alloc())?;
     assert!(rt; matches!(end, ConnectionEnd::Ended));
     assert_eq!(rt; to.stream().bytes(), ANSWERS);
     Ok(())
@@ -132,7 +141,6 @@ fn serve_waiting<R: Threads + Wait + Sync>(
     alloc: Global,
 ) -> Result<(ConnectionEnd, Blocking<MemorySink>), Memory> {
     let Live {
-        env,
         grid,
         session,
         tokens,
@@ -141,7 +149,9 @@ fn serve_waiting<R: Threads + Wait + Sync>(
     let (served, ()) = join(
         rt,
         || serve(rt, alloc, &grid, session, said),
-        || work(rt, alloc, &grid, &env, tokens),
+        || -> ()
+            requires { IsTokenAt (place_of grid) 9 tokens.queue × (tokens.held.items ≡ []) × All (λ cell. settings_for (plan_of cell) ≡ settings_in [] 10) (place_of grid).cells.items }
+        { work(rt, alloc, &grid, tokens) },
     );
     Ok(served)
 }
