@@ -1,4 +1,7 @@
 //! What the lines of a control script order.
+ghost use Rattle.std.specs.Prelude.{◌≡◌, ◌≤◌, List, ℕ, ◌∷◌, IfOk, IsErrOf, Ok, Err};
+ghost use Rattle.script_lang.specs.Words.{words_of};
+ghost use Rattle.live_control.specs.Orders.{is_known, begins_known, order_of, order_in, IsPlaced, event_of_step};
 
 use grid_base::{MemberId, PartitionId, Request};
 use memchr::memchr;
@@ -26,7 +29,9 @@ pub enum Step {
 
 impl Step {
     /// The event.
-    pub(crate) fn event(self) -> Event<Request> {
+    pub(crate) fn event(self) -> Event<Request>
+        ensures { result ≡ event_of_step self }
+    {
         match self {
             Step::Move { from, to } => Event::BeginMove { from, to },
             Step::Join { to } => Event::BeginJoin { to },
@@ -58,7 +63,9 @@ const WORDS: [&str; 10] = [
 ];
 
 /// The first word of a text.
-fn first_word(text: &[u8]) -> &[u8] {
+fn first_word(text: &[u8]) -> &[u8]
+    ensures { (rest : List (List ℕ)) × (words_of text.now ≡ result.now ∷ rest) }
+{
     match memchr(b' ', text) {
         None => text,
         Some(at) => &text[..at],
@@ -66,12 +73,23 @@ fn first_word(text: &[u8]) -> &[u8] {
 }
 
 /// Whether a word is one that a control script has a cause for.
-fn is_known(word: &[u8]) -> bool {
+fn is_known(word: &[u8]) -> bool
+    ensures { result ≡ is_known word.now }
+{
     WORDS.iter().any(|known| known.as_bytes() == word)
 }
 
+/// Whether a text begins with such a word.
+fn begins_known(text: &[u8]) -> bool
+    ensures { result ≡ begins_known (words_of text.now) }
+{
+    is_known(first_word(text))
+}
+
 /// What a line orders, if it is one of a control script.
-fn order_of(line: &Line) -> Option<Order> {
+fn order_of(line: &Line) -> Option<Order>
+    ensures { result ≡ order_of line.now }
+{
     match line {
         Line::Comment => Some(Order::Comment),
         Line::End => Some(Order::End),
@@ -108,12 +126,23 @@ fn order_of(line: &Line) -> Option<Order> {
 }
 
 /// What a text orders, without its newline, on a grid of so many members. Costs the text's length.
-pub(crate) fn read_order(alloc: Global, text: &[u8], members: u8) -> Result<Order, LineRefused> {
+pub(crate) fn read_order(alloc: Global, text: &[u8], members: u8) -> Result<Order, LineRefused>
+    requires some { 1 ≤ members }
+    requires most { members ≤ 8 }
+    ensures order { IfOk result (λ order. order_in members text.now ≡ Ok order) }
+    ensures placed { IfOk result IsPlaced }
+    ensures why { (why : LineWhy) → IsErrOf result (LineRefused.Why why) → order_in members text.now ≡ Err why }
+{
     match read_line(alloc, text, false, members) {
-        Ok(line) => order_of(&line).ok_or(LineRefused::Why(LineWhy::Word)),
-        Err(LineRefused::Why(_)) if !is_known(first_word(text)) => {
-            Err(LineRefused::Why(LineWhy::Word))
-        }
-        Err(refused) => Err(refused),
+        Ok(line) => match order_of(&line) {
+            Some(order) => Ok(order),
+            None => Err(LineRefused::Why(LineWhy::Word)),
+        },
+        Err(LineRefused::Why(why)) => Err(LineRefused::Why(if begins_known(text) {
+            why
+        } else {
+            LineWhy::Word
+        })),
+        Err(LineRefused::Memory) => Err(LineRefused::Memory),
     }
 }

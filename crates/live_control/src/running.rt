@@ -1,10 +1,17 @@
 //! How an order is carried out on a live grid.
+ghost use Rattle.std.specs.Prelude.{◌≡◌, ◌++◌, ◌<◌, List, ℕ, All, OnOk, OnErr};
+ghost use Rattle.grid_base.specs.declared.TheConstants.{PARTITIONS};
+ghost use Rattle.hand_cell.specs.Calls.{plan_of};
+ghost use Rattle.live_grid.specs.Control.{IsPassOfGrid, HasControl, HasControlAt, CameToAt, CameToInAll};
+ghost use Rattle.live_grid.specs.Grids.{place_of};
+ghost use Rattle.replay_run.specs.Printing.{words_line};
+ghost use Rattle.live_control.specs.Orders.{IsPlaced, event_of_step, event_of_fate};
+ghost use Rattle.live_control.specs.Running.{exhausted_words, step_words, everywhere_words, HadMemory, MayServe, HasRun, HasTried};
 
 use crate::orders::{Fate, Order, Step};
-use call_engine::GridShelf;
-use grid_base::{Executes, Memory, PartitionId};
-use hand_cell::RunRefused;
-use live_grid::{GridPass, LiveGrid};
+use grid_base::{Memory, PartitionId};
+use hand_cell::{RunRefused, Runs};
+use live_grid::{GridPass, LiveGrid, LiveWorld};
 use partition_world::Happened;
 use replay_run::{done_word, push_fate, push_happened, push_number, push_ok, push_text};
 use std::alloc::{AllocError, Global};
@@ -21,7 +28,12 @@ fn run_step<N, R: Wait>(
     step: Step,
 ) -> Result<Happened, RunRefused>
 where
-    GridShelf: Executes<N>,
+    LiveWorld: Runs<N>,
+    requires placed { partition < PARTITIONS }
+    requires env { All (λ cell. ⟦<LiveWorld as Runs<N>>⟧.means env.now (plan_of cell)) (place_of grid.now).cells.items }
+    requires pass { MayServe grid.now pass.old }
+    ensures came { CameToAt grid.now (event_of_step step) pass.old pass.new partition result }
+    ensures kept { MayServe grid.now pass.new }
 {
     match step {
         Step::Move { from, to } => grid.begin_move(rt, alloc, env, pass, partition, from, to),
@@ -45,7 +57,11 @@ fn run_fate<N, R: Wait>(
     fate: Fate,
 ) -> Result<Happened, RunRefused>
 where
-    GridShelf: Executes<N>,
+    LiveWorld: Runs<N>,
+    requires env { All (λ cell. ⟦<LiveWorld as Runs<N>>⟧.means env.now (plan_of cell)) (place_of grid.now).cells.items }
+    requires pass { MayServe grid.now pass.old }
+    ensures came { CameToInAll grid.now (event_of_fate fate) pass.old pass.new result }
+    ensures kept { MayServe grid.now pass.new }
 {
     match fate {
         Fate::Crash(member) => grid.crash(rt, alloc, env, pass, member),
@@ -54,7 +70,9 @@ where
 }
 
 /// Appends that a line's event met a history at its limit.
-fn push_exhausted(out: &mut Vec<u8>, number: u32) -> Result<(), Memory> {
+fn push_exhausted(out: &mut Vec<u8>, number: u32) -> Result<(), Memory>
+    ensures { OnOk result (out.new.items ≡ out.old.items ++ words_line number exhausted_words) }
+{
     push_number(out, u64::from(number))?;
     push_text(out, b"refused exhausted")?;
     push_text(out, b"\n")
@@ -66,7 +84,10 @@ fn push_step(
     number: u32,
     step: Step,
     came: Result<Happened, RunRefused>,
-) -> Result<(), Memory> {
+) -> Result<(), Memory>
+    ensures text { OnOk result (out.new.items ≡ out.old.items ++ words_line number (step_words step came)) }
+    ensures memory { OnOk result (HadMemory came) }
+{
     match came {
         Ok(happened) => push_happened(out, number, done_word(&step.event()), happened),
         Err(RunRefused::Exhausted { .. }) => push_exhausted(out, number),
@@ -79,7 +100,10 @@ fn push_everywhere(
     out: &mut Vec<u8>,
     number: u32,
     came: Result<Happened, RunRefused>,
-) -> Result<(), Memory> {
+) -> Result<(), Memory>
+    ensures text { OnOk result (out.new.items ≡ out.old.items ++ words_line number (everywhere_words came)) }
+    ensures memory { OnOk result (HadMemory came) }
+{
     match came {
         Ok(happened) => push_fate(out, number, happened),
         Err(RunRefused::Exhausted { .. }) => push_exhausted(out, number),
@@ -99,7 +123,13 @@ pub(crate) fn run_order<N, R: Wait>(
     out: &mut Vec<u8>,
 ) -> Result<(), Memory>
 where
-    GridShelf: Executes<N>,
+    LiveWorld: Runs<N>,
+    requires placed { IsPlaced order }
+    requires env { All (λ cell. ⟦<LiveWorld as Runs<N>>⟧.means env.now (plan_of cell)) (place_of grid.now).cells.items }
+    requires pass { MayServe grid.now pass.old }
+    ensures ran { OnOk result ((own : List ℕ) × (out.new.items ≡ out.old.items ++ own) × HasRun grid.now pass.old pass.new number order own) }
+    ensures tried { HasTried grid.now pass.old pass.new order }
+    ensures kept { MayServe grid.now pass.new }
 {
     match order {
         Order::Comment | Order::End => push_ok(out, number),

@@ -1,13 +1,23 @@
 //! How a control script is served.
+ghost use Rattle.std.specs.Prelude.{◌≡◌, ◌≤◌, ◌++◌, ◌+◌, ◌<◌, ℕ, List, [], All, IfOk, IfErr, OnOk, OnErr, IsErrOf};
+ghost use Rattle.std.specs.Io.KnownBytes.{append_known};
+ghost use Rattle.grid_edge.specs.Faults.{Rose};
+ghost use Rattle.grid_edge.specs.Sink.{TakesFront};
+ghost use Rattle.hand_cell.specs.Calls.{plan_of};
+ghost use Rattle.live_grid.specs.Grids.{place_of};
+ghost use Rattle.grid_cli.specs.Transcripts.{refused_text, limit_text};
+ghost use Rattle.script_lang.specs.Limits.{most_lines};
+ghost use Rattle.live_control.specs.Running.{MayServe};
+ghost use Rattle.live_control.specs.Serving.{HasRunAs, HasFailed, Serves, StopsAs, WritesLast, HasServed};
 
 use crate::lines::{Came, LineReader};
 use crate::orders::{Order, read_order};
 use crate::running::run_order;
-use call_engine::GridShelf;
-use grid_base::{Executes, Memory};
+use grid_base::Memory;
 use grid_cli::{LimitWhat, Status, push_limit, push_refused};
 use grid_edge::{Sink, Source, write_all};
-use live_grid::{GridPass, LiveGrid};
+use hand_cell::Runs;
+use live_grid::{GridPass, LiveGrid, LiveWorld};
 use script_lang::{LineRefused, LineWhy};
 use std::alloc::{AllocError, Global};
 use std::sync::Wait;
@@ -36,7 +46,15 @@ fn run_line<N, R: Wait>(
     text: &mut Vec<u8>,
 ) -> Result<Ran, Memory>
 where
-    GridShelf: Executes<N>,
+    LiveWorld: Runs<N>,
+    requires some { 1 ≤ members }
+    requires most { members ≤ 8 }
+    requires env { All (λ cell. ⟦<LiveWorld as Runs<N>>⟧.means env.now (plan_of cell)) (place_of grid.now).cells.items }
+    requires pass { MayServe grid.now pass.old }
+    requires empty { text.old.items ≡ [] }
+    ensures ran { IfOk result (λ ran. HasRunAs grid.now members number line.now pass.old pass.new text.new.items ran) }
+    ensures failed { OnErr result (HasFailed grid.now members line.now pass.old pass.new) }
+    ensures kept { MayServe grid.now pass.new }
 {
     match read_order(alloc, line, members) {
         Ok(order) => {
@@ -69,7 +87,16 @@ fn serve_line<N, K: Sink, R: Wait>(
     out: &mut K,
 ) -> Result<(), Status>
 where
-    GridShelf: Executes<N>,
+    LiveWorld: Runs<N>,
+    requires some { 1 ≤ members }
+    requires most { members ≤ 8 }
+    requires env { All (λ cell. ⟦<LiveWorld as Runs<N>>⟧.means env.now (plan_of cell)) (place_of grid.now).cells.items }
+    requires pass { MayServe grid.now pass.old }
+    ensures goes { OnOk result (Serves grid.now members number line.now pass.old pass.new (K.taken out.old) (K.taken out.new)) }
+    ensures stops { IfErr result (λ status. StopsAs grid.now members number line.now pass.old pass.new (K.taken out.old) (K.taken out.new) status) }
+    ensures never_falls { K.faults out.old ≤ K.faults out.new }
+    ensures cause { IsErrOf result Status.WriteFault → Rose (K.faults out.old) (K.faults out.new) }
+    ensures kept { MayServe grid.now pass.new }
 {
     let mut text = Vec::new(alloc);
     let Ok(ran) = run_line(rt, alloc, grid, members, env, pass, number, line, &mut text) else {
@@ -86,7 +113,11 @@ where
 }
 
 /// Ends a script of so many lines that stopped without a line `end`.
-fn refuse_end<K: Sink>(alloc: Global, lines: u32, out: &mut K) -> Status {
+fn refuse_end<K: Sink>(alloc: Global, lines: u32, out: &mut K) -> Status
+    ensures last { WritesLast (refused_text lines LineWhy.NoEnd) (Status.ScriptRefused lines LineWhy.NoEnd) (K.taken out.old) (K.taken out.new) result }
+    ensures never_falls { K.faults out.old ≤ K.faults out.new }
+    ensures cause { result ≡ Status.WriteFault → Rose (K.faults out.old) (K.faults out.new) }
+{
     let mut text = Vec::new(alloc);
     let Ok(()) = push_refused(&mut text, lines, LineWhy::NoEnd) else {
         return Status::Memory;
@@ -101,7 +132,12 @@ fn refuse_end<K: Sink>(alloc: Global, lines: u32, out: &mut K) -> Status {
 }
 
 /// Ends a script that goes past a limit in the line behind so many.
-fn stop_at_limit<K: Sink>(alloc: Global, lines: u32, what: LimitWhat, out: &mut K) -> Status {
+fn stop_at_limit<K: Sink>(alloc: Global, lines: u32, what: LimitWhat, out: &mut K) -> Status
+    requires { lines ≤ most_lines }
+    ensures last { WritesLast (limit_text (lines + 1) what) (Status.Limit what) (K.taken out.old) (K.taken out.new) result }
+    ensures never_falls { K.faults out.old ≤ K.faults out.new }
+    ensures cause { result ≡ Status.WriteFault → Rose (K.faults out.old) (K.faults out.new) }
+{
     let mut text = Vec::new(alloc);
     let Ok(()) = push_limit(&mut text, lines + 1, what) else {
         return Status::Memory;
@@ -130,7 +166,17 @@ pub fn serve_control<N, S: Source, K: Sink, R: Wait>(
     out: &mut K,
 ) -> Status
 where
-    GridShelf: Executes<N>,
+    LiveWorld: Runs<N>,
+    requires some { 1 ≤ members }
+    requires most { members ≤ 8 }
+    requires env { All (λ cell. ⟦<LiveWorld as Runs<N>>⟧.means env.now (plan_of cell)) (place_of grid.now).cells.items }
+    requires pass { MayServe grid.now pass.old }
+    // What was run and written is what the status says, of the script that was read.
+    ensures served { HasServed grid.now members result (S.left script.old) (S.left script.new) (K.taken out.old) (K.taken out.new) pass.old pass.new }
+    // A fault is told only where the source or the sink had one.
+    ensures read_fault { result ≡ Status.ReadFault → Rose (S.faults script.old) (S.faults script.new) }
+    ensures write_fault { result ≡ Status.WriteFault → Rose (K.faults out.old) (K.faults out.new) }
+    ensures kept { MayServe grid.now pass.new }
 {
     let Ok(mut reader) = LineReader::new(alloc) else {
         return Status::Memory;

@@ -1,5 +1,5 @@
 -- What a pass has seen after turns of an operator's.
-use Rattle.std.proofs.Common.{◌≡◌, ℕ, ◌<◌, List, [], ◌∷◌, ◌++◌, length, append-nil, append_assoc, sym, refl, ap, ◌∙◌, subst, Option, Some, None, Result, Ok, Err, OnOk, IfOk, IfErr, arith}
+use Rattle.std.proofs.Common.{◌≡◌, ◌<◌, List, [], ◌∷◌, ◌++◌, length, append-nil, append_assoc, sym, ap, ◌∙◌, subst, Option, Some, None, Result, Ok, Err, OnOk, IfOk, IfErr}
 use Rattle.grid_base.specs.declared.calls.Request.{Request}
 use Rattle.hand_cell.specs.declared.names.Key.{Key}
 use Rattle.hand_cell.specs.declared.stands.RunRefused.{RunRefused}
@@ -13,7 +13,7 @@ use Rattle.partition_threads.proofs.Going.{none_append}
 use Rattle.partition_world.specs.declared.event.Event.{Event}
 use Rattle.partition_world.specs.declared.event.Happened.{Happened}
 use Rattle.live_grid.specs.declared.plan.GridPlan.{GridPlan}
-use Rattle.live_grid.specs.Control.{HasRun, WasRefused, CameTo, IsWhyUnrun}
+use Rattle.live_grid.specs.Control.{HasRun, WasRefused, CameTo}
 use Rattle.live_grid.specs.Histories.{live_key}
 use Rattle.live_grid.specs.Outcomes.{LiveGives}
 

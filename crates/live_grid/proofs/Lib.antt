@@ -11,3 +11,4 @@ mod Unanswered
 pub mod Following
 pub mod PassPlaces
 pub mod Trying
+pub mod Controls

@@ -1,5 +1,5 @@
 -- The passes of a grid, of which one goes on.
-use Rattle.std.proofs.Common.{◌≡◌, ◌≢◌, ℕ, zero, suc, ◌+◌, ◌<◌, ◌≤◌, ◌⊎◌, inl, inr, ⊎_elim, true, List, [], ◌∷◌, ◌++◌, map, length, Option, Some, None, Result, Ok, Err, slice_get, slice_set, sym, refl, ap, ◌∙◌, subst, arith, length-append}
+use Rattle.std.proofs.Common.{◌≡◌, ◌≢◌, ℕ, zero, suc, ◌<◌, ⊎_elim, List, [], ◌∷◌, map, length, Option, Some, Result, slice_get, slice_set, sym, refl, ap, ◌∙◌, subst, arith}
 use Rattle.std.specs.List.{insert, remove}
 use Rattle.std.proofs.lemmas.List.{length-map}
 use Rattle.std.proofs.lemmas.Option.{slice_get_within}
@@ -9,7 +9,11 @@ use Rattle.hand_cell.specs.declared.names.Key.TheVariants.{Control}
 use Rattle.hand_cell.specs.declared.stands.RunRefused.{RunRefused}
 use Rattle.hand_cell.specs.Names.{has}
 use Rattle.hand_cell.specs.Told.{Told}
-use Rattle.partition_protocol.proofs.Lists.{get_set, set_get_other, set_get_same}
+use Rattle.job_queues.specs.Roster.{roster_of}
+use Rattle.partition_threads.specs.declared.workplace.Workplace.{Workplace}
+use Rattle.grid_base.specs.declared.TheConstants.{PARTITIONS}
+use Rattle.live_grid.specs.declared.world.LiveWorld.{LiveWorld}
+use Rattle.partition_protocol.proofs.Lists.{get_set}
 use Rattle.partition_protocol.proofs.Theorem.{map_get}
 use Rattle.partition_world.proofs.KeptRings.{some_at}
 use Rattle.partition_world.specs.declared.event.Event.{Event}
@@ -17,10 +21,9 @@ use Rattle.partition_world.specs.declared.event.Happened.{Happened}
 use Rattle.live_grid.specs.declared.grid.GridPass.{GridPass}
 use Rattle.live_grid.specs.declared.grid.LiveGrid.{LiveGrid}
 use Rattle.live_grid.specs.declared.plan.GridPlan.{GridPlan}
-use Rattle.live_grid.specs.Control.{CameTo, CameToAt, IsPassOfGrid, HasControlAt, HasControl, WasTried, cells_of}
+use Rattle.live_grid.specs.Control.{CameTo, CameToAt, IsPassOfGrid, HasControl, cells_of}
 use Rattle.live_grid.specs.Grids.{place_of}
 use Rattle.live_grid.proofs.Following.{same_pass}
-use Rattle.live_grid.proofs.Pushed.{pushed}
 
 abbrev Seen : Type 0
 Seen = Told (Event Request)
@@ -67,3 +70,19 @@ module _ (grid : LiveGrid) where
         (λ (h : (q ≡ partition) × (at.is ≡ p)). ap (λ (z : Seen). has z.names Control) (sym h.1) ∙ (ap (λ names. has names Control) same_there.1 ∙ has_it partition at.was at.was_there))
         (λ (h : (q ≢ partition) × (slice_get old.passes.items q ≡ Some p)). has_it q p h.1)
         (get_set old.passes.items partition q at.is p (subst (λ (ps : List Seen). slice_get ps q ≡ Some p) at.passes there))
+
+-- what came of the event in the partition, whose pass was taken out and put back
+pub came_at : (grid : LiveGrid) (event : Event Request) (old new : GridPass) (partition slot : ℕ) (was is : Seen) (came : Result Happened RunRefused) (place : Workplace LiveWorld GridPlan (Event Request) Happened) (taken : List Seen)
+    → IsPassOfGrid grid old → partition < PARTITIONS → slot ≡ partition → place ≡ place_of grid → slice_get old.passes.items slot ≡ Some was → taken ≡ remove old.passes.items slot → new.passes.items ≡ insert taken slot is → new.tokens ≡ old.tokens
+    → ((plan : GridPlan) → slice_get (roster_of place.cells.items).plans partition ≡ Some plan → CameTo plan event was is came) → CameToAt grid event old new partition came
+came_at grid event old new partition slot was is came place taken of_grid below slot_is place_is was_there left back tokens comes =
+    let plan = plan_there grid partition (omega (arith, below, of_grid.as_many)) in record {
+      plan = plan.0;
+      was = was;
+      is = is;
+      plan_there = plan.1;
+      was_there = ap (slice_get old.passes.items) (sym slot_is) ∙ was_there;
+      passes = back ∙ (ap (λ (ps : List Seen). insert ps slot is) left ∙ (put_back old.passes.items slot is (slice_get_within old.passes.items slot was was_there) ∙ ap (λ k. slice_set old.passes.items k is) slot_is));
+      tokens = tokens;
+      here = comes plan.0 (ap (λ (z : Workplace LiveWorld GridPlan (Event Request) Happened). slice_get (roster_of z.cells.items).plans partition) place_is ∙ plan.1);
+    }

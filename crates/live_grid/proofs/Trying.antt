@@ -1,5 +1,5 @@
 -- An event that is tried in one partition after another.
-use Rattle.std.proofs.Common.{◌≡◌, ◌≢◌, ℕ, zero, suc, ◌+◌, ◌<◌, ◌≤◌, ◌⊎◌, inl, inr, ⊎_elim, Bool, true, false, ◌&&◌, if◌then◌else◌, List, [], ◌∷◌, ◌++◌, map, length, Option, Some, None, Result, Ok, Err, slice_get, slice_set, sym, refl, ap, ◌∙◌, subst, arith, length-append}
+use Rattle.std.proofs.Common.{◌≡◌, ℕ, ◌+◌, ◌<◌, ⊎_elim, Bool, true, false, ◌&&◌, if◌then◌else◌, List, [], ◌∷◌, ◌++◌, map, length, Option, Some, None, Result, Ok, Err, slice_get, slice_set, sym, refl, ap, ◌∙◌, subst, arith, length-append}
 use Rattle.std.specs.List.{list_all}
 use Rattle.std.proofs.lemmas.List.{length-map, map-append}
 use Rattle.std.proofs.lemmas.List.Folds.{list_all-append}
@@ -88,8 +88,11 @@ pub record HasRunInFirst (grid : LiveGrid) (event : Event Request) (old new : Gr
   pub control : HasControl new
 
 module _ (grid : LiveGrid) (event : Event Request) (old mid new : GridPass) (count : ℕ) (answer : Happened) (first : HasRunInFirst grid event old mid count answer) where
-  long : length (map (Ok {E = RunRefused}) first.outcomes) ≡ count
-  long = length-map first.outcomes Ok ∙ first.as_many
+  abbrev came_of : List Happened → List Came
+  came_of outcomes = map Ok outcomes
+
+  long : length (came_of first.outcomes) ≡ count
+  long = length-map first.outcomes (λ (o : Happened). Ok o) ∙ first.as_many
 
   tried_next : (one : Came) → CameToAt grid event mid new count one → WasTried grid event old new (map Ok first.outcomes ++ one ∷ [])
   tried_next one at = tried_more grid event old mid new (map Ok first.outcomes) one first.tried (subst (λ (k : ℕ). CameToAt grid event mid new k one) (sym long) at)

@@ -124,3 +124,13 @@ pub record HasNewControls (was is : Told (Event Request)) (events : List (Event 
   pub later : List (Event Request)
   pub longer : is.seen ≡ was.seen ++ later
   pub controls : controls_in later ≡ events
+
+-- what is new to a pass of an operator's events where one came to this
+abbrev pub run_by : Event Request → Result Happened RunRefused → List (Event Request)
+run_by event (Ok outcome) = event ∷ []
+run_by event (Err why) = []
+
+-- each pass has these new, by its partition
+abbrev pub HaveNewControls : GridPass → GridPass → (ℕ → List (Event Request)) → Type 0
+HaveNewControls old new events = (partition : ℕ) (was is : Told (Event Request)) → slice_get old.passes.items partition ≡ Some was → slice_get new.passes.items partition ≡ Some is
+    → HasNewControls was is (events partition)

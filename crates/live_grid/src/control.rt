@@ -10,14 +10,13 @@ ghost use Rattle.live_grid.specs.Control.{IsPassOfGrid, HasControlAt, HasControl
 ghost use Rattle.live_grid.specs.Fates.{event_in_all};
 ghost use Rattle.live_grid.specs.Grids.{place_of};
 ghost use Rattle.live_grid.specs.Histories.{live_key};
-ghost use Rattle.live_grid.specs.Plans.{settings_for};
 
 use crate::control_turns::run_event;
 use crate::grid::{GridPass, LiveGrid};
 use crate::pass_places::{put_pass, take_pass};
-use call_engine::GridShelf;
-use grid_base::{Executes, MemberId, PARTITIONS, PartitionId, Request};
-use hand_cell::RunRefused;
+use crate::world::LiveWorld;
+use grid_base::{MemberId, PARTITIONS, PartitionId, Request};
+use hand_cell::{RunRefused, Runs};
 use partition_world::{Event, Happened};
 use std::alloc::Global;
 use std::sync::Wait;
@@ -62,15 +61,16 @@ impl LiveGrid {
         event: Event<Request>,
     ) -> Result<Happened, RunRefused>
     where
-        GridShelf: Executes<N>,
+        LiveWorld: Runs<N>,
         requires placed { partition < PARTITIONS }
-        requires env { All (λ cell. ⟦<GridShelf as Executes<N>>⟧.plan_of env.now ≡ settings_for (plan_of cell)) (place_of self.now).cells.items }
+        requires env { All (λ cell. ⟦<LiveWorld as Runs<N>>⟧.means env.now (plan_of cell)) (place_of self.now).cells.items }
         requires pass { IsPassOfGrid self.now pass.old }
         requires named { HasControlAt pass.old partition }
         requires key { live_key event ≡ Control }
         requires admitted { IsWithinLimits RequestFits event }
         ensures came { CameToAt self.now event pass.old pass.new partition result }
         ensures kept { IsPassOfGrid self.now pass.new }
+        ensures control { HasControl pass.old → HasControl pass.new }
     {
         let slot = usize::from(partition);
         let going = take_pass(&mut pass.passes, slot);
@@ -89,17 +89,20 @@ impl LiveGrid {
         fate: Fate,
     ) -> Result<Happened, RunRefused>
     where
-        GridShelf: Executes<N>,
-        requires env { All (λ cell. ⟦<GridShelf as Executes<N>>⟧.plan_of env.now ≡ settings_for (plan_of cell)) (place_of self.now).cells.items }
+        LiveWorld: Runs<N>,
+        requires env { All (λ cell. ⟦<LiveWorld as Runs<N>>⟧.means env.now (plan_of cell)) (place_of self.now).cells.items }
         requires pass { IsPassOfGrid self.now pass.old }
         requires named { HasControl pass.old }
         ensures came { CameToInAll self.now (event_in_all fate) pass.old pass.new result }
         ensures kept { IsPassOfGrid self.now pass.new }
+        ensures control { HasControl pass.new }
     {
         let mut all = Happened::Nothing;
         for partition in 0..PARTITIONS {
-            let one = self.run_in(rt, alloc, env, pass, partition, fate.event())?;
-            all = joined(all, one);
+            match self.run_in(rt, alloc, env, pass, partition, fate.event()) {
+                Ok(one) => all = joined(all, one),
+                Err(why) => return Err(why),
+            }
         }
         Ok(all)
     }
@@ -114,12 +117,13 @@ impl LiveGrid {
         member: MemberId,
     ) -> Result<Happened, RunRefused>
     where
-        GridShelf: Executes<N>,
-        requires env { All (λ cell. ⟦<GridShelf as Executes<N>>⟧.plan_of env.now ≡ settings_for (plan_of cell)) (place_of self.now).cells.items }
+        LiveWorld: Runs<N>,
+        requires env { All (λ cell. ⟦<LiveWorld as Runs<N>>⟧.means env.now (plan_of cell)) (place_of self.now).cells.items }
         requires pass { IsPassOfGrid self.now pass.old }
         requires named { HasControl pass.old }
         ensures came { CameToInAll self.now (Events.Crash member) pass.old pass.new result }
         ensures kept { IsPassOfGrid self.now pass.new }
+        ensures control { HasControl pass.new }
     {
         self.run_in_all(rt, alloc, env, pass, Fate::Crash(member))
     }
@@ -134,12 +138,13 @@ impl LiveGrid {
         member: MemberId,
     ) -> Result<Happened, RunRefused>
     where
-        GridShelf: Executes<N>,
-        requires env { All (λ cell. ⟦<GridShelf as Executes<N>>⟧.plan_of env.now ≡ settings_for (plan_of cell)) (place_of self.now).cells.items }
+        LiveWorld: Runs<N>,
+        requires env { All (λ cell. ⟦<LiveWorld as Runs<N>>⟧.means env.now (plan_of cell)) (place_of self.now).cells.items }
         requires pass { IsPassOfGrid self.now pass.old }
         requires named { HasControl pass.old }
         ensures came { CameToInAll self.now (Events.Detect member) pass.old pass.new result }
         ensures kept { IsPassOfGrid self.now pass.new }
+        ensures control { HasControl pass.new }
     {
         self.run_in_all(rt, alloc, env, pass, Fate::Detect(member))
     }
@@ -156,15 +161,23 @@ impl LiveGrid {
         to: MemberId,
     ) -> Result<Happened, RunRefused>
     where
-        GridShelf: Executes<N>,
+        LiveWorld: Runs<N>,
         requires placed { partition < PARTITIONS }
-        requires env { All (λ cell. ⟦<GridShelf as Executes<N>>⟧.plan_of env.now ≡ settings_for (plan_of cell)) (place_of self.now).cells.items }
+        requires env { All (λ cell. ⟦<LiveWorld as Runs<N>>⟧.means env.now (plan_of cell)) (place_of self.now).cells.items }
         requires pass { IsPassOfGrid self.now pass.old }
         requires named { HasControlAt pass.old partition }
         ensures came { CameToAt self.now (Events.BeginMove from to) pass.old pass.new partition result }
         ensures kept { IsPassOfGrid self.now pass.new }
+        ensures control { HasControl pass.old → HasControl pass.new }
     {
-        self.run_in(rt, alloc, env, pass, partition, Event::BeginMove { from, to })
+        self.run_in(
+            rt,
+            alloc,
+            env,
+            pass,
+            partition,
+            Event::BeginMove { from, to },
+        )
     }
 
     /// A member is to join a partition's row.
@@ -178,13 +191,14 @@ impl LiveGrid {
         to: MemberId,
     ) -> Result<Happened, RunRefused>
     where
-        GridShelf: Executes<N>,
+        LiveWorld: Runs<N>,
         requires placed { partition < PARTITIONS }
-        requires env { All (λ cell. ⟦<GridShelf as Executes<N>>⟧.plan_of env.now ≡ settings_for (plan_of cell)) (place_of self.now).cells.items }
+        requires env { All (λ cell. ⟦<LiveWorld as Runs<N>>⟧.means env.now (plan_of cell)) (place_of self.now).cells.items }
         requires pass { IsPassOfGrid self.now pass.old }
         requires named { HasControlAt pass.old partition }
         ensures came { CameToAt self.now (Events.BeginJoin to) pass.old pass.new partition result }
         ensures kept { IsPassOfGrid self.now pass.new }
+        ensures control { HasControl pass.old → HasControl pass.new }
     {
         self.run_in(rt, alloc, env, pass, partition, Event::BeginJoin { to })
     }
@@ -201,15 +215,23 @@ impl LiveGrid {
         to: MemberId,
     ) -> Result<Happened, RunRefused>
     where
-        GridShelf: Executes<N>,
+        LiveWorld: Runs<N>,
         requires placed { partition < PARTITIONS }
-        requires env { All (λ cell. ⟦<GridShelf as Executes<N>>⟧.plan_of env.now ≡ settings_for (plan_of cell)) (place_of self.now).cells.items }
+        requires env { All (λ cell. ⟦<LiveWorld as Runs<N>>⟧.means env.now (plan_of cell)) (place_of self.now).cells.items }
         requires pass { IsPassOfGrid self.now pass.old }
         requires named { HasControlAt pass.old partition }
         ensures came { CameToAt self.now (Events.BeginHandover from to) pass.old pass.new partition result }
         ensures kept { IsPassOfGrid self.now pass.new }
+        ensures control { HasControl pass.old → HasControl pass.new }
     {
-        self.run_in(rt, alloc, env, pass, partition, Event::BeginHandover { from, to })
+        self.run_in(
+            rt,
+            alloc,
+            env,
+            pass,
+            partition,
+            Event::BeginHandover { from, to },
+        )
     }
 
     /// The move that is under way in a partition takes its next step.
@@ -222,13 +244,14 @@ impl LiveGrid {
         partition: PartitionId,
     ) -> Result<Happened, RunRefused>
     where
-        GridShelf: Executes<N>,
+        LiveWorld: Runs<N>,
         requires placed { partition < PARTITIONS }
-        requires env { All (λ cell. ⟦<GridShelf as Executes<N>>⟧.plan_of env.now ≡ settings_for (plan_of cell)) (place_of self.now).cells.items }
+        requires env { All (λ cell. ⟦<LiveWorld as Runs<N>>⟧.means env.now (plan_of cell)) (place_of self.now).cells.items }
         requires pass { IsPassOfGrid self.now pass.old }
         requires named { HasControlAt pass.old partition }
         ensures came { CameToAt self.now Events.Advance pass.old pass.new partition result }
         ensures kept { IsPassOfGrid self.now pass.new }
+        ensures control { HasControl pass.old → HasControl pass.new }
     {
         self.run_in(rt, alloc, env, pass, partition, Event::Advance)
     }
@@ -243,13 +266,14 @@ impl LiveGrid {
         partition: PartitionId,
     ) -> Result<Happened, RunRefused>
     where
-        GridShelf: Executes<N>,
+        LiveWorld: Runs<N>,
         requires placed { partition < PARTITIONS }
-        requires env { All (λ cell. ⟦<GridShelf as Executes<N>>⟧.plan_of env.now ≡ settings_for (plan_of cell)) (place_of self.now).cells.items }
+        requires env { All (λ cell. ⟦<LiveWorld as Runs<N>>⟧.means env.now (plan_of cell)) (place_of self.now).cells.items }
         requires pass { IsPassOfGrid self.now pass.old }
         requires named { HasControlAt pass.old partition }
         ensures came { CameToAt self.now Events.Reopen pass.old pass.new partition result }
         ensures kept { IsPassOfGrid self.now pass.new }
+        ensures control { HasControl pass.old → HasControl pass.new }
     {
         self.run_in(rt, alloc, env, pass, partition, Event::Reopen)
     }
@@ -265,13 +289,14 @@ impl LiveGrid {
         end: u8,
     ) -> Result<Happened, RunRefused>
     where
-        GridShelf: Executes<N>,
+        LiveWorld: Runs<N>,
         requires placed { partition < PARTITIONS }
-        requires env { All (λ cell. ⟦<GridShelf as Executes<N>>⟧.plan_of env.now ≡ settings_for (plan_of cell)) (place_of self.now).cells.items }
+        requires env { All (λ cell. ⟦<LiveWorld as Runs<N>>⟧.means env.now (plan_of cell)) (place_of self.now).cells.items }
         requires pass { IsPassOfGrid self.now pass.old }
         requires named { HasControlAt pass.old partition }
         ensures came { CameToAt self.now (Events.Resend end) pass.old pass.new partition result }
         ensures kept { IsPassOfGrid self.now pass.new }
+        ensures control { HasControl pass.old → HasControl pass.new }
     {
         self.run_in(rt, alloc, env, pass, partition, Event::Resend { end })
     }

@@ -10,12 +10,10 @@ ghost use Rattle.call_engine.specs.Limits.{RequestFits};
 ghost use Rattle.live_grid.specs.declared.plan.GridPlan.{GridPlan};
 ghost use Rattle.live_grid.specs.Control.{CameTo};
 ghost use Rattle.live_grid.specs.Histories.{live_key};
-ghost use Rattle.live_grid.specs.Plans.{settings_for};
 
 use crate::world::LiveWorld;
-use call_engine::GridShelf;
-use grid_base::{Executes, PartitionId, Request};
-use hand_cell::{Pass, RunRefused, Served, Turn};
+use grid_base::{PartitionId, Request};
+use hand_cell::{Pass, RunRefused, Runs, Served, Turn};
 use partition_threads::Workplace;
 use partition_world::{Event, Happened};
 use std::alloc::Global;
@@ -24,9 +22,9 @@ use std::sync::Wait;
 /// Runs the next delivery in a turn, if there is one, and room and memory for it. Tells whether it ran.
 fn deliver<'a, N>(alloc: Global, turn: &mut Turn<'a, LiveWorld>, env: &N) -> bool
 where
-    GridShelf: Executes<N>,
+    LiveWorld: Runs<N>,
     requires first { turn.old.ran ≡ None }
-    requires env { ⟦<GridShelf as Executes<N>>⟧.plan_of env.now ≡ settings_for turn.old.plan }
+    requires env { ⟦<LiveWorld as Runs<N>>⟧.means env.now turn.old.plan }
     ensures pass { turn.new.pass ≡ turn.old.pass }
     ensures free { IsFree live_key turn.new.ran }
 {
@@ -46,9 +44,9 @@ fn delivery_turn<N, R: Wait>(
     pass: Pass<LiveWorld>,
 ) -> (Pass<LiveWorld>, bool)
 where
-    GridShelf: Executes<N>,
+    LiveWorld: Runs<N>,
     requires cell { slice_get (roster_of place.now.cells.items).tables partition ≡ Some pass.table }
-    requires env { All (λ cell. ⟦<GridShelf as Executes<N>>⟧.plan_of env.now ≡ settings_for (plan_of cell)) place.now.cells.items }
+    requires env { All (λ cell. ⟦<LiveWorld as Runs<N>>⟧.means env.now (plan_of cell)) place.now.cells.items }
     ensures { Follows live_key pass result.0 }
 {
     let mut turn = place.cells[usize::from(partition)].enter(rt, pass);
@@ -67,9 +65,9 @@ fn deliver_all<N, R: Wait>(
     pass: Pass<LiveWorld>,
 ) -> Pass<LiveWorld>
 where
-    GridShelf: Executes<N>,
+    LiveWorld: Runs<N>,
     requires cell { slice_get (roster_of place.now.cells.items).tables partition ≡ Some pass.table }
-    requires env { All (λ cell. ⟦<GridShelf as Executes<N>>⟧.plan_of env.now ≡ settings_for (plan_of cell)) place.now.cells.items }
+    requires env { All (λ cell. ⟦<LiveWorld as Runs<N>>⟧.means env.now (plan_of cell)) place.now.cells.items }
     ensures { Follows live_key pass result }
 {
     let mut going = pass;
@@ -95,13 +93,14 @@ fn event_turn<N, R: Wait>(
     event: Event<Request>,
 ) -> (Pass<LiveWorld>, Result<Happened, RunRefused>)
 where
-    GridShelf: Executes<N>,
+    LiveWorld: Runs<N>,
     requires cell { slice_get (roster_of place.now.cells.items).tables partition ≡ Some pass.table }
-    requires env { All (λ cell. ⟦<GridShelf as Executes<N>>⟧.plan_of env.now ≡ settings_for (plan_of cell)) place.now.cells.items }
+    requires env { All (λ cell. ⟦<LiveWorld as Runs<N>>⟧.means env.now (plan_of cell)) place.now.cells.items }
     requires key { live_key event ≡ Control }
     requires named { has pass.names Control ≡ true }
     requires admitted { IsWithinLimits RequestFits event }
-    ensures { (plan : GridPlan) → slice_get (roster_of place.now.cells.items).plans partition ≡ Some plan → CameTo plan event pass result.0 result.1 }
+    ensures came { (plan : GridPlan) → slice_get (roster_of place.now.cells.items).plans partition ≡ Some plan → CameTo plan event pass result.0 result.1 }
+    ensures table { result.0.table ≡ pass.table }
 {
     let mut turn = place.cells[usize::from(partition)].enter(rt, pass);
     let came = turn.run(alloc, env, event);
@@ -119,9 +118,9 @@ pub(crate) fn run_event<N, R: Wait>(
     event: Event<Request>,
 ) -> (Pass<LiveWorld>, Result<Happened, RunRefused>)
 where
-    GridShelf: Executes<N>,
+    LiveWorld: Runs<N>,
     requires cell { slice_get (roster_of place.now.cells.items).tables partition ≡ Some pass.table }
-    requires env { All (λ cell. ⟦<GridShelf as Executes<N>>⟧.plan_of env.now ≡ settings_for (plan_of cell)) place.now.cells.items }
+    requires env { All (λ cell. ⟦<LiveWorld as Runs<N>>⟧.means env.now (plan_of cell)) place.now.cells.items }
     requires key { live_key event ≡ Control }
     requires named { has pass.names Control ≡ true }
     requires admitted { IsWithinLimits RequestFits event }

@@ -3,7 +3,7 @@ ghost use Rattle.std.specs.Prelude.{◌≡◌, ◌≤◌, ◌*◌, IfOk, All, ma
 ghost use Rattle.hand_cell.specs.Calls.{plan_of, first_pass};
 ghost use Rattle.partition_threads.specs.Workplaces.{AreTokensAt};
 ghost use Rattle.live_grid.specs.Plans.{settings_in, settings_for};
-ghost use Rattle.live_grid.specs.Grids.{AreCells, place_of};
+ghost use Rattle.live_grid.specs.Grids.{AreCells, IsGridPassOf, place_of};
 
 use crate::opening::make_cells;
 use crate::world::LiveWorld;
@@ -54,6 +54,7 @@ impl LiveGrid {
         ensures means { IfOk result (λ made. All (λ cell. ⟦<GridShelf as Executes<N>>⟧.plan_of env.now ≡ settings_for (plan_of cell)) (place_of made.0).cells.items) }
         ensures workers { IfOk result (λ made. vec_len made.1.tokens ≡ 4 * members) }
         ensures tokens { IfOk result (λ made. AreTokensAt (place_of made.0) made.1.tokens.items) }
+        ensures whole { IfOk result (λ made. IsGridPassOf made.0 made.1) }
     {
         let _ = env;
         let (cells, passes) = make_cells(alloc, members, backups, forms, capacity)?;

@@ -9,6 +9,7 @@ mod answers;
 mod control;
 mod control_turns;
 mod grid;
+mod handing;
 pub mod laws;
 mod opening;
 mod pass_places;

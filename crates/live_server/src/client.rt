@@ -1,8 +1,8 @@
 //! A client that is served.
-ghost use Rattle.std.specs.Prelude.{ℕ, List};
+ghost use Rattle.std.specs.Prelude.{◌≡◌, ℕ, List};
 ghost use Rattle.grid_edge.specs.Doors.{Arrival};
 ghost use Rattle.live_session.specs.Connections.{ServesCalls};
-ghost use Rattle.live_server.specs.Clients.{telling_by, IsServedSince, IsProgress};
+ghost use Rattle.live_server.specs.Clients.{is_memory, telling_by, IsServedSince, IsProgress};
 
 use grid_edge::{Clock, ReadySink, ReadySource};
 use hand_cell::Served;
@@ -26,11 +26,9 @@ pub struct Client<T: Served, F, K> {
 /// What came of a client's turns.
 #[derive(Clone, Copy, Debug)]
 pub(crate) enum Progress {
-    /// Something moved.
-    Moved,
-    /// Nothing was ready.
-    NotYet,
-    /// The connection has ended, for want of memory or for another cause.
+    /// The connection goes on.
+    Going { moved: bool },
+    /// It has ended, for want of memory or for another cause.
     Ended { memory: bool },
 }
 
@@ -46,18 +44,19 @@ impl<T: Served, F: ReadySource, K: ReadySink> Client<T, F, K> {
         requires calls { ServesCalls T.fits place.now }
         requires served { (arrivals : List Arrival)
             × IsServedSince T.key_of T.tells T.call_of place.now (λ now. C.gives clock.now now) (telling_by F.left F.faults K.taken K.faults) arrivals self.old }
-        ensures { (arrivals : List Arrival)
+        ensures number { self.new.number ≡ self.old.number }
+        ensures progress { (arrivals : List Arrival)
             → IsServedSince T.key_of T.tells T.call_of place.now (λ now. C.gives clock.now now) (telling_by F.left F.faults K.taken K.faults) arrivals self.old
             → IsProgress T.key_of T.tells T.call_of place.now (λ now. C.gives clock.now now) (telling_by F.left F.faults K.taken K.faults) result arrivals self.new }
     {
-        let mut progress = Progress::NotYet;
+        let mut moved = false;
         for _ in 0..MOST_TURNS {
             match self
                 .connection
                 .turn(rt, alloc, place, &mut self.from, &mut self.to, clock)
             {
-                Turned::Moved => progress = Progress::Moved,
-                Turned::NotYet => return progress,
+                Turned::Moved => moved = true,
+                Turned::NotYet => break,
                 Turned::Ended(end) => {
                     return Progress::Ended {
                         memory: is_memory(&end),
@@ -65,11 +64,13 @@ impl<T: Served, F: ReadySource, K: ReadySink> Client<T, F, K> {
                 }
             }
         }
-        progress
+        Progress::Going { moved }
     }
 }
 
 /// Whether a connection ended for want of memory.
-fn is_memory(end: &ConnectionEnd) -> bool {
+fn is_memory(end: &ConnectionEnd) -> bool
+    ensures { result ≡ is_memory end.now }
+{
     matches!(end, ConnectionEnd::Memory)
 }

@@ -1,8 +1,15 @@
 //! The loop of a server.
+ghost use Rattle.std.specs.Prelude.{◌≡◌, ℕ, OnOk};
+ghost use Rattle.grid_edge.specs.Faults.{HasCause};
+ghost use Rattle.live_session.specs.Connections.{ServesCalls};
+ghost use Rattle.live_server.specs.Clients.{telling_by};
+ghost use Rattle.live_server.specs.Serving.{HasServedAll};
+ghost use Rattle.live_server.specs.Standing.{MayServe, Rests, HasLetAllIn, IsSince, IsServing};
+
 use crate::admission::let_in;
 use crate::closing::Closing;
 use crate::connections::{Connections, MOST_NUMBERS};
-use crate::entrance::Entrance;
+use crate::entrance::{Entrance, Outside};
 use crate::rounds::go_round;
 use grid_edge::{Clock, DoorFault, Doors};
 use hand_cell::Served;
@@ -17,7 +24,16 @@ const MOST_LOOKS: usize = 200;
 /// How long it sleeps at most, in milliseconds.
 const LONGEST_SLEEP: u32 = 1000;
 
-/// Serves the connections that come through the doors, until it is told to close and the last one has ended.
+/// Serves the connections that come through the doors, which were opened before. Each is served at the member that it
+/// came to, with its number at the doors as the one of its session, and is given back once it has ended. At most 1,024
+/// are served at a time, and others wait outside; where there is no memory for a session, its connection is given back
+/// at once.
+///
+/// Once it is told to close it lets in who has come by then, and returns when the last connection has ended. A fault of
+/// the doors has the same effect, and is answered then. Where nothing is ready the thread sleeps at the doors, and
+/// whoever answers a call or closes the server wakes it there.
+///
+/// A round costs a turn of each connection that isn't ready, and up to eight of one that is.
 pub fn serve<T: Served, D: Doors, C: Clock, R: Wait>(
     rt: &R,
     alloc: Global,
@@ -26,65 +42,88 @@ pub fn serve<T: Served, D: Doors, C: Clock, R: Wait>(
     doors: &mut D,
     clock: &C,
     closing: &Closing,
-) -> Result<(), DoorFault> {
+) -> Result<(), DoorFault>
+    requires calls { ServesCalls T.fits place.now }
+    requires may { MayServe T.key_of place.now connections.old (D.book doors.old) }
+    ensures served { HasServedAll T.key_of T.tells T.call_of place.now (λ now. C.gives clock.now now) connections.new.passes.items (D.book doors.new) }
+    ensures all_in { OnOk result (HasLetAllIn (D.empty_looks doors.old) (D.empty_looks doors.new) (D.book doors.new).accepted) }
+    ensures rests { Rests place.now connections.new }
+    ensures cause { HasCause (D.faults doors.old) (D.faults doors.new) result }
+{
     let mut entrance = Entrance::Open;
     let mut idle = 0;
     for _ in rt.forever() {
-        let mut moved = false;
-        if entrance == Entrance::Open {
-            (entrance, moved) = look_outside(alloc, place, connections, doors, closing);
+        let outside = look_outside(alloc, place, connections, doors, clock, closing, entrance);
+        let moved = go_round(rt, alloc, place, connections, doors, clock) || outside.came;
+        if connections.clients.is_empty() && !outside.entrance.is_open() {
+            return outside.entrance.told();
         }
-        moved |= go_round(rt, alloc, place, connections, doors, clock);
-        if connections.clients.is_empty() && entrance != Entrance::Open {
-            break;
-        }
-        if moved {
-            idle = 0;
-        } else {
-            match rest(doors, idle, connections.clients.len()) {
-                Ok(looks) => idle = looks,
-                Err(DoorFault) => {
-                    entrance = Entrance::Failed;
-                    idle = 0;
-                }
-            }
-        }
+        let rested = rest(doors, moved, idle, connections.clients.len());
+        entrance = outside.entrance.after(&rested);
+        idle = rested.unwrap_or(0);
     }
-    match entrance {
-        Entrance::Failed => Err(DoorFault),
-        _ => Ok(()),
-    }
+    unreachable!()
 }
 
-/// Lets connections in. Answers whether the doors stand open still, and whether one came.
-fn look_outside<T: Served, D: Doors>(
+/// Lets connections in, where the entrance is open.
+fn look_outside<T: Served, D: Doors, C: Clock>(
     alloc: Global,
     place: &Workplace<T>,
     connections: &mut Connections<T, D::From, D::To>,
     doors: &mut D,
+    clock: &C,
     closing: &Closing,
-) -> (Entrance, bool) {
+    entrance: Entrance,
+) -> Outside
+    requires { IsServing T.key_of T.tells T.call_of place.now (λ now. C.gives clock.now now) (telling_by D.From.left D.From.faults D.To.taken D.To.faults) connections.old (D.book doors.old) }
+    ensures serving { IsServing T.key_of T.tells T.call_of place.now (λ now. C.gives clock.now now) (telling_by D.From.left D.From.faults D.To.taken D.To.faults) connections.new (D.book doors.new) }
+    ensures since { (looks faults : ℕ) → IsSince entrance looks (D.empty_looks doors.old) faults (D.faults doors.old) (D.book doors.old).accepted
+        → IsSince result.entrance looks (D.empty_looks doors.new) faults (D.faults doors.new) (D.book doors.new).accepted }
+{
+    if !entrance.is_open() {
+        return Outside {
+            entrance,
+            came: false,
+        };
+    }
     let closed = closing.is_closed();
-    match let_in(alloc, place, connections, doors) {
+    match let_in(alloc, place, connections, doors, clock) {
         Ok(looks) => {
-            let none_left = looks.empty || connections.accepted == MOST_NUMBERS;
-            let entrance = if closed && none_left {
-                Entrance::Closed
-            } else {
-                Entrance::Open
-            };
-            (entrance, looks.came)
+            let all_in = looks.empty || connections.accepted == MOST_NUMBERS;
+            Outside {
+                entrance: if closed && all_in {
+                    Entrance::Closed
+                } else {
+                    Entrance::Open
+                },
+                came: looks.came,
+            }
         }
-        Err(DoorFault) => (Entrance::Failed, false),
+        Err(DoorFault) => Outside {
+            entrance: Entrance::Failed,
+            came: false,
+        },
     }
 }
 
-/// What the thread does after a round in which nothing moved: after few looks in a row it lets others run, and later it
-/// sleeps. `idle` is how many looks in a row found nothing, and gives the number for the next round.
-fn rest<D: Doors>(doors: &mut D, idle: usize, clients: usize) -> Result<usize, DoorFault> {
+/// What the thread does after a round: where nothing moved it lets others run, and after few such rounds in a row it
+/// sleeps. `idle` is how many looks in a row found nothing ready before; gives the number for the next round.
+fn rest<D: Doors>(
+    doors: &mut D,
+    moved: bool,
+    idle: usize,
+    clients: usize,
+) -> Result<usize, DoorFault>
+    ensures book { D.book doors.new ≡ D.book doors.old }
+    ensures looks { D.empty_looks doors.new ≡ D.empty_looks doors.old }
+    ensures cause { HasCause (D.faults doors.old) (D.faults doors.new) result }
+{
+    if moved {
+        return Ok(0);
+    }
     if idle < MOST_LOOKS {
         thread::yield_now();
-        return Ok(idle + clients + 1);
+        return Ok(idle.saturating_add(clients).saturating_add(1));
     }
     doors.wait(LONGEST_SLEEP)?;
     Ok(0)

@@ -1,14 +1,14 @@
-mod Numbers
-mod Places
+pub mod Numbers
+pub mod Places
 mod Passes
-mod Answering
+pub mod Answering
 mod Sent
 mod Turning
 mod Ending
 mod Looking
 mod Starting
 mod Heard
-mod Beginning
+pub mod Beginning
 mod Choosing
 mod Spoken
 mod Replied

@@ -1,0 +1,203 @@
+-- How a client goes on by a turn.
+use Rattle.std.proofs.Common.{◌≡◌, ◌⊎◌, inl, inr, ⊎_elim, ℕ, ◌<◌, ◌≤◌, Bool, true, false, List, [], ◌∷◌, ◌++◌, All, Option, Some, None, IfSome, IsSome, slice_get, refl, sym, ap, ◌∙◌, subst, append_assoc, arith}
+use Rattle.std.proofs.lemmas.List.Elements.{All-cons}
+use Rattle.std.specs.Io.KnownBytes.{prepend_known, append_known, IsAtEnd}
+use Rattle.grid_base.specs.declared.calls.Request.{Request}
+use Rattle.grid_edge.specs.Doors.{Arrival, Connection as AtDoors}
+use Rattle.grid_edge.specs.Faults.{Rose}
+use Rattle.grid_edge.specs.MemoryDoors.{Telling}
+use Rattle.grid_edge.proofs.Told.{more_read, more_taken}
+use Rattle.hand_cell.specs.declared.names.Key.{Key}
+use Rattle.hand_cell.specs.declared.outcome.LiveOutcome.{LiveOutcome}
+use Rattle.hand_cell.specs.declared.outcome.LiveOutcome.TheVariants.{MemberGone as IsGone}
+use Rattle.frame_codec.specs.declared.malformed.Malformed.{Malformed}
+use Rattle.message_frames.specs.Messages.{messages_of, fault_of}
+use Rattle.message_frames.proofs.Staying.{heard_messages_stay}
+use Rattle.partition_threads.specs.declared.workplace.Workplace.{Workplace}
+use Rattle.session_core.specs.Items.{items_of, items_from, identity_after_all}
+use Rattle.session_core.specs.declared.item.Item.{Item}
+use Rattle.session_core.specs.declared.item.Item.TheVariants.{Call}
+use Rattle.session_core.proofs.ItemLists.{items_go_on}
+use Rattle.live_session.specs.declared.turned.ConnectionEnd.{ConnectionEnd}
+use Rattle.live_session.specs.declared.turned.ConnectionEnd.TheVariants.{Ended, Closed, ReadFault, WriteFault, MemberGone, Memory}
+use Rattle.live_session.specs.declared.turned.Turned.{Turned}
+use Rattle.live_session.specs.declared.turned.Turned.TheVariants.{Moved, NotYet, Ended as Over}
+use Rattle.live_session.specs.Connections.{HasAnswered, IsServed, IsServedTo, HasEnded as SessionEnded}
+use Rattle.live_session.specs.Turns.{stream, with_moment, HasTurned, StandsAfter, IsOver, IsAllWritten}
+use Rattle.live_server.specs.declared.client.Client.{Client}
+use Rattle.live_server.specs.Serving.{HaveMoved, IsComplete, IsCutShort, WasAnswered}
+use Rattle.live_server.specs.Clients.{is_memory, state_of, IsServedSince, HasEnded}
+
+-- a count that rose has risen since it was less
+pub rose_since : (first mid last : ℕ) → first ≤ mid → Rose mid last → Rose first last
+rose_since first mid last before rose = ⊎_elim (λ (l : mid < last). inl (omega (arith, before, l))) (λ full. inr full) rose
+
+-- what is at its end stays so
+still_at_end : (before after : Option (List ℕ)) (piece : List ℕ) → before ≡ prepend_known piece after → IsAtEnd before → IsAtEnd after
+still_at_end before None piece e ended = tt
+still_at_end None (Some ys) piece e ended = absurd (cc)
+still_at_end (Some xs) (Some ys) piece e ended = none_behind piece ys (sym (same_bytes xs (piece ++ ys) e) ∙ ended)
+  where
+    same_bytes : (a b : List ℕ) → ◌≡◌ {A = Option (List ℕ)} (Some a) (Some b) → a ≡ b
+    same_bytes a b e = cc
+
+    none_behind : (a b : List ℕ) → a ++ b ≡ [] → b ≡ []
+    none_behind [] b e = e
+    none_behind (x ∷ a) b e = absurd (cc)
+
+is_some : {A : Type 0} (o : Option A) (x : A) → o ≡ Some x → IsSome o
+is_some {A = A} o x e = subst (λ (p : Option A). IsSome p) (sym e) refl
+
+with_gives : (gives : ℕ → Type 0) (started : Option ℕ) (moments : List ℕ) → IfSome started gives → All gives moments → All gives (with_moment started moments)
+with_gives gives None moments given all = all
+with_gives gives (Some moment) moments given all = All-cons gives moment moments given all
+
+module _ {T P E O : Type 0} (key_of : E → Key) (tells : P → List E → E → LiveOutcome → Type 0) (call_of : ℕ → Request → ℕ → E) (moments : List ℕ) (place : Workplace T P E O) where
+  -- the answers to the messages of what was heard are the beginning of those to all that was read
+  heard_of_read : (conn member : ℕ) (seen : ℕ → List E) (read heard unheard written left : List ℕ) (rest : List Item) → read ≡ heard ++ unheard
+      → HasAnswered key_of tells call_of moments place conn member seen heard written left rest → (all : List Item) × HasAnswered key_of tells call_of moments place conn member seen read written left all
+  heard_of_read conn member seen read heard unheard written left rest cut has =
+      let later = heard_messages_stay true heard unheard in
+      let more = items_go_on conn member (messages_of true heard) later.0 in (
+        rest ++ more.0,
+        record {
+          answered = has.answered;
+          whole = ap (λ (l : List ℕ). items_of conn member (messages_of true l)) cut ∙ (ap (items_of conn member) later.1 ∙ (more.1 ∙ (ap (λ (l : List Item). l ++ more.0) has.whole ∙ append_assoc has.answered rest more.0)));
+          replies = has.replies;
+          each = has.each;
+          bytes = has.bytes;
+        },
+      )
+
+  at_number : (conn conn_now member member_now : ℕ) → conn ≡ conn_now → member ≡ member_now → (seen : ℕ → List E) (read written left : List ℕ) (rest : List Item)
+      → HasAnswered key_of tells call_of moments place conn member seen read written left rest → HasAnswered key_of tells call_of moments place conn_now member_now seen read written left rest
+  at_number conn conn_now member member_now same_conn same_member seen read written left rest has =
+      subst (λ (n : ℕ). HasAnswered key_of tells call_of moments place n member_now seen read written left rest) same_conn
+      (subst (λ (m : ℕ). HasAnswered key_of tells call_of moments place conn m seen read written left rest) same_member has)
+
+module _ {T P E O F K : Type 0} (key_of : E → Key) (tells : P → List E → E → LiveOutcome → Type 0) (call_of : ℕ → Request → ℕ → E) (place : Workplace T P E O) (gives : ℕ → Type 0) (telling : Telling F K)
+    (arrivals : List Arrival) (old new : Client T F K P E O) (was_unready from_unready to_unready now_unready : ℕ) (turned : Turned) (served : IsServedSince key_of tells call_of place gives telling arrivals old)
+    (same_number : new.number ≡ old.number) (same_conn : new.connection.pass.conn ≡ old.connection.pass.conn) (same_member : new.connection.pass.member ≡ old.connection.pass.member)
+    (read_faults : telling.read_faults old.from ≤ telling.read_faults new.from) (write_faults : telling.write_faults old.to ≤ telling.write_faults new.to)
+    (turn : HasTurned key_of tells call_of place gives old.connection.asked new.connection
+    (record { from = stream (telling.left old.from) (telling.read_faults old.from) was_unready; to = stream (telling.taken old.to) (telling.write_faults old.to) to_unready })
+    (record { from = stream (telling.left new.from) (telling.read_faults new.from) from_unready; to = stream (telling.taken new.to) (telling.write_faults new.to) now_unready })
+    served.seen served.moments served.read served.written turned) where
+  conn_now : new.connection.pass.conn ≡ new.number
+  conn_now = same_conn ∙ (served.conn ∙ sym same_number)
+
+  member_now : new.connection.pass.member ≡ served.arrival.member
+  member_now = same_member ∙ served.member
+
+  came_now : slice_get arrivals new.number ≡ Some served.arrival
+  came_now = ap (slice_get arrivals) same_number ∙ served.came
+
+  moved_now : HaveMoved served.arrival.at (state_of telling new) (served.read ++ turn.moves.read) (served.written ++ turn.moves.written)
+  moved_now = record {
+    read_is = more_read served.arrival.at.left (telling.left old.from) (telling.left new.from) served.read turn.moves.read served.moved.read_is turn.moved.read;
+    written_is = more_taken served.arrival.at.taken (telling.taken old.to) (telling.taken new.to) served.written turn.moves.written served.moved.written_is turn.moved.written;
+    read_faults = let before : served.arrival.at.read_faults ≤ telling.read_faults old.from = served.moved.read_faults in omega (arith, before, read_faults);
+    write_faults = let before : served.arrival.at.write_faults ≤ telling.write_faults old.to = served.moved.write_faults in omega (arith, before, write_faults);
+  }
+
+  by_clock_now : All gives (with_moment turn.started served.moments)
+  by_clock_now = with_gives gives turn.started served.moments turn.given served.by_clock
+
+  -- where it goes on, it is served as before
+  pub still_served : IsServedTo key_of tells call_of (with_moment turn.started served.moments) place new.connection turn.sees (served.read ++ turn.moves.read) (served.written ++ turn.moves.written)
+      → IsServedSince key_of tells call_of place gives telling arrivals new
+  still_served now = record {
+    arrival = served.arrival;
+    came = came_now;
+    conn = conn_now;
+    member = member_now;
+    read = served.read ++ turn.moves.read;
+    written = served.written ++ turn.moves.written;
+    moved = moved_now;
+    moments = with_moment turn.started served.moments;
+    by_clock = by_clock_now;
+    seen = turn.sees;
+    served = now;
+  }
+
+  -- and else it has ended
+  ended_with : (memory : Bool) (heard : List ℕ) (ended : SessionEnded key_of tells call_of (with_moment turn.started served.moments) place new.connection turn.sees heard (served.written ++ turn.moves.written))
+      → WasAnswered key_of tells call_of place gives new.number served.arrival.member served.arrival.at (state_of telling new) memory turn.sees
+      → HasEnded key_of tells call_of place gives telling arrivals new memory
+  ended_with memory heard ended answered = record {
+    arrival = served.arrival;
+    came = came_now;
+    conn = conn_now;
+    of_place = ended.pass;
+    seen = turn.sees;
+    passes = ended.passes;
+    answered = answered;
+  }
+
+  module _ (memory : Bool) (ended : SessionEnded key_of tells call_of (with_moment turn.started served.moments) place new.connection turn.sees (served.read ++ turn.moves.read) (served.written ++ turn.moves.written)) where
+    answered_with : IsComplete (state_of telling new) (served.read ++ turn.moves.read) new.connection.out ended.rest
+        ⊎ IsCutShort key_of tells call_of place gives served.arrival.member served.arrival.at (state_of telling new) memory (with_moment turn.started served.moments) turn.sees ended.rest
+        → HasEnded key_of tells call_of place gives telling arrivals new memory
+    answered_with why = ended_with memory (served.read ++ turn.moves.read) ended (record {
+      read = served.read ++ turn.moves.read;
+      written = served.written ++ turn.moves.written;
+      moved = moved_now;
+      moments = with_moment turn.started served.moments;
+      by_clock = by_clock_now;
+      left = new.connection.out;
+      rest = ended.rest;
+      answers = at_number key_of tells call_of (with_moment turn.started served.moments) place new.connection.pass.conn new.number new.connection.pass.member served.arrival.member conn_now member_now
+          turn.sees (served.read ++ turn.moves.read) (served.written ++ turn.moves.written) new.connection.out ended.rest ended.answers;
+      ended = why;
+    })
+
+  all_written : (memory : Bool) (all : IsAllWritten key_of tells call_of place (with_moment turn.started served.moments) new.connection turn.sees (served.read ++ turn.moves.read) (served.written ++ turn.moves.written))
+      → IsAtEnd (telling.left new.from) ⊎ IsSome (fault_of true (served.read ++ turn.moves.read)) → HasEnded key_of tells call_of place gives telling arrivals new memory
+  all_written memory all why = answered_with memory all.ended (inl (record { none_left = all.none_left; all_answered = all.all_answered; no_more = why }))
+
+  pub has_ended : (end : ConnectionEnd) → IsOver key_of tells call_of place end (with_moment turn.started served.moments) new.connection turn.sees (served.read ++ turn.moves.read) (served.written ++ turn.moves.written)
+      (record { from = stream (telling.left old.from) (telling.read_faults old.from) was_unready; to = stream (telling.taken old.to) (telling.write_faults old.to) to_unready })
+      (record { from = stream (telling.left new.from) (telling.read_faults new.from) from_unready; to = stream (telling.taken new.to) (telling.write_faults new.to) now_unready })
+      → HasEnded key_of tells call_of place gives telling arrivals new (is_memory end)
+  has_ended Ended over = all_written false over.0 (inl (still_at_end (telling.left old.from) (telling.left new.from) turn.moves.read turn.moved.read over.1))
+  has_ended (Closed fault) over = all_written false over.0 (inr (is_some (fault_of true (served.read ++ turn.moves.read)) fault over.1))
+  has_ended ReadFault over = answered_with false over.0 (inr (inr (inl (rose_since served.arrival.at.read_faults (telling.read_faults old.from) (telling.read_faults new.from) served.moved.read_faults over.1))))
+  has_ended WriteFault over = answered_with false over.0 (inr (inr (inr (inl (rose_since served.arrival.at.write_faults (telling.write_faults old.to) (telling.write_faults new.to) served.moved.write_faults over.1)))))
+  has_ended MemberGone over = answered_with false over.ended (inr (inr (inr (inr (record {
+    request = over.request;
+    behind = over.next.0;
+    next = over.next.1;
+    gone = subst (λ (m : ℕ). IsServed key_of tells call_of (with_moment turn.started served.moments) place m over.request (turn.sees over.request.partition) IsGone) member_now over.gone;
+  })))))
+  has_ended Memory over =
+      let all = heard_of_read key_of tells call_of (with_moment turn.started served.moments) place new.connection.pass.conn new.connection.pass.member turn.sees
+      (served.read ++ turn.moves.read) over.heard over.unheard (served.written ++ turn.moves.written) new.connection.out over.ended.rest over.cut over.ended.answers in
+      ended_with true over.heard over.ended (record {
+        read = served.read ++ turn.moves.read;
+        written = served.written ++ turn.moves.written;
+        moved = moved_now;
+        moments = with_moment turn.started served.moments;
+        by_clock = by_clock_now;
+        left = new.connection.out;
+        rest = all.0;
+        answers = at_number key_of tells call_of (with_moment turn.started served.moments) place new.connection.pass.conn new.number new.connection.pass.member served.arrival.member conn_now member_now
+            turn.sees (served.read ++ turn.moves.read) (served.written ++ turn.moves.written) new.connection.out all.0 all.1;
+        ended = inr (inl refl);
+      })
+
+  -- what the turn came to
+  stands_at : (is : Turned) → turned ≡ is → StandsAfter key_of tells call_of place is (with_moment turn.started served.moments) old.connection.asked new.connection turn.sees (served.read ++ turn.moves.read) (served.written ++ turn.moves.written) turn.moves
+      (record { from = stream (telling.left old.from) (telling.read_faults old.from) was_unready; to = stream (telling.taken old.to) (telling.write_faults old.to) to_unready })
+      (record { from = stream (telling.left new.from) (telling.read_faults new.from) from_unready; to = stream (telling.taken new.to) (telling.write_faults new.to) now_unready })
+  stands_at is e = subst (λ (t : Turned). StandsAfter key_of tells call_of place t (with_moment turn.started served.moments) old.connection.asked new.connection turn.sees (served.read ++ turn.moves.read) (served.written ++ turn.moves.written) turn.moves
+      (record { from = stream (telling.left old.from) (telling.read_faults old.from) was_unready; to = stream (telling.taken old.to) (telling.write_faults old.to) to_unready })
+      (record { from = stream (telling.left new.from) (telling.read_faults new.from) from_unready; to = stream (telling.taken new.to) (telling.write_faults new.to) now_unready })) e turn.stands
+
+  pub after_moved : turned ≡ Moved → IsServedSince key_of tells call_of place gives telling arrivals new
+  after_moved e = still_served (stands_at Moved e).0
+
+  pub after_not_yet : turned ≡ NotYet → IsServedSince key_of tells call_of place gives telling arrivals new
+  after_not_yet e = still_served (stands_at NotYet e).0
+
+  pub after_end : (end : ConnectionEnd) → turned ≡ Over end → HasEnded key_of tells call_of place gives telling arrivals new (is_memory end)
+  after_end end e = has_ended end (stands_at (Over end) e).1
