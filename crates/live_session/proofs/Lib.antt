@@ -12,3 +12,4 @@ pub mod Beginning
 mod Choosing
 mod Spoken
 mod Replied
+mod Course

@@ -103,8 +103,8 @@ impl<R: Net + AllocGlobal + Copy + Send> Doors for TcpDoors<R> {
         Ok(())
     }
 
-    /// Costs a system call for each member to which none has come, and four for one that comes. A connection takes
-    /// memory, and its want is a fault.
+    /// Costs a system call for each member to which none has come, and four for one that comes; once none had come to
+    /// any, it costs none until a `wait` reports one. A connection takes memory, and its want is a fault.
     fn accept(&mut self) -> Result<Accepted<TcpSource, TcpSink>, DoorFault> {
         let found = match &mut self.hall {
             Some(hall) => hall.accept(),
@@ -123,7 +123,8 @@ impl<R: Net + AllocGlobal + Copy + Send> Doors for TcpDoors<R> {
         }
     }
 
-    /// A wait at doors that were never opened is a fault, since nothing would end it. Costs a system call.
+    /// A wait at doors that were never opened is a fault, since nothing would end it. Costs a system call, and a step
+    /// for each connection of which something is reported.
     fn wait(&mut self, millis: u32) -> Result<(), DoorFault> {
         if let Some(hall) = &mut self.hall
             && hall.wait(millis).is_ok()
@@ -146,9 +147,10 @@ impl<R: Net + AllocGlobal + Copy + Send> Doors for TcpDoors<R> {
     /// Closes the connection, and has the next `wait` come back at once: a connection that there was no descriptor for
     /// may come in now.
     fn give_back(&mut self, _number: u32, from: TcpSource, to: TcpSink, _memory: bool) {
+        let place = from.place();
         close(from, to);
         if let Some(hall) = &mut self.hall {
-            hall.closed = true;
+            hall.took_back(place);
         }
     }
 }

@@ -7,6 +7,7 @@
 mod doors;
 mod entrance;
 mod hall;
+mod reports;
 mod stream;
 mod waker;
 

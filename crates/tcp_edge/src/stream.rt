@@ -5,6 +5,7 @@ ghost use Rattle.grid_edge.specs.Ready.{IfBytes, HasWaited};
 ghost use Rattle.tcp_edge.specs.declared.stream.Attempt.TheVariants.{Moved};
 ghost use Rattle.tcp_edge.specs.Attempt.{IfMoved};
 
+use crate::reports::Reports;
 use grid_edge::{ReadFault, Ready, ReadySink, ReadySource, WriteFault, next_count};
 use mio::net::TcpStream;
 use std::alloc::AllocError;
@@ -58,11 +59,39 @@ impl Counts {
     }
 }
 
+// Whether a stream is known not to be ready: it wasn't, after so many reports of it.
+#[derive(Debug, Drop)]
+struct Wait {
+    since: Option<u64>,
+}
+
+impl Wait {
+    fn new() -> Wait {
+        Wait { since: None }
+    }
+
+    // It wasn't ready, and nothing was reported since.
+    fn goes_on(&self, reported: u64) -> bool {
+        self.since == Some(reported)
+    }
+
+    // A call came to this, before which so much had been reported.
+    fn note(&mut self, attempt: Attempt, reported: u64) {
+        self.since = match attempt {
+            Attempt::WouldBlock => Some(reported),
+            Attempt::Moved(_) | Attempt::Failed => None,
+        };
+    }
+}
+
 /// What comes from a client. Contracts see how many reads have failed and how many found nothing, each up to the
 /// last value of a `u64`.
 #[derive(Drop)]
 pub struct TcpSource {
     stream: Arc<TcpStream>,
+    place: usize,
+    reports: Arc<Reports>,
+    wait: Wait,
     counts: Counts,
 }
 
@@ -71,6 +100,8 @@ pub struct TcpSource {
 #[derive(Drop)]
 pub struct TcpSink {
     stream: Arc<TcpStream>,
+    reports: Arc<Reports>,
+    wait: Wait,
     counts: Counts,
 }
 
@@ -90,15 +121,23 @@ impl Model for TcpSink {
     ghost view = { λ s. s.counts };
 }
 
-/// The two ends of this connection.
-pub(crate) fn ends(stream: Arc<TcpStream>) -> Result<(TcpSource, TcpSink), AllocError> {
-    let other = Arc::try_clone(&stream)?;
-    let from = TcpSource {
-        stream,
+/// The two ends of this connection, which has this place at the poll that reports of it.
+pub(crate) fn ends(
+    stream: Arc<TcpStream>,
+    place: usize,
+    reports: Arc<Reports>,
+) -> Result<(TcpSource, TcpSink), AllocError> {
+    let to = TcpSink {
+        stream: Arc::try_clone(&stream)?,
+        reports: Arc::try_clone(&reports)?,
+        wait: Wait::new(),
         counts: Counts::new(),
     };
-    let to = TcpSink {
-        stream: other,
+    let from = TcpSource {
+        stream,
+        place,
+        reports,
+        wait: Wait::new(),
         counts: Counts::new(),
     };
     Ok((from, to))
@@ -112,6 +151,12 @@ pub(crate) fn close(from: TcpSource, to: TcpSink) {
     drop(to);
 }
 
+impl TcpSource {
+    pub(crate) fn place(&self) -> usize {
+        self.place
+    }
+}
+
 impl ReadySource for TcpSource {
     ghost use Rattle.std.specs.Prelude.{None};
 
@@ -121,9 +166,15 @@ impl ReadySource for TcpSource {
 
     ghost left = { λ _. None };
 
-    /// Costs a system call, and another one for each time that it is interrupted.
+    /// Costs a system call, and another one for each time that it is interrupted. Once nothing had come it costs none,
+    /// and comes to `NotYet`, until a `wait` at the doors reports something.
     fn read_ready(&mut self, into: &mut [u8]) -> Result<Ready, ReadFault> {
-        let attempt = try_read(&mut &*self.stream, into);
+        let reported = self.reports.readable();
+        let mut attempt = Attempt::WouldBlock;
+        if !self.wait.goes_on(reported) {
+            attempt = try_read(&mut &*self.stream, into);
+            self.wait.note(attempt, reported);
+        }
         self.counts.answer(attempt, ReadFault)
     }
 }
@@ -138,9 +189,15 @@ impl ReadySink for TcpSink {
     ghost taken = { λ _. None };
 
     /// A write that takes nothing of a piece counts as a fault. Costs a system call, and another one for each time
-    /// that it is interrupted.
+    /// that it is interrupted. Once there was no room it costs none, and comes to `NotYet`, until a `wait` at the doors
+    /// reports some.
     fn write_ready(&mut self, from: &[u8]) -> Result<Ready, WriteFault> {
-        let attempt = try_write(&mut &*self.stream, from);
+        let reported = self.reports.writable();
+        let mut attempt = Attempt::WouldBlock;
+        if !self.wait.goes_on(reported) {
+            attempt = try_write(&mut &*self.stream, from);
+            self.wait.note(attempt, reported);
+        }
         self.counts.answer(attempt, WriteFault)
     }
 }

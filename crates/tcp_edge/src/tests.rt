@@ -1,4 +1,5 @@
 mod doors;
+mod reports;
 mod streams;
 mod waits;
 

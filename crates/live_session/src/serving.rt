@@ -1,0 +1,46 @@
+//! A connection that is served to its end.
+ghost use Rattle.std.specs.Prelude.{ℕ, List};
+ghost use Rattle.live_session.specs.Connections.{IsFresh, ServesCalls};
+ghost use Rattle.live_session.specs.Serving.{HasServed};
+ghost use Rattle.live_session.specs.Turns.{stream};
+
+use crate::blocking::Blocking;
+use crate::connection::Connection;
+use crate::turned::{ConnectionEnd, Turned};
+use grid_edge::{Clock, Sink, Source};
+use hand_cell::Served;
+use partition_threads::Workplace;
+use session_calls::SessionPass;
+use std::alloc::Global;
+use std::sync::Wait;
+use std::thread;
+
+/// Serves a connection of this session to its end, over streams that wait, and gives the session back. It answers as
+/// `Connection::turn` does. While a call is under way it lets other threads run, and looks again.
+pub fn serve_connection<T: Served, S: Source, K: Sink, C: Clock, R: Wait>(
+    rt: &R,
+    alloc: Global,
+    place: &Workplace<T>,
+    pass: SessionPass<T>,
+    from: &mut Blocking<S>,
+    to: &mut Blocking<K>,
+    clock: &C,
+) -> (ConnectionEnd, SessionPass<T>)
+    requires calls { ServesCalls T.fits place.now }
+    requires fresh { (seen : ℕ → List T.Event) × IsFresh T.key_of place.now pass seen }
+    ensures { (seen : ℕ → List T.Event) → IsFresh T.key_of place.now pass seen
+        → HasServed T.key_of T.tells T.call_of place.now (λ now. C.gives clock.now now) pass seen
+        (record { from = stream (S.left from.old) (S.faults from.old) 0; to = stream (K.taken to.old) (K.faults to.old) 0 })
+        (record { from = stream (S.left from.new) (S.faults from.new) 0; to = stream (K.taken to.new) (K.faults to.new) 0 })
+        result.0 result.1 }
+{
+    let mut connection = Connection::new(alloc, pass);
+    for _ in rt.forever() {
+        match connection.turn(rt, alloc, place, from, to, clock) {
+            Turned::Moved => {}
+            Turned::NotYet => thread::yield_now(),
+            Turned::Ended(end) => return (end, connection.into_pass()),
+        }
+    }
+    unreachable!()
+}
