@@ -9,8 +9,11 @@ use Rattle.partition_threads.specs.declared.workplace.Workplace.{Workplace}
 use Rattle.partition_threads.specs.Workplaces.{IsTokenAt, AreTokensAt}
 use Rattle.partition_world.specs.declared.event.Event.{Event}
 use Rattle.session_calls.specs.Passes.{ArePassesOf, HaveNumber}
+use Rattle.partition_world.specs.declared.event.Happened.{Happened}
 use Rattle.live_grid.specs.declared.grid.GridPass.{GridPass}
 use Rattle.live_grid.specs.declared.grid.LiveGrid.{LiveGrid}
+use Rattle.live_grid.specs.declared.plan.GridPlan.{GridPlan}
+use Rattle.live_grid.specs.declared.world.LiveWorld.{LiveWorld}
 use Rattle.live_grid.specs.Grids.{AreCells, IsGridPassOf, place_of}
 use Rattle.live_control.specs.Running.{MayServe as MayControl}
 use Rattle.live_server.specs.declared.connections.Connections.{Connections}
@@ -34,7 +37,7 @@ AreNew passes = (partition : ℕ) (pass : Told (Event Request)) → slice_get pa
 
 module _ {F K : Type 0} where
   -- No connection has come. The passes have every connection's number for a name and have seen nothing, and there are tokens of each member's workers
-  pub record IsUnused (grid : LiveGrid) (members : ℕ) (connections : Connections _ F K _ _ _) : Type 0 where
+  pub record IsUnused (grid : LiveGrid) (members : ℕ) (connections : Connections LiveWorld F K GridPlan (Event Request) Happened) : Type 0 where
     pub none_came : connections.accepted ≡ 0
     pub no_clients : connections.clients.items ≡ []
     pub room : ROOM ≤ vec_capacity connections.clients

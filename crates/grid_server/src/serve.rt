@@ -24,70 +24,68 @@ use call_engine::GridEnv;
 use entry_processors::{Form, Processor, Registry};
 use grid_cli::Status;
 use grid_edge::{Clock, DoorFault, Doors, Sink, Source, Wakes};
-use hand_cell::{Runs, Served};
+use hand_cell::Runs;
 use live_control::serve_control;
 use live_grid::{GridPass, LiveGrid, LiveWorld};
 use live_server::{Closing, Connections, serve};
-use partition_threads::{Gate, OpenGate, WorkerTokens, Workplace, worker};
+use partition_threads::{Gate, OpenGate, WorkerTokens, worker};
 use std::alloc::Global;
 use std::sync::Wait;
 use std::thread::{self, Threads, join_mut};
 
-/// Runs the worker of a place, if its tokens are there.
-fn run_worker<T: Served + Runs<N>, N, G: Gate, R: Wait>(
+/// Runs the worker of a number, if its tokens are there.
+fn run_worker<G: Gate, R: Wait>(
     rt: &R,
     alloc: Global,
-    place: &Workplace<T>,
-    env: &N,
+    grid: &LiveGrid,
+    env: &GridEnv,
     gate: &G,
     number: usize,
-    slot: &mut Option<WorkerTokens<T>>,
+    slot: &mut Option<WorkerTokens<LiveWorld>>,
 )
-    requires env { All (λ cell. T.means env.now (plan_of cell)) place.now.cells.items }
-    requires slot { IsWorker place.now number slot.old }
+    requires env { All (λ cell. ⟦<LiveWorld as Runs<GridEnv>>⟧.means env.now (plan_of cell)) (place_of grid.now).cells.items }
+    requires slot { IsWorker (place_of grid.now) number slot.old }
 {
     if let Some(tokens) = slot.take() {
-        worker(rt, alloc, number, place, env, gate, tokens);
+        worker(rt, alloc, number, grid.workplace(), env, gate, tokens);
     }
 }
 
-/// Runs the workers, each on a thread of its own, until the place is stopped.
-fn run_workers<T: Served + Runs<N>, N: Sync, G: Gate, R: Threads + Wait + Sync>(
+/// Runs the workers, each on a thread of its own, until the grid is stopped.
+fn run_workers<G: Gate, R: Threads + Wait + Sync>(
     rt: &R,
     alloc: Global,
-    place: &Workplace<T>,
-    env: &N,
+    grid: &LiveGrid,
+    env: &GridEnv,
     gate: &G,
-    workers: &mut [Option<WorkerTokens<T>>],
+    workers: &mut Vec<Option<WorkerTokens<LiveWorld>>>,
 )
-    requires env { All (λ cell. T.means env.now (plan_of cell)) place.now.cells.items }
-    requires workers { AreWorkers place.now workers.old }
+    requires env { All (λ cell. ⟦<LiveWorld as Runs<GridEnv>>⟧.means env.now (plan_of cell)) (place_of grid.now).cells.items }
+    requires workers { AreWorkers (place_of grid.now) workers.old.items }
 {
     let threads = workers.len().max(1);
-    let work = |number: usize, slot: &mut Option<WorkerTokens<T>>|
-        requires { All (λ cell. T.means env.now (plan_of cell)) place.now.cells.items × IsWorker place.now number slot.now }
-    { run_worker(rt, alloc, place, env, gate, number, slot) };
-    thread::for_each_mut(rt, workers, threads, &work);
+    let work = |number: usize, slot: &mut Option<WorkerTokens<LiveWorld>>| {
+        run_worker(rt, alloc, grid, env, gate, number, slot)
+    };
+    thread::for_each_mut(rt, workers.as_mut_slice(), threads, &work);
 }
 
 /// Runs the control script, and has the server end behind it, unless it stays.
-fn control<N, S: Source, K: Sink, W: Wakes, R: Wait>(
+fn control<S: Source, K: Sink, W: Wakes, R: Wait>(
     rt: &R,
     alloc: Global,
     options: ServeOptions,
     grid: &LiveGrid,
-    env: &N,
+    env: &GridEnv,
     pass: &mut GridPass,
     script: &mut S,
     out: &mut K,
     closing: &Closing,
     waker: &W,
 ) -> Status
-where
-    LiveWorld: Runs<N>,
     requires some { 1 ≤ options.members }
     requires most { options.members ≤ 8 }
-    requires env { All (λ cell. ⟦<LiveWorld as Runs<N>>⟧.means env.now (plan_of cell)) (place_of grid.now).cells.items }
+    requires env { All (λ cell. ⟦<LiveWorld as Runs<GridEnv>>⟧.means env.now (plan_of cell)) (place_of grid.now).cells.items }
     requires pass { MayControl grid.now pass.old }
     ensures served { HasControlled grid.now options.members result (S.left script.old) (S.left script.new) (K.taken out.old) (K.taken out.new) pass.old pass.new }
     ensures read_fault { result ≡ Status.ReadFault → Rose (S.faults script.old) (S.faults script.new) }
@@ -102,14 +100,34 @@ where
     status
 }
 
+/// Serves the clients of a grid.
+fn serve_clients<C: Clock, D: Doors, R: Wait>(
+    rt: &R,
+    alloc: Global,
+    grid: &LiveGrid,
+    connections: &mut Connections<LiveWorld, D::From, D::To>,
+    doors: &mut D,
+    clock: &C,
+    closing: &Closing,
+) -> Result<(), DoorFault>
+    requires calls { ServesCalls RequestFits (place_of grid.now) }
+    requires may { MayServe live_key (place_of grid.now) connections.old (D.book doors.old) }
+    ensures clients { HasServedAll live_key LiveTells live_call (place_of grid.now) (λ now. C.gives clock.now now) connections.new.passes.items (D.book doors.new) }
+    ensures let_in { OnOk result (HasLetAllIn (D.empty_looks doors.old) (D.empty_looks doors.new) (D.book doors.new).accepted) }
+    ensures rests { Rests (place_of grid.now) connections.new }
+    ensures doors { HasCause (D.faults doors.old) (D.faults doors.new) result }
+{
+    serve(rt, alloc, grid.workplace(), connections, doors, clock, closing)
+}
+
 /// Serves clients on one thread, and runs the control script on this one. The workers are then stopped. Gives how the doors
 /// and how the script ended.
-fn serve_both<N, R, S, K, C, D>(
+fn serve_both<R, S, K, C, D>(
     rt: &R,
     alloc: Global,
     options: ServeOptions,
     grid: &LiveGrid,
-    env: &N,
+    env: &GridEnv,
     pass: &mut GridPass,
     connections: &mut Connections<LiveWorld, D::From, D::To>,
     script: &mut S,
@@ -119,16 +137,14 @@ fn serve_both<N, R, S, K, C, D>(
     waker: &D::Waker,
 ) -> (Result<(), DoorFault>, Status)
 where
-    N: Sync,
     R: Threads + Wait + Sync,
     S: Source,
     K: Sink,
     C: Clock,
     D: Doors,
-    LiveWorld: Runs<N>,
     requires some { 1 ≤ options.members }
     requires most { options.members ≤ 8 }
-    requires env { All (λ cell. ⟦<LiveWorld as Runs<N>>⟧.means env.now (plan_of cell)) (place_of grid.now).cells.items }
+    requires env { All (λ cell. ⟦<LiveWorld as Runs<GridEnv>>⟧.means env.now (plan_of cell)) (place_of grid.now).cells.items }
     requires pass { MayControl grid.now pass.old }
     requires calls { ServesCalls RequestFits (place_of grid.now) }
     requires may { MayServe live_key (place_of grid.now) connections.old (D.book doors.old) }
@@ -142,22 +158,21 @@ where
     ensures doors { HasCause (D.faults doors.old) (D.faults doors.new) result.0 }
 {
     let closing = Closing::new();
-    let place = grid.workplace();
     let ended = join_mut(
         rt,
-        &mut || serve(rt, alloc, place, connections, doors, clock, &closing),
+        &mut || serve_clients(rt, alloc, grid, connections, doors, clock, &closing),
         &mut || control(rt, alloc, options, grid, env, pass, script, out, &closing, waker),
     );
-    place.stop();
+    grid.workplace().stop();
     ended
 }
 
 /// Runs a server on its threads to its end, in a setting in which nothing has happened. The doors were just opened.
-fn run<N, R, S, K, C, D, G>(
+fn run<R, S, K, C, D, G>(
     rt: &R,
     alloc: Global,
     options: ServeOptions,
-    env: &N,
+    env: &GridEnv,
     setting: Setting<D::From, D::To>,
     script: &mut S,
     out: &mut K,
@@ -167,17 +182,15 @@ fn run<N, R, S, K, C, D, G>(
     waker: &D::Waker,
 ) -> (Status, LiveGrid, GridPass)
 where
-    N: Sync,
     R: Threads + Wait + Sync,
     S: Source,
     K: Sink,
     C: Clock,
     D: Doors<From: Drop, To: Drop, Waker: Drop>,
     G: Gate,
-    LiveWorld: Runs<N>,
     requires some { 1 ≤ options.members }
     requires most { options.members ≤ 8 }
-    requires env { All (λ cell. ⟦<LiveWorld as Runs<N>>⟧.means env.now (plan_of cell)) (place_of setting.grid).cells.items }
+    requires env { All (λ cell. ⟦<LiveWorld as Runs<GridEnv>>⟧.means env.now (plan_of cell)) (place_of setting.grid).cells.items }
     requires setting { (forms : List FormOf) × IsSetting options forms setting }
     requires doors { IsOpened options (D.book doors.old) }
     ensures served { (forms : List FormOf) → IsSetting options forms setting → HasServed options forms (λ now. C.gives clock.now now)
@@ -196,11 +209,9 @@ where
         mut connections,
     } = setting;
     let waking = WakingGate { gate, waker };
-    let place = grid.workplace();
-    let slots = workers.as_mut_slice();
     let (_, (served, told)) = join_mut(
         rt,
-        &mut || run_workers(rt, alloc, place, env, &waking, slots),
+        &mut || run_workers(rt, alloc, &grid, env, &waking, &mut workers),
         &mut || {
             serve_both(
                 rt,

@@ -5,12 +5,12 @@ use partition_threads::Gate;
 
 /// A gate that wakes who waits at the doors once a call has its answer.
 #[derive(Drop)]
-pub(crate) struct WakingGate<'a, G, W> {
-    pub(crate) gate: &'a G,
-    pub(crate) waker: &'a W,
+pub(crate) struct WakingGate<'g, 'w, G, W> {
+    pub(crate) gate: &'g G,
+    pub(crate) waker: &'w W,
 }
 
-impl<'a, G: Gate, W: Wakes> Gate for WakingGate<'a, G, W> {
+impl<'g, 'w, G: Gate, W: Wakes> Gate for WakingGate<'g, 'w, G, W> {
     fn inside(&self, member: MemberId, partition: PartitionId, id: CallId) {
         self.gate.inside(member, partition, id);
     }
