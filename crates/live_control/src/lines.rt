@@ -4,7 +4,7 @@ ghost use Rattle.std.specs.Io.KnownBytes.{IsAtEnd};
 ghost use Rattle.grid_edge.specs.Faults.{Rose, HasCause};
 ghost use Rattle.grid_cli.specs.Scripts.{limit_in};
 ghost use Rattle.script_lang.specs.Pieces.{IsOnePiece};
-ghost use Rattle.live_control.specs.Reading.{HasCome, HasLooked, ComesNext, LeadsTo, HasKept, HasRead};
+ghost use Rattle.live_control.specs.Reading.{HasCome, HasLooked, ComesNext, LeadsTo, HasKept, HasRead, up_to};
 
 use grid_base::Memory;
 use grid_cli::LimitWhat;
@@ -83,13 +83,15 @@ impl LineReader {
         self.lines
     }
 
-    /// The limit that the next line goes past with these bytes more.
-    fn limit_with(&self, more: &[u8]) -> Option<LimitWhat>
-        ensures { result ≡ limit_in self.now.lines (self.now.line.items ++ more.now) }
+    /// The limit that the next line goes past with the bytes that end at this place of the piece.
+    fn limit_at(&self, end: usize) -> Option<LimitWhat>
+        requires placed { self.now.from ≤ end }
+        requires inside { end ≤ vec_len self.now.piece }
+        ensures { result ≡ limit_in self.now.lines (self.now.line.items ++ up_to self.now end) }
     {
         if self.lines == MOST_LINES {
             Some(LimitWhat::Lines)
-        } else if self.line.len() + more.len() > MOST_LINE_BYTES {
+        } else if self.line.len() + (end - self.from) > MOST_LINE_BYTES {
             Some(LimitWhat::Line)
         } else {
             None
@@ -102,11 +104,10 @@ impl LineReader {
         requires inside { end ≤ vec_len self.old.piece }
         ensures { HasKept self.old self.new end result }
     {
-        let more = &self.piece[self.from..end];
-        if let Some(what) = self.limit_with(more) {
+        if let Some(what) = self.limit_at(end) {
             return Err(Came::Limit(what));
         }
-        match self.line.extend_from_slice(more) {
+        match self.line.extend_from_slice(&self.piece[self.from..end]) {
             Ok(()) => {
                 self.from = end;
                 Ok(())

@@ -1,6 +1,6 @@
 use Rattle.std.proofs.Common.{◌≤◌}
 use Rattle.live_control.specs.Running.{MayServe}
-use Rattle.live_control.proofs.Serving.{IsServing}
+use Rattle.live_control.proofs.Ending.{IsServing}
 use Rattle.live_control.proofs.serving.serve_control.Given as goal
 
 abbrev pub invariant-loop : goal.invariant-loop
