@@ -6,7 +6,7 @@ use Rattle.entry_processors.specs.Processors.{ProcessorForm}
 use Rattle.grid_cli.specs.Transcribing.{Concludes, StopsAs, HasRoomFor}
 use Rattle.grid_cli.specs.Replays.{last_line}
 use Rattle.grid_cli.specs.declared.status.Status.{Status}
-use Rattle.grid_cli.specs.declared.status.Status.TheVariants.{Done, Usage, ScriptRefused, ReadFault, WriteFault, Limit, Memory}
+use Rattle.grid_cli.specs.declared.status.Status.TheVariants.{Done, Usage, ScriptRefused, ReadFault, WriteFault, Limit, DoorFault, Memory}
 
 -- the last line, which no newline ends
 pub no_last_line : (text : List ℕ) → (length text == 0) ≡ true → last_line text ≡ []
@@ -32,6 +32,7 @@ stopped_at_last forms Done skips done text written h = h None []
 stopped_at_last forms Usage skips done text written h = absurd h
 stopped_at_last forms (ScriptRefused line why) skips done text written h = h None []
 stopped_at_last forms ReadFault skips done text written h = absurd h
+stopped_at_last forms DoorFault skips done text written h = absurd h
 stopped_at_last forms WriteFault skips done text written h = h None []
 stopped_at_last forms (Limit what) skips done text written h = h None []
 stopped_at_last forms Memory skips done text written h = h None []

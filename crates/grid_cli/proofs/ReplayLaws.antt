@@ -18,7 +18,7 @@ use Rattle.grid_cli.specs.Replays.{IsWithin, HasRead, StopsWithin, Takes, StopsI
 use Rattle.grid_cli.specs.declared.replay.Replay.{Replay}
 use Rattle.grid_cli.specs.declared.status.LimitWhat.{LimitWhat}
 use Rattle.grid_cli.specs.declared.status.Status.{Status}
-use Rattle.grid_cli.specs.declared.status.Status.TheVariants.{Done, Usage, ScriptRefused, ReadFault, WriteFault, Limit, Memory}
+use Rattle.grid_cli.specs.declared.status.Status.TheVariants.{Done, Usage, ScriptRefused, ReadFault, WriteFault, Limit, DoorFault, Memory}
 use Rattle.grid_cli.proofs.Tests.{limit_in_none}
 use Rattle.grid_cli.proofs.Cuts.{lines_completed, nothing_unfinished, more_unfinished, completed, kept, passed_with_newline, passed_within, lines_begin, limit_passed_in}
 use Rattle.grid_cli.proofs.TranscriberLaws.{begins_transcript}
@@ -33,12 +33,16 @@ module _ (forms : List ProcessorForm) (limit : Option LimitWhat) (skips : List C
   concluded Usage h = absurd h
   concluded (ScriptRefused line why) h = sym same ∙ h
   concluded ReadFault h = absurd h
+  concluded DoorFault h = absurd h
   concluded WriteFault h = subst (λ (t : Transcript). IsFrontOf written t.text) same h
   concluded (Limit what) h = (h.0, sym same ∙ h.1)
   concluded Memory h = subst (λ (t : Transcript). IsFrontOf written t.text) same h
 
 pub not_usage : (forms : List ProcessorForm) (limit : Option LimitWhat) (status : Status) (skips : List CallId) (lines : List (List ℕ)) (written : List ℕ) → Concludes forms limit status skips lines written → status ≢ Usage
 not_usage forms limit status skips lines written h is = let P : Status → Type 0 = λ s. Concludes forms limit s skips lines written in subst P is h
+
+pub not_door_fault : (forms : List ProcessorForm) (limit : Option LimitWhat) (status : Status) (skips : List CallId) (lines : List (List ℕ)) (written : List ℕ) → Concludes forms limit status skips lines written → status ≢ DoorFault
+not_door_fault forms limit status skips lines written h is = let P : Status → Type 0 = λ s. Concludes forms limit s skips lines written in subst P is h
 
 pub not_read_fault : (forms : List ProcessorForm) (limit : Option LimitWhat) (status : Status) (skips : List CallId) (lines : List (List ℕ)) (written : List ℕ) → Concludes forms limit status skips lines written → status ≢ ReadFault
 not_read_fault forms limit status skips lines written h is = let P : Status → Type 0 = λ s. Concludes forms limit s skips lines written in subst P is h
@@ -53,6 +57,7 @@ module _ (forms : List ProcessorForm) (skips : List CallId) (done : List (List �
   line_writes Usage h = absurd h
   line_writes (ScriptRefused line why) h = goes_so (λ t. t ≡ whole written (Refused line why)) h
   line_writes ReadFault h = absurd h
+  line_writes DoorFault h = absurd h
   line_writes WriteFault h = goes_so (λ t. IsFrontOf written t.text) h
   line_writes (Limit what) h = goes_so (λ t. (line : ℕ) × (t ≡ whole written (TooLong line what))) h
   line_writes Memory h = goes_so (λ t. IsFrontOf written t.text) h
@@ -62,6 +67,7 @@ pub stops_at_line : {forms : List ProcessorForm} (status : Status) (skips : List
 stops_at_line {forms = forms} status skips done text written read within lines h = record {
   writes = λ script came front. line_writes forms skips done text written script came (subst (λ ls. IsFrontOf ls (lines_of script)) lines (lines_begin read within script front)) status h;
   runs = λ is. let P : Status → Type 0 = λ s. StopsAs forms s skips done text written in subst P is h;
+  doorless = λ is. let P : Status → Type 0 = λ s. StopsAs forms s skips done text written in subst P is h;
   reads = λ is. let P : Status → Type 0 = λ s. StopsAs forms s skips done text written in subst P is h;
 }
 
@@ -70,6 +76,7 @@ pub stops_before : {forms : List ProcessorForm} (status : Status) (skips : List 
 stops_before status skips read more written h = record {
   writes = λ script came front. h.writes script came (more ++ front.0, sym (append_assoc read more front.0) ∙ front.1);
   runs = h.runs;
+  doorless = h.doorless;
   reads = h.reads;
 }
 
@@ -82,6 +89,7 @@ stops_at_limit {forms = forms} what status skips done read written passed h = re
       concluded forms (Some what) skips script came written (done ++ []) (limit_passed_in read done what passed script front) status
       (subst (λ ls. Concludes forms (Some what) status skips ls written) (sym (append-nil done)) h);
   runs = not_usage forms (Some what) status skips done written h;
+  doorless = not_door_fault forms (Some what) status skips done written h;
   reads = not_read_fault forms (Some what) status skips done written h;
 }
 
@@ -97,6 +105,7 @@ stops_for_memory {form = form} replay bytes taken forms skips read written has =
         (subst (λ ls. IsFrontOf written (first_line forms skips (limit_of script) ls).text) lines.1
         (begins_transcript form forms replay.transcriber.stage skips (whole_lines read) written has.follows (limit_of script) lines.0));
     runs = λ is. absurd (cc is);
+    doorless = λ is. absurd (cc is);
     reads = λ is. absurd (cc is);
   }),
   sym (append_known-nil taken),

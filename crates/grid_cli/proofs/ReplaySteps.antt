@@ -44,7 +44,7 @@ line_and_rest (x ∷ xs) (suc k) within here =
     let next : suc k + 1 ≡ suc (k + 1) = omega arith in
     ap (λ n. (x ∷ take k xs) ++ newline ∷ drop n (x ∷ xs)) next ∙ ap (λ ys. x ∷ ys) (line_and_rest xs k (omega arith) here)
 
-split_at_line : (xs : List ℕ) (k : ℕ) → k < length xs → Passes (is_byte newline) xs k → ended_line (take k xs) ++ drop (k + 1) xs ≡ xs
+pub split_at_line : (xs : List ℕ) (k : ℕ) → k < length xs → Passes (is_byte newline) xs k → ended_line (take k xs) ++ drop (k + 1) xs ≡ xs
 split_at_line xs k within here = append_assoc (take k xs) (newline ∷ []) (drop (k + 1) xs) ∙ line_and_rest xs k within here
 
 -- bytes taken one after the other

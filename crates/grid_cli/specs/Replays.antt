@@ -12,7 +12,7 @@ use Rattle.grid_cli.specs.Statuses.{Writes}
 use Rattle.grid_cli.specs.Transcribing.{Follows, HasRoomFor}
 use Rattle.grid_cli.specs.declared.replay.Replay.{Replay}
 use Rattle.grid_cli.specs.declared.status.Status.{Status}
-use Rattle.grid_cli.specs.declared.status.Status.TheVariants.{Usage, ReadFault}
+use Rattle.grid_cli.specs.declared.status.Status.TheVariants.{Usage, ReadFault, DoorFault}
 
 -- None of these bytes is past the limit of lines, or of a line: whatever follows them, the script's lines begin with those that are whole in them.
 pub record IsWithin (read : List ℕ) : Type 0 where
@@ -31,6 +31,7 @@ pub record HasRead {V : Type 0} {T : V → Type 0} (form : FormOf V T) (forms : 
 pub record StopsWithin (forms : List ProcessorForm) (status : Status) (skips : List CallId) (read written : List ℕ) : Type 0 where
   pub writes : (script came : List ℕ) → IsFrontOf read (take most_bytes script) → Writes forms status skips script came written
   pub runs : status ≢ Usage
+  pub doorless : status ≢ DoorFault
   pub reads : status ≢ ReadFault
 
 -- From what was read and written these bytes lead there, whatever it was: some calls more may have found no memory, and the sink took what was added to the text.

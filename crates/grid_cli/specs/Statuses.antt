@@ -5,7 +5,7 @@ use Rattle.grid_base.specs.declared.names.CallId.{CallId}
 use Rattle.partition_protocol.specs.Sequences.{IsFrontOf}
 use Rattle.script_lang.specs.declared.refusal.LineWhy.TheVariants.{NoEnd}
 use Rattle.grid_cli.specs.declared.status.Status.{Status}
-use Rattle.grid_cli.specs.declared.status.Status.TheVariants.{Done, Usage, ScriptRefused, ReadFault, WriteFault, Limit, Memory}
+use Rattle.grid_cli.specs.declared.status.Status.TheVariants.{Done, Usage, ScriptRefused, ReadFault, WriteFault, Limit, DoorFault, Memory}
 use Rattle.script_lang.specs.Words.{whole_lines}
 use Rattle.entry_processors.specs.Processors.{ProcessorForm}
 use Rattle.grid_cli.specs.Scripts.{lines_of}
@@ -18,6 +18,7 @@ exit_status (ScriptRefused line why) = 2
 exit_status ReadFault = 3
 exit_status WriteFault = 4
 exit_status (Limit what) = 5
+exit_status DoorFault = 6
 exit_status Memory = 7
 
 abbrev pub whole : List ℕ → Ending → Transcript
@@ -38,6 +39,7 @@ Writes forms (ScriptRefused line why) skips script read text = transcript forms 
 Writes forms ReadFault skips script read text = IsTextSoFar forms skips script read text
 Writes forms WriteFault skips script read text = IsFrontOf text (transcript forms skips script).text
 Writes forms (Limit what) skips script read text = (line : ℕ) × (transcript forms skips script ≡ whole text (TooLong line what))
+Writes forms DoorFault skips script read text = ⊥
 Writes forms Memory skips script read text = IsFrontOf text (transcript forms skips script).text
 
 -- how many bytes are asked for at a time

@@ -6,7 +6,7 @@ use Rattle.grid_base.specs.declared.names.CallId.{CallId}
 use Rattle.partition_protocol.specs.Sequences.{IsFrontOf}
 use Rattle.replay_run.specs.declared.grid.Grid.{Grid}
 use Rattle.grid_cli.specs.declared.status.Status.{Status}
-use Rattle.grid_cli.specs.declared.status.Status.TheVariants.{Done, Usage, ScriptRefused, ReadFault, WriteFault, Limit, Memory}
+use Rattle.grid_cli.specs.declared.status.Status.TheVariants.{Done, Usage, ScriptRefused, ReadFault, WriteFault, Limit, DoorFault, Memory}
 use Rattle.grid_cli.specs.declared.transcriber.Begun.{Begun}
 use Rattle.grid_cli.specs.declared.transcriber.Begun.TheVariants.{Made, Refused as NotBegun}
 use Rattle.grid_cli.specs.declared.transcriber.Stage.{Stage}
@@ -76,6 +76,7 @@ StopsAs forms WriteFault skips done text written = Continues forms skips done te
 StopsAs forms Memory skips done text written = Continues forms skips done text (λ t. IsFrontOf written t.text)
 StopsAs forms Usage skips done text written = ⊥
 StopsAs forms ReadFault skips done text written = ⊥
+StopsAs forms DoorFault skips done text written = ⊥
 StopsAs forms (Limit what) skips done text written = Continues forms skips done text (λ t. (line : ℕ) × (t ≡ whole written (TooLong line what)))
 
 -- The status with which a run ends whose lines are these and no more, where this was written; the script may have gone past a limit behind them.
@@ -87,3 +88,4 @@ Concludes forms limit (Limit what) skips lines written = (line : ℕ) × (first_
 Concludes forms limit Memory skips lines written = IsFrontOf written (first_line forms skips limit lines).text
 Concludes forms limit Usage skips lines written = ⊥
 Concludes forms limit ReadFault skips lines written = ⊥
+Concludes forms limit DoorFault skips lines written = ⊥

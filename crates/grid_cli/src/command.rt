@@ -1,4 +1,4 @@
-ghost use Rattle.std.specs.Prelude.{◌≡◌, ◌↔◌, ℕ, List, map, Some, false, true};
+ghost use Rattle.std.specs.Prelude.{◌≡◌, ◌≢◌, ◌↔◌, ℕ, List, map, Some, false, true};
 ghost use Rattle.grid_edge.specs.Faults.{Rose};
 ghost use Rattle.grid_cli.specs.Statuses.{ReadsAndWrites};
 ghost use Rattle.grid_cli.specs.Commands.{is_replay, PrintsHistories};
@@ -32,6 +32,7 @@ pub fn replay_command<S: Source, K: Sink>(
     ensures usage { (result ≡ Status.Usage) ↔ (is_replay words.now ≡ false) }
     ensures unread { result ≡ Status.Usage → script.new ≡ script.old }
     ensures unwritten { result ≡ Status.Usage → out.new ≡ out.old }
+    ensures doorless { result ≢ Status.DoorFault }
     // A fault is told only where the source or the sink had one.
     ensures read_fault { result ≡ Status.ReadFault → Rose (S.faults script.old) (S.faults script.new) }
     ensures write_fault { result ≡ Status.WriteFault → Rose (K.faults out.old) (K.faults out.new) }

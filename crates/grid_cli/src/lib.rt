@@ -10,5 +10,6 @@ mod transcriber;
 
 pub use command::replay_command;
 pub use laws::{every_message_is_printed, every_transcript_that_tells_of_no_skip_has_none};
+pub use print::{push_limit, push_refused};
 pub use script_lang::{Line, LineWhy, read_line};
 pub use status::{LimitWhat, Status};

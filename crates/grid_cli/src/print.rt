@@ -29,7 +29,7 @@ fn push_number(out: &mut Vec<u8>, n: u32) -> Result<(), Memory>
 }
 
 /// Appends the last line of a transcript that stops at a refused line.
-pub(crate) fn push_refused(out: &mut Vec<u8>, line: u32, why: LineWhy) -> Result<(), Memory>
+pub fn push_refused(out: &mut Vec<u8>, line: u32, why: LineWhy) -> Result<(), Memory>
     ensures { OnOk result (out.new.items ≡ out.old.items ++ refused_text line why) }
 {
     out.extend_from_slice(b"refused ")?;
@@ -40,7 +40,7 @@ pub(crate) fn push_refused(out: &mut Vec<u8>, line: u32, why: LineWhy) -> Result
 }
 
 /// Appends the last line of a transcript that stops at a limit.
-pub(crate) fn push_limit(out: &mut Vec<u8>, line: u32, what: LimitWhat) -> Result<(), Memory>
+pub fn push_limit(out: &mut Vec<u8>, line: u32, what: LimitWhat) -> Result<(), Memory>
     ensures { OnOk result (out.new.items ≡ out.old.items ++ limit_text line what) }
 {
     out.extend_from_slice(b"limit ")?;

@@ -153,6 +153,7 @@ fn run_pieces<S: Source, K: Sink>(
     requires size { length buffer.old ≤ most_piece }
     ensures text { ReadsAndWrites (map form processors.items) result (S.left script.old) (S.left script.new) (K.taken out.old) (K.taken out.new) }
     ensures runs { result ≢ Status.Usage }
+    ensures doorless { result ≢ Status.DoorFault }
     ensures read_fault { result ≡ Status.ReadFault → Rose (S.faults script.old) (S.faults script.new) }
     ensures write_fault { result ≡ Status.WriteFault → Rose (K.faults out.old) (K.faults out.new) }
 {
@@ -187,6 +188,7 @@ pub(crate) fn run_script<S: Source, K: Sink>(
     ensures text { ReadsAndWrites (map form processors.items) result (S.left script.old) (S.left script.new) (K.taken out.old) (K.taken out.new) }
     ensures headline { PrintsHistories (map form processors.items) result (S.left script.old) (S.left script.new) (K.taken out.old) (K.taken out.new) }
     ensures runs { result ≢ Status.Usage }
+    ensures doorless { result ≢ Status.DoorFault }
     ensures read_fault { result ≡ Status.ReadFault → Rose (S.faults script.old) (S.faults script.new) }
     ensures write_fault { result ≡ Status.WriteFault → Rose (K.faults out.old) (K.faults out.new) }
 {

@@ -28,6 +28,8 @@ pub enum Status {
     ReadFault,
     WriteFault,
     Limit { what: LimitWhat },
+    /// The doors of a server failed. A replay has none.
+    DoorFault,
     /// Want of memory.
     Memory,
 }
@@ -44,6 +46,7 @@ impl Status {
             Status::ReadFault => 3,
             Status::WriteFault => 4,
             Status::Limit { .. } => 5,
+            Status::DoorFault => 6,
             Status::Memory => 7,
         }
     }

@@ -1,5 +1,5 @@
 -- The first line in which a text differs from the one that is wanted.
-use Rattle.std.specs.Prelude.{◌≡◌, ℕ, ◌+◌, if◌then◌else◌, List, [], ◌∷◌, Option, Some, None, codes, refl}
+use Rattle.std.specs.Prelude.{◌≡◌, ℕ, zero, suc, ◌+◌, if◌then◌else◌, List, [], ◌∷◌, Option, Some, None, codes, refl}
 use Rattle.std.specs.Borrow.{Bor}
 use Rattle.script_lang.specs.Words.{are_same, newline, pieces_at}
 use Rattle.grid_scenarios.specs.declared.difference.Difference.{Difference}
@@ -22,6 +22,12 @@ difference_from number (printed ∷ lines) (wanted ∷ wanteds) =
 -- A newline stands between two lines, so a text that a newline ends has an empty last line.
 abbrev pub first_difference : List ℕ → List ℕ → Option Differs
 first_difference printed wanted = difference_from 1 (pieces_at newline printed) (pieces_at newline wanted)
+
+-- the line with so many before it; nothing where there are no more
+abbrev pub nth_line : ℕ → List (List ℕ) → List ℕ
+nth_line before [] = []
+nth_line zero (line ∷ lines) = line
+nth_line (suc before) (line ∷ lines) = nth_line before lines
 
 -- a wrong line, a line too many and a line too few
 wrong_line : first_difference (codes "a") (codes "b") ≡ Some (record { number = 1; printed = codes "a"; wanted = codes "b" })

@@ -1,7 +1,7 @@
 ghost use Rattle.std.specs.Prelude.{◌≡◌, ◌↔◌, ◌<◌, ◌∷◌, length, IsNone, IfSome};
 ghost use Rattle.std.specs.Option.{option_map};
 ghost use Rattle.script_lang.specs.Words.{pieces_at, newline};
-ghost use Rattle.grid_scenarios.specs.Differences.{first_difference, differs_as, rest_lines};
+ghost use Rattle.grid_scenarios.specs.Differences.{first_difference, differs_as, rest_lines, nth_line};
 
 use memchr::memchr;
 use std::alloc::Global;
@@ -79,23 +79,84 @@ fn compare_lines<'a>(printed: &'a [u8], wanted: &'a [u8]) -> Option<Difference<'
     }
 }
 
+/// The most bytes that are told of a line of a script.
+const MOST_TOLD: usize = 100;
+
 fn as_text(line: &[u8]) -> &str {
     str::from_utf8(line).unwrap_or("(no UTF-8)")
 }
 
-/// What is told of a scenario: that it printed what is wanted, or the first line in which it didn't.
-pub(crate) fn verdict(
+/// A line's front, as it is told.
+fn told_front(line: &[u8]) -> &str {
+    as_text(line.get(..MOST_TOLD).unwrap_or(line))
+}
+
+/// The line of a text with so many lines before it; nothing where the text has no more. Linear in the text before it.
+fn nth_line(text: &[u8], before: usize) -> &[u8]
+    ensures exact { result.now ≡ nth_line before (pieces_at newline text.now) }
+{
+    let mut left = text;
+    let mut before_left = before;
+    'lines: while 0 < before_left {
+        match first_line(left).1 {
+            None => return &[],
+            Some(rest) => {
+                left = rest;
+                before_left -= 1;
+            }
+        }
+    }
+    first_line(left).0
+}
+
+/// The script's line of which a line of a transcript is: the number that it begins with, or the word behind `refused` and
+/// `limit`.
+fn script_line_of(told: &[u8]) -> Option<usize> {
+    let (word, rest) = as_text(told).split_once(' ')?;
+    if word == "refused" || word == "limit" {
+        rest.split_once(' ')?.0.parse().ok()
+    } else {
+        word.parse().ok()
+    }
+}
+
+/// The line of the script with so many before it, in its own words, below the comment above it, if there is one.
+fn of_the_script(alloc: Global, script: &[u8], before: usize) -> io::Result<String> {
+    let words = told_front(nth_line(script, before));
+    let number = before.saturating_add(1);
+    let above = match before.checked_sub(1) {
+        None => &[],
+        Some(above) => nth_line(script, above),
+    };
+    if above.starts_with(b"#") {
+        let comment = as_text(above);
+        Ok(format!(in alloc; "\n    {comment}\n    line {number} of the script: {words}")?)
+    } else {
+        Ok(format!(in alloc; "\n    line {number} of the script: {words}")?)
+    }
+}
+
+/// What is told of a scenario whose transcript differs: the first line in which it does, and the script's line of it.
+pub(crate) fn told_difference(
     alloc: Global,
     name: &str,
-    difference: Option<Difference<'_>>,
+    script: &[u8],
+    difference: Difference<'_>,
 ) -> io::Result<String> {
-    let Some(difference) = difference else {
-        return Ok(format!(in alloc; "{name} ok")?);
-    };
     let printed = as_text(difference.printed);
     let wanted = as_text(difference.wanted);
     let number = difference.number;
-    Ok(format!(in alloc; "{name} differs in line {number}: '{printed}' in place of '{wanted}'")?)
+    let line = match script_line_of(difference.wanted) {
+        None => script_line_of(difference.printed),
+        Some(line) => Some(line),
+    };
+    let words = match line {
+        None => String::new(alloc),
+        Some(line) => of_the_script(alloc, script, line.saturating_sub(1))?,
+    };
+    Ok(format!(in alloc;
+        "{name} differs in line {number}: '{printed}' in place of '{wanted}'{words}"
+    )?)
 }
 
 #[cfg(test)]
@@ -103,23 +164,28 @@ mod tests {
     use super::*;
     use std::test::Fail;
 
-    const WANTED: &[u8] = b"1 ok\n2 ok\n3 ok\n";
+    const SCRIPT: &[u8] = b"grid 1 0 10\n# connection 0 is opened\nopen 0 0\nend\n";
+
+    const WANTED: &[u8] = b"1 ok\n2 ok\n3 ok\n4 ok\n";
 
     fn told(alloc: Global, printed: &[u8]) -> io::Result<String> {
-        verdict(alloc, "put_then_get", first_difference(printed, WANTED))
+        match first_difference(printed, WANTED) {
+            None => String::from_str(alloc, "the same").map_err(io::Error::from),
+            Some(difference) => told_difference(alloc, "put_then_get", SCRIPT, difference),
+        }
     }
 
     #[test]
-    fn the_same_text_is_ok(rt: HostRuntime) -> Result<(), Fail> {
-        assert_eq!(rt; told(rt.alloc(), WANTED)?.as_str(), "put_then_get ok");
+    fn the_same_text_has_no_difference(rt: HostRuntime) -> Result<(), Fail> {
+        assert_eq!(rt; told(rt.alloc(), WANTED)?.as_str(), "the same");
         Ok(())
     }
 
     #[test]
-    fn a_wrong_line_is_told(rt: HostRuntime) -> Result<(), Fail> {
+    fn a_wrong_line_is_told_with_its_comment(rt: HostRuntime) -> Result<(), Fail> {
         assert_eq!(rt;
-            told(rt.alloc(), b"1 ok\n2 to 0 00\n3 ok\n")?.as_str(),
-            "put_then_get differs in line 2: '2 to 0 00' in place of '2 ok'"
+            told(rt.alloc(), b"1 ok\n2 ok\n3 nothing\n4 ok\n")?.as_str(),
+            "put_then_get differs in line 3: '3 nothing' in place of '3 ok'\n    # connection 0 is opened\n    line 3 of the script: open 0 0"
         );
         Ok(())
     }
@@ -127,8 +193,8 @@ mod tests {
     #[test]
     fn a_line_too_few_is_told(rt: HostRuntime) -> Result<(), Fail> {
         assert_eq!(rt;
-            told(rt.alloc(), b"1 ok\n2 ok\n")?.as_str(),
-            "put_then_get differs in line 3: '' in place of '3 ok'"
+            told(rt.alloc(), b"1 ok\n2 ok\n3 ok\n")?.as_str(),
+            "put_then_get differs in line 4: '' in place of '4 ok'\n    line 4 of the script: end"
         );
         Ok(())
     }
@@ -136,9 +202,17 @@ mod tests {
     #[test]
     fn a_line_too_many_is_told(rt: HostRuntime) -> Result<(), Fail> {
         assert_eq!(rt;
-            told(rt.alloc(), b"1 ok\n2 ok\n3 ok\n4 ok\n")?.as_str(),
-            "put_then_get differs in line 4: '4 ok' in place of ''"
+            told(rt.alloc(), b"1 ok\n2 ok\n3 ok\n4 ok\n5 ok\n")?.as_str(),
+            "put_then_get differs in line 5: '5 ok' in place of ''\n    line 5 of the script: "
         );
         Ok(())
+    }
+
+    #[test]
+    fn a_refusal_is_of_its_line(rt: HostRuntime) {
+        assert_eq!(rt; script_line_of(b"refused 12 word"), Some(12));
+        assert_eq!(rt; script_line_of(b"limit 3 line"), Some(3));
+        assert_eq!(rt; script_line_of(b"7 to 0 00"), Some(7));
+        assert_eq!(rt; script_line_of(b""), None);
     }
 }

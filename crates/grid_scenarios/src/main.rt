@@ -11,16 +11,13 @@ mod scenarios;
 mod tables;
 
 use codec::count_messages;
-use difference::{first_difference, verdict};
+use difference::{first_difference, told_difference};
 use entry_processors::{Add, AddUpTo, Append, Clear, Processor, SetIfGreater};
 use fronts::{SMALL_READ, SMALL_WRITE, text_of_reads, text_of_writes};
 use grid_cli::{Status, replay_command};
 use grid_edge::{MemorySink, MemorySource};
 use long_scripts::{LONG_SCRIPTS, LongScript};
-use scenarios::{
-    BACKUPS, DUMPS, EXPIRY, LOCKS, MAX_IDLE, MOVES, OBJECT_CALLS, OUTSIDE, PROCESSORS, PROMOTIONS,
-    QUEUES, RANDOM, REOPENINGS, REPLICATION, SCRIPTS, SESSIONS, STREAMS,
-};
+use scenarios::{SUBJECTS, Subject};
 use std::alloc::Global;
 use std::process::ExitCode;
 use std::{env, fs, io};
@@ -35,6 +32,9 @@ const OTHER_WORDS: [&[&str]; 6] = [
     &["serve"],
     &["sample", "0"],
 ];
+
+/// The scenario that is run with other words, with calls that fail, and with memory for all.
+const SHORT_SCENARIO: &str = "sessions/put_then_get";
 
 /// The exit status of a script with a line that is refused.
 const REFUSED: u8 = 2;
@@ -143,68 +143,51 @@ fn read_text(rt: &HostRuntime, name: &str, kind: &str) -> io::Result<String> {
     fs::read_to_string(rt, path.as_str())
 }
 
-/// Runs the scenario with these failing calls: how it ended, what it printed, and its transcript.
-fn played(
-    rt: &HostRuntime,
-    name: &str,
-    fails: Fails,
-    pieces: Pieces,
-) -> io::Result<(Status, Vec<u8>, Vec<u8>)> {
-    let script = read_data(rt, name, "script")?;
-    let transcript = read_data(rt, name, "transcript")?;
-    let (status, text) = replayed(rt.alloc(), script, fails, pieces)?;
-    Ok((status, text, transcript))
-}
-
-/// What a script prints, and the exit status with which it ends.
+/// A script by its name, and what it has to print and to end with.
 #[derive(Clone, Copy, Debug)]
-struct Ending<'a> {
-    text: &'a [u8],
+struct Scenario<'a> {
+    name: &'a str,
+    script: &'a [u8],
+    transcript: &'a [u8],
+    /// The exit status.
     code: u8,
 }
 
-/// Did the script end as wanted? Where it didn't, says so.
-fn is_as_wanted(
-    rt: &HostRuntime,
-    name: &str,
-    ended: Ending<'_>,
-    wanted: Ending<'_>,
-) -> io::Result<bool> {
-    let difference = first_difference(ended.text, wanted.text);
-    if difference.is_some() {
-        println!(rt; "{}", verdict(rt.alloc(), name, difference)?)?;
+/// Does the script, in such pieces, print its transcript and end with its exit status? Where it doesn't, says so.
+fn is_as_wanted(rt: &HostRuntime, scenario: Scenario<'_>, pieces: Pieces) -> io::Result<bool> {
+    let alloc = rt.alloc();
+    let name = scenario.name;
+    let script = scenario.script.to_vec(alloc)?;
+    let (status, text) = replayed(alloc, script, Fails::none(alloc), pieces)?;
+    if let Some(difference) = first_difference(text.as_slice(), scenario.transcript) {
+        let told = told_difference(alloc, name, scenario.script, difference)?;
+        println!(rt; "{told}")?;
         return Ok(false);
     }
-    if ended.code != wanted.code {
-        println!(rt; "{name} ends with {}", ended.code)?;
+    if status.code() != scenario.code {
+        println!(rt; "{name} ends with {}", status.code())?;
         return Ok(false);
     }
     Ok(true)
 }
 
-/// Does the script print its transcript, and end with this exit status? Where it doesn't, says so.
-fn is_as_written(rt: &HostRuntime, name: &str, code: u8, pieces: Pieces) -> io::Result<bool> {
-    let (status, text, transcript) = played(rt, name, Fails::none(rt.alloc()), pieces)?;
-    let ended = Ending {
-        text: text.as_slice(),
-        code: status.code(),
-    };
-    let wanted = Ending {
-        text: transcript.as_slice(),
-        code,
-    };
-    is_as_wanted(rt, name, ended, wanted)
-}
-
 /// Runs a scenario in small pieces and in whole ones, and tells how it came out.
 fn holds(rt: &HostRuntime, name: &str, code: u8) -> io::Result<bool> {
-    if !is_as_written(rt, name, code, Pieces::Small)? {
+    let script = read_data(rt, name, "script")?;
+    let transcript = read_data(rt, name, "transcript")?;
+    let scenario = Scenario {
+        name,
+        script: script.as_slice(),
+        transcript: transcript.as_slice(),
+        code,
+    };
+    if !is_as_wanted(rt, scenario, Pieces::Small)? {
         return Ok(false);
     }
-    if !is_as_written(rt, name, code, Pieces::Whole)? {
+    if !is_as_wanted(rt, scenario, Pieces::Whole)? {
         return Ok(false);
     }
-    println!(rt; "{}", verdict(rt.alloc(), name, None)?)?;
+    println!(rt; "{name} ok")?;
     Ok(true)
 }
 
@@ -282,7 +265,8 @@ fn each_call_fails(rt: &HostRuntime, name: &str, failing: Failing) -> io::Result
 /// With memory for all, does the scenario end as done?
 fn memory_suffices(rt: &HostRuntime, name: &str) -> io::Result<bool> {
     let alloc = rt.alloc();
-    let (status, _, _) = played(rt, name, Fails::none(alloc), Pieces::Small)?;
+    let script = read_data(rt, name, "script")?;
+    let (status, _) = replayed(alloc, script, Fails::none(alloc), Pieces::Small)?;
     Ok(status == Status::Done)
 }
 
@@ -313,43 +297,27 @@ fn main(rt: HostRuntime) -> io::Result<ExitCode> {
 /// Runs all scenarios, and tells how each came out.
 fn run_scenarios(rt: &HostRuntime) -> io::Result<ExitCode> {
     let mut held = true;
-    for scenarios in [
-        &SESSIONS[..],
-        &STREAMS[..],
-        &SCRIPTS[..],
-        &EXPIRY[..],
-        &LOCKS[..],
-        &MAX_IDLE[..],
-        &QUEUES[..],
-        &PROCESSORS[..],
-        &DUMPS[..],
-        &OBJECT_CALLS[..],
-        &BACKUPS[..],
-        &PROMOTIONS[..],
-        &MOVES[..],
-        &REOPENINGS[..],
-        &OUTSIDE[..],
-        &REPLICATION[..],
-        &RANDOM[..],
-    ] {
-        held &= all_hold(rt, scenarios)?;
+    for subject in SUBJECTS {
+        held &= all_hold(rt, subject)?;
     }
     held &= lines_are_refused(rt, "first_lines", Place::First)?;
     held &= lines_are_refused(rt, "later_lines", Place::Second)?;
     for script in LONG_SCRIPTS {
         held &= long_script_holds(rt, script)?;
     }
-    let refused = other_words_are_no_command(rt, "put_then_get")?;
+    let refused = other_words_are_no_command(rt, SHORT_SCENARIO)?;
     held &= tell(rt, "other_words", refused)?;
-    held &= faults_and_memory(rt, "put_then_get")?;
+    held &= faults_and_memory(rt, SHORT_SCENARIO)?;
     Ok(ExitCode::from(if held { 0 } else { 1 }))
 }
 
-/// Runs these scenarios, and tells how each came out.
-fn all_hold(rt: &HostRuntime, scenarios: &[(&str, u8)]) -> io::Result<bool> {
+/// Runs the scenarios of a subject, and tells how each came out.
+fn all_hold(rt: &HostRuntime, subject: Subject) -> io::Result<bool> {
+    let folder = subject.folder;
     let mut held = true;
-    for (name, code) in scenarios {
-        held &= holds(rt, name, *code)?;
+    for (name, code) in subject.scenarios {
+        let name = format!(in rt.alloc(); "{folder}/{name}")?;
+        held &= holds(rt, name.as_str(), *code)?;
     }
     Ok(held)
 }
@@ -357,19 +325,16 @@ fn all_hold(rt: &HostRuntime, scenarios: &[(&str, u8)]) -> io::Result<bool> {
 /// Is the row's line refused in that place, for its cause?
 fn is_refused(rt: &HostRuntime, name: &str, row: Row<'_>, place: Place) -> io::Result<bool> {
     let alloc = rt.alloc();
-    let script = row.script(alloc, place)?.into_bytes();
+    let script = row.script(alloc, place)?;
     let transcript = row.transcript(alloc, place)?;
-    let (status, text) = replayed(alloc, script, Fails::none(alloc), Pieces::Small)?;
-    let ended = Ending {
-        text: text.as_slice(),
-        code: status.code(),
-    };
-    let wanted = Ending {
-        text: transcript.as_bytes(),
+    let name = format!(in alloc; "{name} '{}'", row.line)?;
+    let scenario = Scenario {
+        name: name.as_str(),
+        script: script.as_bytes(),
+        transcript: transcript.as_bytes(),
         code: REFUSED,
     };
-    let name = format!(in alloc; "{name} '{}'", row.line)?;
-    is_as_wanted(rt, name.as_str(), ended, wanted)
+    is_as_wanted(rt, scenario, Pieces::Small)
 }
 
 /// Is each line of the table refused in that place, for its cause? Prints how it came out.
@@ -388,22 +353,15 @@ fn lines_are_refused(rt: &HostRuntime, name: &str, place: Place) -> io::Result<b
 /// Runs a script that is made up, and tells how it came out.
 fn long_script_holds(rt: &HostRuntime, script: LongScript) -> io::Result<bool> {
     let alloc = rt.alloc();
+    let text = script.script(alloc)?;
     let transcript = script.transcript(alloc)?;
-    let (status, text) = replayed(
-        alloc,
-        script.script(alloc)?,
-        Fails::none(alloc),
-        Pieces::Whole,
-    )?;
-    let ended = Ending {
-        text: text.as_slice(),
-        code: status.code(),
-    };
-    let wanted = Ending {
-        text: transcript.as_slice(),
+    let scenario = Scenario {
+        name: script.name,
+        script: text.as_slice(),
+        transcript: transcript.as_slice(),
         code: script.code,
     };
-    let held = is_as_wanted(rt, script.name, ended, wanted)?;
+    let held = is_as_wanted(rt, scenario, Pieces::Whole)?;
     tell(rt, script.name, held)
 }
 

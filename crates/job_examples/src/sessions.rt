@@ -1,15 +1,15 @@
 //! Sessions whose calls are started and finished by one thread, which is the worker in between.
-ghost use Rattle.std.specs.Prelude.{◌≡◌, IfOk, vec_len, length};
-ghost use Rattle.partition_threads.specs.Workplaces.{IsTokenAt, AreTokensAt};
+ghost use Rattle.std.specs.Prelude.{◌≡◌, IfOk, OnErr, length};
+ghost use Rattle.partition_threads.specs.Workplaces.{IsTokenAt};
+ghost use Rattle.session_calls.specs.Openings.{HasAllPasses};
 ghost use Rattle.session_calls.specs.Sessions.{IsSessionOf};
-ghost use Rattle.job_examples.specs.Serving.{IsNewPass};
-ghost use Rattle.job_examples.specs.Sessions.{IsNewSession, AreOpened, IsAwaited, IfNotYet};
+ghost use Rattle.job_examples.specs.Sessions.{IsNewSession, AreOpened, IsAwaited, IfNotYet, IfReady};
 
 use crate::relay::{Relay, SENDS};
 use crate::requests::first_request;
 use crate::serving::{number_in, token_at};
 use grid_base::Memory;
-use hand_cell::{Cell, Names, Pass};
+use hand_cell::{Cell, Pass};
 use job_queues::QueuePass;
 use partition_threads::{OpenGate, THREADS, WorkerTokens, Workplace, worker};
 use session_calls::{Finished, SessionPass, Started, Unstarted};
@@ -27,53 +27,28 @@ pub struct Story {
     pub replied: Option<u32>,
 }
 
-/// A workplace over one cell, two sessions of member 0, and a token of its first worker's queue.
+/// A workplace over one cell, what is left of the cell's pass, two sessions of member 0, and a token of its first
+/// worker's queue.
 struct Opened {
     place: Workplace<Relay>,
+    passes: Vec<Pass<Relay>>,
     first: SessionPass<Relay>,
     second: SessionPass<Relay>,
     queue: QueuePass<Relay>,
 }
 
-/// A session of member 0 with this pass.
-fn session_with(
-    alloc: Global,
-    place: &Workplace<Relay>,
-    tokens: &mut Vec<QueuePass<Relay>>,
-    pass: Pass<Relay>,
-    conn: u32,
-) -> Result<SessionPass<Relay>, Memory>
-    requires one { length place.now.cells.items ≡ 1 }
-    requires four { vec_len tokens.old ≡ 4 }
-    requires tokens { AreTokensAt place.now tokens.old.items }
-    requires pass { IsNewPass place.now conn pass }
-    ensures kept { tokens.new.items ≡ tokens.old.items }
-    ensures session { IfOk result (λ session. IsNewSession place.now conn session) }
-{
-    let first = token_at(place, 0, tokens);
-    let second = token_at(place, 1, tokens);
-    let third = token_at(place, 2, tokens);
-    let fourth = token_at(place, 3, tokens);
-    Ok(SessionPass {
-        conn,
-        member: 0,
-        passes: vec![in alloc; Some(pass)]?,
-        tokens: vec![in alloc; first, second, third, fourth]?,
-    })
-}
-
 fn open(alloc: Global) -> Result<Opened, Memory>
     ensures { IfOk result AreOpened }
 {
-    let (cell, mut pass) = Cell::new(alloc, Relay::new(alloc), &())?;
-    let one = cell.split(&mut pass, Names::One(1));
-    let two = cell.split(&mut pass, Names::One(2));
+    let (cell, pass) = Cell::new(alloc, Relay::new(alloc), &())?;
     let (place, mut tokens) = Workplace::new(alloc, vec![in alloc; cell]?, THREADS, 1)?;
-    let first = session_with(alloc, &place, &mut tokens, one, 1)?;
-    let second = session_with(alloc, &place, &mut tokens, two, 2)?;
+    let mut passes = vec![in alloc; pass]?;
+    let first = SessionPass::open(alloc, &place, &mut passes, &mut tokens, 1, 0)?;
+    let second = SessionPass::open(alloc, &place, &mut passes, &mut tokens, 2, 0)?;
     let queue = token_at(&place, 0, &mut tokens);
     Ok(Opened {
         place,
+        passes,
         first,
         second,
         queue,
@@ -91,6 +66,7 @@ fn start<R: Wait>(
     requires { IsNewSession place.now conn session.old }
     ensures session { IsSessionOf place.now session.new }
     ensures started { IfOk result (λ started. IsAwaited place.now session.new started) }
+    ensures back { OnErr result (HasAllPasses session.new) }
 {
     session.start(rt, alloc, place, first_request(alloc, conn, SENDS), 0)
 }
@@ -103,8 +79,10 @@ fn finish<R: Wait>(
     started: Started<Relay>,
 ) -> Finished<Relay>
     requires session { IsSessionOf place.now session.old }
+    requires one { length place.now.cells.items ≡ 1 }
     requires started { IsAwaited place.now session.old started }
     ensures session { IsSessionOf place.now session.new }
+    ensures back { IfReady (HasAllPasses session.new) result }
     ensures again { IfNotYet (λ again. IsAwaited place.now session.new again) result }
 {
     session.finish(rt, place, started)
@@ -133,10 +111,12 @@ fn has_pass(session: &SessionPass<Relay>) -> bool {
     }
 }
 
-/// Starts a call of each of two sessions, of which the second finds the queue full, and finishes the first.
+/// Starts a call of each of two sessions, of which the second finds the queue full, and finishes the first. Each session
+/// is closed once no call of it is under way.
 pub fn call_alone<R: Wait>(rt: &R, alloc: Global) -> Result<Story, Memory> {
     let Opened {
         place,
+        mut passes,
         mut first,
         mut second,
         queue,
@@ -145,7 +125,11 @@ pub fn call_alone<R: Wait>(rt: &R, alloc: Global) -> Result<Story, Memory> {
         return Err(AllocError);
     };
     let busy = match start(rt, alloc, &place, &mut second, 2) {
-        Err(Unstarted::Busy) => has_pass(&second),
+        Err(Unstarted::Busy) => {
+            let stayed = has_pass(&second);
+            second.close(&place, &mut passes);
+            stayed
+        }
         _ => false,
     };
     let mut story = Story {
@@ -160,6 +144,7 @@ pub fn call_alone<R: Wait>(rt: &R, alloc: Global) -> Result<Story, Memory> {
             && has_pass(&first)
         {
             story.replied = number_in(&outcome);
+            first.close(&place, &mut passes);
         }
     }
     Ok(story)

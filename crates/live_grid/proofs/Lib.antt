@@ -8,3 +8,7 @@ mod Pushed
 mod Settled
 mod Standing
 mod Unanswered
+pub mod Following
+pub mod PassPlaces
+pub mod Trying
+pub mod Controls

@@ -3,3 +3,5 @@ pub mod Histories
 pub mod Outcomes
 pub mod Lives
 pub mod Grids
+pub mod Control
+pub mod Fates

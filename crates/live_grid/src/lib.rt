@@ -6,10 +6,13 @@
 #![tactic(auto)]
 
 mod answers;
+mod control;
+mod control_turns;
 mod grid;
 mod handing;
 pub mod laws;
 mod opening;
+mod pass_places;
 mod plan;
 mod settling;
 mod world;

@@ -2,6 +2,8 @@
 #![tactic(auto)]
 
 #[cfg(test)]
+mod controls;
+#[cfg(test)]
 mod grids;
 #[cfg(test)]
 mod requests;

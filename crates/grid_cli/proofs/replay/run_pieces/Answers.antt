@@ -1,7 +1,7 @@
 use Rattle.std.proofs.Common.{◌≡◌, ◌++◌, take, arith, None, Some}
 use Rattle.script_lang.specs.Words.{whole_lines}
 use Rattle.grid_cli.specs.declared.status.LimitWhat.TheVariants.{Bytes}
-use Rattle.grid_cli.proofs.ReplayLaws.{not_usage, not_read_fault}
+use Rattle.grid_cli.proofs.ReplayLaws.{not_usage, not_door_fault, not_read_fault}
 use Rattle.grid_cli.proofs.ReplayRuns.{at_first, all_taken, played_on, read_failed, script_read, stopped_in_piece, limit_was_passed}
 use Rattle.grid_cli.proofs.replay.run_pieces.Goals as goal
 
@@ -19,6 +19,12 @@ returns-then-count-eq0-clause-runs g c =
     let h = c.finish.ensures.concludes _ p.skips p.read p.written p.has in
     not_usage _ None c.finish.result _ _ _ h.2
 
+pub returns-then-count-eq0-clause-doorless : goal.returns-then-count-eq0-clause-doorless
+returns-then-count-eq0-clause-doorless g c =
+    let p = c.pieces.invariant.0 in
+    let h = c.finish.ensures.concludes _ p.skips p.read p.written p.has in
+    not_door_fault _ None c.finish.result _ _ _ h.2
+
 pub returns-then-count-eq0-clause-read_fault : goal.returns-then-count-eq0-clause-read_fault
 returns-then-count-eq0-clause-read_fault g c = λ is.
     let p = c.pieces.invariant.0 in
@@ -30,6 +36,12 @@ returns-in-Err-clause-runs g c =
     let p = c.pieces.invariant.0 in
     let h = c.in-Err.ensures.stops _ p.skips p.read p.written p.has in
     h.2.runs
+
+pub returns-in-Err-clause-doorless : goal.returns-in-Err-clause-doorless
+returns-in-Err-clause-doorless g c =
+    let p = c.pieces.invariant.0 in
+    let h = c.in-Err.ensures.stops _ p.skips p.read p.written p.has in
+    h.2.doorless
 
 pub returns-in-Err-clause-read_fault : goal.returns-in-Err-clause-read_fault
 returns-in-Err-clause-read_fault g c = λ is.
@@ -49,6 +61,13 @@ returns-then-count-room-clause-runs g c =
     let h = c.in-Ok-take.ensures.goes _ p.skips p.read p.written p.has in
     let e = c.stop_at_limit.ensures.concludes _ (h.0 ++ p.skips) (whole_lines (p.read ++ take c.min.result c.read.new.into)) (p.written ++ h.1) h.2.follows in
     not_usage _ (Some Bytes) c.stop_at_limit.result _ _ _ e.1
+
+pub returns-then-count-room-clause-doorless : goal.returns-then-count-room-clause-doorless
+returns-then-count-room-clause-doorless g c =
+    let p = c.pieces.invariant.0 in
+    let h = c.in-Ok-take.ensures.goes _ p.skips p.read p.written p.has in
+    let e = c.stop_at_limit.ensures.concludes _ (h.0 ++ p.skips) (whole_lines (p.read ++ take c.min.result c.read.new.into)) (p.written ++ h.1) h.2.follows in
+    not_door_fault _ (Some Bytes) c.stop_at_limit.result _ _ _ e.1
 
 pub returns-then-count-room-clause-read_fault : goal.returns-then-count-room-clause-read_fault
 returns-then-count-room-clause-read_fault g c = λ is.

@@ -17,6 +17,9 @@ returns-clause-headline g c = prints_histories _ c.run_pieces.result _ _ _ _ c.r
 pub returns-clause-runs : goal.returns-clause-runs
 returns-clause-runs g c = c.run_pieces.ensures.runs
 
+pub returns-clause-doorless : goal.returns-clause-doorless
+returns-clause-doorless g c = c.run_pieces.ensures.doorless
+
 pub returns-clause-read_fault : goal.returns-clause-read_fault
 returns-clause-read_fault g c = c.run_pieces.ensures.read_fault
 

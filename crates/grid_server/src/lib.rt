@@ -1,0 +1,14 @@
+//! The commands of the program `grid`: a replay, and the server of a live grid.
+#![tactic(auto)]
+
+mod ended;
+mod options;
+mod serve;
+mod setting;
+mod top;
+mod waking;
+
+pub use ended::Ended;
+pub use options::{OptionsRefused, ServeOptions, help_of_serve, read_options, why_refused};
+pub use serve::{serve_command, serve_gated};
+pub use top::grid_top;

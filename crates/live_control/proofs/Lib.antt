@@ -1,0 +1,4 @@
+pub mod Ahead
+pub mod Looking
+pub mod MoreRead
+pub mod Serving

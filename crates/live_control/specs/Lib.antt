@@ -1,0 +1,4 @@
+pub mod Orders
+pub mod Reading
+pub mod Running
+pub mod Serving
