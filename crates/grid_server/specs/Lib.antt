@@ -1,3 +1,4 @@
 pub mod Options
 pub mod Serving
 pub mod Settings
+pub mod Tasks

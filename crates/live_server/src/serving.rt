@@ -108,6 +108,8 @@ fn look_outside<T: Served, D: Doors, C: Clock>(
 
 /// What the thread does after a round: where nothing moved it lets others run, and after few such rounds in a row it
 /// sleeps. `idle` is how many looks in a row found nothing ready before; gives the number for the next round.
+///
+/// Each round has a wait, though it be of no time: doors may tell only there what has come to streams that weren't ready.
 fn rest<D: Doors>(
     doors: &mut D,
     moved: bool,
@@ -119,10 +121,12 @@ fn rest<D: Doors>(
     ensures cause { HasCause (D.faults doors.old) (D.faults doors.new) result }
 {
     if moved {
+        doors.wait(0)?;
         return Ok(0);
     }
     if idle < MOST_LOOKS {
         thread::yield_now();
+        doors.wait(0)?;
         return Ok(idle.saturating_add(clients).saturating_add(1));
     }
     doors.wait(LONGEST_SLEEP)?;
