@@ -1,0 +1,7 @@
+mod Arrivals
+mod Elements
+mod Fits
+mod Locality
+mod NewNames
+mod Refused
+mod Released

@@ -1,0 +1,45 @@
+//! What the answers of a live grid say together. The functions compute nothing: their contracts are the laws.
+//!
+//! A session is told of each call's outcome by what its pass has then seen, which is a beginning of the cell's history.
+//! The laws here are of that history, whole or a beginning of it, and speak of no session.
+#![tactic(auto)]
+
+ghost use Rattle.std.specs.Prelude.{ℕ, ◌≤◌, true, List};
+ghost use Rattle.grid_base.specs.declared.names.CallId.{CallId};
+ghost use Rattle.grid_base.specs.declared.names.ObjectKey.{ObjectKey};
+ghost use Rattle.grid_base.specs.declared.calls.Request.{Request};
+ghost use Rattle.object_store.specs.Partitions.{nothing_stored};
+ghost use Rattle.call_engine.specs.Objects.{one_object, partition_object};
+ghost use Rattle.partition_protocol.specs.History.{IsLegal};
+ghost use Rattle.partition_world.specs.declared.event.Event.{Event};
+ghost use Rattle.live_grid.specs.declared.plan.GridPlan.{GridPlan};
+ghost use Rattle.live_grid.specs.Plans.{settings_for};
+ghost use Rattle.live_grid.specs.Outcomes.{IsRepliedIn};
+ghost use Rattle.live_histories.specs.Entries.{HasReply, asks_of, object_trail, trail_of};
+ghost use Rattle.live_histories.specs.Fitting.{Fits};
+ghost use Rattle.live_histories.specs.Names.{AreNamedOnce, AreNew};
+
+/// Where each call's key was new as it came, no two calls have one name.
+pub fn calls_that_were_new_are_named_once()
+    ensures { (history : List (Event Request)) → AreNew history → AreNamedOnce history }
+{}
+
+/// Whatever was lost, repeated or late, and whoever crashed: the history by which a partition stands is that of the
+/// partition's object used by one thread and emptied at each reopening, and it has each call that was replied to, with
+/// that reply.
+pub fn every_live_answer_stands_in_a_legal_history()
+    ensures legal { (plan : GridPlan) (history : List (Event Request)) → 1 ≤ plan.members → AreNamedOnce history
+        → IsLegal (partition_object (settings_for plan)) nothing_stored (trail_of plan history) }
+    ensures answered { (plan : GridPlan) (history : List (Event Request)) (id : CallId) (reply : List ℕ) → 1 ≤ plan.members → AreNamedOnce history
+        → IsRepliedIn plan history id reply → HasReply (trail_of plan history) id reply }
+{}
+
+/// One thread that used one object could have seen what a partition's history has of it, be it an entry of a map or a
+/// queue, and so of the partition as a whole: all replies that were told along the history, in an order in which no call
+/// stands before one that was replied to before it came, and no call that was refused.
+pub fn every_live_history_is_linearizable()
+    ensures partition { (plan : GridPlan) (history : List (Event Request)) → 1 ≤ plan.members → AreNamedOnce history
+        → Fits (partition_object (settings_for plan)) (λ request. true) plan history (trail_of plan history) }
+    ensures object { (plan : GridPlan) (history : List (Event Request)) (name : ObjectKey) → 1 ≤ plan.members → AreNamedOnce history
+        → Fits (one_object (settings_for plan) name) (asks_of name) plan history (object_trail plan history name) }
+{}
