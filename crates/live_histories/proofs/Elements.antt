@@ -51,6 +51,30 @@ part_filter t (x ∷ xs) = go (t x) (part_filter t xs)
     go true h = inr (filter t xs, refl, h)
     go false h = inl h
 
+pub part_trans : {X : Type 0} (xs ys zs : List X) → IsPart xs ys → IsPart ys zs → IsPart xs zs
+part_trans xs ys [] h k = subst (λ ws. IsPart xs ws) k h
+part_trans xs ys (z ∷ zs) h (inl k) = inl (part_trans xs ys zs h k)
+part_trans {X} xs ys (z ∷ zs) h (inr (ws, e, k)) = go (subst (λ vs. IsPart xs vs) e h) (λ us j. part_trans us ws zs j k)
+  where
+    go : IsPart xs (z ∷ ws) → ((us : List X) → IsPart us ws → IsPart us zs) → IsPart xs (z ∷ zs)
+    go (inl j) f = inl (f xs j)
+    go (inr (us, s, j)) f = inr (us, s, f us j)
+
+-- a part of two lists is a part of the first and then one of the second
+pub record Parted {X : Type 0} (xs ys zs : List X) : Type 0 where
+  pub early : List X
+  pub late : List X
+  pub whole : xs ≡ early ++ late
+  pub first : IsPart early ys
+  pub second : IsPart late zs
+
+pub parted : {X : Type 0} (xs ys zs : List X) → IsPart xs (ys ++ zs) → Parted xs ys zs
+parted xs [] zs h = record { early = []; late = xs; whole = refl; first = refl; second = h }
+parted xs (y ∷ ys) zs (inl h) = let p = parted xs ys zs h in record { early = p.early; late = p.late; whole = p.whole; first = inl p.first; second = p.second }
+parted xs (y ∷ ys) zs (inr (ws, e, h)) =
+    let p = parted ws ys zs h in
+    record { early = y ∷ p.early; late = p.late; whole = e ∙ ap (λ vs. y ∷ vs) p.whole; first = inr (p.early, refl, p.first); second = p.second }
+
 -- the first before the second
 
 pub before_second : {X : Type 0} (xs : List X) (a b : X) → StandsBefore xs a b → In b xs

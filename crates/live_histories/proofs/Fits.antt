@@ -1,5 +1,5 @@
 -- The history of a partition, and that of each of its objects, is what one thread could have seen.
-use Rattle.std.proofs.Common.{◌≡◌, ◌≢◌, ℕ, ◌≤◌, Bool, true, List, ◌∷◌, ◌++◌, map, filter, Contains, refl, sym, ap, ◌∙◌, subst, ⊎_elim, inl}
+use Rattle.std.proofs.Common.{◌≡◌, ◌≢◌, ℕ, ◌≤◌, Bool, true, List, ◌∷◌, ◌++◌, map, filter, Contains, refl, sym, ap, ◌∙◌, subst, ⊎_elim, inl, append_assoc}
 use Rattle.grid_base.specs.Objects.{Object}
 use Rattle.grid_base.specs.declared.names.CallId.{CallId}
 use Rattle.grid_base.specs.declared.names.ObjectKey.{ObjectKey}
@@ -28,16 +28,21 @@ use Rattle.live_grid.specs.Plans.{settings_for}
 use Rattle.live_grid.specs.Histories.{cells}
 use Rattle.live_grid.specs.Outcomes.{name_of, IsRepliedIn, IsRefusedIn}
 use Rattle.live_histories.specs.Entries.{StandsBefore, CameIn, HasReply, HasEntry, asks_of, is_of, object_trail, trail_of}
-use Rattle.live_histories.specs.Fitting.{Fits}
+use Rattle.live_histories.specs.Fitting.{Fits, IsSplit}
 use Rattle.live_histories.specs.Names.{AreNamedOnce}
+use Rattle.live_histories.specs.Reopenings.{resets_in}
 use Rattle.live_histories.proofs.Arrivals.{arrived, arrived_append, asked_in, call_arrives}
-use Rattle.live_histories.proofs.Elements.{in_filter, in_filtered, subsequence_part, part_filter, before_part, before_append, named_same, named_append, named_right, entry_name, one_entry, entries_apart, apart_in_two}
+use Rattle.live_histories.proofs.Elements.{in_filter, in_filtered, subsequence_part, part_filter, part_trans, Parted, parted, before_part, before_append, named_same, named_append, named_right, entry_name, one_entry, entries_apart, apart_in_two}
 use Rattle.live_histories.proofs.Locality.{legal_on, resets_on}
-use Rattle.live_histories.proofs.Released.{object, longer, still_replied, logged_arrives, logged_came, without_refused}
+use Rattle.live_histories.proofs.Released.{object, longer, still_replied, logged_arrives, logged_came, late_came, without_refused}
+use Rattle.live_histories.proofs.Resets.{log_resets, resets_of_front, same_resets}
 
 -- an entry by what arrived of it
 abbrev entry_of : Asked Request → ℕ → ℕ → List ℕ → Executed Request
 entry_of a version seen reply = record { conn = a.conn; number = a.number; version = version; seen = seen; now = a.now; call = a.call; reply = reply }
+
+abbrev AreOnce : List (Entry Request) → Type 0
+AreOnce es = NamedOnce (map name (calls_in es))
 
 -- a name that arrived beside a call of a history isn't the call's
 not_again : (before after : List (Event Request)) (member : ℕ) (id : CallId) (request : Request) (now : ℕ) (a : Asked Request)
@@ -97,7 +102,7 @@ module _ (plan : GridPlan) (history : List (Event Request)) (some : 1 ≤ plan.m
     in_log x c = logged x (part_in h (trail w) (Called x) part (in_contains (Called x) h c))
 
     before_in_log : (x y : Executed Request) → StandsBefore h (Called x) (Called y) → StandsBefore log (Called x) (Called y)
-    before_in_log x y b = before_part (trail w) log (Called x) (Called y) trail_part (before_part h (trail w) (Called x) (Called y) part b)
+    before_in_log x y b = before_part h log (Called x) (Called y) (part_trans h (trail w) log part trail_part) b
 
     came : (x : Executed Request) → Contains h (Called x) → (takes x.call ≡ true) × CameIn history x
     came x c = (taken x (in_contains (Called x) h c), logged_came plan history x (in_log x c))
@@ -125,31 +130,58 @@ module _ (plan : GridPlan) (history : List (Event Request)) (some : 1 ≤ plan.m
         entry_there id request now reply (call_arrives history member id request now there) takes_it
         (entered id reply (subst (λ hs. IsRepliedIn plan hs id reply) (sym whole) (still_replied plan before after id reply is)))
 
-    unrefused : (member : ℕ) (id : CallId) (request : Request) (now : ℕ) (why : Reached) (x : Executed Request) → IsRefusedIn plan history (event.Call member id request now) why
-        → Contains h (Called x) → id_of x ≢ id
-    unrefused member id request now why x is c same =
-        let kept = ap (cells plan) is.whole ∙ without_refused plan is.before is.after member id request now why is.outcome in
+    unrefused : (before after : List (Event Request)) (member : ℕ) (id : CallId) (request : Request) (now : ℕ) (why : Reached) (x : Executed Request) → history ≡ before ++ after
+        → IsRefusedIn plan before (event.Call member id request now) why → Contains h (Called x) → id_of x ≢ id
+    unrefused before after member id request now why x whole is c same =
+        let e = event.Call member id request now in
+        let all_of_it : history ≡ is.before ++ e ∷ (is.after ++ after) = whole ∙ (ap (λ hs. hs ++ after) is.whole ∙ append_assoc is.before (e ∷ is.after) after) in
+        let kept = ap (cells plan) all_of_it ∙ without_refused plan is.before (is.after ++ after) member id request now why is.outcome in
         let there = subst (λ (u : Machine Request). In (Called x) u.recorded.log) kept (in_log x c) in
-        not_again is.before is.after member id request now (asked_of x) (subst AreNamedOnce is.whole once) (logged_arrives plan (is.before ++ is.after) x there) (ap name_of same)
+        not_again is.before (is.after ++ after) member id request now (asked_of x) (subst AreNamedOnce all_of_it once) (logged_arrives plan (is.before ++ (is.after ++ after)) x there) (ap name_of same)
+
+    -- the log at a moment, and since
+
+    abbrev more : (before after : List (Event Request)) → IsFrontOf (cells plan before).recorded.log (cells plan (before ++ after)).recorded.log
+    more before after = (longer plan before after).0
+
+    log_is : (before after : List (Event Request)) → history ≡ before ++ after → log ≡ (cells plan before).recorded.log ++ (more before after).0
+    log_is before after whole = ap (λ hs. (cells plan hs).recorded.log) whole ∙ sym (more before after).1
 
     ordered : (before after : List (Event Request)) (x y : Executed Request) (reply : List ℕ) → history ≡ before ++ after
         → IsRepliedIn plan before (id_of y) reply → StandsBefore h (Called x) (Called y) → CameIn before x
     ordered before after x y reply whole is b =
-        ⊎_elim (λ i. logged_came plan before x i) (λ j. absurd (later j)) (before_append early more.0 (Called x) (Called y) (subst (λ es. StandsBefore es (Called x) (Called y)) log_is (before_in_log x y b)))
+        ⊎_elim (λ i. logged_came plan before x i) (λ j. absurd (later j)) (before_append early rest (Called x) (Called y) (subst (λ es. StandsBefore es (Called x) (Called y)) (log_is before after whole) (before_in_log x y b)))
       where
         early : List (Entry Request)
         early = (cells plan before).recorded.log
 
-        more : IsFrontOf early (cells plan (before ++ after)).recorded.log
-        more = (longer plan before after).0
+        rest : List (Entry Request)
+        rest = (more before after).0
 
-        log_is : log ≡ early ++ more.0
-        log_is = ap (λ hs. (cells plan hs).recorded.log) whole ∙ sym more.1
-
-        later : In (Called y) more.0 → ⊥
+        later : In (Called y) rest → ⊥
         later j =
-            apart_in_two early more.0 is.released.call y (subst (λ es. NamedOnce (map name (calls_in es))) log_is safe.1.once) (in_contains (Called is.released.call) early is.released.executed) j
+            apart_in_two early rest is.released.call y (subst AreOnce (log_is before after whole) safe.1.once) (in_contains (Called is.released.call) early is.released.executed) j
             (ap name_of (sym is.released.id ∙ is.named))
+
+    -- what came by a moment, and what came later
+    split : resets_in h ≡ resets_in log → (before after : List (Event Request)) → history ≡ before ++ after → IsSplit plan before after h
+    split resets before after whole = record {
+      early = two.early;
+      late = two.late;
+      whole = two.whole;
+      came_early = λ x c. logged_came plan before x (part_in two.early early (Called x) two.first (in_contains (Called x) two.early c));
+      came_late = λ x c. late_came plan before after rest x (more before after).1 (subst AreOnce (log_is before after whole) safe.1.once) (part_in two.late rest (Called x) two.second (in_contains (Called x) two.late c));
+      reopened_early = resets_of_front two.early two.late early rest two.first two.second (sym (ap resets_in two.whole) ∙ (resets ∙ ap resets_in (log_is before after whole))) ∙ log_resets plan before;
+    }
+      where
+        early : List (Entry Request)
+        early = (cells plan before).recorded.log
+
+        rest : List (Entry Request)
+        rest = (more before after).0
+
+        two : Parted h early rest
+        two = parted h early rest (subst (λ es. IsPart h es) (log_is before after whole) (part_trans h (trail w) log part trail_part))
 
     pub fits : IsLegal o o.empty h → filter is_reset h ≡ filter is_reset (trail w) → Fits o takes plan history h
     fits legal resets = record {
@@ -159,7 +191,8 @@ module _ (plan : GridPlan) (history : List (Event Request)) (some : 1 ≤ plan.m
       answered = answered;
       unrefused = unrefused;
       ordered = ordered;
-      resets = resets ∙ safe.0.resets;
+      split = split (same_resets h log (resets ∙ safe.0.resets));
+      resets = same_resets h log (resets ∙ safe.0.resets) ∙ log_resets plan history;
     }
 
   pub partition_fits : Fits (partition_object (settings_for plan)) (λ request. true) plan history (trail_of plan history)

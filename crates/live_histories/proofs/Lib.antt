@@ -5,3 +5,4 @@ mod Locality
 mod NewNames
 mod Refused
 mod Released
+mod Resets

@@ -1,18 +1,26 @@
--- When the entries of a partition or of an object are what one thread could have seen, by all that a history's readers are told.
-use Rattle.std.specs.Prelude.{◌≡◌, ◌≢◌, ℕ, Bool, true, List, ◌++◌, filter, Contains}
+-- When the entries of a partition, or of an object of it, are what one thread could have seen.
+use Rattle.std.specs.Prelude.{◌≡◌, ◌≢◌, ℕ, Bool, true, List, ◌++◌, Contains}
 use Rattle.grid_base.specs.Objects.{Object}
 use Rattle.grid_base.specs.declared.names.CallId.{CallId}
 use Rattle.grid_base.specs.declared.calls.Request.{Request}
 use Rattle.partition_protocol.specs.History.{Entry, Executed, Called, IsLegal}
-use Rattle.partition_protocol.specs.Claims.{is_reset}
 use Rattle.partition_protocol.specs.Execution.{Reached}
 use Rattle.partition_world.specs.Answers.{id_of}
 use Rattle.partition_world.specs.declared.event.Event.{Event}
 use Rattle.partition_world.specs.declared.event.Event.TheVariants as event
 use Rattle.live_grid.specs.declared.plan.GridPlan.{GridPlan}
-use Rattle.live_grid.specs.Histories.{cells}
 use Rattle.live_grid.specs.Outcomes.{IsRepliedIn, IsRefusedIn}
 use Rattle.live_histories.specs.Entries.{StandsBefore, CameIn, HasEntry}
+use Rattle.live_histories.specs.Reopenings.{reopened, resets_in}
+
+-- The entries begin with those that came with the first of two parts of a history
+pub record IsSplit (plan : GridPlan) (before after : List (Event Request)) (entries : List (Entry Request)) : Type 0 where
+  pub early : List (Entry Request)
+  pub late : List (Entry Request)
+  pub whole : entries ≡ early ++ late
+  pub came_early : (call : Executed Request) → Contains early (Called call) → CameIn before call
+  pub came_late : (call : Executed Request) → Contains late (Called call) → CameIn after call
+  pub reopened_early : resets_in early ≡ reopened plan before
 
 -- The entries are those of one object, used by one thread, of the requests that it takes
 pub record Fits {State : Type 0} (o : Object Request State) (takes : Request → Bool) (plan : GridPlan) (history : List (Event Request)) (entries : List (Entry Request)) : Type 0 where
@@ -26,10 +34,12 @@ pub record Fits {State : Type 0} (o : Object Request State) (takes : Request →
   pub answered : (before after : List (Event Request)) (member : ℕ) (id : CallId) (request : Request) (now : ℕ) (reply : List ℕ) → history ≡ before ++ after
       → Contains before (event.Call member id request now) → takes request ≡ true → IsRepliedIn plan before id reply → HasEntry entries id request now reply
   -- a call that was refused doesn't
-  pub unrefused : (member : ℕ) (id : CallId) (request : Request) (now : ℕ) (why : Reached) (call : Executed Request) → IsRefusedIn plan history (event.Call member id request now) why
-      → Contains entries (Called call) → id_of call ≢ id
+  pub unrefused : (before after : List (Event Request)) (member : ℕ) (id : CallId) (request : Request) (now : ℕ) (why : Reached) (call : Executed Request) → history ≡ before ++ after
+      → IsRefusedIn plan before (event.Call member id request now) why → Contains entries (Called call) → id_of call ≢ id
   -- no call stands before one that was replied to before it came
   pub ordered : (before after : List (Event Request)) (first second : Executed Request) (reply : List ℕ) → history ≡ before ++ after
       → IsRepliedIn plan before (id_of second) reply → StandsBefore entries (Called first) (Called second) → CameIn before first
-  -- it has each reopening of the partition, and no others
-  pub resets : filter is_reset entries ≡ filter is_reset (cells plan history).recorded.log
+  -- at each moment, the calls and reopenings until then stand before those that came later
+  pub split : (before after : List (Event Request)) → history ≡ before ++ after → IsSplit plan before after entries
+  -- the resets are the reopenings of the partition, in their order
+  pub resets : resets_in entries ≡ reopened plan history

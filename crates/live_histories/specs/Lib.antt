@@ -1,3 +1,4 @@
 pub mod Entries
-pub mod Names
 pub mod Fitting
+pub mod Names
+pub mod Reopenings

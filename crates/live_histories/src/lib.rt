@@ -13,15 +13,19 @@ ghost use Rattle.call_engine.specs.Objects.{one_object, partition_object};
 ghost use Rattle.partition_protocol.specs.History.{IsLegal};
 ghost use Rattle.partition_world.specs.declared.event.Event.{Event};
 ghost use Rattle.live_grid.specs.declared.plan.GridPlan.{GridPlan};
+ghost use Rattle.live_grid.specs.declared.world.LiveWorld.{LiveWorld};
+ghost use Rattle.live_grid.specs.Lives.{LiveStands};
 ghost use Rattle.live_grid.specs.Plans.{settings_for};
 ghost use Rattle.live_grid.specs.Outcomes.{IsRepliedIn};
 ghost use Rattle.live_histories.specs.Entries.{HasReply, asks_of, object_trail, trail_of};
 ghost use Rattle.live_histories.specs.Fitting.{Fits};
 ghost use Rattle.live_histories.specs.Names.{AreNamedOnce, AreNew};
 
-/// Where each call's key was new as it came, no two calls have one name.
-pub fn calls_that_were_new_are_named_once()
-    ensures { (history : List (Event Request)) → AreNew history → AreNamedOnce history }
+/// A live world that stands for a history is of a plan with a member, and no two calls of the history have one name.
+/// That holds wherever each call's key was new as it came.
+pub fn no_two_live_calls_have_one_name()
+    ensures stands { (live : LiveWorld) (plan : GridPlan) (history : List (Event Request)) → LiveStands live plan history → (1 ≤ plan.members) × AreNamedOnce history }
+    ensures new { (history : List (Event Request)) → AreNew history → AreNamedOnce history }
 {}
 
 /// Whatever was lost, repeated or late, and whoever crashed: the history by which a partition stands is that of the
