@@ -8,9 +8,11 @@ use Rattle.object_store.specs.Records.{nothing_of}
 use Rattle.object_store.specs.Partitions.{nothing_stored}
 use Rattle.object_store.proofs.PartitionLaws.{record_at-nothing}
 use Rattle.call_engine.specs.Objects.{one_object, partition_object}
+use Rattle.hand_cell.specs.declared.outcome.LiveOutcome.{LiveOutcome}
+use Rattle.hand_cell.specs.declared.outcome.LiveOutcome.TheVariants as live
 use Rattle.partition_protocol.specs.Arrivals.{Asked, NamedOnce, name, calls_in}
 use Rattle.partition_protocol.specs.Claims.{IsSafe, IsFaithful, is_reset}
-use Rattle.partition_protocol.specs.Execution.{Reached}
+use Rattle.partition_protocol.specs.Execution.{Reached, PartitionLost as IsLost, WrongTarget as IsElsewhere, Migrating as IsFrozen}
 use Rattle.partition_protocol.specs.History.{Entry, Executed, Called, IsLegal}
 use Rattle.partition_protocol.specs.HistorySizes.{asked_of}
 use Rattle.partition_protocol.specs.Sequences.{IsFrontOf}
@@ -26,9 +28,9 @@ use Rattle.partition_world.specs.declared.event.Event.TheVariants as event
 use Rattle.live_grid.specs.declared.plan.GridPlan.{GridPlan}
 use Rattle.live_grid.specs.Plans.{settings_for}
 use Rattle.live_grid.specs.Histories.{cells}
-use Rattle.live_grid.specs.Outcomes.{name_of, IsRepliedIn, IsRefusedIn}
-use Rattle.live_histories.specs.Entries.{StandsBefore, CameIn, HasReply, HasEntry, asks_of, is_of, object_trail, trail_of}
-use Rattle.live_histories.specs.Fitting.{Fits, IsSplit}
+use Rattle.live_grid.specs.Outcomes.{name_of, IsRepliedIn, IsRefusedIn, LiveTells}
+use Rattle.live_histories.specs.Entries.{StandsBefore, CameIn, HasReply, HasEntry, StandsNowhere, asks_of, is_of, object_trail, trail_of}
+use Rattle.live_histories.specs.Fitting.{Fits, IsSplit, StandsAs}
 use Rattle.live_histories.specs.Names.{AreNamedOnce}
 use Rattle.live_histories.specs.Reopenings.{resets_in}
 use Rattle.live_histories.proofs.Arrivals.{arrived, arrived_append, asked_in, call_arrives}
@@ -130,14 +132,24 @@ module _ (plan : GridPlan) (history : List (Event Request)) (some : 1 ≤ plan.m
         entry_there id request now reply (call_arrives history member id request now there) takes_it
         (entered id reply (subst (λ hs. IsRepliedIn plan hs id reply) (sym whole) (still_replied plan before after id reply is)))
 
-    unrefused : (before after : List (Event Request)) (member : ℕ) (id : CallId) (request : Request) (now : ℕ) (why : Reached) (x : Executed Request) → history ≡ before ++ after
-        → IsRefusedIn plan before (event.Call member id request now) why → Contains h (Called x) → id_of x ≢ id
-    unrefused before after member id request now why x whole is c same =
+    unrefused : (before after : List (Event Request)) (member : ℕ) (id : CallId) (request : Request) (now : ℕ) (why : Reached) → history ≡ before ++ after
+        → IsRefusedIn plan before (event.Call member id request now) why → StandsNowhere h id
+    unrefused before after member id request now why whole is x c same =
         let e = event.Call member id request now in
         let all_of_it : history ≡ is.before ++ e ∷ (is.after ++ after) = whole ∙ (ap (λ hs. hs ++ after) is.whole ∙ append_assoc is.before (e ∷ is.after) after) in
         let kept = ap (cells plan) all_of_it ∙ without_refused plan is.before (is.after ++ after) member id request now why is.outcome in
         let there = subst (λ (u : Machine Request). In (Called x) u.recorded.log) kept (in_log x c) in
         not_again is.before (is.after ++ after) member id request now (asked_of x) (subst AreNamedOnce all_of_it once) (logged_arrives plan (is.before ++ (is.after ++ after)) x there) (ap name_of same)
+
+    told : (before after : List (Event Request)) (member : ℕ) (id : CallId) (request : Request) (now : ℕ) (outcome : LiveOutcome) → history ≡ before ++ after
+        → Contains before (event.Call member id request now) → takes request ≡ true → LiveTells plan before (event.Call member id request now) outcome → StandsAs h id request now outcome
+    told before after member id request now (live.Replied reply) whole c takes_it is = answered before after member id request now reply whole c takes_it is
+    told before after member id request now (live.PartitionLost version) whole c takes_it is = unrefused before after member id request now (IsLost version) whole is
+    told before after member id request now (live.WrongTarget version) whole c takes_it is = unrefused before after member id request now (IsElsewhere version) whole is
+    told before after member id request now (live.Migrating version) whole c takes_it is = unrefused before after member id request now (IsFrozen version) whole is
+    told before after member id request now live.MemberGone whole c takes_it is = tt
+    told before after member id request now live.Exhausted whole c takes_it is = absurd is
+    told before after member id request now live.Memory whole c takes_it is = absurd is
 
     -- the log at a moment, and since
 
@@ -188,8 +200,7 @@ module _ (plan : GridPlan) (history : List (Event Request)) (some : 1 ≤ plan.m
       legal = legal;
       came = came;
       once = apart;
-      answered = answered;
-      unrefused = unrefused;
+      told = told;
       ordered = ordered;
       split = split (same_resets h log (resets ∙ safe.0.resets));
       resets = same_resets h log (resets ∙ safe.0.resets) ∙ log_resets plan history;

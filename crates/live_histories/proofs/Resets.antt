@@ -1,5 +1,5 @@
 -- The resets of a partition's log are the reopenings of its history.
-use Rattle.std.proofs.Common.{◌≡◌, ℕ, ◌+◌, ◌≤◌, Bool, true, false, cond, List, [], ◌∷◌, ◌++◌, map, length, filter, Option, Some, None, refl, sym, ap, ◌∙◌, subst, inl, inr, arith, append_assoc, append-nil, true≢false}
+use Rattle.std.proofs.Common.{◌≡◌, ℕ, ◌+◌, Bool, true, false, List, [], ◌∷◌, ◌++◌, map, length, filter, Option, Some, None, refl, sym, ap, ◌∙◌, subst, inl, inr, arith, append_assoc, append-nil, true≢false}
 use Rattle.std.proofs.lemmas.List.{map-append, length-append}
 use Rattle.grid_base.specs.Objects.{Object}
 use Rattle.grid_base.specs.declared.calls.Request.{Request}
@@ -7,8 +7,8 @@ use Rattle.partition_protocol.specs.Claims.{is_reset}
 use Rattle.partition_protocol.specs.Events.{Event as EventThere, Reopen, Happened, row_made, with_reset, unless_reopen_refused, run, happens}
 use Rattle.partition_protocol.specs.History.{Entry, Called, Reset}
 use Rattle.partition_protocol.specs.Service.{ReopenRefused, reopen_refused, reopening}
-use Rattle.partition_protocol.specs.World.{World, start}
-use Rattle.partition_protocol.proofs.EventCases.{EventCases, every_event}
+use Rattle.partition_protocol.specs.World.{World}
+use Rattle.partition_protocol.proofs.EventCases.{every_event}
 use Rattle.partition_protocol.proofs.Extends.{run_append}
 use Rattle.partition_protocol.proofs.HistorySizes.{part_length}
 use Rattle.partition_protocol.proofs.Lists.{IsPart}

@@ -1,5 +1,5 @@
 -- The history by which a live partition stands, and that of each of its objects.
-use Rattle.std.specs.Prelude.{◌≡◌, ℕ, ◌⊎◌, Bool, true, List, [], ◌∷◌, filter, Contains}
+use Rattle.std.specs.Prelude.{◌≡◌, ◌≢◌, ℕ, ◌⊎◌, Bool, true, List, [], ◌∷◌, filter, Contains}
 use Rattle.grid_base.specs.Names.{is_same}
 use Rattle.grid_base.specs.declared.names.CallId.{CallId}
 use Rattle.grid_base.specs.declared.names.ObjectKey.{ObjectKey}
@@ -39,6 +39,10 @@ StandsBefore (x ∷ xs) a b = ((x ≡ a) × Contains xs b) ⊎ StandsBefore xs a
 pub record CameIn (history : List (Event Request)) (call : Executed Request) : Type 0 where
   pub member : ℕ
   pub there : Contains history (event.Call member (id_of call) call.call call.now)
+
+-- no entry is of the call of that name
+abbrev pub StandsNowhere : List (Entry Request) → CallId → Type 0
+StandsNowhere entries id = (call : Executed Request) → Contains entries (Called call) → id_of call ≢ id
 
 -- An entry of the call with that reply is there
 pub record HasReply (entries : List (Entry Request)) (id : CallId) (reply : List ℕ) : Type 0 where

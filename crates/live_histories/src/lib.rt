@@ -1,7 +1,9 @@
-//! What the answers of a live grid say together. The functions compute nothing: their contracts are the laws.
+//! What the outcomes that a live grid tells say together: that each partition, and each map's entry and queue in it, is
+//! one object used by one thread. The functions compute nothing: their contracts are the laws.
 //!
-//! A session is told of each call's outcome by what its pass has then seen, which is a beginning of the cell's history.
-//! The laws here are of that history, whole or a beginning of it, and speak of no session.
+//! A session is told of a call by what its pass has seen of the cell's history, which is a beginning of it. The laws are of
+//! the history, and of all that was told by any beginning of it. They ask that the plan has a member, and that no two calls
+//! have one name: a turn's value says both of what was seen.
 #![tactic(auto)]
 
 ghost use Rattle.std.specs.Prelude.{ℕ, ◌≤◌, true, List};
@@ -21,16 +23,16 @@ ghost use Rattle.live_histories.specs.Entries.{HasReply, asks_of, object_trail, 
 ghost use Rattle.live_histories.specs.Fitting.{Fits};
 ghost use Rattle.live_histories.specs.Names.{AreNamedOnce, AreNew};
 
-/// A live world that stands for a history is of a plan with a member, and no two calls of the history have one name.
-/// That holds wherever each call's key was new as it came.
+/// A live world that stands for a history is of a plan with a member, and no two calls of the history have one name: nor
+/// have they in any history in which each call's key was new as it came.
 pub fn no_two_live_calls_have_one_name()
     ensures stands { (live : LiveWorld) (plan : GridPlan) (history : List (Event Request)) → LiveStands live plan history → (1 ≤ plan.members) × AreNamedOnce history }
     ensures new { (history : List (Event Request)) → AreNew history → AreNamedOnce history }
 {}
 
 /// Whatever was lost, repeated or late, and whoever crashed: the history by which a partition stands is that of the
-/// partition's object used by one thread and emptied at each reopening, and it has each call that was replied to, with
-/// that reply.
+/// partition's object, used by one thread and emptied at each reopening. It has each call that was replied to, with that
+/// reply.
 pub fn every_live_answer_stands_in_a_legal_history()
     ensures legal { (plan : GridPlan) (history : List (Event Request)) → 1 ≤ plan.members → AreNamedOnce history
         → IsLegal (partition_object (settings_for plan)) nothing_stored (trail_of plan history) }
@@ -39,8 +41,9 @@ pub fn every_live_answer_stands_in_a_legal_history()
 {}
 
 /// One thread that used one object could have seen what a partition's history has of it, be it an entry of a map or a
-/// queue, and so of the partition as a whole: all replies that were told along the history, in an order in which no call
-/// stands before one that was replied to before it came, and no call that was refused.
+/// queue; and so one that used the whole partition. Each call that was replied to stands in it with that reply, a refused
+/// one nowhere, and one whose member is gone once or nowhere. No call stands before one that was replied to before it came,
+/// and the object is emptied at each reopening of the partition and at no other place.
 pub fn every_live_history_is_linearizable()
     ensures partition { (plan : GridPlan) (history : List (Event Request)) → 1 ≤ plan.members → AreNamedOnce history
         → Fits (partition_object (settings_for plan)) (λ request. true) plan history (trail_of plan history) }
