@@ -1,12 +1,17 @@
 //! The commands of the program `grid`: a replay, and the server of a live grid.
 #![tactic(auto)]
 
+mod beside;
 mod ended;
+mod front;
+mod operating;
 mod options;
 mod serve;
+mod serving;
 mod setting;
 mod top;
 mod waking;
+mod working;
 
 pub use ended::Ended;
 pub use options::{OptionsRefused, ServeOptions, help_of_serve, read_options, why_refused};

@@ -1,178 +1,47 @@
 //! The command `serve`.
 ghost use Rattle.std.specs.Prelude.{◌≡◌, ◌≤◌, All, List, map, OnOk};
-ghost use Rattle.call_engine.specs.Limits.{RequestFits};
 ghost use Rattle.entry_processors.specs.Forms.{form_of};
 ghost use Rattle.entry_processors.specs.declared.form.Form.{Form as FormOf};
-ghost use Rattle.grid_edge.specs.Faults.{Rose, HasCause};
+ghost use Rattle.grid_edge.specs.Faults.{Rose};
 ghost use Rattle.hand_cell.specs.Calls.{plan_of};
-ghost use Rattle.live_control.specs.Running.{MayServe as MayControl};
-ghost use Rattle.live_control.specs.Serving.{HasServed as HasControlled};
-ghost use Rattle.live_server.specs.Serving.{HasServedAll};
-ghost use Rattle.live_server.specs.Standing.{MayServe, Rests, HasLetAllIn};
-ghost use Rattle.live_session.specs.Connections.{ServesCalls};
 ghost use Rattle.live_grid.specs.Grids.{place_of};
-ghost use Rattle.live_grid.specs.Histories.{live_key, live_call};
-ghost use Rattle.live_grid.specs.Outcomes.{LiveTells};
 ghost use Rattle.grid_server.specs.Serving.{HasServed, IsOpened, stream, at_doors};
-ghost use Rattle.grid_server.specs.Settings.{IsWorker, AreWorkers, IsSetting};
+ghost use Rattle.grid_server.specs.Settings.{IsSetting};
 
+use crate::beside::run_both;
 use crate::ended::Ended;
+use crate::front::Front;
+use crate::operating::{Operated, Operating};
 use crate::options::{OptionsRefused, ServeOptions, read_options};
+use crate::serving::{Served, Serving};
 use crate::setting::Setting;
 use crate::waking::WakingGate;
+use crate::working::{Working, Workshop};
 use call_engine::GridEnv;
 use entry_processors::{Form, Processor, Registry};
 use grid_cli::Status;
-use grid_edge::{Clock, DoorFault, Doors, Sink, Source, Wakes};
+use grid_edge::{Clock, DoorFault, Doors, Sink, Source};
 use hand_cell::Runs;
-use live_control::serve_control;
 use live_grid::{GridPass, LiveGrid, LiveWorld};
-use live_server::{Closing, Connections, serve};
-use partition_threads::{Gate, OpenGate, WorkerTokens, worker};
+use live_server::Closing;
+use partition_threads::{Gate, OpenGate};
 use std::alloc::Global;
 use std::sync::Wait;
-use std::thread::{self, Threads, join_mut};
+use std::thread::Threads;
 
-/// Runs the worker of a number, if its tokens are there.
-fn run_worker<G: Gate, R: Wait>(
-    rt: &R,
-    alloc: Global,
-    grid: &LiveGrid,
-    env: &GridEnv,
-    gate: &G,
-    number: usize,
-    slot: &mut Option<WorkerTokens<LiveWorld>>,
-)
-    requires env { All (λ cell. ⟦<LiveWorld as Runs<GridEnv>>⟧.means env.now (plan_of cell)) (place_of grid.now).cells.items }
-    requires slot { IsWorker (place_of grid.now) number slot.old }
+/// Ties a reference that came back to the one that was lent.
+fn take_back<T>(x: &mut T)
+    ensures { x.new ≡ x.old }
 {
-    if let Some(tokens) = slot.take() {
-        worker(rt, alloc, number, grid.workplace(), env, gate, tokens);
-    }
-}
-
-/// Runs the workers, each on a thread of its own, until the grid is stopped.
-fn run_workers<G: Gate, R: Threads + Wait + Sync>(
-    rt: &R,
-    alloc: Global,
-    grid: &LiveGrid,
-    env: &GridEnv,
-    gate: &G,
-    workers: &mut Vec<Option<WorkerTokens<LiveWorld>>>,
-)
-    requires env { All (λ cell. ⟦<LiveWorld as Runs<GridEnv>>⟧.means env.now (plan_of cell)) (place_of grid.now).cells.items }
-    requires workers { AreWorkers (place_of grid.now) workers.old.items }
-{
-    let threads = workers.len().max(1);
-    let work = |number: usize, slot: &mut Option<WorkerTokens<LiveWorld>>| {
-        run_worker(rt, alloc, grid, env, gate, number, slot)
-    };
-    thread::for_each_mut(rt, workers.as_mut_slice(), threads, &work);
-}
-
-/// Runs the control script, and has the server end behind it, unless it stays.
-fn control<S: Source, K: Sink, W: Wakes, R: Wait>(
-    rt: &R,
-    alloc: Global,
-    options: ServeOptions,
-    grid: &LiveGrid,
-    env: &GridEnv,
-    pass: &mut GridPass,
-    script: &mut S,
-    out: &mut K,
-    closing: &Closing,
-    waker: &W,
-) -> Status
-    requires some { 1 ≤ options.members }
-    requires most { options.members ≤ 8 }
-    requires env { All (λ cell. ⟦<LiveWorld as Runs<GridEnv>>⟧.means env.now (plan_of cell)) (place_of grid.now).cells.items }
-    requires pass { MayControl grid.now pass.old }
-    ensures served { HasControlled grid.now options.members result (S.left script.old) (S.left script.new) (K.taken out.old) (K.taken out.new) pass.old pass.new }
-    ensures read_fault { result ≡ Status.ReadFault → Rose (S.faults script.old) (S.faults script.new) }
-    ensures write_fault { result ≡ Status.WriteFault → Rose (K.faults out.old) (K.faults out.new) }
-    ensures kept { MayControl grid.now pass.new }
-{
-    let status = serve_control(rt, alloc, grid, options.members, env, pass, script, out);
-    if !options.stays {
-        closing.close();
-        waker.wake();
-    }
-    status
-}
-
-/// Serves the clients of a grid.
-fn serve_clients<C: Clock, D: Doors, R: Wait>(
-    rt: &R,
-    alloc: Global,
-    grid: &LiveGrid,
-    connections: &mut Connections<LiveWorld, D::From, D::To>,
-    doors: &mut D,
-    clock: &C,
-    closing: &Closing,
-) -> Result<(), DoorFault>
-    requires calls { ServesCalls RequestFits (place_of grid.now) }
-    requires may { MayServe live_key (place_of grid.now) connections.old (D.book doors.old) }
-    ensures clients { HasServedAll live_key LiveTells live_call (place_of grid.now) (λ now. C.gives clock.now now) connections.new.passes.items (D.book doors.new) }
-    ensures let_in { OnOk result (HasLetAllIn (D.empty_looks doors.old) (D.empty_looks doors.new) (D.book doors.new).accepted) }
-    ensures rests { Rests (place_of grid.now) connections.new }
-    ensures doors { HasCause (D.faults doors.old) (D.faults doors.new) result }
-{
-    serve(rt, alloc, grid.workplace(), connections, doors, clock, closing)
-}
-
-/// Serves clients on one thread, and runs the control script on this one. The workers are then stopped. Gives how the doors
-/// and how the script ended.
-fn serve_both<R, S, K, C, D>(
-    rt: &R,
-    alloc: Global,
-    options: ServeOptions,
-    grid: &LiveGrid,
-    env: &GridEnv,
-    pass: &mut GridPass,
-    connections: &mut Connections<LiveWorld, D::From, D::To>,
-    script: &mut S,
-    out: &mut K,
-    clock: &C,
-    doors: &mut D,
-    waker: &D::Waker,
-) -> (Result<(), DoorFault>, Status)
-where
-    R: Threads + Wait + Sync,
-    S: Source,
-    K: Sink,
-    C: Clock,
-    D: Doors,
-    requires some { 1 ≤ options.members }
-    requires most { options.members ≤ 8 }
-    requires env { All (λ cell. ⟦<LiveWorld as Runs<GridEnv>>⟧.means env.now (plan_of cell)) (place_of grid.now).cells.items }
-    requires pass { MayControl grid.now pass.old }
-    requires calls { ServesCalls RequestFits (place_of grid.now) }
-    requires may { MayServe live_key (place_of grid.now) connections.old (D.book doors.old) }
-    ensures control { HasControlled grid.now options.members result.1 (S.left script.old) (S.left script.new) (K.taken out.old) (K.taken out.new) pass.old pass.new }
-    ensures read_fault { result.1 ≡ Status.ReadFault → Rose (S.faults script.old) (S.faults script.new) }
-    ensures write_fault { result.1 ≡ Status.WriteFault → Rose (K.faults out.old) (K.faults out.new) }
-    ensures kept { MayControl grid.now pass.new }
-    ensures clients { HasServedAll live_key LiveTells live_call (place_of grid.now) (λ now. C.gives clock.now now) connections.new.passes.items (D.book doors.new) }
-    ensures let_in { OnOk result.0 (HasLetAllIn (D.empty_looks doors.old) (D.empty_looks doors.new) (D.book doors.new).accepted) }
-    ensures rests { Rests (place_of grid.now) connections.new }
-    ensures doors { HasCause (D.faults doors.old) (D.faults doors.new) result.0 }
-{
-    let closing = Closing::new();
-    let ended = join_mut(
-        rt,
-        &mut || serve_clients(rt, alloc, grid, connections, doors, clock, &closing),
-        &mut || control(rt, alloc, options, grid, env, pass, script, out, &closing, waker),
-    );
-    grid.workplace().stop();
-    ended
+    let _ = x;
 }
 
 /// Runs a server on its threads to its end, in a setting in which nothing has happened. The doors were just opened.
-fn run<R, S, K, C, D, G>(
+fn run<N, R, S, K, C, D, G>(
     rt: &R,
     alloc: Global,
     options: ServeOptions,
-    env: &GridEnv,
+    env: &N,
     setting: Setting<D::From, D::To>,
     script: &mut S,
     out: &mut K,
@@ -182,15 +51,17 @@ fn run<R, S, K, C, D, G>(
     waker: &D::Waker,
 ) -> (Status, LiveGrid, GridPass)
 where
+    N: Sync,
     R: Threads + Wait + Sync,
     S: Source,
     K: Sink,
     C: Clock,
     D: Doors<From: Drop, To: Drop, Waker: Drop>,
     G: Gate,
+    LiveWorld: Runs<N>,
     requires some { 1 ≤ options.members }
     requires most { options.members ≤ 8 }
-    requires env { All (λ cell. ⟦<LiveWorld as Runs<GridEnv>>⟧.means env.now (plan_of cell)) (place_of setting.grid).cells.items }
+    requires env { All (λ cell. ⟦<LiveWorld as Runs<N>>⟧.means env.now (plan_of cell)) (place_of setting.grid).cells.items }
     requires setting { (forms : List FormOf) × IsSetting options forms setting }
     requires doors { IsOpened options (D.book doors.old) }
     ensures served { (forms : List FormOf) → IsSetting options forms setting → HasServed options forms (λ now. C.gives clock.now now)
@@ -204,35 +75,66 @@ where
 {
     let Setting {
         grid,
-        mut pass,
-        mut workers,
-        mut connections,
+        pass,
+        workers,
+        connections,
     } = setting;
     let waking = WakingGate { gate, waker };
-    let (_, (served, told)) = join_mut(
+    let closing = Closing::new();
+    let shop = Workshop {
         rt,
-        &mut || run_workers(rt, alloc, &grid, env, &waking, &mut workers),
-        &mut || {
-            serve_both(
-                rt,
-                alloc,
-                options,
-                &grid,
-                env,
-                &mut pass,
-                &mut connections,
-                script,
-                out,
-                clock,
-                doors,
-                waker,
-            )
-        },
-    );
+        alloc,
+        grid: &grid,
+        env,
+        gate: &waking,
+    };
+    let working = Working { shop, workers };
+    let serving = Serving {
+        rt,
+        alloc,
+        grid: &grid,
+        connections,
+        doors,
+        clock,
+        closing: &closing,
+    };
+    let operating = Operating {
+        rt,
+        alloc,
+        options,
+        grid: &grid,
+        env,
+        pass,
+        script,
+        out,
+        closing: &closing,
+        waker,
+    };
+    let front = Front {
+        rt,
+        grid: &grid,
+        first: serving,
+        second: operating,
+    };
+    let ((), (served, operated)) = run_both(rt, working, front);
+    let Served {
+        ended,
+        connections,
+        doors,
+    } = served;
+    let Operated {
+        status,
+        mut pass,
+        script,
+        out,
+    } = operated;
+    take_back(doors);
+    take_back(script);
+    take_back(out);
     let (passes, tokens) = connections.into_parts();
     grid.gather(&mut pass, GridPass { passes, tokens });
-    let status = match served {
-        Ok(()) => told,
+    let status = match ended {
+        Ok(()) => status,
         Err(DoorFault) => Status::DoorFault,
     };
     (status, grid, pass)
