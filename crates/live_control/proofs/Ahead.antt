@@ -1,5 +1,5 @@
 -- Bytes of a piece, and bytes that came.
-use Rattle.std.proofs.Common.{◌≡◌, ℕ, ◌+◌, ◌-◌, ◌≤◌, ◌<◌, min, Bool, true, false, nat_lt, List, [], ◌++◌, length, take, drop, refl, ap, sym, ◌∙◌, subst, arith, append-nil, append_assoc, length-append}
+use Rattle.std.proofs.Common.{◌≡◌, ℕ, ◌+◌, ◌-◌, ◌≤◌, ◌<◌, min, Bool, true, false, nat_lt, List, [], ◌++◌, length, take, drop, slice_range, refl, ap, sym, ◌∙◌, subst, arith, append-nil, append_assoc, length-append}
 use Rattle.std.proofs.lemmas.List.{take-append-drop, length-take, take-take, drop-drop, drop-take, drop_all, take-append-le, take_all}
 use Rattle.std.proofs.lemmas.Bool.Decides.{nat_tests}
 use Rattle.std.proofs.Math.Seq.{take-append-add}
@@ -9,6 +9,9 @@ use Rattle.script_lang.specs.Limits.{most_bytes}
 -- from a place of a piece to another
 abbrev pub between : List ℕ → ℕ → ℕ → List ℕ
 between piece from to = drop from (take to piece)
+
+pub range_is : (piece : List ℕ) (from to : ℕ) → from ≤ to → slice_range piece from to ≡ between piece from to
+range_is piece from to less = sym (drop-take from (to - from) piece) ∙ ap (λ k. drop from (take k piece)) (let is : from + (to - from) ≡ to = omega (arith, less) in is)
 
 pub between_front : (piece : List ℕ) (from to n : ℕ) → from + n ≤ to → between piece from (from + n) ≡ take n (between piece from to)
 between_front piece from to n less =

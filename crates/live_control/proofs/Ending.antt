@@ -96,7 +96,7 @@ module _ (grid : LiveGrid) (members : ℕ) where
         number_is : next.lines ≡ 1 + length s.lines
         number_is = let count = come.count in omega (arith, count, length-append s.lines (line ∷ []))
 
-        script : List ℕ
+        abbrev script : List ℕ
         script = (s.read ++ more) ++ told later
 
         front : IsFrontOf (s.lines ++ line ∷ []) (lines_of script)
@@ -151,7 +151,7 @@ module _ (grid : LiveGrid) (members : ℕ) where
         pub stopped : (status : Status) (new : GridPass) (last : Option (List ℕ)) → StopsAs grid members next.lines line now new after last status → HasServed grid members status first later before last old new
         stopped status.Done new last h = served status.Done last new h.0 h.2 (ended new h.0 h.1)
         stopped (status.ScriptRefused at why) new last h =
-            served (status.ScriptRefused at why) last new h.1 h.3 (inl (subst (λ (k : ℕ). HasMetRefused grid members script old new k why (s.written ++ h.1)) (sym h.0) (refused new why h.1 h.2)))
+            served (status.ScriptRefused at why) last new h.1.0 h.1.2 (inl (subst (λ (k : ℕ). HasMetRefused grid members script old new k why (s.written ++ h.1.0)) (sym h.0) (refused new why h.1.0 h.1.1)))
         stopped status.WriteFault new last h = served status.WriteFault last new (take h.3.0 h.1) h.3.2 (record {
           text = s.written ++ h.1;
           front = (drop h.3.0 h.1, append_assoc s.written (take h.3.0 h.1) (drop h.3.0 h.1) ∙ ap (λ (l : List ℕ). s.written ++ l) (take-append-drop h.3.0 h.1));
@@ -193,9 +193,9 @@ module _ (grid : LiveGrid) (members : ℕ) where
       closed text ends other last begins is serves h =
           served other last now text h.1 (subst (λ (z : Status). ServesAs grid members ((s.read ++ more) ++ told later) old now z (s.read ++ more) (s.written ++ text)) (sym h.0) serves)
 
-      pub no_end : (number : ℕ) (status : Status) (last : Option (List ℕ)) → number ≡ length s.lines → AreLinesOf s.lines (s.read ++ more) → IsAtEnd later
-          → WritesLast (refused_text number NoEnd) (status.ScriptRefused number NoEnd) after last status → HasServed grid members status first later before last old now
-      no_end number status last number_is all at_end h =
+      pub no_end : (number : ℕ) (ends : Status) (last : Option (List ℕ)) → number ≡ length s.lines → AreLinesOf s.lines (s.read ++ more) → IsAtEnd later
+          → WritesLast (refused_text number NoEnd) (status.ScriptRefused number NoEnd) after last ends → HasServed grid members ends first later before last old now
+      no_end number ends last count_is all at_end h =
           let script_is : s.read ++ more ≡ (s.read ++ more) ++ told later = sym (ap (λ (l : List ℕ). (s.read ++ more) ++ l) (nothing_told later at_end) ∙ append-nil (s.read ++ more)) in
           let lines_are : AreLinesOf s.lines ((s.read ++ more) ++ told later) = subst (AreLinesOf s.lines) script_is all in
           let met : HasMetNoEnd grid members ((s.read ++ more) ++ told later) old now number NoEnd (s.written ++ refused_text number NoEnd) = record {
@@ -203,23 +203,23 @@ module _ (grid : LiveGrid) (members : ℕ) where
             shown = s.written;
             all = lines_are;
             ran = s.ran;
-            numbered = number_is;
+            numbered = count_is;
             no_end = refl;
             text = refl;
           } in
-          closed (refused_text number NoEnd) (status.ScriptRefused number NoEnd) status last ([], append-nil s.lines ∙ sym (ap (λ (c : Cut). c.lines) lines_are)) (inr (inl (number, NoEnd, inr met))) (inr met) h
+          closed (refused_text number NoEnd) (status.ScriptRefused number NoEnd) ends last ([], append-nil s.lines ∙ sym (ap (λ (c : Cut). c.lines) lines_are)) (inr (inl (number, NoEnd, inr met))) (inr met) h
 
-      pub past_limit : (number : ℕ) (what : LimitWhat) (status : Status) (last : Option (List ℕ)) → number ≡ length s.lines → ((rest : List ℕ) → cut ((s.read ++ more) ++ rest) ≡ record { lines = s.lines; limit = Some what })
-          → WritesLast (limit_text (number + 1) what) (status.Limit what) after last status → HasServed grid members status first later before last old now
-      past_limit number what status last number_is past h =
+      pub past_limit : (number : ℕ) (what : LimitWhat) (ends : Status) (last : Option (List ℕ)) → number ≡ length s.lines → ((rest : List ℕ) → cut ((s.read ++ more) ++ rest) ≡ record { lines = s.lines; limit = Some what })
+          → WritesLast (limit_text (number + 1) what) (status.Limit what) after last ends → HasServed grid members ends first later before last old now
+      past_limit number what ends last count_is past h =
           let met : HasMetLimit grid members ((s.read ++ more) ++ told later) old now what (s.written ++ limit_text (number + 1) what) = record {
             lines = s.lines;
             shown = s.written;
             all = past (told later);
             ran = s.ran;
-            text = ap (λ k. s.written ++ limit_text (k + 1) what) number_is;
+            text = ap (λ k. s.written ++ limit_text (k + 1) what) count_is;
           } in
-          closed (limit_text (number + 1) what) (status.Limit what) status last ([], append-nil s.lines ∙ sym (ap (λ (c : Cut). c.lines) (past (told later)))) (inr (inr (what, met))) met h
+          closed (limit_text (number + 1) what) (status.Limit what) ends last ([], append-nil s.lines ∙ sym (ap (λ (c : Cut). c.lines) (past (told later)))) (inr (inr (what, met))) met h
 
       pub failed : whole_lines (s.read ++ more) ≡ s.lines → AreFirst s.lines later (s.read ++ more) → HasServed grid members status.ReadFault first later before after old now
       failed whole begins = served_so status.ReadFault now (record {

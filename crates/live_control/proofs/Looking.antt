@@ -17,9 +17,61 @@ use Rattle.grid_cli.proofs.Cuts.{lines_completed, nothing_unfinished, more_unfin
 use Rattle.grid_cli.proofs.ReplayEnds.{no_last_line, last_line_is, room_for_last}
 use Rattle.grid_cli.proofs.ReplayLaws.{room_without_limit}
 use Rattle.grid_cli.proofs.ReplaySteps.{one_end, no_end, split_at_line}
+use Rattle.grid_cli.specs.Statuses.{most_piece}
+use Rattle.live_control.specs.declared.lines.Came.{Came}
+use Rattle.live_control.specs.declared.lines.Came.TheVariants.{Line, Nothing, Limit, Fault, NoMemory}
 use Rattle.live_control.specs.declared.lines.LineReader.{LineReader}
-use Rattle.live_control.specs.Reading.{ahead, told, IsAmid, IsAt, AreFirst, AreLinesOf, HasCome, IsSameBut, HasLonger, up_to}
+use Rattle.live_control.specs.Reading.{ahead, told, IsAmid, IsAt, AreFirst, AreLinesOf, HasCome, HasLooked, ComesNext, IsKept, IsPast, IsOver, IsSameBut, HasLonger, up_to}
 use Rattle.live_control.proofs.Ahead.{between, between_front, between_rest, between_none, front_of_more, front_then, is_within, is_past}
+
+-- before anything came
+nothing_within : IsWithin []
+nothing_within = record { goes_on = λ past rest. refl; few = omega arith; room = inl refl }
+
+pub at_start : (reader : LineReader) (left : Option (List ℕ)) → vec_len reader.piece ≡ most_piece → reader.from ≡ 0 → reader.to ≡ 0 → reader.lines ≡ 0 → reader.bytes ≡ 0 → reader.is_over ≡ false → reader.has_ended ≡ false → HasCome reader left [] [] []
+at_start reader left size from to lines bytes over going = record {
+  size = size;
+  placed = omega (arith, from, to);
+  inside = omega (arith, to);
+  few = omega (arith, bytes);
+  count = lines;
+  at = subst (λ (b : Bool). IsAt b reader left [] [] []) (sym going) (record {
+    looked = [];
+    whole = sym (between_none reader.piece.items reader.from reader.to (omega (arith, from, to)));
+    within = nothing_within;
+    lines = refl;
+    left = refl;
+    bytes = bytes;
+    over = over;
+  });
+}
+
+-- the line is another one
+pub other_line : (reader new : LineReader) (left : Option (List ℕ)) (came : List ℕ) (given : List (List ℕ)) (rest : List ℕ) → new ≡ record reader { line = new.line } → HasCome reader left came given rest → HasCome new left came given rest
+other_line reader new left came given rest is h = subst (λ (r : LineReader). HasCome r left came given rest) (sym is) (record {
+  size = h.size;
+  placed = h.placed;
+  inside = h.inside;
+  few = h.few;
+  count = h.count;
+  at = at_it reader.has_ended h.at;
+})
+  where
+    at_it : (b : Bool) → IsAt b reader left came given rest → IsAt b (record reader { line = new.line }) left came given rest
+    at_it true at = at
+    at_it false at = record { looked = at.looked; whole = at.whole; within = at.within; lines = at.lines; left = at.left; bytes = at.bytes; over = at.over }
+
+-- a script that has ended
+pub ended_at : (reader : LineReader) (left : Option (List ℕ)) (came : List ℕ) (given : List (List ℕ)) (rest : List ℕ) → HasCome reader left came given rest → reader.has_ended ≡ true → AreLinesOf given came × IsAtEnd left
+ended_at reader left came given rest h ended = subst (λ (b : Bool). IsAt b reader left came given rest) ended h.at
+
+-- why there is no line
+pub no_line : (why : Came) (reader : LineReader) (left : Option (List ℕ)) (came : List ℕ) (given : List (List ℕ)) → HasLooked (Err why) reader left came given → ComesNext why reader left came given
+no_line (Limit what) reader left came given h = h
+no_line NoMemory reader left came given h = h
+no_line Line reader left came given h = absurd h
+no_line Nothing reader left came given h = absurd h
+no_line Fault reader left came given h = absurd h
 
 -- a script that goes on
 pub amid : (reader : LineReader) (left : Option (List ℕ)) (came : List ℕ) (given : List (List ℕ)) (rest : List ℕ) → HasCome reader left came given rest → reader.has_ended ≡ false → IsAmid reader came given rest
@@ -28,11 +80,25 @@ amid reader left came given rest h going = subst (λ (b : Bool). IsAt b reader l
 pub still_amid : (reader : LineReader) (left : Option (List ℕ)) (came : List ℕ) (given : List (List ℕ)) (rest : List ℕ) → reader.has_ended ≡ false → IsAmid reader came given rest → IsAt reader.has_ended reader left came given rest
 still_amid reader left came given rest going h = subst (λ (b : Bool). IsAt b reader left came given rest) (sym going) h
 
+-- the lines that were given are the script's first
+pub first_lines : (reader : LineReader) (left : Option (List ℕ)) (came : List ℕ) (given : List (List ℕ)) (rest : List ℕ) → HasCome reader left came given rest → AreFirst given left came
+first_lines reader left came given rest h = go reader.has_ended h.at
+  where
+    at_end : (l : Option (List ℕ)) → IsAtEnd l → told l ≡ []
+    at_end None is = refl
+    at_end (Some bytes) is = is
+
+    go : (b : Bool) → IsAt b reader left came given rest → AreFirst given left came
+    go true is = ([], append-nil given ∙ sym (ap lines_of (ap (λ (l : List ℕ). came ++ l) (at_end left is.1) ∙ append-nil came) ∙ ap (λ (c : Cut). c.lines) is.0))
+    go false is =
+        subst (λ (ls : List (List ℕ)). AreFirst ls left came) is.lines
+        (lines_begin is.looked is.within (came ++ told left) (front_then _ (take most_bytes came) _ (ahead reader, sym is.whole) (front_of_more came (told left))))
+
 module _ (old : LineReader) (left : Option (List ℕ)) (came : List ℕ) (given : List (List ℕ)) (h : HasCome old left came given old.line.items) (going : old.has_ended ≡ false) where
-  a : IsAmid old came given old.line.items
+  pub a : IsAmid old came given old.line.items
   a = amid old left came given old.line.items h going
 
-  few_lines : length given ≤ most_lines
+  pub few_lines : length given ≤ most_lines
   few_lines = subst (λ (ls : List (List ℕ)). length ls ≤ most_lines) a.lines a.within.few
 
   -- what a limit, or none, says of the lines
@@ -44,9 +110,18 @@ module _ (old : LineReader) (left : Option (List ℕ)) (came : List ℕ) (given 
       subst (λ (l : List ℕ). HasRoomFor given (l ++ bytes)) a.left (subst (λ (ls : List (List ℕ)). HasRoomFor ls (unfinished a.looked ++ bytes)) a.lines
       (room_without_limit a.looked (unfinished a.looked ++ bytes) a.within (at_lines bytes None none)))
 
+  -- bytes that weren't kept
+  pub not_kept : (why : Came) (new : LineReader) (end : ℕ) → IsSameBut old new → IsKept old new end (Err why)
+      → ((what : LimitWhat) → limit_in old.lines (old.line.items ++ up_to old end) ≡ Some what → (rest : List ℕ) → cut (came ++ rest) ≡ record { lines = given; limit = Some what }) → HasLooked (Err why) new left came given
+  not_kept (Limit what) new end same k past = record { count = same.lines ∙ h.count; few = few_lines; past = past what k }
+  not_kept NoMemory new end same k past = first_lines old left came given old.line.items h
+  not_kept Line new end same k past = absurd k
+  not_kept Nothing new end same k past = absurd k
+  not_kept Fault new end same k past = absurd k
+
   -- the bytes up to the newline, and those behind it
   module _ (n : ℕ) (found : NoneBefore (Passes (is_byte newline) (ahead old)) 0 (length (ahead old)) n) (here : Passes (is_byte newline) (ahead old) n) where
-    end : List ℕ
+    abbrev pub end : List ℕ
     end = take n (ahead old)
 
     inside : old.from + n < old.to
@@ -142,11 +217,14 @@ module _ (old : LineReader) (left : Option (List ℕ)) (came : List ℕ) (given 
     looked_is = a.whole ∙ (ap (λ (bytes : List ℕ). a.looked ++ bytes) nothing_ahead ∙ append-nil a.looked)
 
     -- the script has more bytes than it may
-    pub past_bytes : old.is_over ≡ true → (rest : List ℕ) → cut (came ++ rest) ≡ record { lines = given; limit = Some Bytes }
-    past_bytes over rest =
+    bytes_over : old.is_over ≡ true → (rest : List ℕ) → cut (came ++ rest) ≡ record { lines = given; limit = Some Bytes }
+    bytes_over over rest =
         let many : most_bytes < length came = is_past (length came) most_bytes (sym a.over ∙ over) in
         bytes_passed a.looked a.within (came ++ rest) (omega (arith, many, length-append came rest)) (take-append-le most_bytes came rest (omega (arith, many)) ∙ looked_is)
         ∙ ap (λ (ls : List (List ℕ)). record { lines = ls; limit = Some Bytes }) (append-nil (whole_lines a.looked) ∙ a.lines)
+
+    pub past_bytes : old.is_over ≡ true → IsPast Bytes old came given
+    past_bytes over = record { count = h.count; few = few_lines; past = bytes_over over }
 
     module _ (within : old.is_over ≡ false) where
       pub few_came : length came ≤ most_bytes
@@ -181,17 +259,3 @@ module _ (old : LineReader) (left : Option (List ℕ)) (came : List ℕ) (given 
         count = let count = h.count in omega (arith, count, length-append given (old.line.items ∷ []));
         at = (whole_cut ∙ ap (λ (ls : List (List ℕ)). record { lines = given ++ ls; limit = None }) (last_line_is old.line.items some), at_end);
       }
-
--- the lines that were given are the script's first
-pub first_lines : (reader : LineReader) (left : Option (List ℕ)) (came : List ℕ) (given : List (List ℕ)) (rest : List ℕ) → HasCome reader left came given rest → AreFirst given left came
-first_lines reader left came given rest h = go reader.has_ended h.at
-  where
-    at_end : (l : Option (List ℕ)) → IsAtEnd l → told l ≡ []
-    at_end None is = refl
-    at_end (Some bytes) is = is
-
-    go : (b : Bool) → IsAt b reader left came given rest → AreFirst given left came
-    go true is = ([], append-nil given ∙ sym (ap lines_of (ap (λ (l : List ℕ). came ++ l) (at_end left is.1) ∙ append-nil came) ∙ ap (λ (c : Cut). c.lines) is.0))
-    go false is =
-        subst (λ (ls : List (List ℕ)). AreFirst ls left came) is.lines
-        (lines_begin is.looked is.within (came ++ told left) (front_then _ (take most_bytes came) _ (ahead reader, sym is.whole) (front_of_more came (told left))))

@@ -1,5 +1,5 @@
 -- A piece more of a script.
-use Rattle.std.proofs.Common.{◌≡◌, ◌⊎◌, inl, inr, ℕ, ◌+◌, ◌-◌, ◌≤◌, ◌<◌, min, Bool, true, false, nat_lt, List, [], ◌++◌, length, take, drop, Option, refl, ap, sym, ◌∙◌, subst, arith, append-nil, length-append, vec_len}
+use Rattle.std.proofs.Common.{◌≡◌, ◌⊎◌, inl, inr, ℕ, ◌+◌, ◌-◌, ◌≤◌, ◌<◌, min, Bool, true, false, nat_lt, List, [], ◌++◌, length, take, drop, Option, Ok, refl, ap, sym, ◌∙◌, subst, arith, append-nil, length-append, vec_len}
 use Rattle.std.proofs.lemmas.Bool.Decides.{nat_tests}
 use Rattle.std.proofs.lemmas.List.{length-take, take-take, take_all}
 use Rattle.std.proofs.Math.Seq.{take-append-add}
@@ -9,9 +9,9 @@ use Rattle.grid_cli.specs.Statuses.{most_piece}
 use Rattle.grid_cli.proofs.Tests.{within_limit, past_limit}
 use Rattle.script_lang.specs.Limits.{most_bytes}
 use Rattle.live_control.specs.declared.lines.LineReader.{LineReader}
-use Rattle.live_control.specs.Reading.{ahead, IsAmid, HasCome, HasComeOn, HasNoMore}
+use Rattle.live_control.specs.Reading.{ahead, IsAmid, HasCome, HasComeOn, HasNoMore, HasRead}
 use Rattle.live_control.proofs.Ahead.{is_past, is_within}
-use Rattle.live_control.proofs.Looking.{amid, still_amid, few_came, came_bytes, looked_is, came_is}
+use Rattle.live_control.proofs.Looking.{a as told_amid, still_amid, few_came, came_bytes, looked_is, came_is}
 
 test_cases : (b : Bool) → (b ≡ true) ⊎ (b ≡ false)
 test_cases true = inl refl
@@ -33,8 +33,8 @@ cut_piece piece n room = Rattle.std.proofs.Common.⊎_elim
 module _ (old : LineReader) (before after : Option (List ℕ)) (came : List ℕ) (given : List (List ℕ)) (h : HasCome old before came given old.line.items) (going : old.has_ended ≡ false) (spent : old.from ≡ old.to) (within : old.is_over ≡ false) where
   -- the reader after a piece of n bytes
   module _ (new : LineReader) (n : ℕ) (same_line : new.line ≡ old.line) (same_lines : new.lines ≡ old.lines) (same_ended : new.has_ended ≡ old.has_ended) (size : vec_len new.piece ≡ vec_len old.piece) (fits : n ≤ length new.piece.items) (from : new.from ≡ 0) (to : new.to ≡ min n (most_bytes - old.bytes)) (bytes : new.bytes ≡ old.bytes + new.to) (over : new.is_over ≡ nat_lt (most_bytes - old.bytes) n) where
-    a : IsAmid old came given old.line.items
-    a = amid old before came given old.line.items h going
+    abbrev a : IsAmid old came given old.line.items
+    a = told_amid old before came given h going
 
     came_few : length came ≤ most_bytes
     came_few = few_came old before came given h going spent within
@@ -42,10 +42,10 @@ module _ (old : LineReader) (before after : Option (List ℕ)) (came : List ℕ)
     had : old.bytes ≡ length came
     had = came_bytes old before came given h going spent within
 
-    room : ℕ
+    abbrev room : ℕ
     room = most_bytes - old.bytes
 
-    more : List ℕ
+    abbrev pub more : List ℕ
     more = take n new.piece.items
 
     more_long : length more ≡ n
@@ -105,3 +105,7 @@ module _ (old : LineReader) (before after : Option (List ℕ)) (came : List ℕ)
           spent = omega (arith, from, to, none);
           within = over ∙ within_limit n room (omega (arith, none));
         }
+
+    pub has_read : (b : Bool) → nat_lt 0 n ≡ b → before ≡ prepend_known more after → (n ≡ 0 → IsAtEnd before) → HasRead (Ok b) old new before after came given
+    has_read true e left at_end = (more, left, come_further (is_past n 0 e))
+    has_read false e left at_end = let none : n ≡ 0 = (let few = is_within n 0 e in omega (arith, few)) in no_more none left (at_end none)

@@ -2,7 +2,7 @@
 use Rattle.std.specs.Prelude.{◌≡◌, ◌⊎◌, ℕ, ◌≤◌, ◌<◌, Bool, true, false, List, [], ◌∷◌, ◌++◌, length, take, drop, Option, Some, None, Result, Ok, Err, vec_len, nat_lt}
 use Rattle.std.specs.Io.KnownBytes.{prepend_known, IsAtEnd}
 use Rattle.partition_protocol.specs.Sequences.{IsFrontOf}
-use Rattle.script_lang.specs.Limits.{most_bytes}
+use Rattle.script_lang.specs.Limits.{most_bytes, most_lines}
 use Rattle.script_lang.specs.Words.{whole_lines, unfinished}
 use Rattle.grid_cli.specs.Replays.{IsWithin}
 use Rattle.grid_cli.specs.Scripts.{Cut, cut, lines_of, limit_in}
@@ -85,11 +85,23 @@ pub record HasKept (old new : LineReader) (end : ℕ) (result : Result (Unit {0}
   pub same : IsSameBut old new
   pub kept : IsKept old new end result
 
+-- These lines stand before a byte past a limit, whatever follows, and were counted
+pub record IsPast (what : LimitWhat) (reader : LineReader) (came : List ℕ) (given : List (List ℕ)) : Type 0 where
+  pub count : reader.lines ≡ length given
+  pub few : length given ≤ most_lines
+  pub past : (rest : List ℕ) → cut (came ++ rest) ≡ record { lines = given; limit = Some what }
+
+-- The script has ended behind these lines, which were counted
+pub record IsOver (reader : LineReader) (left : Option (List ℕ)) (came : List ℕ) (given : List (List ℕ)) : Type 0 where
+  pub count : reader.lines ≡ length given
+  pub all : AreLinesOf given came
+  pub at_end : IsAtEnd left
+
 -- What a look at the piece found: the next line, or that no newline is in it, or why there is no line
 abbrev pub HasLooked : Result Bool Came → LineReader → Option (List ℕ) → List ℕ → List (List ℕ) → Type 0
 HasLooked (Ok true) reader left came given = HasCome reader left came (given ++ reader.line.items ∷ []) [] × HasRoomFor given reader.line.items
 HasLooked (Ok false) reader left came given = HasCome reader left came given reader.line.items × (reader.from ≡ reader.to)
-HasLooked (Err (Limit what)) reader left came given = (rest : List ℕ) → cut (came ++ rest) ≡ record { lines = given; limit = Some what }
+HasLooked (Err (Limit what)) reader left came given = IsPast what reader came given
 HasLooked (Err NoMemory) reader left came given = AreFirst given left came
 HasLooked (Err _) reader left came given = ⊥
 
@@ -121,7 +133,7 @@ HasRead (Err fault) old new before after came given = (before ≡ after) × (who
 -- What came next: a line more, or why there is none
 abbrev pub ComesNext : Came → LineReader → Option (List ℕ) → List ℕ → List (List ℕ) → Type 0
 ComesNext Line reader left came given = HasCome reader left came (given ++ reader.line.items ∷ []) [] × HasRoomFor given reader.line.items
-ComesNext Nothing reader left came given = AreLinesOf given came × IsAtEnd left
-ComesNext (Limit what) reader left came given = (rest : List ℕ) → cut (came ++ rest) ≡ record { lines = given; limit = Some what }
+ComesNext Nothing reader left came given = IsOver reader left came given
+ComesNext (Limit what) reader left came given = IsPast what reader came given
 ComesNext Fault reader left came given = (whole_lines came ≡ given) × AreFirst given left came
 ComesNext NoMemory reader left came given = AreFirst given left came

@@ -1,5 +1,5 @@
 //! The lines of a script, as they come.
-ghost use Rattle.std.specs.Prelude.{◌≡◌, ◌≤◌, ◌++◌, ◌<◌, ℕ, List, Option, [], ◌∷◌, drop, take, false, length, Some, IfOk, IfSome, IfErr, OnOk, vec_len};
+ghost use Rattle.std.specs.Prelude.{◌≡◌, ◌≢◌, ◌≤◌, ◌++◌, ◌<◌, ℕ, List, Option, [], ◌∷◌, drop, take, false, length, Some, IfOk, IfSome, IfErr, OnOk, vec_len};
 ghost use Rattle.std.specs.Io.KnownBytes.{IsAtEnd};
 ghost use Rattle.grid_edge.specs.Faults.{Rose, HasCause};
 ghost use Rattle.grid_cli.specs.Scripts.{limit_in};
@@ -127,18 +127,19 @@ impl LineReader {
         ensures over { self.new.is_over ≡ self.old.is_over }
     {
         match memchr(b'\n', &self.piece[self.from..self.to]) {
-            Some(at) => {
-                self.keep(self.from + at)?;
-                self.from += 1;
-                self.lines += 1;
-                Ok(true)
-            }
-            None => {
-                if self.from < self.to {
-                    self.keep(self.to)?;
+            Some(at) => match self.keep(self.from + at) {
+                Ok(()) => {
+                    self.from += 1;
+                    self.lines += 1;
+                    Ok(true)
                 }
-                Ok(false)
-            }
+                Err(came) => Err(came),
+            },
+            None if self.from < self.to => match self.keep(self.to) {
+                Ok(()) => Ok(false),
+                Err(came) => Err(came),
+            },
+            None => Ok(false),
         }
     }
 
@@ -150,9 +151,12 @@ impl LineReader {
         requires within { self.old.is_over ≡ false }
         ensures read { (came : List ℕ) (given : List (List ℕ)) → HasCome self.old (S.left script.old) came given self.old.line.items
             → HasRead result self.old self.new (S.left script.old) (S.left script.new) came given }
+        ensures going { self.new.has_ended ≡ false }
         ensures cause { HasCause (S.faults script.old) (S.faults script.new) result }
     {
-        let count = script.read(self.piece.as_mut_slice())?;
+        let Ok(count) = script.read(self.piece.as_mut_slice()) else {
+            return Err(ReadFault);
+        };
         let room = MOST_BYTES - self.bytes;
         self.from = 0;
         self.to = count.min(room);
@@ -167,8 +171,9 @@ impl LineReader {
         requires going { self.old.has_ended ≡ false }
         requires spent { self.old.from ≡ self.old.to }
         requires within { self.old.is_over ≡ false }
-        ensures { (left : Option (List ℕ)) (came : List ℕ) (given : List (List ℕ)) → HasCome self.old left came given self.old.line.items
+        ensures came { (left : Option (List ℕ)) (came : List ℕ) (given : List (List ℕ)) → HasCome self.old left came given self.old.line.items
             → IsAtEnd left → ComesNext result self.new left came given }
+        ensures no_fault { result ≢ Came.Fault }
     {
         self.has_ended = true;
         if self.line.is_empty() {
