@@ -22,7 +22,7 @@ use Rattle.live_server.specs.Serving.{HasServedAll}
 use Rattle.live_server.specs.Standing.{Rests, HasLetAllIn}
 
 -- The clients that came through the doors were served, and no connection is left
-pub record HasServedClients {F K : Type 0} (grid : LiveGrid) (gives : ℕ → Type 0) (connections : Connections LiveWorld F K GridPlan (Event Request) Happened) (was : Book) (looks_before faults_before : ℕ) (book : Book) (looks faults : ℕ) (ended : Result (Unit {0}) DoorFault) : Type 0 where
+pub record HasServedClients {F K : Type 0} (grid : LiveGrid) (gives : ℕ → Type 0) (connections : Connections LiveWorld F K GridPlan (Event Request) Happened) (looks_before faults_before : ℕ) (book : Book) (looks faults : ℕ) (ended : Result (Unit {0}) DoorFault) : Type 0 where
   pub clients : HasServedAll live_key LiveTells live_call (place_of grid) gives connections.passes.items book
   pub let_in : OnOk ended (HasLetAllIn looks_before looks book.accepted)
   pub rests : Rests (place_of grid) connections

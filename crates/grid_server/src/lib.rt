@@ -1,14 +1,13 @@
 //! The commands of the program `grid`: a replay, and the server of a live grid.
 #![tactic(auto)]
 
-mod beside;
+mod desk;
 mod ended;
-mod front;
-mod operating;
+mod hall;
 mod options;
 mod serve;
-mod serving;
 mod setting;
+mod stage;
 mod top;
 mod waking;
 mod working;

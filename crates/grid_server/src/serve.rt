@@ -4,19 +4,24 @@ ghost use Rattle.entry_processors.specs.Forms.{form_of};
 ghost use Rattle.entry_processors.specs.declared.form.Form.{Form as FormOf};
 ghost use Rattle.grid_edge.specs.Faults.{Rose};
 ghost use Rattle.hand_cell.specs.Calls.{plan_of};
+ghost use Rattle.call_engine.specs.Limits.{RequestFits};
 ghost use Rattle.live_grid.specs.Grids.{place_of};
+ghost use Rattle.live_grid.specs.Histories.{live_key};
+ghost use Rattle.live_control.specs.Running.{MayServe as MayControl};
+ghost use Rattle.live_server.specs.Standing.{MayServe};
+ghost use Rattle.live_session.specs.Connections.{ServesCalls};
 ghost use Rattle.grid_server.specs.Serving.{HasServed, IsOpened, stream, at_doors};
 ghost use Rattle.grid_server.specs.Settings.{IsSetting};
+ghost use Rattle.grid_server.specs.Tasks.{HasServedClients, HasOperated};
 
-use crate::beside::run_both;
+use crate::desk::{Desk, operate};
 use crate::ended::Ended;
-use crate::front::Front;
-use crate::operating::{Operated, Operating};
+use crate::hall::{Hall, serve_hall};
 use crate::options::{OptionsRefused, ServeOptions, read_options};
-use crate::serving::{Served, Serving};
 use crate::setting::Setting;
+use crate::stage::Stage;
 use crate::waking::WakingGate;
-use crate::working::{Working, Workshop};
+use crate::working::run_workers;
 use call_engine::GridEnv;
 use entry_processors::{Form, Processor, Registry};
 use grid_cli::Status;
@@ -27,13 +32,59 @@ use live_server::Closing;
 use partition_threads::{Gate, OpenGate};
 use std::alloc::Global;
 use std::sync::Wait;
-use std::thread::Threads;
+use std::thread::{Threads, join_mut};
 
 /// Ties a reference that came back to the one that was lent.
 fn take_back<T>(x: &mut T)
     ensures { x.new ≡ x.old }
 {
     let _ = x;
+}
+
+/// Serves clients on one thread, and the operator on this one. Then the workers are stopped.
+fn serve_both<N, R, S, K, C, D>(
+    rt: &R,
+    alloc: Global,
+    options: ServeOptions,
+    stage: &Stage<'_, '_, N>,
+    clock: &C,
+    waker: &D::Waker,
+    hall: &mut Hall<'_, D>,
+    desk: &mut Desk<'_, '_, S, K>,
+) -> (Result<(), DoorFault>, Status)
+where
+    N: Sync,
+    R: Threads + Wait + Sync,
+    S: Source,
+    K: Sink,
+    C: Clock,
+    D: Doors,
+    LiveWorld: Runs<N>,
+    requires some { 1 ≤ options.members }
+    requires most { options.members ≤ 8 }
+    requires pass { MayControl stage.now.grid.now desk.old.pass }
+    requires calls { ServesCalls RequestFits (place_of stage.now.grid.now) }
+    requires may { MayServe live_key (place_of stage.now.grid.now) hall.old.connections (D.book hall.old.doors.now) }
+    ensures served { HasServedClients stage.now.grid.now (λ now. C.gives clock.now now) hall.new.connections
+        (D.empty_looks hall.old.doors.now) (D.faults hall.old.doors.now)
+        (D.book hall.new.doors.now) (D.empty_looks hall.new.doors.now) (D.faults hall.new.doors.now) result.0 }
+    ensures operated { HasOperated stage.now.grid.now options.members result.1 (S.left desk.old.script.now) (S.left desk.new.script.now) (K.taken desk.old.out.now) (K.taken desk.new.out.now) (S.faults desk.old.script.now) (S.faults desk.new.script.now) (K.faults desk.old.out.now) (K.faults desk.new.out.now) desk.old.pass desk.new.pass }
+    ensures same_doors { hall.new.doors.ghost_name ≡ hall.old.doors.ghost_name }
+    ensures same_script { desk.new.script.ghost_name ≡ desk.old.script.ghost_name }
+    ensures same_out { desk.new.out.ghost_name ≡ desk.old.out.ghost_name }
+{
+    let closing = Closing::new();
+    let ended = join_mut(
+        rt,
+        &mut || -> Result<(), DoorFault>
+            requires { ServesCalls RequestFits (place_of stage.now.grid.now) × MayServe live_key (place_of stage.now.grid.now) hall.now.connections (D.book hall.now.doors.now) }
+        { serve_hall(rt, alloc, stage.grid, clock, &closing, hall) },
+        &mut || -> Status
+            requires { (1 ≤ options.members) × (options.members ≤ 8) × MayControl stage.now.grid.now desk.now.pass }
+        { operate(rt, alloc, options, stage, &closing, waker, desk) },
+    );
+    stage.grid.workplace().stop();
+    ended
 }
 
 /// Runs a server on its threads to its end, in a setting in which nothing has happened. The doors were just opened.
@@ -76,65 +127,31 @@ where
     let Setting {
         grid,
         pass,
-        workers,
+        mut workers,
         connections,
     } = setting;
     let waking = WakingGate { gate, waker };
-    let closing = Closing::new();
-    let shop = Workshop {
+    let stage = Stage::new(&grid, env);
+    let mut hall = Hall { connections, doors };
+    let mut desk = Desk { pass, script, out };
+    let (_, (ended, told)) = join_mut(
         rt,
-        alloc,
-        grid: &grid,
-        env,
-        gate: &waking,
-    };
-    let working = Working { shop, workers };
-    let serving = Serving {
-        rt,
-        alloc,
-        grid: &grid,
-        connections,
-        doors,
-        clock,
-        closing: &closing,
-    };
-    let operating = Operating {
-        rt,
-        alloc,
-        options,
-        grid: &grid,
-        env,
-        pass,
-        script,
-        out,
-        closing: &closing,
-        waker,
-    };
-    let front = Front {
-        rt,
-        grid: &grid,
-        first: serving,
-        second: operating,
-    };
-    let ((), (served, operated)) = run_both(rt, working, front);
-    let Served {
-        ended,
-        connections,
-        doors,
-    } = served;
-    let Operated {
-        status,
+        &mut || run_workers(rt, alloc, &stage, &waking, &mut workers),
+        &mut || serve_both(rt, alloc, options, &stage, clock, waker, &mut hall, &mut desk),
+    );
+    let Hall { connections, doors } = hall;
+    let Desk {
         mut pass,
         script,
         out,
-    } = operated;
+    } = desk;
     take_back(doors);
     take_back(script);
     take_back(out);
     let (passes, tokens) = connections.into_parts();
     grid.gather(&mut pass, GridPass { passes, tokens });
     let status = match ended {
-        Ok(()) => status,
+        Ok(()) => told,
         Err(DoorFault) => Status::DoorFault,
     };
     (status, grid, pass)
