@@ -1,6 +1,7 @@
 -- What the tasks of a server do.
-use Rattle.std.specs.Prelude.{◌≡◌, ℕ, List, Option, Result, OnOk}
+use Rattle.std.specs.Prelude.{◌≡◌, ℕ, ◌≤◌, List, Option, Result, OnOk}
 use Rattle.grid_base.specs.declared.calls.Request.{Request}
+use Rattle.call_engine.specs.Limits.{RequestFits}
 use Rattle.grid_cli.specs.declared.status.Status.{Status}
 use Rattle.grid_cli.specs.declared.status.Status.TheVariants.{ReadFault, WriteFault}
 use Rattle.grid_edge.specs.Doors.{Book}
@@ -19,7 +20,17 @@ use Rattle.live_control.specs.Running.{MayServe as MayControl}
 use Rattle.live_control.specs.Serving.{HasServed as HasControlled}
 use Rattle.live_server.specs.declared.connections.Connections.{Connections}
 use Rattle.live_server.specs.Serving.{HasServedAll}
-use Rattle.live_server.specs.Standing.{Rests, HasLetAllIn}
+use Rattle.live_server.specs.Standing.{MayServe, Rests, HasLetAllIn}
+use Rattle.live_session.specs.Connections.{ServesCalls}
+use Rattle.grid_server.specs.declared.options.ServeOptions.{ServeOptions}
+
+-- The operator's script may be run, and clients may be served
+pub record MayMeet {F K : Type 0} (options : ServeOptions) (grid : LiveGrid) (book : Book) (connections : Connections LiveWorld F K GridPlan (Event Request) Happened) (pass : GridPass) : Type 0 where
+  pub some : 1 ≤ options.members
+  pub most : options.members ≤ 8
+  pub may_control : MayControl grid pass
+  pub calls : ServesCalls RequestFits (place_of grid)
+  pub may : MayServe live_key (place_of grid) connections book
 
 -- The clients that came through the doors were served, and no connection is left
 pub record HasServedClients {F K : Type 0} (grid : LiveGrid) (gives : ℕ → Type 0) (connections : Connections LiveWorld F K GridPlan (Event Request) Happened) (looks_before faults_before : ℕ) (book : Book) (looks faults : ℕ) (ended : Result (Unit {0}) DoorFault) : Type 0 where

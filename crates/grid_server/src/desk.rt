@@ -1,5 +1,5 @@
 //! The side of a server that its operator meets.
-ghost use Rattle.std.specs.Prelude.{◌≡◌, ◌≤◌};
+ghost use Rattle.std.specs.Prelude.{◌≤◌};
 ghost use Rattle.live_control.specs.Running.{MayServe};
 ghost use Rattle.grid_server.specs.Tasks.{HasOperated};
 
@@ -14,43 +14,27 @@ use live_server::Closing;
 use std::alloc::Global;
 use std::sync::Wait;
 
-/// An operator's pass, the control script, and where its outcomes go.
-pub(crate) struct Desk<'s, 'o, S, K> {
-    pub(crate) pass: GridPass,
-    pub(crate) script: &'s mut S,
-    pub(crate) out: &'o mut K,
-}
-
 /// Runs the control script, and has the server end behind it, unless it stays.
 pub(crate) fn operate<N, S: Source, K: Sink, W: Wakes, R: Wait>(
     rt: &R,
     alloc: Global,
     options: ServeOptions,
-    stage: &Stage<'_, '_, N>,
+    stage: &Stage<N>,
     closing: &Closing,
     waker: &W,
-    desk: &mut Desk<'_, '_, S, K>,
+    pass: &mut GridPass,
+    script: &mut S,
+    out: &mut K,
 ) -> Status
 where
     LiveWorld: Runs<N>,
     requires some { 1 ≤ options.members }
     requires most { options.members ≤ 8 }
-    requires pass { MayServe stage.now.grid.now desk.old.pass }
-    ensures operated { HasOperated stage.now.grid.now options.members result (S.left desk.old.script.now) (S.left desk.new.script.now) (K.taken desk.old.out.now) (K.taken desk.new.out.now) (S.faults desk.old.script.now) (S.faults desk.new.script.now) (K.faults desk.old.out.now) (K.faults desk.new.out.now) desk.old.pass desk.new.pass }
-    ensures same_script { desk.new.script.ghost_name ≡ desk.old.script.ghost_name }
-    ensures same_out { desk.new.out.ghost_name ≡ desk.old.out.ghost_name }
+    requires pass { MayServe stage.now.grid pass.old }
+    ensures { HasOperated stage.now.grid options.members result (S.left script.old) (S.left script.new) (K.taken out.old) (K.taken out.new) (S.faults script.old) (S.faults script.new) (K.faults out.old) (K.faults out.new) pass.old pass.new }
 {
-    let (members, env) = (options.members, stage.env);
-    let status = serve_control(
-        rt,
-        alloc,
-        stage.grid,
-        members,
-        env,
-        &mut desk.pass,
-        &mut *desk.script,
-        &mut *desk.out,
-    );
+    let (grid, members) = (&stage.grid, options.members);
+    let status = serve_control(rt, alloc, grid, members, &stage.env, pass, script, out);
     if !options.stays {
         closing.close();
         waker.wake();

@@ -11,12 +11,12 @@ ghost use Rattle.live_control.specs.Running.{MayServe as MayControl};
 ghost use Rattle.live_server.specs.Standing.{MayServe};
 ghost use Rattle.live_session.specs.Connections.{ServesCalls};
 ghost use Rattle.grid_server.specs.Serving.{HasServed, IsOpened, stream, at_doors};
-ghost use Rattle.grid_server.specs.Settings.{IsSetting};
-ghost use Rattle.grid_server.specs.Tasks.{HasServedClients, HasOperated};
+ghost use Rattle.grid_server.specs.Settings.{AreWorkers, IsSetting};
+ghost use Rattle.grid_server.specs.Tasks.{MayMeet, HasServedClients, HasOperated};
 
-use crate::desk::{Desk, operate};
+use crate::desk::operate;
 use crate::ended::Ended;
-use crate::hall::{Hall, serve_hall};
+use crate::hall::serve_hall;
 use crate::options::{OptionsRefused, ServeOptions, read_options};
 use crate::setting::Setting;
 use crate::stage::Stage;
@@ -28,29 +28,26 @@ use grid_cli::Status;
 use grid_edge::{Clock, DoorFault, Doors, Sink, Source};
 use hand_cell::Runs;
 use live_grid::{GridPass, LiveGrid, LiveWorld};
-use live_server::Closing;
-use partition_threads::{Gate, OpenGate};
+use live_server::{Closing, Connections};
+use partition_threads::{Gate, OpenGate, WorkerTokens};
 use std::alloc::Global;
 use std::sync::Wait;
 use std::thread::{Threads, join_mut};
 
-/// Ties a reference that came back to the one that was lent.
-fn take_back<T>(x: &mut T)
-    ensures { x.new ≡ x.old }
-{
-    let _ = x;
-}
-
-/// Serves clients on one thread, and the operator on this one. Then the workers are stopped.
+/// Serves clients on one thread, and the operator on this one.
 fn serve_both<N, R, S, K, C, D>(
     rt: &R,
     alloc: Global,
     options: ServeOptions,
-    stage: &Stage<'_, '_, N>,
+    stage: &Stage<N>,
     clock: &C,
     waker: &D::Waker,
-    hall: &mut Hall<'_, D>,
-    desk: &mut Desk<'_, '_, S, K>,
+    closing: &Closing,
+    connections: &mut Connections<LiveWorld, D::From, D::To>,
+    doors: &mut D,
+    pass: &mut GridPass,
+    script: &mut S,
+    out: &mut K,
 ) -> (Result<(), DoorFault>, Status)
 where
     N: Sync,
@@ -60,30 +57,98 @@ where
     C: Clock,
     D: Doors,
     LiveWorld: Runs<N>,
-    requires some { 1 ≤ options.members }
-    requires most { options.members ≤ 8 }
-    requires pass { MayControl stage.now.grid.now desk.old.pass }
-    requires calls { ServesCalls RequestFits (place_of stage.now.grid.now) }
-    requires may { MayServe live_key (place_of stage.now.grid.now) hall.old.connections (D.book hall.old.doors.now) }
-    ensures served { HasServedClients stage.now.grid.now (λ now. C.gives clock.now now) hall.new.connections
-        (D.empty_looks hall.old.doors.now) (D.faults hall.old.doors.now)
-        (D.book hall.new.doors.now) (D.empty_looks hall.new.doors.now) (D.faults hall.new.doors.now) result.0 }
-    ensures operated { HasOperated stage.now.grid.now options.members result.1 (S.left desk.old.script.now) (S.left desk.new.script.now) (K.taken desk.old.out.now) (K.taken desk.new.out.now) (S.faults desk.old.script.now) (S.faults desk.new.script.now) (K.faults desk.old.out.now) (K.faults desk.new.out.now) desk.old.pass desk.new.pass }
-    ensures same_doors { hall.new.doors.ghost_name ≡ hall.old.doors.ghost_name }
-    ensures same_script { desk.new.script.ghost_name ≡ desk.old.script.ghost_name }
-    ensures same_out { desk.new.out.ghost_name ≡ desk.old.out.ghost_name }
+    requires { MayMeet options stage.now.grid (D.book doors.old) connections.old pass.old }
+    ensures served { HasServedClients stage.now.grid (λ now. C.gives clock.now now) connections.new
+        (D.empty_looks doors.old) (D.faults doors.old) (D.book doors.new) (D.empty_looks doors.new) (D.faults doors.new) result.0 }
+    ensures operated { HasOperated stage.now.grid options.members result.1 (S.left script.old) (S.left script.new) (K.taken out.old) (K.taken out.new) (S.faults script.old) (S.faults script.new) (K.faults out.old) (K.faults out.new) pass.old pass.new }
 {
-    let closing = Closing::new();
-    let ended = join_mut(
-        rt,
-        &mut || -> Result<(), DoorFault>
-            requires { ServesCalls RequestFits (place_of stage.now.grid.now) × MayServe live_key (place_of stage.now.grid.now) hall.now.connections (D.book hall.now.doors.now) }
-        { serve_hall(rt, alloc, stage.grid, clock, &closing, hall) },
-        &mut || -> Status
-            requires { (1 ≤ options.members) × (options.members ≤ 8) × MayControl stage.now.grid.now desk.now.pass }
-        { operate(rt, alloc, options, stage, &closing, waker, desk) },
+    let mut serving = || -> Result<(), DoorFault>
+        requires { ServesCalls RequestFits (place_of stage.now.grid) × MayServe live_key (place_of stage.now.grid) connections.now (D.book doors.now) }
+    { serve_hall(rt, alloc, stage, clock, closing, connections, doors) };
+    let mut operating = || -> Status
+        requires { (1 ≤ options.members) × (options.members ≤ 8) × MayControl stage.now.grid pass.now }
+    { operate(rt, alloc, options, stage, closing, waker, pass, script, out) };
+    join_mut(rt, &mut serving, &mut operating)
+}
+
+/// Serves clients and the operator, and then has the workers end.
+fn serve_front<N, R, S, K, C, D>(
+    rt: &R,
+    alloc: Global,
+    options: ServeOptions,
+    stage: &Stage<N>,
+    clock: &C,
+    waker: &D::Waker,
+    closing: &Closing,
+    connections: &mut Connections<LiveWorld, D::From, D::To>,
+    doors: &mut D,
+    pass: &mut GridPass,
+    script: &mut S,
+    out: &mut K,
+) -> (Result<(), DoorFault>, Status)
+where
+    N: Sync,
+    R: Threads + Wait + Sync,
+    S: Source,
+    K: Sink,
+    C: Clock,
+    D: Doors,
+    LiveWorld: Runs<N>,
+    requires { MayMeet options stage.now.grid (D.book doors.old) connections.old pass.old }
+    ensures served { HasServedClients stage.now.grid (λ now. C.gives clock.now now) connections.new
+        (D.empty_looks doors.old) (D.faults doors.old) (D.book doors.new) (D.empty_looks doors.new) (D.faults doors.new) result.0 }
+    ensures operated { HasOperated stage.now.grid options.members result.1 (S.left script.old) (S.left script.new) (K.taken out.old) (K.taken out.new) (S.faults script.old) (S.faults script.new) (K.faults out.old) (K.faults out.new) pass.old pass.new }
+{
+    let ended = serve_both(
+        rt, alloc, options, stage, clock, waker, closing, connections, doors, pass, script, out,
     );
     stage.grid.workplace().stop();
+    ended
+}
+
+/// Runs the workers beside all that meets the outside.
+fn run_threads<N, R, S, K, C, D, G>(
+    rt: &R,
+    alloc: Global,
+    options: ServeOptions,
+    stage: &Stage<N>,
+    clock: &C,
+    waker: &D::Waker,
+    closing: &Closing,
+    gate: &G,
+    workers: &mut Vec<Option<WorkerTokens<LiveWorld>>>,
+    connections: &mut Connections<LiveWorld, D::From, D::To>,
+    doors: &mut D,
+    pass: &mut GridPass,
+    script: &mut S,
+    out: &mut K,
+) -> (Result<(), DoorFault>, Status)
+where
+    N: Sync,
+    R: Threads + Wait + Sync,
+    S: Source,
+    K: Sink,
+    C: Clock,
+    D: Doors,
+    G: Gate,
+    LiveWorld: Runs<N>,
+    requires workers { AreWorkers (place_of stage.now.grid) workers.old.items }
+    requires front { MayMeet options stage.now.grid (D.book doors.old) connections.old pass.old }
+    ensures served { HasServedClients stage.now.grid (λ now. C.gives clock.now now) connections.new
+        (D.empty_looks doors.old) (D.faults doors.old) (D.book doors.new) (D.empty_looks doors.new) (D.faults doors.new) result.0 }
+    ensures operated { HasOperated stage.now.grid options.members result.1 (S.left script.old) (S.left script.new) (K.taken out.old) (K.taken out.new) (S.faults script.old) (S.faults script.new) (K.faults out.old) (K.faults out.new) pass.old pass.new }
+{
+    let mut working = ||
+        requires { AreWorkers (place_of stage.now.grid) workers.now.items }
+    { run_workers(rt, alloc, stage, gate, workers) };
+    let mut meeting = || -> (Result<(), DoorFault>, Status)
+        requires { MayMeet options stage.now.grid (D.book doors.now) connections.now pass.now }
+    {
+        serve_front(
+            rt, alloc, options, stage, clock, waker, closing, connections, doors, pass, script, out,
+        )
+    };
+    let (_, ended) = join_mut(rt, &mut working, &mut meeting);
     ended
 }
 
@@ -92,7 +157,7 @@ fn run<N, R, S, K, C, D, G>(
     rt: &R,
     alloc: Global,
     options: ServeOptions,
-    env: &N,
+    env: N,
     setting: Setting<D::From, D::To>,
     script: &mut S,
     out: &mut K,
@@ -102,7 +167,7 @@ fn run<N, R, S, K, C, D, G>(
     waker: &D::Waker,
 ) -> (Status, LiveGrid, GridPass)
 where
-    N: Sync,
+    N: Sync + Drop,
     R: Threads + Wait + Sync,
     S: Source,
     K: Sink,
@@ -112,7 +177,7 @@ where
     LiveWorld: Runs<N>,
     requires some { 1 ≤ options.members }
     requires most { options.members ≤ 8 }
-    requires env { All (λ cell. ⟦<LiveWorld as Runs<N>>⟧.means env.now (plan_of cell)) (place_of setting.grid).cells.items }
+    requires env { All (λ cell. ⟦<LiveWorld as Runs<N>>⟧.means env (plan_of cell)) (place_of setting.grid).cells.items }
     requires setting { (forms : List FormOf) × IsSetting options forms setting }
     requires doors { IsOpened options (D.book doors.old) }
     ensures served { (forms : List FormOf) → IsSetting options forms setting → HasServed options forms (λ now. C.gives clock.now now)
@@ -126,28 +191,30 @@ where
 {
     let Setting {
         grid,
-        pass,
+        mut pass,
         mut workers,
-        connections,
+        mut connections,
     } = setting;
     let waking = WakingGate { gate, waker };
-    let stage = Stage::new(&grid, env);
-    let mut hall = Hall { connections, doors };
-    let mut desk = Desk { pass, script, out };
-    let (_, (ended, told)) = join_mut(
+    let stage = Stage::new(grid, env);
+    let closing = Closing::new();
+    let (ended, told) = run_threads(
         rt,
-        &mut || run_workers(rt, alloc, &stage, &waking, &mut workers),
-        &mut || serve_both(rt, alloc, options, &stage, clock, waker, &mut hall, &mut desk),
-    );
-    let Hall { connections, doors } = hall;
-    let Desk {
-        mut pass,
+        alloc,
+        options,
+        &stage,
+        clock,
+        waker,
+        &closing,
+        &waking,
+        &mut workers,
+        &mut connections,
+        doors,
+        &mut pass,
         script,
         out,
-    } = desk;
-    take_back(doors);
-    take_back(script);
-    take_back(out);
+    );
+    let grid = stage.into_grid();
     let (passes, tokens) = connections.into_parts();
     grid.gather(&mut pass, GridPass { passes, tokens });
     let status = match ended {
@@ -206,7 +273,7 @@ where
         return Ended::without_grid(Status::DoorFault);
     };
     let (status, grid, pass) = run(
-        rt, alloc, options, &env, setting, script, out, clock, doors, gate, &waker,
+        rt, alloc, options, env, setting, script, out, clock, doors, gate, &waker,
     );
     Ended {
         status,

@@ -1,5 +1,5 @@
 //! A grid, and what its calls are run in.
-ghost use Rattle.std.specs.Prelude.{All};
+ghost use Rattle.std.specs.Prelude.{◌≡◌, All};
 ghost use Rattle.hand_cell.specs.Calls.{plan_of};
 ghost use Rattle.live_grid.specs.Grids.{place_of};
 
@@ -8,24 +8,34 @@ use live_grid::{LiveGrid, LiveWorld};
 
 /// A grid with the environment in which its calls are run, which means what its cells were made for.
 #[derive(Drop)]
-pub(crate) struct Stage<'g, 'n, N>
+pub(crate) struct Stage<N>
 where
     LiveWorld: Runs<N>,
 {
-    pub(crate) grid: &'g LiveGrid,
-    pub(crate) env: &'n N,
-    ghost means: { All (λ cell. ⟦<LiveWorld as Runs<N>>⟧.means env.now (plan_of cell)) (place_of grid.now).cells.items },
+    pub(crate) grid: LiveGrid,
+    pub(crate) env: N,
+    ghost means: { All (λ cell. ⟦<LiveWorld as Runs<N>>⟧.means env (plan_of cell)) (place_of grid).cells.items },
 }
 
-impl<'g, 'n, N> Stage<'g, 'n, N>
+impl<N> Stage<N>
 where
     LiveWorld: Runs<N>,
 {
     /// The environment means what the cells were made for.
-    pub(crate) fn new(grid: &'g LiveGrid, env: &'n N) -> Self
-        requires { All (λ cell. ⟦<LiveWorld as Runs<N>>⟧.means env.now (plan_of cell)) (place_of grid.now).cells.items }
-        ensures grid { result.grid ≡ grid }
+    pub(crate) fn new(grid: LiveGrid, env: N) -> Self
+        requires { All (λ cell. ⟦<LiveWorld as Runs<N>>⟧.means env (plan_of cell)) (place_of grid).cells.items }
+        ensures { result.grid ≡ grid }
     {
         Stage { grid, env }
+    }
+
+    /// The grid.
+    pub(crate) fn into_grid(self) -> LiveGrid
+    where
+        N: Drop,
+        ensures { result ≡ self.grid }
+    {
+        let Stage { grid, .. } = self;
+        grid
     }
 }

@@ -14,18 +14,18 @@ use std::thread::{self, Threads};
 fn run_worker<N, G: Gate, R: Wait>(
     rt: &R,
     alloc: Global,
-    stage: &Stage<'_, '_, N>,
+    stage: &Stage<N>,
     gate: &G,
     number: usize,
     slot: &mut Option<WorkerTokens<LiveWorld>>,
 )
 where
     LiveWorld: Runs<N>,
-    requires { IsWorker (place_of stage.now.grid.now) number slot.old }
+    requires { IsWorker (place_of stage.now.grid) number slot.old }
 {
     if let Some(tokens) = slot.take() {
         let place = stage.grid.workplace();
-        worker(rt, alloc, number, place, stage.env, gate, tokens);
+        worker(rt, alloc, number, place, &stage.env, gate, tokens);
     }
 }
 
@@ -33,17 +33,17 @@ where
 pub(crate) fn run_workers<N: Sync, G: Gate, R: Threads + Wait + Sync>(
     rt: &R,
     alloc: Global,
-    stage: &Stage<'_, '_, N>,
+    stage: &Stage<N>,
     gate: &G,
     workers: &mut Vec<Option<WorkerTokens<LiveWorld>>>,
 )
 where
     LiveWorld: Runs<N>,
-    requires { AreWorkers (place_of stage.now.grid.now) workers.old.items }
+    requires { AreWorkers (place_of stage.now.grid) workers.old.items }
 {
     let threads = workers.len().max(1);
     let work = |number: usize, slot: &mut Option<WorkerTokens<LiveWorld>>|
-        requires { IsWorker (place_of stage.now.grid.now) number slot.now }
+        requires { IsWorker (place_of stage.now.grid) number slot.now }
     { run_worker(rt, alloc, stage, gate, number, slot) };
     thread::for_each_mut(rt, workers.as_mut_slice(), threads, &work);
 }
