@@ -3,14 +3,12 @@ ghost use Rattle.std.specs.Prelude.{◌≤◌};
 ghost use Rattle.live_control.specs.Running.{MayServe};
 ghost use Rattle.grid_server.specs.Tasks.{HasOperated};
 
-use crate::options::ServeOptions;
 use crate::stage::Stage;
 use grid_cli::Status;
 use grid_edge::{Sink, Source, Wakes};
 use hand_cell::Runs;
 use live_control::serve_control;
 use live_grid::{GridPass, LiveWorld};
-use live_server::Closing;
 use std::alloc::Global;
 use std::sync::Wait;
 
@@ -18,26 +16,23 @@ use std::sync::Wait;
 pub(crate) fn operate<N, S: Source, K: Sink, W: Wakes, R: Wait>(
     rt: &R,
     alloc: Global,
-    options: ServeOptions,
-    stage: &Stage<N>,
-    closing: &Closing,
-    waker: &W,
+    stage: &Stage<N, W>,
     pass: &mut GridPass,
     script: &mut S,
     out: &mut K,
 ) -> Status
 where
     LiveWorld: Runs<N>,
-    requires some { 1 ≤ options.members }
-    requires most { options.members ≤ 8 }
+    requires some { 1 ≤ stage.now.options.members }
+    requires most { stage.now.options.members ≤ 8 }
     requires pass { MayServe stage.now.grid pass.old }
-    ensures { HasOperated stage.now.grid options.members result (S.left script.old) (S.left script.new) (K.taken out.old) (K.taken out.new) (S.faults script.old) (S.faults script.new) (K.faults out.old) (K.faults out.new) pass.old pass.new }
+    ensures { HasOperated stage.now.grid stage.now.options.members result (S.left script.old) (S.left script.new) (K.taken out.old) (K.taken out.new) (S.faults script.old) (S.faults script.new) (K.faults out.old) (K.faults out.new) pass.old pass.new }
 {
-    let (grid, members) = (&stage.grid, options.members);
+    let (grid, members) = (&stage.grid, stage.options.members);
     let status = serve_control(rt, alloc, grid, members, &stage.env, pass, script, out);
-    if !options.stays {
-        closing.close();
-        waker.wake();
+    if !stage.options.stays {
+        stage.closing.close();
+        stage.waker.wake();
     }
     status
 }

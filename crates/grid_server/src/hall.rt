@@ -10,7 +10,7 @@ use crate::stage::Stage;
 use grid_edge::{Clock, DoorFault, Doors};
 use hand_cell::Runs;
 use live_grid::LiveWorld;
-use live_server::{Closing, Connections, serve};
+use live_server::{Connections, serve};
 use std::alloc::Global;
 use std::sync::Wait;
 
@@ -18,9 +18,8 @@ use std::sync::Wait;
 pub(crate) fn serve_hall<N, C: Clock, D: Doors, R: Wait>(
     rt: &R,
     alloc: Global,
-    stage: &Stage<N>,
+    stage: &Stage<N, D::Waker>,
     clock: &C,
-    closing: &Closing,
     connections: &mut Connections<LiveWorld, D::From, D::To>,
     doors: &mut D,
 ) -> Result<(), DoorFault>
@@ -31,5 +30,5 @@ where
     ensures served { HasServedClients stage.now.grid (λ now. C.gives clock.now now) connections.new
         (D.empty_looks doors.old) (D.faults doors.old) (D.book doors.new) (D.empty_looks doors.new) (D.faults doors.new) result }
 {
-    serve(rt, alloc, stage.grid.workplace(), connections, doors, clock, closing)
+    serve(rt, alloc, stage.grid.workplace(), connections, doors, clock, &stage.closing)
 }

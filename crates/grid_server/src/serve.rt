@@ -28,7 +28,7 @@ use grid_cli::Status;
 use grid_edge::{Clock, DoorFault, Doors, Sink, Source};
 use hand_cell::Runs;
 use live_grid::{GridPass, LiveGrid, LiveWorld};
-use live_server::{Closing, Connections};
+use live_server::Connections;
 use partition_threads::{Gate, OpenGate, WorkerTokens};
 use std::alloc::Global;
 use std::sync::Wait;
@@ -38,11 +38,8 @@ use std::thread::{Threads, join_mut};
 fn serve_both<N, R, S, K, C, D>(
     rt: &R,
     alloc: Global,
-    options: ServeOptions,
-    stage: &Stage<N>,
+    stage: &Stage<N, D::Waker>,
     clock: &C,
-    waker: &D::Waker,
-    closing: &Closing,
     connections: &mut Connections<LiveWorld, D::From, D::To>,
     doors: &mut D,
     pass: &mut GridPass,
@@ -57,17 +54,17 @@ where
     C: Clock,
     D: Doors,
     LiveWorld: Runs<N>,
-    requires { MayMeet options stage.now.grid (D.book doors.old) connections.old pass.old }
+    requires { MayMeet stage.now.options stage.now.grid (D.book doors.old) connections.old pass.old }
     ensures served { HasServedClients stage.now.grid (λ now. C.gives clock.now now) connections.new
         (D.empty_looks doors.old) (D.faults doors.old) (D.book doors.new) (D.empty_looks doors.new) (D.faults doors.new) result.0 }
-    ensures operated { HasOperated stage.now.grid options.members result.1 (S.left script.old) (S.left script.new) (K.taken out.old) (K.taken out.new) (S.faults script.old) (S.faults script.new) (K.faults out.old) (K.faults out.new) pass.old pass.new }
+    ensures operated { HasOperated stage.now.grid stage.now.options.members result.1 (S.left script.old) (S.left script.new) (K.taken out.old) (K.taken out.new) (S.faults script.old) (S.faults script.new) (K.faults out.old) (K.faults out.new) pass.old pass.new }
 {
     let mut serving = || -> Result<(), DoorFault>
         requires { ServesCalls RequestFits (place_of stage.now.grid) × MayServe live_key (place_of stage.now.grid) connections.now (D.book doors.now) }
-    { serve_hall(rt, alloc, stage, clock, closing, connections, doors) };
+    { serve_hall(rt, alloc, stage, clock, connections, doors) };
     let mut operating = || -> Status
-        requires { (1 ≤ options.members) × (options.members ≤ 8) × MayControl stage.now.grid pass.now }
-    { operate(rt, alloc, options, stage, closing, waker, pass, script, out) };
+        requires { (1 ≤ stage.now.options.members) × (stage.now.options.members ≤ 8) × MayControl stage.now.grid pass.now }
+    { operate(rt, alloc, stage, pass, script, out) };
     join_mut(rt, &mut serving, &mut operating)
 }
 
@@ -75,11 +72,8 @@ where
 fn serve_front<N, R, S, K, C, D>(
     rt: &R,
     alloc: Global,
-    options: ServeOptions,
-    stage: &Stage<N>,
+    stage: &Stage<N, D::Waker>,
     clock: &C,
-    waker: &D::Waker,
-    closing: &Closing,
     connections: &mut Connections<LiveWorld, D::From, D::To>,
     doors: &mut D,
     pass: &mut GridPass,
@@ -94,13 +88,13 @@ where
     C: Clock,
     D: Doors,
     LiveWorld: Runs<N>,
-    requires { MayMeet options stage.now.grid (D.book doors.old) connections.old pass.old }
+    requires { MayMeet stage.now.options stage.now.grid (D.book doors.old) connections.old pass.old }
     ensures served { HasServedClients stage.now.grid (λ now. C.gives clock.now now) connections.new
         (D.empty_looks doors.old) (D.faults doors.old) (D.book doors.new) (D.empty_looks doors.new) (D.faults doors.new) result.0 }
-    ensures operated { HasOperated stage.now.grid options.members result.1 (S.left script.old) (S.left script.new) (K.taken out.old) (K.taken out.new) (S.faults script.old) (S.faults script.new) (K.faults out.old) (K.faults out.new) pass.old pass.new }
+    ensures operated { HasOperated stage.now.grid stage.now.options.members result.1 (S.left script.old) (S.left script.new) (K.taken out.old) (K.taken out.new) (S.faults script.old) (S.faults script.new) (K.faults out.old) (K.faults out.new) pass.old pass.new }
 {
     let ended = serve_both(
-        rt, alloc, options, stage, clock, waker, closing, connections, doors, pass, script, out,
+        rt, alloc, stage, clock, connections, doors, pass, script, out,
     );
     stage.grid.workplace().stop();
     ended
@@ -110,11 +104,8 @@ where
 fn run_threads<N, R, S, K, C, D, G>(
     rt: &R,
     alloc: Global,
-    options: ServeOptions,
-    stage: &Stage<N>,
+    stage: &Stage<N, D::Waker>,
     clock: &C,
-    waker: &D::Waker,
-    closing: &Closing,
     gate: &G,
     workers: &mut Vec<Option<WorkerTokens<LiveWorld>>>,
     connections: &mut Connections<LiveWorld, D::From, D::To>,
@@ -133,19 +124,19 @@ where
     G: Gate,
     LiveWorld: Runs<N>,
     requires workers { AreWorkers (place_of stage.now.grid) workers.old.items }
-    requires front { MayMeet options stage.now.grid (D.book doors.old) connections.old pass.old }
+    requires front { MayMeet stage.now.options stage.now.grid (D.book doors.old) connections.old pass.old }
     ensures served { HasServedClients stage.now.grid (λ now. C.gives clock.now now) connections.new
         (D.empty_looks doors.old) (D.faults doors.old) (D.book doors.new) (D.empty_looks doors.new) (D.faults doors.new) result.0 }
-    ensures operated { HasOperated stage.now.grid options.members result.1 (S.left script.old) (S.left script.new) (K.taken out.old) (K.taken out.new) (S.faults script.old) (S.faults script.new) (K.faults out.old) (K.faults out.new) pass.old pass.new }
+    ensures operated { HasOperated stage.now.grid stage.now.options.members result.1 (S.left script.old) (S.left script.new) (K.taken out.old) (K.taken out.new) (S.faults script.old) (S.faults script.new) (K.faults out.old) (K.faults out.new) pass.old pass.new }
 {
     let mut working = ||
         requires { AreWorkers (place_of stage.now.grid) workers.now.items }
     { run_workers(rt, alloc, stage, gate, workers) };
     let mut meeting = || -> (Result<(), DoorFault>, Status)
-        requires { MayMeet options stage.now.grid (D.book doors.now) connections.now pass.now }
+        requires { MayMeet stage.now.options stage.now.grid (D.book doors.now) connections.now pass.now }
     {
         serve_front(
-            rt, alloc, options, stage, clock, waker, closing, connections, doors, pass, script, out,
+            rt, alloc, stage, clock, connections, doors, pass, script, out,
         )
     };
     let (_, ended) = join_mut(rt, &mut working, &mut meeting);
@@ -164,7 +155,7 @@ fn run<N, R, S, K, C, D, G>(
     clock: &C,
     doors: &mut D,
     gate: &G,
-    waker: &D::Waker,
+    waker: D::Waker,
 ) -> (Status, LiveGrid, GridPass)
 where
     N: Sync + Drop,
@@ -195,17 +186,16 @@ where
         mut workers,
         mut connections,
     } = setting;
-    let waking = WakingGate { gate, waker };
-    let stage = Stage::new(grid, env);
-    let closing = Closing::new();
+    let stage = Stage::new(options, grid, env, waker);
+    let waking = WakingGate {
+        gate,
+        waker: &stage.waker,
+    };
     let (ended, told) = run_threads(
         rt,
         alloc,
-        options,
         &stage,
         clock,
-        waker,
-        &closing,
         &waking,
         &mut workers,
         &mut connections,
@@ -273,7 +263,7 @@ where
         return Ended::without_grid(Status::DoorFault);
     };
     let (status, grid, pass) = run(
-        rt, alloc, options, env, setting, script, out, clock, doors, gate, &waker,
+        rt, alloc, options, env, setting, script, out, clock, doors, gate, waker,
     );
     Ended {
         status,

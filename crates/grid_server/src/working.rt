@@ -11,10 +11,10 @@ use std::sync::Wait;
 use std::thread::{self, Threads};
 
 /// Runs the worker of a number until the grid is stopped, if its tokens are there.
-fn run_worker<N, G: Gate, R: Wait>(
+fn run_worker<N, W, G: Gate, R: Wait>(
     rt: &R,
     alloc: Global,
-    stage: &Stage<N>,
+    stage: &Stage<N, W>,
     gate: &G,
     number: usize,
     slot: &mut Option<WorkerTokens<LiveWorld>>,
@@ -30,10 +30,10 @@ where
 }
 
 /// Runs the workers of a grid, each on a thread of its own, until it is stopped.
-pub(crate) fn run_workers<N: Sync, G: Gate, R: Threads + Wait + Sync>(
+pub(crate) fn run_workers<N: Sync, W: Sync, G: Gate, R: Threads + Wait + Sync>(
     rt: &R,
     alloc: Global,
-    stage: &Stage<N>,
+    stage: &Stage<N, W>,
     gate: &G,
     workers: &mut Vec<Option<WorkerTokens<LiveWorld>>>,
 )
