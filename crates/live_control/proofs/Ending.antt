@@ -1,31 +1,26 @@
 -- The lines of a script that were run, and how it ends.
-use Rattle.std.proofs.Common.{◌≡◌, ◌⊎◌, inl, inr, ℕ, suc, ◌+◌, ◌≤◌, ◌<◌, Bool, true, false, List, [], ◌∷◌, ◌++◌, length, take, drop, Option, Some, None, Ok, Err, refl, ap, sym, ◌∙◌, subst, arith, append-nil, append_assoc, length-append}
-use Rattle.std.proofs.lemmas.List.{take-append-drop, take-append-le}
+use Rattle.std.proofs.Common.{◌≡◌, ◌⊎◌, inl, inr, ℕ, ◌+◌, List, [], ◌∷◌, ◌++◌, length, take, drop, Option, Some, None, refl, ap, sym, ◌∙◌, subst, arith, append-nil, append_assoc, length-append}
+use Rattle.std.proofs.lemmas.List.{take-append-drop}
 use Rattle.std.specs.Io.KnownBytes.{append_known, prepend_known, IsAtEnd}
 use Rattle.grid_edge.proofs.Told.{more_taken, more_read, append_known-nil, prepend_known-nil}
-use Rattle.grid_edge.specs.Sink.{TakesFront}
 use Rattle.partition_protocol.specs.Sequences.{IsFrontOf}
 use Rattle.script_lang.specs.Words.{whole_lines}
 use Rattle.script_lang.specs.declared.refusal.LineWhy.{LineWhy}
 use Rattle.script_lang.specs.declared.refusal.LineWhy.TheVariants.{NoEnd}
 use Rattle.grid_cli.specs.Scripts.{Cut, cut, lines_of}
 use Rattle.grid_cli.specs.Transcripts.{refused_text, limit_text}
-use Rattle.grid_cli.specs.Transcribing.{HasRoomFor}
 use Rattle.grid_cli.specs.declared.status.LimitWhat.{LimitWhat}
 use Rattle.grid_cli.specs.declared.status.Status.{Status}
 use Rattle.grid_cli.specs.declared.status.Status.TheVariants as status
 use Rattle.live_grid.specs.declared.grid.GridPass.{GridPass}
 use Rattle.live_grid.specs.declared.grid.LiveGrid.{LiveGrid}
-use Rattle.live_control.specs.declared.lines.Came.{Came}
 use Rattle.live_control.specs.declared.lines.LineReader.{LineReader}
-use Rattle.live_control.specs.declared.orders.Order.{Order}
 use Rattle.live_control.specs.declared.orders.Order.TheVariants.{End}
 use Rattle.live_control.specs.declared.serving.Ran.{Ran}
 use Rattle.live_control.specs.declared.serving.Ran.TheVariants.{Goes, Ended, Refused}
-use Rattle.live_control.specs.Orders.{order_in, is_end}
-use Rattle.live_control.specs.Reading.{HasCome, AreFirst, AreLinesOf, told, LeadsTo}
-use Rattle.live_control.specs.Running.{HasTried, HasRunLine, HasGoneOn, HaveRun}
-use Rattle.live_control.specs.Serving.{IsAtLine, HasEnded, HasMetRefused, HasMetNoEnd, HasMetLimit, HasReadSoFar, HasTriedNext, IsWhole, HasRunShort, HasShown, HasWrittenFront, ServesAs, HasServed, HasRunAs, HasFailed, Serves, StopsAs, WritesLast}
+use Rattle.live_control.specs.Reading.{HasCome, AreFirst, AreLinesOf, told}
+use Rattle.live_control.specs.Running.{HasRunLine, HasGoneOn, HaveRun}
+use Rattle.live_control.specs.Serving.{IsAtLine, HasEnded, HasMetRefused, HasMetNoEnd, HasMetLimit, HasTriedNext, IsWhole, HasShown, ServesAs, HasServed, HasRunAs, HasFailed, Serves, StopsAs, WritesLast}
 use Rattle.live_control.proofs.Looking.{first_lines}
 
 nothing_told : (left : Option (List ℕ)) → IsAtEnd left → told left ≡ []

@@ -1,11 +1,10 @@
 -- Looking for the next line in what came.
-use Rattle.std.proofs.Common.{◌≡◌, ◌≢◌, ℕ, ◌+◌, ◌-◌, ◌≤◌, ◌<◌, ◌==◌, ◌⊎◌, inl, inr, Bool, true, false, nat_lt, List, [], ◌∷◌, ◌++◌, length, take, drop, Option, Some, None, Result, Ok, Err, refl, ap, sym, ◌∙◌, subst, arith, append-nil, append_assoc, length-append, vec_len}
-use Rattle.std.proofs.lemmas.Bool.Decides.{nat_tests}
+use Rattle.std.proofs.Common.{◌≡◌, ℕ, ◌+◌, ◌≤◌, ◌<◌, ◌==◌, ◌⊎◌, inl, Bool, true, false, List, [], ◌∷◌, ◌++◌, length, take, drop, Option, Some, None, Err, refl, ap, sym, ◌∙◌, subst, arith, append-nil, append_assoc, length-append, vec_len}
 use Rattle.std.proofs.lemmas.List.{length-take, take_all, take-append-le}
 use Rattle.std.specs.Io.KnownBytes.{IsAtEnd}
 use Rattle.memchr.specs.Find.{Nowhere, NoneBefore, Passes, is_byte}
 use Rattle.partition_protocol.specs.Sequences.{IsFrontOf}
-use Rattle.script_lang.specs.Limits.{most_bytes, most_lines, most_line_bytes}
+use Rattle.script_lang.specs.Limits.{most_bytes, most_lines}
 use Rattle.script_lang.specs.Words.{newline, whole_lines, unfinished}
 use Rattle.script_lang.specs.Pieces.{IsOnePiece}
 use Rattle.grid_cli.specs.Scripts.{Cut, cut, lines_of, limit_in}
@@ -21,8 +20,8 @@ use Rattle.grid_cli.specs.Statuses.{most_piece}
 use Rattle.live_control.specs.declared.lines.Came.{Came}
 use Rattle.live_control.specs.declared.lines.Came.TheVariants.{Line, Nothing, Limit, Fault, NoMemory}
 use Rattle.live_control.specs.declared.lines.LineReader.{LineReader}
-use Rattle.live_control.specs.Reading.{ahead, told, IsAmid, IsAt, AreFirst, AreLinesOf, HasCome, HasLooked, ComesNext, IsKept, IsPast, IsOver, IsSameBut, HasLonger, up_to}
-use Rattle.live_control.proofs.Ahead.{between, between_front, between_rest, between_none, front_of_more, front_then, is_within, is_past}
+use Rattle.live_control.specs.Reading.{ahead, told, IsAmid, IsAt, AreFirst, AreLinesOf, HasCome, HasLooked, ComesNext, IsKept, IsPast, IsSameBut, HasLonger, up_to}
+use Rattle.live_control.proofs.Ahead.{between_front, between_rest, between_none, front_of_more, front_then, is_within, is_past}
 
 -- before anything came
 nothing_within : IsWithin []

@@ -1,17 +1,15 @@
 -- A piece more of a script.
 use Rattle.std.proofs.Common.{◌≡◌, ◌⊎◌, inl, inr, ℕ, ◌+◌, ◌-◌, ◌≤◌, ◌<◌, min, Bool, true, false, nat_lt, List, [], ◌++◌, length, take, drop, Option, Ok, refl, ap, sym, ◌∙◌, subst, arith, append-nil, length-append, vec_len}
-use Rattle.std.proofs.lemmas.Bool.Decides.{nat_tests}
 use Rattle.std.proofs.lemmas.List.{length-take, take-take, take_all}
 use Rattle.std.proofs.Math.Seq.{take-append-add}
 use Rattle.std.specs.Io.KnownBytes.{prepend_known, IsAtEnd}
 use Rattle.grid_edge.proofs.Told.{prepend_known-nil}
-use Rattle.grid_cli.specs.Statuses.{most_piece}
 use Rattle.grid_cli.proofs.Tests.{within_limit, past_limit}
 use Rattle.script_lang.specs.Limits.{most_bytes}
 use Rattle.live_control.specs.declared.lines.LineReader.{LineReader}
 use Rattle.live_control.specs.Reading.{ahead, IsAmid, HasCome, HasComeOn, HasNoMore, HasRead}
 use Rattle.live_control.proofs.Ahead.{is_past, is_within}
-use Rattle.live_control.proofs.Looking.{a as told_amid, still_amid, few_came, came_bytes, looked_is, came_is}
+use Rattle.live_control.proofs.Looking.{a as told_amid, still_amid, few_came, came_bytes, came_is}
 
 test_cases : (b : Bool) → (b ≡ true) ⊎ (b ≡ false)
 test_cases true = inl refl

@@ -5,7 +5,7 @@ use Rattle.partition_protocol.specs.Sequences.{IsFrontOf}
 use Rattle.script_lang.specs.Limits.{most_bytes, most_lines}
 use Rattle.script_lang.specs.Words.{whole_lines, unfinished}
 use Rattle.grid_cli.specs.Replays.{IsWithin}
-use Rattle.grid_cli.specs.Scripts.{Cut, cut, lines_of, limit_in}
+use Rattle.grid_cli.specs.Scripts.{cut, lines_of, limit_in}
 use Rattle.grid_cli.specs.Statuses.{most_piece}
 use Rattle.grid_cli.specs.Transcribing.{HasRoomFor}
 use Rattle.grid_cli.specs.declared.status.LimitWhat.{LimitWhat}

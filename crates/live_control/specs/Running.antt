@@ -9,7 +9,7 @@ use Rattle.live_grid.specs.declared.grid.LiveGrid.{LiveGrid}
 use Rattle.live_grid.specs.Control.{CameToAt, CameToInAll, IsPassOfGrid, HasControl}
 use Rattle.replay_run.specs.Printing.{done_word, words_of, fate_words, refusal_words, ok_text, words_line}
 use Rattle.live_control.specs.declared.orders.Order.{Order}
-use Rattle.live_control.specs.declared.orders.Order.TheVariants.{Comment, End, Everywhere, In}
+use Rattle.live_control.specs.declared.orders.Order.TheVariants.{Everywhere, In}
 use Rattle.live_control.specs.declared.orders.Step.{Step}
 use Rattle.live_control.specs.Orders.{order_in, is_end, event_of_step, event_of_fate}
 

@@ -1,6 +1,10 @@
+ghost use Rattle.std.specs.Prelude.{◌≡◌, ◌<◌, []};
+ghost use Rattle.live_grid.specs.Plans.{settings_in};
+
 use crate::serve_control;
-use call_engine::GridEnv;
+use call_engine::{GridEnv, GridShelf};
 use entry_processors::Registry;
+use grid_base::Executes;
 use grid_cli::{LimitWhat, Status};
 use grid_edge::{MemorySink, MemorySource};
 use live_grid::LiveGrid;
@@ -10,7 +14,9 @@ use std::process::Abort;
 use std::sync::Wait;
 use std::test::Fail;
 
-fn environment(alloc: Global) -> GridEnv {
+fn environment(alloc: Global) -> GridEnv
+    ensures { ⟦<GridShelf as Executes<GridEnv>>⟧.plan_of result ≡ settings_in [] 2 }
+{
     GridEnv {
         registry: Registry::new(Vec::new(alloc)),
         capacity: 2,
@@ -24,7 +30,9 @@ fn served<R: Abort + Wait>(
     script: &[u8],
     piece: usize,
     status: Status,
-) -> Result<Vec<u8>, Fail> {
+) -> Result<Vec<u8>, Fail>
+    requires { 0 < piece }
+{
     let env = environment(alloc);
     let (grid, mut pass) = LiveGrid::new(alloc, 3, 1, &env, &[], 2)?;
     let mut source = MemorySource::in_pieces(script.to_vec(alloc)?, Vec::new(alloc), piece);

@@ -7,6 +7,8 @@ use Rattle.atomic_table.specs.Seated.{TableId}
 use Rattle.grid_base.specs.declared.calls.Request.{Request}
 use Rattle.hand_cell.specs.declared.names.Key.TheVariants.{Control}
 use Rattle.hand_cell.specs.declared.stands.RunRefused.{RunRefused}
+use Rattle.hand_cell.specs.Calls.{first_pass}
+use Rattle.hand_cell.specs.declared.cell.Cell.{Cell}
 use Rattle.hand_cell.specs.Names.{has}
 use Rattle.hand_cell.specs.Told.{Told}
 use Rattle.job_queues.specs.Roster.{roster_of}
@@ -14,7 +16,7 @@ use Rattle.partition_threads.specs.declared.workplace.Workplace.{Workplace}
 use Rattle.grid_base.specs.declared.TheConstants.{PARTITIONS}
 use Rattle.live_grid.specs.declared.world.LiveWorld.{LiveWorld}
 use Rattle.partition_protocol.proofs.Lists.{get_set}
-use Rattle.partition_protocol.proofs.Theorem.{map_get}
+use Rattle.partition_protocol.proofs.Theorem.{map_get, get_map}
 use Rattle.partition_world.proofs.KeptRings.{some_at}
 use Rattle.partition_world.specs.declared.event.Event.{Event}
 use Rattle.partition_world.specs.declared.event.Happened.{Happened}
@@ -86,3 +88,19 @@ came_at grid event old new partition slot was is came place taken of_grid below 
       tokens = tokens;
       here = comes plan.0 (ap (λ (z : Workplace LiveWorld GridPlan (Event Request) Happened). slice_get (roster_of z.cells.items).plans partition) place_is ∙ plan.1);
     }
+
+first_tables : (cells : List (Cell LiveWorld GridPlan (Event Request) Happened)) → map (λ (p : Seen). p.table) (map (λ cell. first_pass cell) cells) ≡ (roster_of cells).tables
+first_tables [] = refl
+first_tables (c ∷ cs) = ap (λ (ts : List TableId). c.table.shared.table_id ∷ ts) (first_tables cs)
+
+-- the first passes of a grid
+pub first_of_grid : (grid : LiveGrid) (pass : GridPass) → length (place_of grid).cells.items ≡ PARTITIONS → pass.passes.items ≡ map (λ cell. first_pass cell) (place_of grid).cells.items → IsPassOfGrid grid pass
+first_of_grid grid pass many are = record {
+  as_many = many;
+  tables = ap (λ (ps : List Seen). map (λ (p : Seen). p.table) ps) are ∙ first_tables (place_of grid).cells.items;
+}
+
+pub first_control : (cells : List (Cell LiveWorld GridPlan (Event Request) Happened)) (pass : GridPass) → pass.passes.items ≡ map (λ cell. first_pass cell) cells → HasControl pass
+first_control cells pass are p q there =
+    let c = get_map (λ cell. first_pass cell) cells p q (subst (λ (ps : List Seen). slice_get ps p ≡ Some q) are there) in
+    ap (λ (z : Seen). has z.names Control) (sym c.2)

@@ -1,4 +1,9 @@
 //! An operator's events on a live grid.
+//!
+//! An event of one partition is run in one turn there, and what is in flight is then delivered, a message a turn, until
+//! nothing is, or there is no memory or no room for an event. It is refused with `Exhausted` exactly where the
+//! partition's history is at its limit, and else for want of memory; nothing is then delivered. Each turn waits for those
+//! who entered before. Those who hold calls in the partition are told of each event.
 ghost use Rattle.std.specs.Prelude.{◌≡◌, ◌<◌, if◌then◌else◌, All};
 ghost use Rattle.hand_cell.specs.declared.names.Key.TheVariants.{Control};
 ghost use Rattle.hand_cell.specs.Calls.{plan_of};
@@ -107,7 +112,10 @@ impl LiveGrid {
         Ok(all)
     }
 
-    /// A member takes no further step.
+    /// A member takes no further step, in each partition, in their order.
+    ///
+    /// Answers `Nothing` where that came of it in each partition, and else `Done`. Where a partition refuses it, those
+    /// before that one have the event, and no other. Costs the event and the deliveries of each partition.
     pub fn crash<N, R: Wait>(
         &self,
         rt: &R,
@@ -128,7 +136,9 @@ impl LiveGrid {
         self.run_in_all(rt, alloc, env, pass, Fate::Crash(member))
     }
 
-    /// The table service is told that a member has crashed.
+    /// The table service is told that a member has crashed, in each partition, in their order.
+    ///
+    /// Answers and costs as `crash`, and stops so where a partition refuses it.
     pub fn detect<N, R: Wait>(
         &self,
         rt: &R,
@@ -150,6 +160,8 @@ impl LiveGrid {
     }
 
     /// A member is to take another's place in a partition's row.
+    ///
+    /// Costs the event and the deliveries behind it. Refused as every event of one partition.
     pub fn begin_move<N, R: Wait>(
         &self,
         rt: &R,
@@ -181,6 +193,8 @@ impl LiveGrid {
     }
 
     /// A member is to join a partition's row.
+    ///
+    /// Costs the event and the deliveries behind it. Refused as every event of one partition.
     pub fn begin_join<N, R: Wait>(
         &self,
         rt: &R,
@@ -204,6 +218,8 @@ impl LiveGrid {
     }
 
     /// A backup is to lead a partition in place of the primary, which leaves the row.
+    ///
+    /// Costs the event and the deliveries behind it. Refused as every event of one partition.
     pub fn begin_handover<N, R: Wait>(
         &self,
         rt: &R,
@@ -235,6 +251,8 @@ impl LiveGrid {
     }
 
     /// The move that is under way in a partition takes its next step.
+    ///
+    /// Costs the event and the deliveries behind it. Refused as every event of one partition.
     pub fn advance<N, R: Wait>(
         &self,
         rt: &R,
@@ -257,6 +275,8 @@ impl LiveGrid {
     }
 
     /// The loss of a lost partition is accepted, and it goes on empty.
+    ///
+    /// Costs the event and the deliveries behind it. Refused as every event of one partition.
     pub fn reopen<N, R: Wait>(
         &self,
         rt: &R,
@@ -279,6 +299,8 @@ impl LiveGrid {
     }
 
     /// A primary, or the table service, whose number is that of the members, sends again what may have been lost.
+    ///
+    /// Costs the event and the deliveries behind it. Refused as every event of one partition.
     pub fn resend<N, R: Wait>(
         &self,
         rt: &R,

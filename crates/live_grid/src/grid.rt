@@ -3,6 +3,7 @@ ghost use Rattle.std.specs.Prelude.{◌≡◌, ◌≤◌, ◌*◌, IfOk, All, ma
 ghost use Rattle.hand_cell.specs.Calls.{plan_of, first_pass};
 ghost use Rattle.partition_threads.specs.Workplaces.{AreTokensAt};
 ghost use Rattle.live_grid.specs.Plans.{settings_in, settings_for};
+ghost use Rattle.live_grid.specs.Control.{IsPassOfGrid, HasControl};
 ghost use Rattle.live_grid.specs.Grids.{AreCells, IsGridPassOf, place_of};
 
 use crate::opening::make_cells;
@@ -51,6 +52,8 @@ impl LiveGrid {
         ensures cells { IfOk result (λ made. AreCells members backups forms.now capacity (place_of made.0).cells.items) }
         ensures count { IfOk result (λ made. vec_len (place_of made.0).cells ≡ 271) }
         ensures passes { IfOk result (λ made. made.1.passes.items ≡ map (λ cell. first_pass cell) (place_of made.0).cells.items) }
+        ensures of_grid { IfOk result (λ made. IsPassOfGrid made.0 made.1) }
+        ensures control { IfOk result (λ made. HasControl made.1) }
         ensures means { IfOk result (λ made. All (λ cell. ⟦<GridShelf as Executes<N>>⟧.plan_of env.now ≡ settings_for (plan_of cell)) (place_of made.0).cells.items) }
         ensures workers { IfOk result (λ made. vec_len made.1.tokens ≡ 4 * members) }
         ensures tokens { IfOk result (λ made. AreTokensAt (place_of made.0) made.1.tokens.items) }

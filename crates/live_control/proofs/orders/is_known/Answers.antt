@@ -1,4 +1,4 @@
-use Rattle.std.proofs.Common.{◌≡◌, List, map, Bor, ℕ, rules, tests, refl, ap, ◌∙◌}
+use Rattle.std.proofs.Common.{List, Bor, ℕ, rules, tests, refl, ◌∙◌}
 use Rattle.std.proofs.lemmas.Iterator.{YieldsList-from_slice}
 use Rattle.std.proofs.lemmas.Iterator.Search.{any_from_yields_List}
 use Rattle.script_lang.specs.Words.{are_same}

@@ -1,5 +1,5 @@
-use Rattle.std.proofs.Common.{◌≡◌, ℕ, List, sym, subst, ap, ◌∙◌, arith}
-use Rattle.live_control.specs.Serving.{Serves, StopsAs, WritesLast}
+use Rattle.std.proofs.Common.{◌≡◌, ℕ, List, subst, ◌∙◌, arith}
+use Rattle.live_control.specs.Serving.{Serves, StopsAs}
 use Rattle.live_control.proofs.Ending.{nothing_served, at_first, went_on, stopped, no_end, past_limit, failed, no_memory}
 use Rattle.live_control.proofs.serving.serve_control.Goals as goal
 

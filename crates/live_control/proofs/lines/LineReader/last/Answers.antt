@@ -1,4 +1,4 @@
-use Rattle.std.proofs.Common.{◌≡◌, ◌==◌, Bool, true, false, length, ap, sym, ◌∙◌}
+use Rattle.std.proofs.Common.{◌≡◌, ◌==◌, false, length, ap, sym, ◌∙◌}
 use Rattle.live_control.proofs.Looking.{ended_without, ended_with, last_room}
 use Rattle.live_control.proofs.lines.LineReader.last.Goals as goal
 

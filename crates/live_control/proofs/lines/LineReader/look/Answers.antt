@@ -1,4 +1,4 @@
-use Rattle.std.proofs.Common.{◌≡◌, ℕ, List, length, slice_range, subst, ap, sym, ◌∙◌, arith}
+use Rattle.std.proofs.Common.{ℕ, List, length, slice_range, subst, ap, sym, ◌∙◌, arith}
 use Rattle.memchr.specs.Find.{Nowhere, NoneBefore, Passes, is_byte}
 use Rattle.script_lang.specs.Words.{newline}
 use Rattle.live_control.proofs.Ahead.{range_is}

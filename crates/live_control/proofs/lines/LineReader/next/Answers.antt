@@ -1,8 +1,7 @@
-use Rattle.std.proofs.Common.{◌≡◌, ℕ, Bool, List, [], ◌++◌, Option, Ok, refl, sym, subst, ap, ◌∙◌, arith, append-nil, append_assoc}
+use Rattle.std.proofs.Common.{ℕ, Bool, List, [], ◌++◌, Ok, refl, sym, subst, ap, ◌∙◌, arith, append-nil, append_assoc}
 use Rattle.std.specs.Io.KnownBytes.{prepend_known}
 use Rattle.grid_edge.proofs.Told.{prepend_known-nil, more_read}
-use Rattle.live_control.specs.Reading.{HasCome, HasLooked, HasRead, ComesNext, AreLinesOf, AreFirst}
-use Rattle.live_control.specs.declared.lines.Came.TheVariants.{Fault}
+use Rattle.live_control.specs.Reading.{HasCome, HasLooked, HasRead, AreLinesOf}
 use Rattle.live_control.proofs.Looking.{ended_at, other_line, no_line, past_bytes}
 use Rattle.live_control.proofs.lines.LineReader.next.Goals as goal
 
@@ -18,9 +17,12 @@ pieces-init g c = record {
   never_falls = omega arith;
   come = λ came given h.
       let left = g.S.Source.left c.args.script.now in
-      let cleared = other_line c.args.self.now (record c.args.self.now { line = c.clear.new.self }) left came given [] refl h in
-      ([], sym (prepend_known-nil left), subst (λ (l : List ℕ). HasCome (record c.args.self.now { line = c.clear.new.self }) left l given c.clear.new.self.items) (sym (append-nil came))
-      (subst (λ (l : List ℕ). HasCome (record c.args.self.now { line = c.clear.new.self }) left came given l) (sym c.clear.ensures.items) cleared));
+      let cleared = other_line c.args.self.now (record c.args.self.now { line = c.clear.new.self }) left came given [] refl h in (
+        [],
+        sym (prepend_known-nil left),
+        subst (λ (l : List ℕ). HasCome (record c.args.self.now { line = c.clear.new.self }) left l given c.clear.new.self.items) (sym (append-nil came))
+            (subst (λ (l : List ℕ). HasCome (record c.args.self.now { line = c.clear.new.self }) left came given l) (sym c.clear.ensures.items) cleared),
+      );
 }
 
 pub returns-in-Err-clause-came : goal.returns-in-Err-clause-came
@@ -45,9 +47,11 @@ pieces-preserved g c = record {
       let left = g.S.Source.left c.pieces.script in
       let l = subst (λ (b : Bool). HasLooked (Ok b) c.look.new.self left (came ++ i.0) given) c.in-Ok-false.field-0-test (c.in-Ok-false.ensures.looked left (came ++ i.0) given i.2) in
       let later = g.S.Source.left c.read.new.script in
-      let r = subst (λ (b : Bool). HasRead (Ok b) c.look.new.self c.read.new.self left later (came ++ i.0) given) c.in-Ok-true-read.field-0-test (c.in-Ok-true-read.ensures.read (came ++ i.0) given l.0) in
-      (i.0 ++ r.0, more_read (g.S.Source.left c.args.script.now) left later i.0 r.0 i.1 r.1,
-      subst (λ (x : List ℕ). HasCome c.read.new.self later x given c.read.new.self.line.items) (append_assoc came i.0 r.0) r.2.come);
+      let r = subst (λ (b : Bool). HasRead (Ok b) c.look.new.self c.read.new.self left later (came ++ i.0) given) c.in-Ok-true-read.field-0-test (c.in-Ok-true-read.ensures.read (came ++ i.0) given l.0) in (
+        i.0 ++ r.0,
+        more_read (g.S.Source.left c.args.script.now) left later i.0 r.0 i.1 r.1,
+        subst (λ (x : List ℕ). HasCome c.read.new.self later x given c.read.new.self.line.items) (append_assoc came i.0 r.0) r.2.come,
+      );
 }
 
 pub returns-in-Ok-false-read-clause-came : goal.returns-in-Ok-false-read-clause-came

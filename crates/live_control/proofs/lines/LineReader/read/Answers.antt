@@ -1,4 +1,4 @@
-use Rattle.std.proofs.Common.{◌≡◌, ◌<◌, ◌≤◌, ◌+◌, ◌-◌, ℕ, List, Option, nat_lt, length, take, refl, sym, subst, ap, ◌∙◌, arith, vec_len}
+use Rattle.std.proofs.Common.{◌≡◌, ◌<◌, ◌≤◌, ◌+◌, ◌-◌, ℕ, List, Option, nat_lt, length, take, refl, sym, subst, ap, ◌∙◌, arith}
 use Rattle.std.specs.Vec.{with_items}
 use Rattle.std.specs.Io.KnownBytes.{prepend_known}
 use Rattle.std.proofs.lemmas.List.{take_at}
@@ -11,9 +11,11 @@ use Rattle.live_control.proofs.lines.LineReader.read.Goals as goal
 pub returns-in_default-clause-read : goal.returns-in_default-clause-read
 returns-in_default-clause-read g c = λ came given h.
     let r = c.args.self.now in
-    let same : g.S.Source.left c.args.script.now ≡ g.S.Source.left c.read.new.self = sym c.in_default.ensures.err in
-    (same, lines_so_far r (g.S.Source.left c.args.script.now) came given h c.requires.going c.requires.spent c.requires.within,
-    subst (λ (l : Option (List ℕ)). AreFirst given l came) same (first_lines r (g.S.Source.left c.args.script.now) came given r.line.items h))
+    let same : g.S.Source.left c.args.script.now ≡ g.S.Source.left c.read.new.self = sym c.in_default.ensures.err in (
+      same,
+      lines_so_far r (g.S.Source.left c.args.script.now) came given h c.requires.going c.requires.spent c.requires.within,
+      subst (λ (l : Option (List ℕ)). AreFirst given l came) same (first_lines r (g.S.Source.left c.args.script.now) came given r.line.items h),
+    )
 
 pub returns-clause-read : goal.returns-clause-read
 returns-clause-read g c = λ came given h.

@@ -1,4 +1,0 @@
-pub mod Options
-pub mod Serving
-pub mod Settings
-pub mod Tasks
