@@ -15,12 +15,13 @@ use Rattle.grid_cli.specs.declared.status.Status.TheVariants as status
 use Rattle.live_grid.specs.declared.grid.GridPass.{GridPass}
 use Rattle.live_grid.specs.declared.grid.LiveGrid.{LiveGrid}
 use Rattle.live_control.specs.declared.lines.LineReader.{LineReader}
+use Rattle.live_control.specs.declared.orders.Order.{Order}
 use Rattle.live_control.specs.declared.orders.Order.TheVariants.{End}
 use Rattle.live_control.specs.declared.serving.Ran.{Ran}
 use Rattle.live_control.specs.declared.serving.Ran.TheVariants.{Goes, Ended, Refused}
 use Rattle.live_control.specs.Reading.{HasCome, AreFirst, AreLinesOf, told}
 use Rattle.live_control.specs.Running.{HasRunLine, HasGoneOn, HaveRun}
-use Rattle.live_control.specs.Serving.{IsAtLine, HasEnded, HasMetRefused, HasMetNoEnd, HasMetLimit, HasTriedNext, IsWhole, HasShown, ServesAs, HasServed, HasRunAs, HasFailed, Serves, StopsAs, WritesLast}
+use Rattle.live_control.specs.Serving.{IsAtLine, HasEnded, HasMetRefused, HasMetNoEnd, HasMetLimit, HasTriedNext, HasRunNext, IsWhole, ServesAs, HasServed, HasRunAs, HasFailed, Serves, StopsAs, WritesLast}
 use Rattle.live_control.proofs.Looking.{first_lines}
 
 nothing_told : (left : Option (List ℕ)) → IsAtEnd left → told left ≡ []
@@ -135,27 +136,30 @@ module _ (grid : LiveGrid) (members : ℕ) where
           text = ap (λ (l : List ℕ). s.written ++ l) h.2;
         }
 
-        shown : (new : GridPass) (own : List ℕ) → HasGoneOn grid members next.lines line now new own → HasShown grid members script old new (s.written ++ own)
-        shown new own h = record {
-          done = s.lines ++ line ∷ [];
-          first = front;
-          ran = ran_more 1 s.lines line old now new s.written own s.ran (subst (λ (k : ℕ). HasGoneOn grid members k line now new own) number_is h);
-        }
-
         -- the script stopped at the line
         pub stopped : (status : Status) (new : GridPass) (last : Option (List ℕ)) → StopsAs grid members next.lines line now new after last status → HasServed grid members status first later before last old new
         stopped status.Done new last h = served status.Done last new h.0 h.2 (ended new h.0 h.1)
         stopped (status.ScriptRefused at why) new last h =
             served (status.ScriptRefused at why) last new h.1.0 h.1.2 (inl (subst (λ (k : ℕ). HasMetRefused grid members script old new k why (s.written ++ h.1.0)) (sym h.0) (refused new why h.1.0 h.1.1)))
         stopped status.WriteFault new last h = served status.WriteFault last new (take h.3.0 h.1) h.3.2 (record {
-          text = s.written ++ h.1;
-          front = (drop h.3.0 h.1, append_assoc s.written (take h.3.0 h.1) (drop h.3.0 h.1) ∙ ap (λ (l : List ℕ). s.written ++ l) (take-append-drop h.3.0 h.1));
-          shown = by_ran h.0 h.2;
+          done = s.lines;
+          mid = now;
+          shown = s.written;
+          own = h.1;
+          part = take h.3.0 h.1;
+          first = shorter;
+          ran = s.ran;
+          text = refl;
+          front = (drop h.3.0 h.1, take-append-drop h.3.0 h.1);
+          broken = by_ran h.0 h.2;
         })
           where
-            by_ran : (ran : Ran) → HasRunAs grid members next.lines line now new h.1 ran → HasShown grid members script old new (s.written ++ h.1) ⊎ IsWhole grid members script old new (s.written ++ h.1)
-            by_ran Goes r = inl (shown new h.1 r)
-            by_ran Ended r = inr (inl (ended new h.1 r))
+            ran_next : (order : Order) → HasRunLine grid members next.lines line now new order h.1 → HasRunNext grid members script old new s.lines now h.1
+            ran_next order r = record { line = line; order = order; next = front; ran = subst (λ (k : ℕ). HasRunLine grid members k line now new order h.1) (number_is ∙ omega arith) r }
+
+            by_ran : (ran : Ran) → HasRunAs grid members next.lines line now new h.1 ran → HasRunNext grid members script old new s.lines now h.1 ⊎ IsWhole grid members script old new (s.written ++ h.1)
+            by_ran Goes r = inl (ran_next r.0 r.1)
+            by_ran Ended r = inl (ran_next End r)
             by_ran (Refused why) r = inr (inr (inl (next.lines, why, inl (refused new why h.1 r))))
         stopped status.Memory new last h = subst (λ (z : Option (List ℕ)). HasServed grid members status.Memory first later before z old new) (sym h.1) (served_so status.Memory new (record {
           done = s.lines;
@@ -174,9 +178,16 @@ module _ (grid : LiveGrid) (members : ℕ) where
       closed : (text : List ℕ) (ends : Status) (status : Status) (last : Option (List ℕ)) → IsFrontOf s.lines (lines_of ((s.read ++ more) ++ told later)) → IsWhole grid members ((s.read ++ more) ++ told later) old now (s.written ++ text)
           → ServesAs grid members ((s.read ++ more) ++ told later) old now ends (s.read ++ more) (s.written ++ text) → WritesLast text ends after last status → HasServed grid members status first later before last old now
       closed text ends status.WriteFault last begins is serves h = served status.WriteFault last now (take h.0 text) h.2 (record {
-        text = s.written ++ text;
-        front = (drop h.0 text, append_assoc s.written (take h.0 text) (drop h.0 text) ∙ ap (λ (l : List ℕ). s.written ++ l) (take-append-drop h.0 text));
-        shown = inr is;
+        done = s.lines;
+        mid = now;
+        shown = s.written;
+        own = text;
+        part = take h.0 text;
+        first = begins;
+        ran = s.ran;
+        text = refl;
+        front = (drop h.0 text, take-append-drop h.0 text);
+        broken = inr is;
       })
       closed text ends status.Memory last begins is serves h = subst (λ (z : Option (List ℕ)). HasServed grid members status.Memory first later before z old now) (sym h) (served_so status.Memory now (record {
         done = s.lines;

@@ -86,20 +86,30 @@ module _ (grid : LiveGrid) (members : ℕ) (script : List ℕ) (old new : GridPa
     pub ran : HaveRun grid members 1 done old mid written
     pub further : (new ≡ mid) ⊎ HasTriedNext done mid
 
-  -- So many lines were run, whose text is this, or this is the whole text of the script
-  pub record HasShown (written : List ℕ) : Type 0 where
-    pub done : List (List ℕ)
-    pub first : IsFrontOf done (lines_of script)
-    pub ran : HaveRun grid members 1 done old new written
+  -- The line behind these was run, and this is its text
+  pub record HasRunNext (done : List (List ℕ)) (mid : GridPass) (own : List ℕ) : Type 0 where
+    pub line : List ℕ
+    pub order : Order
+    pub next : IsFrontOf (done ++ line ∷ []) (lines_of script)
+    pub ran : HasRunLine grid members (length done + 1) line mid new order own
 
+  -- this is the whole text of the script
   abbrev pub IsWhole : List ℕ → Type 0
   IsWhole written = HasEnded written ⊎ (((number : ℕ) × (why : LineWhy) × (HasMetRefused number why written ⊎ HasMetNoEnd number why written)) ⊎ ((what : LimitWhat) × HasMetLimit what written))
 
-  -- A front of that text was written
-  pub record HasWrittenFront (written : List ℕ) : Type 0 where
-    pub text : List ℕ
-    pub front : IsFrontOf written text
-    pub shown : HasShown text ⊎ IsWhole text
+  -- The text of these lines was written, and a front of the text behind it: that of one line more, which was run, or the
+  -- script's last
+  pub record HasBrokenOff (written : List ℕ) : Type 0 where
+    pub done : List (List ℕ)
+    pub mid : GridPass
+    pub shown : List ℕ
+    pub own : List ℕ
+    pub part : List ℕ
+    pub first : IsFrontOf done (lines_of script)
+    pub ran : HaveRun grid members 1 done old mid shown
+    pub text : written ≡ shown ++ part
+    pub front : IsFrontOf part own
+    pub broken : HasRunNext done mid own ⊎ IsWhole (shown ++ own)
 
   -- With these statuses this was read and written of the script
   abbrev pub ServesAs : Status → List ℕ → List ℕ → Type 0
@@ -107,7 +117,7 @@ module _ (grid : LiveGrid) (members : ℕ) (script : List ℕ) (old new : GridPa
   ServesAs (ScriptRefused number why) read written = HasMetRefused number why written ⊎ HasMetNoEnd number why written
   ServesAs (Limit what) read written = HasMetLimit what written
   ServesAs ReadFault read written = HasReadSoFar read written
-  ServesAs WriteFault read written = HasWrittenFront written
+  ServesAs WriteFault read written = HasBrokenOff written
   ServesAs Memory read written = HasRunShort written
   ServesAs _ read written = ⊥
 
