@@ -22,6 +22,16 @@ enum Attempt {
     Failed,
 }
 
+impl Attempt {
+    // Whether something moved, and less than was asked for.
+    fn is_short_of(self, asked: usize) -> bool {
+        match self {
+            Attempt::Moved(count) => 0 < count && count < asked,
+            Attempt::WouldBlock | Attempt::Failed => false,
+        }
+    }
+}
+
 // How many calls failed, and how many would have had to wait.
 #[derive(Debug, Drop)]
 struct Counts {
@@ -59,7 +69,7 @@ impl Counts {
     }
 }
 
-// Whether a stream is known not to be ready: it wasn't, after so many reports of it.
+// Whether a stream is known not to be ready: after so many reports of it, it wasn't, or gave all that it had.
 #[derive(Debug, Drop)]
 struct Wait {
     since: Option<u64>,
@@ -81,6 +91,11 @@ impl Wait {
             Attempt::WouldBlock => Some(reported),
             Attempt::Moved(_) | Attempt::Failed => None,
         };
+    }
+
+    // All that had come was taken, after so much had been reported.
+    fn drained(&mut self, reported: u64) {
+        self.since = Some(reported);
     }
 }
 
@@ -166,14 +181,18 @@ impl ReadySource for TcpSource {
 
     ghost left = { λ _. None };
 
-    /// Costs a system call, and another one for each time that it is interrupted. Once nothing had come it costs none,
-    /// and comes to `NotYet`, until a `wait` at the doors reports something.
+    /// Costs a system call, and another one for each time that it is interrupted. Once all that had come was read it costs
+    /// none, and comes to `NotYet`, until a `wait` at the doors reports something.
     fn read_ready(&mut self, into: &mut [u8]) -> Result<Ready, ReadFault> {
         let reported = self.reports.readable();
+        let ended = self.reports.has_ended();
         let mut attempt = Attempt::WouldBlock;
         if !self.wait.goes_on(reported) {
             attempt = try_read(&mut &*self.stream, into);
             self.wait.note(attempt, reported);
+            if !ended && attempt.is_short_of(into.len()) {
+                self.wait.drained(reported);
+            }
         }
         self.counts.answer(attempt, ReadFault)
     }

@@ -1,6 +1,7 @@
 ghost use Rattle.std.specs.Prelude.{◌≡◌, ◌≤◌, ◌+◌, IfOk};
 
 use super::*;
+use std::net::Shutdown;
 use std::thread;
 use std::time::Duration;
 
@@ -25,10 +26,50 @@ fn what_came_is_seen_once_it_is_reported(rt: HostRuntime) -> Result<(), Fail> {
     assert_eq!(rt; from.read_ready(&mut bytes), Ok(Ready::NotYet));
     doors.wait(LONG)?;
     assert_eq!(rt; from.read_ready(&mut bytes), Ok(Ready::Bytes(5)));
-    // A stream that was ready is looked at again, also where nothing was reported.
+    // That was less than was asked for, so it was all: no system call looks for more.
     client.write_all(b"again")?;
     let_arrive(&rt);
-    assert_eq!(rt; from.read_ready(&mut bytes), Ok(Ready::Bytes(5)));
+    assert_eq!(rt; from.read_ready(&mut bytes), Ok(Ready::NotYet));
+    doors.wait(LONG)?;
+    // A stream that gave all that was asked for is looked at again, also where nothing was reported.
+    let mut some = [0; 3];
+    assert_eq!(rt; from.read_ready(&mut some), Ok(Ready::Bytes(3)));
+    assert_eq!(rt; from.read_ready(&mut some), Ok(Ready::Bytes(2)));
+    assert_eq!(rt; from.read_ready(&mut some), Ok(Ready::NotYet));
+    Ok(())
+}
+
+#[test]
+fn an_end_that_came_with_bytes_is_seen(rt: HostRuntime) -> Result<(), Fail> {
+    let mut doors = TcpDoors::new(&rt);
+    let port = open_somewhere(&mut doors, &rt, 1)?;
+    let mut client = TcpStream::connect(&rt, place_of(port, 0))?;
+    let (_, mut from, _to) = next_caller(&mut doors)?;
+    client.write_all(b"bye")?;
+    client.shutdown(Shutdown::Write)?;
+    let_arrive(&rt);
+    doors.wait(LONG)?;
+    let mut bytes = [0; 8];
+    assert_eq!(rt; from.read_ready(&mut bytes), Ok(Ready::Bytes(3)));
+    assert_eq!(rt; from.read_ready(&mut bytes), Ok(Ready::Bytes(0)));
+    Ok(())
+}
+
+#[test]
+fn an_end_that_comes_later_is_reported(rt: HostRuntime) -> Result<(), Fail> {
+    let mut doors = TcpDoors::new(&rt);
+    let port = open_somewhere(&mut doors, &rt, 1)?;
+    let mut client = TcpStream::connect(&rt, place_of(port, 0))?;
+    let (_, mut from, _to) = next_caller(&mut doors)?;
+    client.write_all(b"bye")?;
+    let_arrive(&rt);
+    doors.wait(LONG)?;
+    let mut bytes = [0; 8];
+    assert_eq!(rt; from.read_ready(&mut bytes), Ok(Ready::Bytes(3)));
+    assert_eq!(rt; from.read_ready(&mut bytes), Ok(Ready::NotYet));
+    client.shutdown(Shutdown::Write)?;
+    doors.wait(LONG)?;
+    assert_eq!(rt; from.read_ready(&mut bytes), Ok(Ready::Bytes(0)));
     Ok(())
 }
 

@@ -1,0 +1,46 @@
+-- That a server which was just opened may serve.
+use Rattle.std.proofs.Common.{◌≡◌, ℕ, ◌+◌, ◌*◌, ◌≤◌, List, length, Option, IsSomeAnd, ◌<◌, sym, subst, arith}
+use Rattle.grid_base.specs.declared.TheConstants.{PARTITIONS}
+use Rattle.grid_base.specs.declared.calls.Request.{Request}
+use Rattle.call_engine.specs.Limits.{RequestFits}
+use Rattle.grid_edge.specs.Doors.{Book, IsOpenTo}
+use Rattle.grid_edge.specs.declared.doors.Opening.{Opening}
+use Rattle.partition_world.specs.declared.event.Event.{Event}
+use Rattle.partition_world.specs.declared.event.Happened.{Happened}
+use Rattle.live_grid.specs.declared.grid.LiveGrid.{LiveGrid}
+use Rattle.live_grid.specs.declared.plan.GridPlan.{GridPlan}
+use Rattle.live_grid.specs.declared.world.LiveWorld.{LiveWorld}
+use Rattle.live_grid.specs.Grids.{place_of}
+use Rattle.live_grid.specs.Histories.{live_key}
+use Rattle.live_session.specs.Connections.{ServesCalls, AreBelow}
+use Rattle.live_server.specs.declared.connections.Connections.{Connections}
+use Rattle.live_server.specs.Standing.{MayServe}
+use Rattle.grid_server.specs.declared.options.ServeOptions.{ServeOptions}
+use Rattle.grid_server.specs.Serving.{IsOpened}
+use Rattle.grid_server.specs.Settings.{IsUnused}
+
+-- each request that fits frames is one that the grid's shelves take
+pub serves_calls : (grid : LiveGrid) → length (place_of grid).cells.items ≡ PARTITIONS → ServesCalls RequestFits (place_of grid)
+serves_calls grid count = record { cells = count; requests = λ request fits numbers. (fits, numbers) }
+
+module _ {F K : Type 0} (options : ServeOptions) (grid : LiveGrid) (connections : Connections LiveWorld F K GridPlan (Event Request) Happened) (book : Book) (unused : IsUnused grid options.members connections) (opened : IsOpened options book) where
+  -- the doors stand open for the grid's members alone
+  below : (member : ℕ) → IsOpenTo book member → member < options.members
+  below member open_to = subst (λ (opening : Option Opening). IsSomeAnd opening (λ o. member < o.members)) opened.opening open_to
+
+  enough : (member : ℕ) → IsOpenTo book member → 4 * member + 4 ≤ length connections.tokens.items
+  enough member open_to = let less = below member open_to in let workers = unused.workers in omega (arith, less, workers)
+
+  pub may_serve : MayServe live_key (place_of grid) connections book
+  may_serve = record {
+    none_came = unused.none_came;
+    none_accepted = opened.none_accepted;
+    none_returned = opened.none_returned;
+    no_clients = unused.no_clients;
+    room = unused.room;
+    passes = unused.of_grid.cells;
+    named = unused.named;
+    unseen = λ number partition pass e. subst (λ (seen : List (Event Request)). AreBelow live_key number 0 seen) (sym (unused.unseen partition pass e)) tt;
+    tokens = unused.of_grid.workers;
+    members = enough;
+  }

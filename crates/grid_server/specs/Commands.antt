@@ -1,0 +1,44 @@
+-- The program's commands, and what each comes to.
+use Rattle.std.specs.Prelude.{◌≡◌, ◌≢◌, ◌↔◌, ◌⊎◌, ℕ, Bool, false, List, [], ◌∷◌, codes, String, string_bytes}
+use Rattle.std.specs.declared.alloc.Global.{Global}
+use Rattle.entry_processors.specs.declared.form.Form.{Form}
+use Rattle.entry_processors.specs.Processors.{ProcessorForm}
+use Rattle.script_lang.specs.Words.{are_same}
+use Rattle.grid_cli.specs.Commands.{is_replay}
+use Rattle.grid_cli.specs.Statuses.{ReadsAndWrites}
+use Rattle.grid_cli.specs.declared.status.Status.{Status}
+use Rattle.grid_cli.specs.declared.status.Status.TheVariants.{Usage, ReadFault, WriteFault, DoorFault, Memory}
+use Rattle.grid_edge.specs.Faults.{Rose}
+use Rattle.live_grid.specs.declared.grid.GridPass.{GridPass}
+use Rattle.live_grid.specs.declared.grid.LiveGrid.{LiveGrid}
+use Rattle.grid_server.specs.declared.options.ServeOptions.{ServeOptions}
+use Rattle.grid_server.specs.Serving.{Operator, AtDoors, IsOpened, HasServed}
+
+-- The first of the words after the program's name is `serve`.
+abbrev pub is_serve : List (String Global) → Bool
+is_serve [] = false
+is_serve (word ∷ words) = are_same (string_bytes word) (codes "serve")
+
+-- What a command other than `serve` comes to
+pub record HasReplayedBy (words : List (String Global)) (forms : List ProcessorForm) (status : Status) (before after : Operator) : Type 0 where
+  -- the words are no command exactly then, and nothing was read or written
+  pub usage : (status ≡ Usage) ↔ (is_replay words ≡ false)
+  pub untouched : status ≡ Usage → after ≡ before
+  pub doorless : status ≢ DoorFault
+  -- a fault is told only where the source or the sink had one
+  pub read_fault : status ≡ ReadFault → Rose before.script.faults after.script.faults
+  pub write_fault : status ≡ WriteFault → Rose before.out.faults after.out.faults
+  -- what was written is the script's transcript, or as much of it as the status says
+  pub text : ReadsAndWrites forms status before.script.bytes after.script.bytes before.out.bytes after.out.bytes
+
+-- No grid was made: the words are no options, or there was no memory, or the doors had a fault when they were opened. No script was read
+abbrev pub IsNotBegun : Status → (before after : Operator) → (outside closed : AtDoors) → Type 0
+IsNotBegun status before after outside closed =
+    (after ≡ before) × ((status ≡ Usage) ⊎ (status ≡ Memory) ⊎ ((status ≡ DoorFault) × Rose outside.faults closed.faults))
+
+-- A grid was made behind doors that were opened for its members, and has served to its end
+pub record HasServedFrom (forms : List Form) (gives : ℕ → Type 0) (before after : Operator) (closed : AtDoors) (status : Status) (grid : LiveGrid) (pass : GridPass) : Type 0 where
+  pub options : ServeOptions
+  pub opened : AtDoors
+  pub is_opened : IsOpened options opened.book
+  pub served : HasServed options forms gives before after opened closed status grid pass

@@ -1,0 +1,5 @@
+pub mod Commands
+pub mod Options
+pub mod Serving
+pub mod Settings
+pub mod Tasks

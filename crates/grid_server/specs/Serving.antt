@@ -1,0 +1,73 @@
+-- What a server that has ended has done.
+use Rattle.std.specs.Prelude.{◌≡◌, ◌⊎◌, ℕ, List, [], map, Option, Some, IfSome}
+use Rattle.entry_processors.specs.declared.form.Form.{Form}
+use Rattle.grid_base.specs.declared.calls.Request.{Request}
+use Rattle.grid_cli.specs.declared.status.Status.{Status}
+use Rattle.grid_cli.specs.declared.status.Status.TheVariants.{DoorFault, ReadFault, WriteFault}
+use Rattle.grid_edge.specs.Doors.{Book}
+use Rattle.grid_edge.specs.Faults.{Rose}
+use Rattle.hand_cell.specs.Told.{Told}
+use Rattle.partition_world.specs.declared.event.Event.{Event}
+use Rattle.session_calls.specs.Passes.{AreJoinedWith}
+use Rattle.live_grid.specs.declared.grid.GridPass.{GridPass}
+use Rattle.live_grid.specs.declared.grid.LiveGrid.{LiveGrid}
+use Rattle.live_grid.specs.Grids.{AreCells, place_of}
+use Rattle.live_grid.specs.Histories.{live_key, live_call}
+use Rattle.live_grid.specs.Outcomes.{LiveTells}
+use Rattle.live_control.specs.Serving.{HasServed as HasControlled}
+use Rattle.live_server.specs.Serving.{HasServedAll}
+use Rattle.live_server.specs.Standing.{HasLetAllIn}
+use Rattle.grid_server.specs.declared.options.ServeOptions.{ServeOptions}
+use Rattle.grid_server.specs.Settings.{AreNew}
+
+-- A stream at one moment: the bytes that it tells, and its count of faults
+pub record Stream : Type 0 where
+  pub bytes : Option (List ℕ)
+  pub faults : ℕ
+
+abbrev pub stream : Option (List ℕ) → ℕ → Stream
+stream bytes faults = record { bytes = bytes; faults = faults }
+
+-- an operator's streams: the script that is left, and what was written
+pub record Operator : Type 0 where
+  pub script : Stream
+  pub out : Stream
+
+abbrev pub operator : (left : Option (List ℕ)) → (reads : ℕ) → (taken : Option (List ℕ)) → (writes : ℕ) → Operator
+operator left reads taken writes = record { script = stream left reads; out = stream taken writes }
+
+-- doors at one moment
+pub record AtDoors : Type 0 where
+  pub book : Book
+  pub looks : ℕ
+  pub faults : ℕ
+
+abbrev pub at_doors : Book → (looks faults : ℕ) → AtDoors
+at_doors book looks faults = record { book = book; looks = looks; faults = faults }
+
+-- The doors were just opened for the members, from that port on
+pub record IsOpened (options : ServeOptions) (book : Book) : Type 0 where
+  pub opening : book.opening ≡ Some (record { members = options.members; port = options.port })
+  pub none_accepted : book.accepted ≡ 0
+  pub none_returned : IfSome book.returns (λ returns. returns ≡ [])
+
+-- how the server ended: as its control script, once all who had come were let in, or by a fault of its doors
+abbrev pub EndsAs : Status → Status → AtDoors → AtDoors → Type 0
+EndsAs told status before after = ((status ≡ told) × HasLetAllIn before.looks after.looks after.book.accepted) ⊎ ((status ≡ DoorFault) × Rose before.faults after.faults)
+
+-- A grid of these options and forms has served. Its operator's script was run on it from the start, in the histories that the pass has seen; each
+-- connection that came through the doors was answered by these histories
+pub record HasServed (options : ServeOptions) (forms : List Form) (gives : ℕ → Type 0) (before after : Operator) (opened closed : AtDoors) (status : Status) (grid : LiveGrid) (pass : GridPass) : Type 0 where
+  pub cells : AreCells options.members options.backups forms options.capacity (place_of grid).cells.items
+  pub first : GridPass
+  pub new : AreNew first.passes.items
+  pub last : GridPass
+  pub told : Status
+  pub control : HasControlled grid options.members told before.script.bytes after.script.bytes before.out.bytes after.out.bytes first last
+  pub theirs : List (Told (Event Request))
+  pub clients : HasServedAll live_key LiveTells live_call (place_of grid) gives theirs closed.book
+  pub gathered : AreJoinedWith live_key last.passes.items (map (λ pass. Some pass) theirs) pass.passes.items
+  pub ends : EndsAs told status opened closed
+  -- a fault of the script or of what is written is told only where there was one
+  pub read_fault : told ≡ ReadFault → Rose before.script.faults after.script.faults
+  pub write_fault : told ≡ WriteFault → Rose before.out.faults after.out.faults

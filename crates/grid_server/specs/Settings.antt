@@ -1,0 +1,55 @@
+-- What a server is made of before anything has happened.
+use Rattle.std.specs.Prelude.{◌≡◌, ℕ, ◌*◌, ◌≤◌, ◌<◌, List, [], length, Option, Some, None, slice_get}
+use Rattle.std.specs.Vec.{vec_capacity}
+use Rattle.entry_processors.specs.declared.form.Form.{Form}
+use Rattle.grid_base.specs.declared.calls.Request.{Request}
+use Rattle.hand_cell.specs.Told.{Told}
+use Rattle.partition_threads.specs.declared.workers.WorkerTokens.{WorkerTokens}
+use Rattle.partition_threads.specs.declared.workplace.Workplace.{Workplace}
+use Rattle.partition_threads.specs.Workplaces.{IsTokenAt, AreTokensAt}
+use Rattle.partition_world.specs.declared.event.Event.{Event}
+use Rattle.session_calls.specs.Passes.{ArePassesOf, HaveNumber}
+use Rattle.partition_world.specs.declared.event.Happened.{Happened}
+use Rattle.live_grid.specs.declared.grid.GridPass.{GridPass}
+use Rattle.live_grid.specs.declared.grid.LiveGrid.{LiveGrid}
+use Rattle.live_grid.specs.declared.plan.GridPlan.{GridPlan}
+use Rattle.live_grid.specs.declared.world.LiveWorld.{LiveWorld}
+use Rattle.live_grid.specs.Grids.{AreCells, IsGridPassOf, place_of}
+use Rattle.live_control.specs.Running.{MayServe as MayControl}
+use Rattle.live_server.specs.declared.connections.Connections.{Connections}
+use Rattle.live_server.specs.declared.connections.TheConstants.{ROOM}
+use Rattle.grid_server.specs.declared.options.ServeOptions.{ServeOptions}
+use Rattle.grid_server.specs.declared.setting.Setting.{Setting}
+
+module _ {T P E O : Type 0} (place : Workplace T P E O) where
+  -- the worker's tokens, if they are there, are those of its number, and it holds no call
+  abbrev pub IsWorker : ℕ → Option (WorkerTokens T P E O) → Type 0
+  IsWorker number None = Unit {0}
+  IsWorker number (Some tokens) = IsTokenAt place number tokens.queue × (tokens.held.items ≡ [])
+
+  -- each worker's are those of its place
+  abbrev pub AreWorkers : List (Option (WorkerTokens T P E O)) → Type 0
+  AreWorkers workers = (number : ℕ) (slot : Option (WorkerTokens T P E O)) → slice_get workers number ≡ Some slot → IsWorker number slot
+
+-- none of the passes has seen an event
+abbrev pub AreNew : List (Told (Event Request)) → Type 0
+AreNew passes = (partition : ℕ) (pass : Told (Event Request)) → slice_get passes partition ≡ Some pass → pass.seen ≡ []
+
+module _ {F K : Type 0} where
+  -- No connection has come. The passes have every connection's number for a name and have seen nothing, and there are tokens of each member's workers
+  pub record IsUnused (grid : LiveGrid) (members : ℕ) (connections : Connections LiveWorld F K GridPlan (Event Request) Happened) : Type 0 where
+    pub none_came : connections.accepted ≡ 0
+    pub no_clients : connections.clients.items ≡ []
+    pub room : ROOM ≤ vec_capacity connections.clients
+    pub of_grid : IsGridPassOf grid (record { passes = connections.passes; tokens = connections.tokens })
+    pub named : (number : ℕ) → HaveNumber number connections.passes.items
+    pub unseen : AreNew connections.passes.items
+    pub workers : length connections.tokens.items ≡ 4 * members
+
+  -- A grid of these options in which nothing has happened: the first pass has Control, and what the threads need stands ready
+  pub record IsSetting (options : ServeOptions) (forms : List Form) (setting : Setting F K) : Type 0 where
+    pub cells : AreCells options.members options.backups forms options.capacity (place_of setting.grid).cells.items
+    pub may_control : MayControl setting.grid setting.pass
+    pub unseen : AreNew setting.pass.passes.items
+    pub workers : AreWorkers (place_of setting.grid) setting.workers.items
+    pub connections : IsUnused setting.grid options.members setting.connections

@@ -1,0 +1,47 @@
+-- What the tasks of a server do.
+use Rattle.std.specs.Prelude.{◌≡◌, ℕ, ◌≤◌, List, Option, Result, OnOk}
+use Rattle.grid_base.specs.declared.calls.Request.{Request}
+use Rattle.call_engine.specs.Limits.{RequestFits}
+use Rattle.grid_cli.specs.declared.status.Status.{Status}
+use Rattle.grid_cli.specs.declared.status.Status.TheVariants.{ReadFault, WriteFault}
+use Rattle.grid_edge.specs.Doors.{Book}
+use Rattle.grid_edge.specs.Faults.{Rose, HasCause}
+use Rattle.grid_edge.specs.declared.doors.DoorFault.{DoorFault}
+use Rattle.partition_world.specs.declared.event.Event.{Event}
+use Rattle.partition_world.specs.declared.event.Happened.{Happened}
+use Rattle.live_grid.specs.declared.grid.GridPass.{GridPass}
+use Rattle.live_grid.specs.declared.grid.LiveGrid.{LiveGrid}
+use Rattle.live_grid.specs.declared.plan.GridPlan.{GridPlan}
+use Rattle.live_grid.specs.declared.world.LiveWorld.{LiveWorld}
+use Rattle.live_grid.specs.Grids.{place_of}
+use Rattle.live_grid.specs.Histories.{live_key, live_call}
+use Rattle.live_grid.specs.Outcomes.{LiveTells}
+use Rattle.live_control.specs.Running.{MayServe as MayControl}
+use Rattle.live_control.specs.Serving.{HasServed as HasControlled}
+use Rattle.live_server.specs.declared.connections.Connections.{Connections}
+use Rattle.live_server.specs.Serving.{HasServedAll}
+use Rattle.live_server.specs.Standing.{MayServe, Rests, HasLetAllIn}
+use Rattle.live_session.specs.Connections.{ServesCalls}
+use Rattle.grid_server.specs.declared.options.ServeOptions.{ServeOptions}
+
+-- The operator's script may be run, and clients may be served
+pub record MayMeet {F K : Type 0} (options : ServeOptions) (grid : LiveGrid) (book : Book) (connections : Connections LiveWorld F K GridPlan (Event Request) Happened) (pass : GridPass) : Type 0 where
+  pub some : 1 ≤ options.members
+  pub most : options.members ≤ 8
+  pub may_control : MayControl grid pass
+  pub calls : ServesCalls RequestFits (place_of grid)
+  pub may : MayServe live_key (place_of grid) connections book
+
+-- The clients that came through the doors were served, and no connection is left
+pub record HasServedClients {F K : Type 0} (grid : LiveGrid) (gives : ℕ → Type 0) (connections : Connections LiveWorld F K GridPlan (Event Request) Happened) (looks_before faults_before : ℕ) (book : Book) (looks faults : ℕ) (ended : Result (Unit {0}) DoorFault) : Type 0 where
+  pub clients : HasServedAll live_key LiveTells live_call (place_of grid) gives connections.passes.items book
+  pub let_in : OnOk ended (HasLetAllIn looks_before looks book.accepted)
+  pub rests : Rests (place_of grid) connections
+  pub cause : HasCause faults_before faults ended
+
+-- The control script was run, and each fault that it ended with was counted
+pub record HasOperated (grid : LiveGrid) (members : ℕ) (status : Status) (script_before script_after out_before out_after : Option (List ℕ)) (reads_before reads writes_before writes : ℕ) (old new : GridPass) : Type 0 where
+  pub control : HasControlled grid members status script_before script_after out_before out_after old new
+  pub read_fault : status ≡ ReadFault → Rose reads_before reads
+  pub write_fault : status ≡ WriteFault → Rose writes_before writes
+  pub kept : MayControl grid new

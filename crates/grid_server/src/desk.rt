@@ -1,0 +1,36 @@
+//! The side of a server that its operator meets.
+ghost use Rattle.std.specs.Prelude.{◌≤◌};
+ghost use Rattle.live_control.specs.Running.{MayServe};
+ghost use Rattle.grid_server.specs.Tasks.{HasOperated};
+
+use crate::environment::Environment;
+use crate::stage::Stage;
+use grid_cli::Status;
+use grid_edge::{Sink, Source, Wakes};
+use live_control::serve_control;
+use live_grid::GridPass;
+use std::alloc::Global;
+use std::sync::Wait;
+
+/// Runs the control script, and has the server end behind it, unless it stays.
+pub(crate) fn operate<N: Environment, S: Source, K: Sink, W: Wakes, R: Wait>(
+    rt: &R,
+    alloc: Global,
+    stage: &Stage<N, W>,
+    pass: &mut GridPass,
+    script: &mut S,
+    out: &mut K,
+) -> Status
+    requires some { 1 ≤ stage.now.options.members }
+    requires most { stage.now.options.members ≤ 8 }
+    requires pass { MayServe stage.now.grid pass.old }
+    ensures { HasOperated stage.now.grid stage.now.options.members result (S.left script.old) (S.left script.new) (K.taken out.old) (K.taken out.new) (S.faults script.old) (S.faults script.new) (K.faults out.old) (K.faults out.new) pass.old pass.new }
+{
+    let (grid, members) = (&stage.grid, stage.options.members);
+    let status = serve_control(rt, alloc, grid, members, &stage.env, pass, script, out);
+    if !stage.options.stays {
+        stage.closing.close();
+        stage.waker.wake();
+    }
+    status
+}

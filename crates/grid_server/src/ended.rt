@@ -1,0 +1,17 @@
+//! How a command ended.
+use grid_cli::Status;
+use live_grid::{GridPass, LiveGrid};
+
+/// How a command ended, with the live grid that it made, if it made one, and the grid's first pass.
+#[derive(Drop)]
+pub struct Ended {
+    pub status: Status,
+    pub grid: Option<(LiveGrid, GridPass)>,
+}
+
+impl Ended {
+    /// A command ended that made no grid.
+    pub(crate) fn without_grid(status: Status) -> Ended {
+        Ended { status, grid: None }
+    }
+}

@@ -1,0 +1,32 @@
+//! The side of a server that clients meet.
+ghost use Rattle.call_engine.specs.Limits.{RequestFits};
+ghost use Rattle.live_grid.specs.Grids.{place_of};
+ghost use Rattle.live_grid.specs.Histories.{live_key};
+ghost use Rattle.live_server.specs.Standing.{MayServe};
+ghost use Rattle.live_session.specs.Connections.{ServesCalls};
+ghost use Rattle.grid_server.specs.Tasks.{HasServedClients};
+
+use crate::environment::Environment;
+use crate::stage::Stage;
+use grid_edge::{Clock, DoorFault, Doors};
+use live_grid::LiveWorld;
+use live_server::{Connections, serve};
+use std::alloc::Global;
+use std::sync::Wait;
+
+/// Serves the clients that come through the doors.
+pub(crate) fn serve_hall<N: Environment, C: Clock, D: Doors, R: Wait>(
+    rt: &R,
+    alloc: Global,
+    stage: &Stage<N, D::Waker>,
+    clock: &C,
+    connections: &mut Connections<LiveWorld, D::From, D::To>,
+    doors: &mut D,
+) -> Result<(), DoorFault>
+    requires calls { ServesCalls RequestFits (place_of stage.now.grid) }
+    requires may { MayServe live_key (place_of stage.now.grid) connections.old (D.book doors.old) }
+    ensures served { HasServedClients stage.now.grid (λ now. C.gives clock.now now) connections.new
+        (D.empty_looks doors.old) (D.faults doors.old) (D.book doors.new) (D.empty_looks doors.new) (D.faults doors.new) result }
+{
+    serve(rt, alloc, stage.grid.workplace(), connections, doors, clock, &stage.closing)
+}

@@ -1,0 +1,21 @@
+//! The commands of the program `grid`: a replay, and the server of a live grid.
+#![tactic(auto)]
+
+mod desk;
+mod ended;
+mod environment;
+mod hall;
+mod options;
+mod serve;
+mod setting;
+mod stage;
+mod threads;
+mod top;
+mod waking;
+mod working;
+
+pub use ended::Ended;
+pub use environment::{Environment, Shared};
+pub use options::{OptionsRefused, ServeOptions, help_of_serve, read_options, why_refused};
+pub use serve::{serve_command, serve_gated};
+pub use top::grid_top;

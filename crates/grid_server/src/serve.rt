@@ -1,0 +1,199 @@
+//! The command `serve`.
+ghost use Rattle.std.specs.Prelude.{◌≡◌, ◌≤◌, All, List, map, OnOk, IfSome, IfNone};
+ghost use Rattle.entry_processors.specs.Forms.{form_of};
+ghost use Rattle.entry_processors.specs.declared.form.Form.{Form as FormOf};
+ghost use Rattle.grid_edge.specs.Faults.{Rose, HasCause};
+ghost use Rattle.hand_cell.specs.Calls.{plan_of};
+ghost use Rattle.live_grid.specs.Grids.{place_of};
+ghost use Rattle.live_grid.specs.Plans.{settings_for};
+ghost use Rattle.grid_server.specs.Commands.{HasServedFrom, IsNotBegun};
+ghost use Rattle.grid_server.specs.Serving.{HasServed, IsOpened, operator, at_doors};
+ghost use Rattle.grid_server.specs.Settings.{IsSetting};
+
+use crate::ended::Ended;
+use crate::environment::{Environment, Shared};
+use crate::options::{OptionsRefused, ServeOptions, read_options};
+use crate::setting::Setting;
+use crate::stage::Stage;
+use crate::threads::run_threads;
+use crate::waking::WakingGate;
+use call_engine::GridEnv;
+use entry_processors::{Form, Processor, Registry};
+use grid_cli::Status;
+use grid_edge::{Clock, DoorFault, Doors, Sink, Source};
+use live_grid::{GridPass, LiveGrid};
+use partition_threads::{Gate, OpenGate};
+use std::alloc::Global;
+use std::sync::Wait;
+use std::thread::Threads;
+
+/// Runs a server on its threads to its end, in a setting in which nothing has happened. The doors were just opened.
+fn run<N, R, S, K, C, D, G>(
+    rt: &R,
+    alloc: Global,
+    options: ServeOptions,
+    env: Shared<N>,
+    setting: Setting<D::From, D::To>,
+    script: &mut S,
+    out: &mut K,
+    clock: &C,
+    doors: &mut D,
+    gate: &G,
+    waker: D::Waker,
+) -> (Status, LiveGrid, GridPass)
+where
+    N: Environment,
+    R: Threads + Wait + Sync,
+    S: Source,
+    K: Sink,
+    C: Clock,
+    D: Doors<From: Drop, To: Drop, Waker: Drop>,
+    G: Gate,
+    requires some { 1 ≤ options.members }
+    requires most { options.members ≤ 8 }
+    requires env { All (λ cell. N.settings env.env ≡ settings_for (plan_of cell)) (place_of setting.grid).cells.items }
+    requires setting { (forms : List FormOf) × IsSetting options forms setting }
+    requires doors { IsOpened options (D.book doors.old) }
+    ensures served { (forms : List FormOf) → IsSetting options forms setting → HasServed options forms (λ now. C.gives clock.now now)
+        (operator (S.left script.old) (S.faults script.old) (K.taken out.old) (K.faults out.old))
+        (operator (S.left script.new) (S.faults script.new) (K.taken out.new) (K.faults out.new))
+        (at_doors (D.book doors.old) (D.empty_looks doors.old) (D.faults doors.old))
+        (at_doors (D.book doors.new) (D.empty_looks doors.new) (D.faults doors.new))
+        result.0 result.1 result.2 }
+{
+    let Setting {
+        grid,
+        mut pass,
+        mut workers,
+        mut connections,
+    } = setting;
+    let stage = Stage::new(options, grid, env, waker);
+    let waking = WakingGate {
+        gate,
+        waker: &stage.waker,
+    };
+    let (ended, told) = run_threads(
+        rt,
+        alloc,
+        &stage,
+        clock,
+        &waking,
+        &mut workers,
+        &mut connections,
+        doors,
+        &mut pass,
+        script,
+        out,
+    );
+    let grid = stage.into_grid();
+    let (passes, tokens) = connections.into_parts();
+    grid.gather(&mut pass, GridPass { passes, tokens });
+    let status = match ended {
+        Ok(()) => told,
+        Err(DoorFault) => Status::DoorFault,
+    };
+    (status, grid, pass)
+}
+
+/// Opens the doors for the members, and gives what wakes who waits there.
+fn open<D: Doors>(doors: &mut D, options: ServeOptions) -> Result<D::Waker, DoorFault>
+    requires some { 1 ≤ options.members }
+    requires most { options.members ≤ 8 }
+    requires port { options.port ≤ 65528 }
+    ensures ok { OnOk result (IsOpened options (D.book doors.new)) }
+    ensures cause { HasCause (D.faults doors.old) (D.faults doors.new) result }
+{
+    doors.open(options.members, options.port)?;
+    doors.waker()
+}
+
+/// Serves clients as `serve_command` does. The gate is called as calls are run.
+pub fn serve_gated<R, S, K, C, D, G>(
+    rt: &R,
+    alloc: Global,
+    words: &[String],
+    processors: Vec<Box<dyn Processor>>,
+    forms: &[Form],
+    script: &mut S,
+    out: &mut K,
+    clock: &C,
+    doors: &mut D,
+    gate: &G,
+) -> Ended
+where
+    R: Threads + Wait + Sync,
+    S: Source,
+    K: Sink,
+    C: Clock,
+    D: Doors<From: Drop, To: Drop, Waker: Drop>,
+    G: Gate,
+    requires forms { map form processors.items ≡ map form_of forms.now }
+    ensures served { IfSome result.grid (λ held. HasServedFrom forms.now (λ now. C.gives clock.now now)
+        (operator (S.left script.old) (S.faults script.old) (K.taken out.old) (K.faults out.old))
+        (operator (S.left script.new) (S.faults script.new) (K.taken out.new) (K.faults out.new))
+        (at_doors (D.book doors.new) (D.empty_looks doors.new) (D.faults doors.new)) result.status held.0 held.1) }
+    ensures not_begun { IfNone result.grid (IsNotBegun result.status
+        (operator (S.left script.old) (S.faults script.old) (K.taken out.old) (K.faults out.old))
+        (operator (S.left script.new) (S.faults script.new) (K.taken out.new) (K.faults out.new))
+        (at_doors (D.book doors.old) (D.empty_looks doors.old) (D.faults doors.old))
+        (at_doors (D.book doors.new) (D.empty_looks doors.new) (D.faults doors.new))) }
+{
+    let options = match read_options(alloc, words) {
+        Ok(options) => options,
+        Err(OptionsRefused::Usage) => return Ended::without_grid(Status::Usage),
+        Err(OptionsRefused::Memory) => return Ended::without_grid(Status::Memory),
+    };
+    let env = Shared {
+        env: GridEnv {
+            registry: Registry::new(processors),
+            capacity: options.capacity,
+        },
+    };
+    let Ok(setting) = Setting::new(alloc, options, &env, forms) else {
+        return Ended::without_grid(Status::Memory);
+    };
+    let Ok(waker) = open(doors, options) else {
+        return Ended::without_grid(Status::DoorFault);
+    };
+    let (status, grid, pass) = run(
+        rt, alloc, options, env, setting, script, out, clock, doors, gate, waker,
+    );
+    Ended {
+        status,
+        grid: Some((grid, pass)),
+    }
+}
+
+/// Serves clients that come through the doors, and reads a control script meanwhile. The words are `serve` and options.
+pub fn serve_command<R, S, K, C, D>(
+    rt: &R,
+    alloc: Global,
+    words: &[String],
+    processors: Vec<Box<dyn Processor>>,
+    forms: &[Form],
+    script: &mut S,
+    out: &mut K,
+    clock: &C,
+    doors: &mut D,
+) -> Ended
+where
+    R: Threads + Wait + Sync,
+    S: Source,
+    K: Sink,
+    C: Clock,
+    D: Doors<From: Drop, To: Drop, Waker: Drop>,
+    requires forms { map form processors.items ≡ map form_of forms.now }
+    ensures served { IfSome result.grid (λ held. HasServedFrom forms.now (λ now. C.gives clock.now now)
+        (operator (S.left script.old) (S.faults script.old) (K.taken out.old) (K.faults out.old))
+        (operator (S.left script.new) (S.faults script.new) (K.taken out.new) (K.faults out.new))
+        (at_doors (D.book doors.new) (D.empty_looks doors.new) (D.faults doors.new)) result.status held.0 held.1) }
+    ensures not_begun { IfNone result.grid (IsNotBegun result.status
+        (operator (S.left script.old) (S.faults script.old) (K.taken out.old) (K.faults out.old))
+        (operator (S.left script.new) (S.faults script.new) (K.taken out.new) (K.faults out.new))
+        (at_doors (D.book doors.old) (D.empty_looks doors.old) (D.faults doors.old))
+        (at_doors (D.book doors.new) (D.empty_looks doors.new) (D.faults doors.new))) }
+{
+    serve_gated(
+        rt, alloc, words, processors, forms, script, out, clock, doors, &OpenGate,
+    )
+}

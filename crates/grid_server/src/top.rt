@@ -1,0 +1,74 @@
+//! The program's top call.
+ghost use Rattle.std.specs.Prelude.{◌≡◌, map, IfSome, IfNone, false, true};
+ghost use Rattle.entry_processors.specs.Forms.{form_of};
+ghost use Rattle.grid_cli.specs.Commands.{PrintsHistories};
+ghost use Rattle.grid_server.specs.Commands.{is_serve, HasReplayedBy, HasServedFrom, IsNotBegun};
+ghost use Rattle.grid_server.specs.Serving.{operator, at_doors};
+
+use crate::ended::Ended;
+use crate::serve::serve_command;
+use entry_processors::{Form, Processor};
+use grid_cli::replay_command;
+use grid_edge::{Clock, Doors, Sink, Source};
+use std::alloc::Global;
+use std::sync::Wait;
+use std::thread::Threads;
+
+/// Whether the words are those of a server: `serve`, and options.
+fn is_serve_command(words: &[String]) -> bool
+    ensures { result ≡ is_serve words.now }
+{
+    match words {
+        [word, ..] => word.as_bytes() == b"serve".as_slice(),
+        [] => false,
+    }
+}
+
+/// Carries out the command that the words after the program's name give. `replay` reads a script from `script` and writes its
+/// transcript to `out`, as `docs/SCRIPTS.md` has them. `serve` and its options serve clients that come through the doors, and
+/// read a control script meanwhile, as `docs/SERVER.md` has it. Calls on maps may name the processors by their numbers, which
+/// go from 1; `forms` are their forms.
+pub fn grid_top<R, S, K, C, D>(
+    rt: &R,
+    alloc: Global,
+    words: &[String],
+    processors: Vec<Box<dyn Processor>>,
+    forms: &[Form],
+    script: &mut S,
+    out: &mut K,
+    clock: &C,
+    doors: &mut D,
+) -> Ended
+where
+    R: Threads + Wait + Sync,
+    S: Source,
+    K: Sink,
+    C: Clock,
+    D: Doors<From: Drop, To: Drop, Waker: Drop>,
+    requires forms { map form processors.items ≡ map form_of forms.now }
+    ensures replayed { is_serve words.now ≡ false → HasReplayedBy words.now (map form processors.items) result.status
+        (operator (S.left script.old) (S.faults script.old) (K.taken out.old) (K.faults out.old))
+        (operator (S.left script.new) (S.faults script.new) (K.taken out.new) (K.faults out.new)) }
+    // What is printed for each entry of a map and each queue is the history of one that one thread used, with every answered
+    // call in it once.
+    // Whatever the status, and whichever line prints it.
+    ensures headline { is_serve words.now ≡ false → PrintsHistories (map form processors.items) result.status (S.left script.old) (S.left script.new) (K.taken out.old) (K.taken out.new) }
+    // The control script was run on the grid that is handed back, in the histories that its pass has seen; and each client that
+    // came was answered by these.
+    ensures served { is_serve words.now ≡ true → IfSome result.grid (λ held. HasServedFrom forms.now (λ now. C.gives clock.now now)
+        (operator (S.left script.old) (S.faults script.old) (K.taken out.old) (K.faults out.old))
+        (operator (S.left script.new) (S.faults script.new) (K.taken out.new) (K.faults out.new))
+        (at_doors (D.book doors.new) (D.empty_looks doors.new) (D.faults doors.new)) result.status held.0 held.1) }
+    ensures not_begun { is_serve words.now ≡ true → IfNone result.grid (IsNotBegun result.status
+        (operator (S.left script.old) (S.faults script.old) (K.taken out.old) (K.faults out.old))
+        (operator (S.left script.new) (S.faults script.new) (K.taken out.new) (K.faults out.new))
+        (at_doors (D.book doors.old) (D.empty_looks doors.old) (D.faults doors.old))
+        (at_doors (D.book doors.new) (D.empty_looks doors.new) (D.faults doors.new))) }
+{
+    if is_serve_command(words) {
+        return serve_command(
+            rt, alloc, words, processors, forms, script, out, clock, doors,
+        );
+    }
+    Ended::without_grid(replay_command(alloc, words, processors, script, out))
+}

@@ -1,0 +1,11 @@
+//! Tests of the commands over a live grid, with doors and streams in memory.
+#![tactic(auto)]
+
+#[cfg(test)]
+mod client;
+#[cfg(test)]
+mod hall;
+#[cfg(test)]
+mod meeting;
+#[cfg(test)]
+mod serving;
