@@ -9,13 +9,11 @@ use grid_cli::Status;
 use grid_edge::{Sink, Source, Wakes};
 use live_control::serve_control;
 use live_grid::GridPass;
-use std::alloc::Global;
 use std::sync::Wait;
 
 /// Runs the control script, and has the server end behind it, unless it stays.
 pub(crate) fn operate<N: Environment, S: Source, K: Sink, W: Wakes, R: Wait>(
     rt: &R,
-    alloc: Global,
     stage: &Stage<N, W>,
     pass: &mut GridPass,
     script: &mut S,
@@ -27,7 +25,16 @@ pub(crate) fn operate<N: Environment, S: Source, K: Sink, W: Wakes, R: Wait>(
     ensures { HasOperated stage.now.grid stage.now.options.members result (S.left script.old) (S.left script.new) (K.taken out.old) (K.taken out.new) (S.faults script.old) (S.faults script.new) (K.faults out.old) (K.faults out.new) pass.old pass.new }
 {
     let (grid, members) = (&stage.grid, stage.options.members);
-    let status = serve_control(rt, alloc, grid, members, &stage.env, pass, script, out);
+    let status = serve_control(
+        rt,
+        stage.alloc,
+        grid,
+        members,
+        &stage.env,
+        pass,
+        script,
+        out,
+    );
     if !stage.options.stays {
         stage.closing.close();
         stage.waker.wake();

@@ -11,13 +11,11 @@ use crate::stage::Stage;
 use grid_edge::{Clock, DoorFault, Doors};
 use live_grid::LiveWorld;
 use live_server::{Connections, serve};
-use std::alloc::Global;
 use std::sync::Wait;
 
 /// Serves the clients that come through the doors.
 pub(crate) fn serve_hall<N: Environment, C: Clock, D: Doors, R: Wait>(
     rt: &R,
-    alloc: Global,
     stage: &Stage<N, D::Waker>,
     clock: &C,
     connections: &mut Connections<LiveWorld, D::From, D::To>,
@@ -28,5 +26,13 @@ pub(crate) fn serve_hall<N: Environment, C: Clock, D: Doors, R: Wait>(
     ensures served { HasServedClients stage.now.grid (λ now. C.gives clock.now now) connections.new
         (D.empty_looks doors.old) (D.faults doors.old) (D.book doors.new) (D.empty_looks doors.new) (D.faults doors.new) result }
 {
-    serve(rt, alloc, stage.grid.workplace(), connections, doors, clock, &stage.closing)
+    serve(
+        rt,
+        stage.alloc,
+        stage.grid.workplace(),
+        connections,
+        doors,
+        clock,
+        &stage.closing,
+    )
 }

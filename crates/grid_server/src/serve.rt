@@ -67,14 +67,13 @@ where
         mut workers,
         mut connections,
     } = setting;
-    let stage = Stage::new(options, grid, env, waker);
+    let stage = Stage::new(alloc, options, grid, env, waker);
     let waking = WakingGate {
         gate,
         waker: &stage.waker,
     };
     let (ended, told) = run_threads(
         rt,
-        alloc,
         &stage,
         clock,
         &waking,

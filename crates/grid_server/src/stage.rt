@@ -9,11 +9,13 @@ use crate::environment::{Environment, Shared};
 use crate::options::ServeOptions;
 use live_grid::LiveGrid;
 use live_server::Closing;
+use std::alloc::Global;
 
-/// What the threads of a server share: how it is set up, its grid, the environment in which calls are run, which means what the
-/// grid's cells were made for, and what ends it.
+/// What the threads of a server share: memory, how it is set up, its grid, the environment in which calls are run, which means what
+/// the grid's cells were made for, and what ends it.
 #[derive(Drop)]
 pub(crate) struct Stage<N: Environment, W> {
+    pub(crate) alloc: Global,
     pub(crate) options: ServeOptions,
     pub(crate) grid: LiveGrid,
     pub(crate) env: Shared<N>,
@@ -24,12 +26,19 @@ pub(crate) struct Stage<N: Environment, W> {
 
 impl<N: Environment, W> Stage<N, W> {
     /// The environment means what the cells were made for.
-    pub(crate) fn new(options: ServeOptions, grid: LiveGrid, env: Shared<N>, waker: W) -> Self
+    pub(crate) fn new(
+        alloc: Global,
+        options: ServeOptions,
+        grid: LiveGrid,
+        env: Shared<N>,
+        waker: W,
+    ) -> Self
         requires { All (λ cell. N.settings env.env ≡ settings_for (plan_of cell)) (place_of grid).cells.items }
         ensures grid { result.grid ≡ grid }
         ensures options { result.options ≡ options }
     {
         Stage {
+            alloc,
             options,
             grid,
             env,

@@ -19,14 +19,12 @@ use grid_edge::{Clock, DoorFault, Doors, Sink, Source};
 use live_grid::{GridPass, LiveWorld};
 use live_server::Connections;
 use partition_threads::{Gate, WorkerTokens};
-use std::alloc::Global;
 use std::sync::Wait;
 use std::thread::{Threads, join_mut};
 
 /// Serves clients on one thread, and the operator on this one.
 fn serve_both<N, R, S, K, C, D>(
     rt: &R,
-    alloc: Global,
     stage: &Stage<N, D::Waker>,
     clock: &C,
     connections: &mut Connections<LiveWorld, D::From, D::To>,
@@ -49,17 +47,16 @@ where
 {
     let mut serving = || -> Result<(), DoorFault>
         requires { ServesCalls RequestFits (place_of stage.now.grid) × MayServe live_key (place_of stage.now.grid) connections.now (D.book doors.now) }
-    { serve_hall(rt, alloc, stage, clock, connections, doors) };
+    { serve_hall(rt, stage, clock, connections, doors) };
     let mut operating = || -> Status
         requires { (1 ≤ stage.now.options.members) × (stage.now.options.members ≤ 8) × MayControl stage.now.grid pass.now }
-    { operate(rt, alloc, stage, pass, script, out) };
+    { operate(rt, stage, pass, script, out) };
     join_mut(rt, &mut serving, &mut operating)
 }
 
 /// Serves clients and the operator, and then has the workers end.
 fn serve_front<N, R, S, K, C, D>(
     rt: &R,
-    alloc: Global,
     stage: &Stage<N, D::Waker>,
     clock: &C,
     connections: &mut Connections<LiveWorld, D::From, D::To>,
@@ -80,9 +77,7 @@ where
         (D.empty_looks doors.old) (D.faults doors.old) (D.book doors.new) (D.empty_looks doors.new) (D.faults doors.new) result.0 }
     ensures operated { HasOperated stage.now.grid stage.now.options.members result.1 (S.left script.old) (S.left script.new) (K.taken out.old) (K.taken out.new) (S.faults script.old) (S.faults script.new) (K.faults out.old) (K.faults out.new) pass.old pass.new }
 {
-    let ended = serve_both(
-        rt, alloc, stage, clock, connections, doors, pass, script, out,
-    );
+    let ended = serve_both(rt, stage, clock, connections, doors, pass, script, out);
     stage.grid.workplace().stop();
     ended
 }
@@ -90,7 +85,6 @@ where
 /// Runs the workers beside all that meets the outside.
 pub(crate) fn run_threads<N, R, S, K, C, D, G>(
     rt: &R,
-    alloc: Global,
     stage: &Stage<N, D::Waker>,
     clock: &C,
     gate: &G,
@@ -117,14 +111,10 @@ where
 {
     let mut working = ||
         requires { AreWorkers (place_of stage.now.grid) workers.now.items }
-    { run_workers(rt, alloc, stage, gate, workers) };
+    { run_workers(rt, stage, gate, workers) };
     let mut meeting = || -> (Result<(), DoorFault>, Status)
         requires { MayMeet stage.now.options stage.now.grid (D.book doors.now) connections.now pass.now }
-    {
-        serve_front(
-            rt, alloc, stage, clock, connections, doors, pass, script, out,
-        )
-    };
+    { serve_front(rt, stage, clock, connections, doors, pass, script, out) };
     let (_, ended) = join_mut(rt, &mut working, &mut meeting);
     ended
 }

@@ -6,14 +6,12 @@ use crate::environment::Environment;
 use crate::stage::Stage;
 use live_grid::LiveWorld;
 use partition_threads::{Gate, WorkerTokens, worker};
-use std::alloc::Global;
 use std::sync::Wait;
 use std::thread::{self, Threads};
 
 /// Runs the worker of a number until the grid is stopped, if its tokens are there.
 fn run_worker<N: Environment, W, G: Gate, R: Wait>(
     rt: &R,
-    alloc: Global,
     stage: &Stage<N, W>,
     gate: &G,
     number: usize,
@@ -23,14 +21,13 @@ fn run_worker<N: Environment, W, G: Gate, R: Wait>(
 {
     if let Some(tokens) = slot.take() {
         let place = stage.grid.workplace();
-        worker(rt, alloc, number, place, &stage.env, gate, tokens);
+        worker(rt, stage.alloc, number, place, &stage.env, gate, tokens);
     }
 }
 
 /// Runs the workers of a grid, each on a thread of its own, until it is stopped.
 pub(crate) fn run_workers<N: Environment, W: Sync, G: Gate, R: Threads + Wait + Sync>(
     rt: &R,
-    alloc: Global,
     stage: &Stage<N, W>,
     gate: &G,
     workers: &mut Vec<Option<WorkerTokens<LiveWorld>>>,
@@ -40,6 +37,6 @@ pub(crate) fn run_workers<N: Environment, W: Sync, G: Gate, R: Threads + Wait + 
     let threads = workers.len().max(1);
     let work = |number: usize, slot: &mut Option<WorkerTokens<LiveWorld>>|
         requires { IsWorker (place_of stage.now.grid) number slot.now }
-    { run_worker(rt, alloc, stage, gate, number, slot) };
+    { run_worker(rt, stage, gate, number, slot) };
     thread::for_each_mut(rt, workers.as_mut_slice(), threads, &work);
 }

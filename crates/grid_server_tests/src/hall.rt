@@ -15,15 +15,15 @@ pub(crate) type To = MemoryReady<MemorySink>;
 pub(crate) type Guests = MemoryDoors<From, To>;
 
 /// A client of a member who says this.
-pub(crate) fn guest(
-    alloc: Global,
-    member: MemberId,
-    says: Vec<u8>,
-) -> (MemberId, From, To) {
+pub(crate) fn guest(alloc: Global, member: MemberId, says: Vec<u8>) -> (MemberId, From, To) {
     let from = MemorySource::new(says, Vec::new(alloc));
     let to = MemorySink::new(Vec::new(alloc));
     let from = MemoryReady::new(from, Vec::new(alloc), Vec::new(alloc));
-    (member, from, MemoryReady::new(to, Vec::new(alloc), Vec::new(alloc)))
+    (
+        member,
+        from,
+        MemoryReady::new(to, Vec::new(alloc), Vec::new(alloc)),
+    )
 }
 
 /// How a server ended, what its operator was told, and the doors.
