@@ -1,0 +1,3 @@
+pub mod EntryReads
+pub mod Refusals
+pub mod ServeReads
