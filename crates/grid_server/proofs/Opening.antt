@@ -15,7 +15,7 @@ use Rattle.live_grid.specs.Histories.{live_key}
 use Rattle.live_session.specs.Connections.{ServesCalls, AreBelow}
 use Rattle.live_server.specs.declared.connections.Connections.{Connections}
 use Rattle.live_server.specs.Standing.{MayServe}
-use Rattle.grid_server.specs.declared.options.ServeOptions.{ServeOptions}
+use Rattle.serve_options.specs.declared.options.ServeOptions.{ServeOptions}
 use Rattle.grid_server.specs.Serving.{IsOpened}
 use Rattle.grid_server.specs.Settings.{IsUnused}
 

@@ -1,6 +1,5 @@
 -- The program's commands, and what each comes to.
-use Rattle.std.specs.Prelude.{◌≡◌, ◌≢◌, ◌↔◌, ◌⊎◌, ℕ, Bool, false, List, [], ◌∷◌, codes, String, string_bytes}
-use Rattle.std.specs.declared.alloc.Global.{Global}
+use Rattle.std.specs.Prelude.{◌≡◌, ◌≢◌, ◌↔◌, ⊥, ℕ, Bool, false, List, [], ◌∷◌, codes, string_bytes}
 use Rattle.entry_processors.specs.declared.form.Form.{Form}
 use Rattle.entry_processors.specs.Processors.{ProcessorForm}
 use Rattle.script_lang.specs.Words.{are_same}
@@ -11,16 +10,17 @@ use Rattle.grid_cli.specs.declared.status.Status.TheVariants.{Usage, ReadFault, 
 use Rattle.grid_edge.specs.Faults.{Rose}
 use Rattle.live_grid.specs.declared.grid.GridPass.{GridPass}
 use Rattle.live_grid.specs.declared.grid.LiveGrid.{LiveGrid}
-use Rattle.grid_server.specs.declared.options.ServeOptions.{ServeOptions}
+use Rattle.serve_options.specs.declared.options.ServeOptions.{ServeOptions}
+use Rattle.serve_options.specs.Options.{Words, AreOptions, faults}
 use Rattle.grid_server.specs.Serving.{Operator, AtDoors, IsOpened, HasServed}
 
 -- The first of the words after the program's name is `serve`.
-abbrev pub is_serve : List (String Global) → Bool
+abbrev pub is_serve : Words → Bool
 is_serve [] = false
 is_serve (word ∷ words) = are_same (string_bytes word) (codes "serve")
 
 -- What a command other than `serve` comes to
-pub record HasReplayedBy (words : List (String Global)) (forms : List ProcessorForm) (status : Status) (before after : Operator) : Type 0 where
+pub record HasReplayedBy (words : Words) (forms : List ProcessorForm) (status : Status) (before after : Operator) : Type 0 where
   -- the words are no command exactly then, and nothing was read or written
   pub usage : (status ≡ Usage) ↔ (is_replay words ≡ false)
   pub untouched : status ≡ Usage → after ≡ before
@@ -31,14 +31,22 @@ pub record HasReplayedBy (words : List (String Global)) (forms : List ProcessorF
   -- what was written is the script's transcript, or as much of it as the status says
   pub text : ReadsAndWrites forms status before.script.bytes after.script.bytes before.out.bytes after.out.bytes
 
--- No grid was made: the words are no options, or there was no memory, or the doors had a fault when they were opened. No script was read
-abbrev pub IsNotBegun : Status → (before after : Operator) → (outside closed : AtDoors) → Type 0
-IsNotBegun status before after outside closed =
-    (after ≡ before) × ((status ≡ Usage) ⊎ (status ≡ Memory) ⊎ ((status ≡ DoorFault) × Rose outside.faults closed.faults))
+-- Why no grid was made
+abbrev pub IsNoGridFor : Status → Words → (outside closed : AtDoors) → Type 0
+IsNoGridFor Usage words outside closed = faults words ≢ []
+IsNoGridFor DoorFault words outside closed = Rose outside.faults closed.faults
+IsNoGridFor Memory words outside closed = Unit {0}
+IsNoGridFor _ words outside closed = ⊥
 
--- A grid was made behind doors that were opened for its members, and has served to its end
-pub record HasServedFrom (forms : List Form) (gives : ℕ → Type 0) (before after : Operator) (closed : AtDoors) (status : Status) (grid : LiveGrid) (pass : GridPass) : Type 0 where
+-- No grid was made: the words are no options, or the doors had a fault when they were opened, or there was no memory. No script was read
+pub record IsNotBegun (words : Words) (status : Status) (before after : Operator) (outside closed : AtDoors) : Type 0 where
+  pub untouched : after ≡ before
+  pub cause : IsNoGridFor status words outside closed
+
+-- A grid was made by the options that the words give, behind doors that were opened for its members, and has served to its end
+pub record HasServedFrom (words : Words) (forms : List Form) (gives : ℕ → Type 0) (before after : Operator) (closed : AtDoors) (status : Status) (grid : LiveGrid) (pass : GridPass) : Type 0 where
   pub options : ServeOptions
+  pub read : AreOptions words options
   pub opened : AtDoors
   pub is_opened : IsOpened options opened.book
   pub served : HasServed options forms gives before after opened closed status grid pass

@@ -1,5 +1,4 @@
 pub mod Commands
-pub mod Options
 pub mod Serving
 pub mod Settings
 pub mod Tasks

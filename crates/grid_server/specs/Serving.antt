@@ -17,7 +17,7 @@ use Rattle.live_grid.specs.Outcomes.{LiveTells}
 use Rattle.live_control.specs.Serving.{HasServed as HasControlled}
 use Rattle.live_server.specs.Serving.{HasServedAll}
 use Rattle.live_server.specs.Standing.{HasLetAllIn}
-use Rattle.grid_server.specs.declared.options.ServeOptions.{ServeOptions}
+use Rattle.serve_options.specs.declared.options.ServeOptions.{ServeOptions}
 use Rattle.grid_server.specs.Settings.{AreNew}
 
 -- A stream at one moment: the bytes that it tells, and its count of faults

@@ -18,7 +18,7 @@ use Rattle.live_grid.specs.Grids.{AreCells, IsGridPassOf, place_of}
 use Rattle.live_control.specs.Running.{MayServe as MayControl}
 use Rattle.live_server.specs.declared.connections.Connections.{Connections}
 use Rattle.live_server.specs.declared.connections.TheConstants.{ROOM}
-use Rattle.grid_server.specs.declared.options.ServeOptions.{ServeOptions}
+use Rattle.serve_options.specs.declared.options.ServeOptions.{ServeOptions}
 use Rattle.grid_server.specs.declared.setting.Setting.{Setting}
 
 module _ {T P E O : Type 0} (place : Workplace T P E O) where

@@ -22,7 +22,7 @@ use Rattle.live_server.specs.declared.connections.Connections.{Connections}
 use Rattle.live_server.specs.Serving.{HasServedAll}
 use Rattle.live_server.specs.Standing.{MayServe, Rests, HasLetAllIn}
 use Rattle.live_session.specs.Connections.{ServesCalls}
-use Rattle.grid_server.specs.declared.options.ServeOptions.{ServeOptions}
+use Rattle.serve_options.specs.declared.options.ServeOptions.{ServeOptions}
 
 -- The operator's script may be run, and clients may be served
 pub record MayMeet {F K : Type 0} (options : ServeOptions) (grid : LiveGrid) (book : Book) (connections : Connections LiveWorld F K GridPlan (Event Request) Happened) (pass : GridPass) : Type 0 where

@@ -5,7 +5,6 @@ mod desk;
 mod ended;
 mod environment;
 mod hall;
-mod options;
 mod serve;
 mod setting;
 mod stage;
@@ -16,6 +15,5 @@ mod working;
 
 pub use ended::Ended;
 pub use environment::{Environment, Shared};
-pub use options::{OptionsRefused, ServeOptions, help_of_serve, read_options, why_refused};
 pub use serve::{serve_command, serve_gated};
 pub use top::grid_top;

@@ -9,10 +9,10 @@ ghost use Rattle.live_grid.specs.Plans.{settings_for};
 ghost use Rattle.grid_server.specs.Commands.{HasServedFrom, IsNotBegun};
 ghost use Rattle.grid_server.specs.Serving.{HasServed, IsOpened, operator, at_doors};
 ghost use Rattle.grid_server.specs.Settings.{IsSetting};
+ghost use Rattle.serve_options.specs.Options.{AreInRange};
 
 use crate::ended::Ended;
 use crate::environment::{Environment, Shared};
-use crate::options::{OptionsRefused, ServeOptions, read_options};
 use crate::setting::Setting;
 use crate::stage::Stage;
 use crate::threads::run_threads;
@@ -23,6 +23,7 @@ use grid_cli::Status;
 use grid_edge::{Clock, DoorFault, Doors, Sink, Source};
 use live_grid::{GridPass, LiveGrid};
 use partition_threads::{Gate, OpenGate};
+use serve_options::{OptionsRefused, ServeOptions, read_options};
 use std::alloc::Global;
 use std::sync::Wait;
 use std::thread::Threads;
@@ -127,11 +128,11 @@ where
     D: Doors<From: Drop, To: Drop, Waker: Drop>,
     G: Gate,
     requires forms { map form processors.items ≡ map form_of forms.now }
-    ensures served { IfSome result.grid (λ held. HasServedFrom forms.now (λ now. C.gives clock.now now)
+    ensures served { IfSome result.grid (λ held. HasServedFrom words.now forms.now (λ now. C.gives clock.now now)
         (operator (S.left script.old) (S.faults script.old) (K.taken out.old) (K.faults out.old))
         (operator (S.left script.new) (S.faults script.new) (K.taken out.new) (K.faults out.new))
         (at_doors (D.book doors.new) (D.empty_looks doors.new) (D.faults doors.new)) result.status held.0 held.1) }
-    ensures not_begun { IfNone result.grid (IsNotBegun result.status
+    ensures not_begun { IfNone result.grid (IsNotBegun words.now result.status
         (operator (S.left script.old) (S.faults script.old) (K.taken out.old) (K.faults out.old))
         (operator (S.left script.new) (S.faults script.new) (K.taken out.new) (K.faults out.new))
         (at_doors (D.book doors.old) (D.empty_looks doors.old) (D.faults doors.old))
@@ -139,7 +140,9 @@ where
 {
     let options = match read_options(alloc, words) {
         Ok(options) => options,
-        Err(OptionsRefused::Usage) => return Ended::without_grid(Status::Usage),
+        Err(OptionsRefused::Help | OptionsRefused::Usage) => {
+            return Ended::without_grid(Status::Usage);
+        }
         Err(OptionsRefused::Memory) => return Ended::without_grid(Status::Memory),
     };
     let env = Shared {
@@ -182,11 +185,11 @@ where
     C: Clock,
     D: Doors<From: Drop, To: Drop, Waker: Drop>,
     requires forms { map form processors.items ≡ map form_of forms.now }
-    ensures served { IfSome result.grid (λ held. HasServedFrom forms.now (λ now. C.gives clock.now now)
+    ensures served { IfSome result.grid (λ held. HasServedFrom words.now forms.now (λ now. C.gives clock.now now)
         (operator (S.left script.old) (S.faults script.old) (K.taken out.old) (K.faults out.old))
         (operator (S.left script.new) (S.faults script.new) (K.taken out.new) (K.faults out.new))
         (at_doors (D.book doors.new) (D.empty_looks doors.new) (D.faults doors.new)) result.status held.0 held.1) }
-    ensures not_begun { IfNone result.grid (IsNotBegun result.status
+    ensures not_begun { IfNone result.grid (IsNotBegun words.now result.status
         (operator (S.left script.old) (S.faults script.old) (K.taken out.old) (K.faults out.old))
         (operator (S.left script.new) (S.faults script.new) (K.taken out.new) (K.faults out.new))
         (at_doors (D.book doors.old) (D.empty_looks doors.old) (D.faults doors.old))

@@ -6,12 +6,12 @@ ghost use Rattle.live_grid.specs.Plans.{settings_for, settings_in};
 ghost use Rattle.grid_server.specs.Settings.{AreWorkers, IsSetting};
 
 use crate::environment::{Environment, Shared};
-use crate::options::ServeOptions;
 use entry_processors::Form;
 use grid_base::Memory;
 use live_grid::{GridPass, LiveGrid, LiveWorld};
 use live_server::Connections;
 use partition_threads::WorkerTokens;
+use serve_options::ServeOptions;
 use std::alloc::{AllocError, Global};
 
 /// How many workers a member has.

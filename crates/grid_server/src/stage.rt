@@ -6,9 +6,9 @@ ghost use Rattle.live_grid.specs.Grids.{place_of};
 ghost use Rattle.live_grid.specs.Plans.{settings_for};
 
 use crate::environment::{Environment, Shared};
-use crate::options::ServeOptions;
 use live_grid::LiveGrid;
 use live_server::Closing;
+use serve_options::ServeOptions;
 use std::alloc::Global;
 
 /// What the threads of a server share: memory, how it is set up, its grid, the environment in which calls are run, which means what

@@ -55,11 +55,11 @@ where
     ensures headline { is_serve words.now ≡ false → PrintsHistories (map form processors.items) result.status (S.left script.old) (S.left script.new) (K.taken out.old) (K.taken out.new) }
     // The control script was run on the grid that is handed back, in the histories that its pass has seen; and each client that
     // came was answered by these.
-    ensures served { is_serve words.now ≡ true → IfSome result.grid (λ held. HasServedFrom forms.now (λ now. C.gives clock.now now)
+    ensures served { is_serve words.now ≡ true → IfSome result.grid (λ held. HasServedFrom words.now forms.now (λ now. C.gives clock.now now)
         (operator (S.left script.old) (S.faults script.old) (K.taken out.old) (K.faults out.old))
         (operator (S.left script.new) (S.faults script.new) (K.taken out.new) (K.faults out.new))
         (at_doors (D.book doors.new) (D.empty_looks doors.new) (D.faults doors.new)) result.status held.0 held.1) }
-    ensures not_begun { is_serve words.now ≡ true → IfNone result.grid (IsNotBegun result.status
+    ensures not_begun { is_serve words.now ≡ true → IfNone result.grid (IsNotBegun words.now result.status
         (operator (S.left script.old) (S.faults script.old) (K.taken out.old) (K.faults out.old))
         (operator (S.left script.new) (S.faults script.new) (K.taken out.new) (K.faults out.new))
         (at_doors (D.book doors.old) (D.empty_looks doors.old) (D.faults doors.old))
