@@ -55,3 +55,13 @@ refused_as command words error T (Ok x) app fails is = absurd is
 refused_as command words error T (Err why) app fails is =
     let has : HasKind (faults words) error = subst (λ (all : Kinds). HasKind all error) (same_faults command words app) (fails (is_free command app)) in
     subst (IsRefusedFor (faults words)) (sym is) (told (faults words) error has)
+
+pub some_fault : (command : Command) (words : Words) (error : Error) → app_of command ≡ serve_app
+    → (is_simple_and_free (app_of command) ≡ true → HasKind (fault_of (app_of command) (texts words)) error)
+    → (kind_of error ≡ kind.OutOfMemory → ⊥) → faults words ≡ [] → ⊥
+some_fault command words error app fails remembered none =
+    let has : HasKind (faults words) error = subst (λ (all : Kinds). HasKind all error) (same_faults command words app) (fails (is_free command app)) in
+    elim has [
+      | inl memory ↦ remembered memory
+      | inr among ↦ subst (IsAmong (kind_of error)) none among
+    ]

@@ -15,7 +15,6 @@
 mod command;
 mod options;
 mod refusal;
-
 #[cfg(test)]
 mod tests;
 

@@ -22,7 +22,8 @@ pub struct ServeOptions {
     pub stays: bool,
 }
 
-/// Reads the options behind the first word, which is the command's own name and is passed over. Costs the words.
+/// Reads the options behind the first word, which stands for the command and is passed over. An error comes of the
+/// first fault that `clap` finds in the words, or of want of memory. Costs the words.
 pub fn read_options(alloc: Global, words: &[String]) -> Result<ServeOptions, OptionsRefused>
     ensures options { IfOk result (AreOptions words.now) }
     ensures ranges { IfOk result AreInRange }
@@ -39,7 +40,8 @@ pub fn read_options(alloc: Global, words: &[String]) -> Result<ServeOptions, Opt
     })
 }
 
-/// What a person is told of words that aren't options: what is wrong with them, or the help that they ask for.
+/// What a person is told of words that aren't options: what is wrong with them, or the help that they ask for. Nothing
+/// of words that are. Costs the words and the text.
 pub fn why_refused(alloc: Global, words: &[String]) -> Result<Option<String>, Memory>
     ensures { IfOk result (λ text. (text ≡ None) ↔ (faults words.now ≡ [])) }
 {

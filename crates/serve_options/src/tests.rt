@@ -11,101 +11,39 @@ fn words_of(alloc: Global, line: &str) -> Result<Vec<String>, Fail> {
     Ok(words)
 }
 
-const DEFAULTS: ServeOptions = ServeOptions {
-    members: 3,
-    backups: 1,
-    capacity: 1000,
-    port: 5701,
-    stays: false,
-};
-
 #[test]
 fn an_option_sets_its_field(rt: HostRuntime) -> Result<(), Fail> {
     let alloc = rt.alloc();
-    for (line, options) in [
-        ("serve", DEFAULTS),
-        (
-            "serve --members 1",
-            ServeOptions {
-                members: 1,
-                ..DEFAULTS
-            },
-        ),
-        (
-            "serve --members=8",
-            ServeOptions {
-                members: 8,
-                ..DEFAULTS
-            },
-        ),
-        (
-            "serve --backups 0",
-            ServeOptions {
-                backups: 0,
-                ..DEFAULTS
-            },
-        ),
-        (
-            "serve --backups 6",
-            ServeOptions {
-                backups: 6,
-                ..DEFAULTS
-            },
-        ),
-        (
-            "serve --capacity 0",
-            ServeOptions {
-                capacity: 0,
-                ..DEFAULTS
-            },
-        ),
+    for (line, members, backups, capacity, port, stays) in [
+        ("serve", 3, 1, 1000, 5701, false),
+        ("serve --members 1", 1, 1, 1000, 5701, false),
+        ("serve --members=8", 8, 1, 1000, 5701, false),
+        ("serve --backups 0", 3, 0, 1000, 5701, false),
+        ("serve --backups 6", 3, 6, 1000, 5701, false),
+        ("serve --capacity 0", 3, 1, 0, 5701, false),
         (
             "serve --capacity 2147483647",
-            ServeOptions {
-                capacity: 2_147_483_647,
-                ..DEFAULTS
-            },
+            3,
+            1,
+            2_147_483_647,
+            5701,
+            false,
         ),
-        (
-            "serve --port 1",
-            ServeOptions {
-                port: 1,
-                ..DEFAULTS
-            },
-        ),
-        (
-            "serve --port=65528",
-            ServeOptions {
-                port: 65_528,
-                ..DEFAULTS
-            },
-        ),
-        (
-            "serve --port 00080",
-            ServeOptions {
-                port: 80,
-                ..DEFAULTS
-            },
-        ),
-        (
-            "serve --stay",
-            ServeOptions {
-                stays: true,
-                ..DEFAULTS
-            },
-        ),
-        (
-            "serve --stay --port 7000 --backups 2 --members 5 --capacity 9",
-            ServeOptions {
-                members: 5,
-                backups: 2,
-                capacity: 9,
-                port: 7000,
-                stays: true,
-            },
-        ),
+        ("serve --port 1", 3, 1, 1000, 1, false),
+        ("serve --port=65528", 3, 1, 1000, 65_528, false),
+        ("serve --port 00080", 3, 1, 1000, 80, false),
+        ("serve --stay", 3, 1, 1000, 5701, true),
+        ("serve --stay --port 7 --members 5", 5, 1, 1000, 7, true),
+        ("serve --members 2 --backups 5", 2, 5, 1000, 5701, false),
     ] {
         let words = words_of(alloc, line)?;
+        let options = ServeOptions {
+            members,
+            backups,
+            capacity,
+            port,
+            stays,
+        };
         assert!(rt;
             read_options(alloc, words.as_slice()) == Ok(options),
             "{line}"
