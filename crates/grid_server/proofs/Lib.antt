@@ -1,3 +1,6 @@
 mod Beginning
+mod Ending
 mod Handing
 mod Opening
+mod Refusing
+mod Replayed

@@ -51,5 +51,6 @@ module _ {F K : Type 0} where
     pub cells : AreCells options.members options.backups forms options.capacity (place_of setting.grid).cells.items
     pub may_control : MayControl setting.grid setting.pass
     pub unseen : AreNew setting.pass.passes.items
+    pub tokens : AreTokensAt (place_of setting.grid) setting.pass.tokens.items
     pub workers : AreWorkers (place_of setting.grid) setting.workers.items
     pub connections : IsUnused setting.grid options.members setting.connections

@@ -1,4 +1,6 @@
 //! How a command ended.
+ghost use Rattle.std.specs.Prelude.{◌≡◌, None};
+
 use grid_cli::Status;
 use live_grid::{GridPass, LiveGrid};
 
@@ -11,7 +13,10 @@ pub struct Ended {
 
 impl Ended {
     /// A command ended that made no grid.
-    pub(crate) fn without_grid(status: Status) -> Ended {
+    pub(crate) fn without_grid(status: Status) -> Ended
+        ensures status { result.status ≡ status }
+        ensures grid { result.grid ≡ None }
+    {
         Ended { status, grid: None }
     }
 }

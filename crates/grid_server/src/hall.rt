@@ -23,7 +23,7 @@ pub(crate) fn serve_hall<N: Environment, C: Clock, D: Doors, R: Wait>(
 ) -> Result<(), DoorFault>
     requires calls { ServesCalls RequestFits (place_of stage.now.grid) }
     requires may { MayServe live_key (place_of stage.now.grid) connections.old (D.book doors.old) }
-    ensures served { HasServedClients stage.now.grid (λ now. C.gives clock.now now) connections.new
+    ensures served { HasServedClients stage.now.grid (C.gives clock.now) connections.new
         (D.empty_looks doors.old) (D.faults doors.old) (D.book doors.new) (D.empty_looks doors.new) (D.faults doors.new) result }
 {
     serve(

@@ -6,10 +6,10 @@ ghost use Rattle.grid_edge.specs.Faults.{Rose, HasCause};
 ghost use Rattle.hand_cell.specs.Calls.{plan_of};
 ghost use Rattle.live_grid.specs.Grids.{place_of};
 ghost use Rattle.live_grid.specs.Plans.{settings_for};
-ghost use Rattle.grid_server.specs.Commands.{HasServedFrom, IsNotBegun};
-ghost use Rattle.grid_server.specs.Serving.{HasServed, IsOpened, operator, at_doors};
+ghost use Rattle.grid_server.specs.Commands.{HasServedFrom, IsNotBegun, IsNoGridFor};
+ghost use Rattle.grid_server.specs.Serving.{AtDoors, HasServed, IsOpened, operator, at_doors};
 ghost use Rattle.grid_server.specs.Settings.{IsSetting};
-ghost use Rattle.serve_options.specs.Options.{AreInRange};
+ghost use Rattle.serve_options.specs.Options.{Words, IsRefusedFor, faults};
 
 use crate::ended::Ended;
 use crate::environment::{Environment, Shared};
@@ -55,7 +55,7 @@ where
     requires env { All (λ cell. N.settings env.env ≡ settings_for (plan_of cell)) (place_of setting.grid).cells.items }
     requires setting { (forms : List FormOf) × IsSetting options forms setting }
     requires doors { IsOpened options (D.book doors.old) }
-    ensures served { (forms : List FormOf) → IsSetting options forms setting → HasServed options forms (λ now. C.gives clock.now now)
+    ensures served { (forms : List FormOf) → IsSetting options forms setting → HasServed options forms (C.gives clock.now)
         (operator (S.left script.old) (S.faults script.old) (K.taken out.old) (K.faults out.old))
         (operator (S.left script.new) (S.faults script.new) (K.taken out.new) (K.faults out.new))
         (at_doors (D.book doors.old) (D.empty_looks doors.old) (D.faults doors.old))
@@ -64,10 +64,14 @@ where
 {
     let Setting {
         grid,
-        mut pass,
+        pass: GridPass { passes, tokens },
         mut workers,
         mut connections,
     } = setting;
+    let mut pass = GridPass {
+        passes,
+        tokens: Vec::new(alloc),
+    };
     let stage = Stage::new(alloc, options, grid, env, waker);
     let waking = WakingGate {
         gate,
@@ -86,6 +90,8 @@ where
         out,
     );
     let grid = stage.into_grid();
+    let GridPass { passes, .. } = pass;
+    let mut pass = GridPass { passes, tokens };
     let (passes, tokens) = connections.into_parts();
     grid.gather(&mut pass, GridPass { passes, tokens });
     let status = match ended {
@@ -105,6 +111,16 @@ fn open<D: Doors>(doors: &mut D, options: ServeOptions) -> Result<D::Waker, Door
 {
     doors.open(options.members, options.port)?;
     doors.waker()
+}
+
+/// How a command ends whose words are no options. Who asks for help is to have it before.
+fn status_of(refused: OptionsRefused) -> Status
+    ensures { (words : Words) (outside closed : AtDoors) → IsRefusedFor (faults words) refused → IsNoGridFor result words outside closed }
+{
+    match refused {
+        OptionsRefused::Help | OptionsRefused::Usage => Status::Usage,
+        OptionsRefused::Memory => Status::Memory,
+    }
 }
 
 /// Serves clients as `serve_command` does. The gate is called as calls are run.
@@ -128,7 +144,7 @@ where
     D: Doors<From: Drop, To: Drop, Waker: Drop>,
     G: Gate,
     requires forms { map form processors.items ≡ map form_of forms.now }
-    ensures served { IfSome result.grid (λ held. HasServedFrom words.now forms.now (λ now. C.gives clock.now now)
+    ensures served { IfSome result.grid (λ held. HasServedFrom words.now forms.now (C.gives clock.now)
         (operator (S.left script.old) (S.faults script.old) (K.taken out.old) (K.faults out.old))
         (operator (S.left script.new) (S.faults script.new) (K.taken out.new) (K.faults out.new))
         (at_doors (D.book doors.new) (D.empty_looks doors.new) (D.faults doors.new)) result.status held.0 held.1) }
@@ -140,10 +156,7 @@ where
 {
     let options = match read_options(alloc, words) {
         Ok(options) => options,
-        Err(OptionsRefused::Help | OptionsRefused::Usage) => {
-            return Ended::without_grid(Status::Usage);
-        }
-        Err(OptionsRefused::Memory) => return Ended::without_grid(Status::Memory),
+        Err(refused) => return Ended::without_grid(status_of(refused)),
     };
     let env = Shared {
         env: GridEnv {
@@ -185,7 +198,7 @@ where
     C: Clock,
     D: Doors<From: Drop, To: Drop, Waker: Drop>,
     requires forms { map form processors.items ≡ map form_of forms.now }
-    ensures served { IfSome result.grid (λ held. HasServedFrom words.now forms.now (λ now. C.gives clock.now now)
+    ensures served { IfSome result.grid (λ held. HasServedFrom words.now forms.now (C.gives clock.now)
         (operator (S.left script.old) (S.faults script.old) (K.taken out.old) (K.faults out.old))
         (operator (S.left script.new) (S.faults script.new) (K.taken out.new) (K.faults out.new))
         (at_doors (D.book doors.new) (D.empty_looks doors.new) (D.faults doors.new)) result.status held.0 held.1) }

@@ -41,7 +41,7 @@ where
     C: Clock,
     D: Doors,
     requires { MayMeet stage.now.options stage.now.grid (D.book doors.old) connections.old pass.old }
-    ensures served { HasServedClients stage.now.grid (λ now. C.gives clock.now now) connections.new
+    ensures served { HasServedClients stage.now.grid (C.gives clock.now) connections.new
         (D.empty_looks doors.old) (D.faults doors.old) (D.book doors.new) (D.empty_looks doors.new) (D.faults doors.new) result.0 }
     ensures operated { HasOperated stage.now.grid stage.now.options.members result.1 (S.left script.old) (S.left script.new) (K.taken out.old) (K.taken out.new) (S.faults script.old) (S.faults script.new) (K.faults out.old) (K.faults out.new) pass.old pass.new }
 {
@@ -73,7 +73,7 @@ where
     C: Clock,
     D: Doors,
     requires { MayMeet stage.now.options stage.now.grid (D.book doors.old) connections.old pass.old }
-    ensures served { HasServedClients stage.now.grid (λ now. C.gives clock.now now) connections.new
+    ensures served { HasServedClients stage.now.grid (C.gives clock.now) connections.new
         (D.empty_looks doors.old) (D.faults doors.old) (D.book doors.new) (D.empty_looks doors.new) (D.faults doors.new) result.0 }
     ensures operated { HasOperated stage.now.grid stage.now.options.members result.1 (S.left script.old) (S.left script.new) (K.taken out.old) (K.taken out.new) (S.faults script.old) (S.faults script.new) (K.faults out.old) (K.faults out.new) pass.old pass.new }
 {
@@ -105,7 +105,7 @@ where
     G: Gate,
     requires workers { AreWorkers (place_of stage.now.grid) workers.old.items }
     requires front { MayMeet stage.now.options stage.now.grid (D.book doors.old) connections.old pass.old }
-    ensures served { HasServedClients stage.now.grid (λ now. C.gives clock.now now) connections.new
+    ensures served { HasServedClients stage.now.grid (C.gives clock.now) connections.new
         (D.empty_looks doors.old) (D.faults doors.old) (D.book doors.new) (D.empty_looks doors.new) (D.faults doors.new) result.0 }
     ensures operated { HasOperated stage.now.grid stage.now.options.members result.1 (S.left script.old) (S.left script.new) (K.taken out.old) (K.taken out.new) (S.faults script.old) (S.faults script.new) (K.faults out.old) (K.faults out.new) pass.old pass.new }
 {

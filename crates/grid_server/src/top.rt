@@ -55,7 +55,7 @@ where
     ensures headline { is_serve words.now ≡ false → PrintsHistories (map form processors.items) result.status (S.left script.old) (S.left script.new) (K.taken out.old) (K.taken out.new) }
     // The control script was run on the grid that is handed back, in the histories that its pass has seen; and each client that
     // came was answered by these.
-    ensures served { is_serve words.now ≡ true → IfSome result.grid (λ held. HasServedFrom words.now forms.now (λ now. C.gives clock.now now)
+    ensures served { is_serve words.now ≡ true → IfSome result.grid (λ held. HasServedFrom words.now forms.now (C.gives clock.now)
         (operator (S.left script.old) (S.faults script.old) (K.taken out.old) (K.faults out.old))
         (operator (S.left script.new) (S.faults script.new) (K.taken out.new) (K.faults out.new))
         (at_doors (D.book doors.new) (D.empty_looks doors.new) (D.faults doors.new)) result.status held.0 held.1) }

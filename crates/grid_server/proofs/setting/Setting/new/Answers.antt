@@ -1,4 +1,4 @@
-use Rattle.std.proofs.Common.{rules, ◌≡◌, ◌*◌, List, map, length, sym, ap, ◌∙◌, subst}
+use Rattle.std.proofs.Common.{rules, ◌≡◌, ◌*◌, List, map, length, sym, ap, ◌∙◌, subst, arith}
 use Rattle.grid_base.specs.declared.calls.Request.{Request}
 use Rattle.hand_cell.specs.Told.{Told}
 use Rattle.hand_cell.specs.declared.names.Names.TheVariants.{Every}
@@ -16,10 +16,14 @@ returns-clause-setting g c =
     let before = c.tokens_of.ensures.passes_stay ∙ c.in_ok-grid.ensures.passes in
     let left = c.in_ok-passes.ensures.left ∙ ap (map (giving_up Every)) before in
     let theirs = c.in-Ok.ensures.passes ∙ (c.in_ok-passes.ensures.parts ∙ ap (map (given Every)) before) in
+    let long = c.in_ok-grid.pass.tokens.ok.0 in
+    let four = c.in_ok-grid.ensures.workers in
+    let as_many : length c.in_ok-grid.pass.tokens.items ≡ 4 * c.args.options.members = omega (arith, long, four) in
     record {
       cells = c.in_ok-grid.ensures.cells;
       may_control = may_control c.in_ok-grid.grid c.split.new.pass c.in_ok-grid.ensures.of_grid.as_many left;
       unseen = subst AreNew (sym left) (first_new cells);
+      tokens = c.in_ok-passes.ensures.kept.workers;
       workers = c.in_ok-workers.ensures.workers;
       connections = record {
         none_came = c.in-Ok.ensures.none_came;
@@ -31,6 +35,6 @@ returns-clause-setting g c =
         };
         named = λ number. subst (HaveNumber number) (sym theirs) (second_named cells number);
         unseen = subst AreNew (sym theirs) (second_new cells);
-        workers = ap length c.in-Ok.ensures.tokens ∙ (c.in_ok-passes.ensures.workers ∙ (ap length c.tokens_of.ensures.tokens_stay ∙ c.in_ok-grid.ensures.workers));
+        workers = ap length c.in-Ok.ensures.tokens ∙ (c.in_ok-passes.ensures.workers ∙ (ap length c.tokens_of.ensures.tokens_stay ∙ as_many));
       };
     }

@@ -1,0 +1,82 @@
+-- What a server that has ended has done, of what its threads did.
+use Rattle.std.proofs.Common.{◌≡◌, ℕ, List, map, length, Option, Some, Result, Ok, Err, OnOk, OnErr, slice_get, sym, ap, ◌∙◌, subst}
+use Rattle.std.proofs.lemmas.List.{length-map}
+use Rattle.entry_processors.specs.declared.form.Form.{Form}
+use Rattle.grid_base.specs.declared.calls.Request.{Request}
+use Rattle.grid_cli.specs.declared.status.Status.{Status}
+use Rattle.grid_edge.specs.declared.doors.DoorFault.{DoorFault}
+use Rattle.hand_cell.specs.declared.cell.Cell.{Cell}
+use Rattle.hand_cell.specs.Told.{Told}
+use Rattle.job_queues.specs.Roster.{roster_of}
+use Rattle.partition_threads.specs.Workplaces.{AreTokensAt}
+use Rattle.partition_world.specs.declared.event.Event.{Event}
+use Rattle.partition_world.specs.declared.event.Happened.{Happened}
+use Rattle.session_calls.specs.Passes.{ArePassesOf, AreJoinedWith}
+use Rattle.session_calls.proofs.OfCells.{mapped}
+use Rattle.live_grid.specs.declared.grid.GridPass.{GridPass}
+use Rattle.live_grid.specs.declared.grid.LiveGrid.{LiveGrid}
+use Rattle.live_grid.specs.declared.plan.GridPlan.{GridPlan}
+use Rattle.live_grid.specs.declared.world.LiveWorld.{LiveWorld}
+use Rattle.live_grid.specs.Grids.{AreCells, IsGridPassOf, place_of}
+use Rattle.live_grid.specs.Histories.{live_key}
+use Rattle.live_control.specs.Running.{MayServe as MayControl}
+use Rattle.live_server.specs.declared.connections.Connections.{Connections}
+use Rattle.live_server.specs.Standing.{Rests}
+use Rattle.serve_options.specs.declared.options.ServeOptions.{ServeOptions}
+use Rattle.grid_server.specs.declared.setting.Setting.{Setting}
+use Rattle.grid_server.specs.Serving.{Operator, AtDoors, EndsAs, HasServed}
+use Rattle.grid_server.specs.Settings.{AreNew, IsSetting}
+use Rattle.grid_server.specs.Tasks.{HasServedClients, HasOperated}
+
+pub on_ok : {T E : Type 0} (P : Type 0) (r : Result T E) (x : T) → r ≡ Ok x → OnOk r P → P
+on_ok P r x e h = subst (λ (r : Result _ _). OnOk r P) e h
+
+pub on_err : {T E : Type 0} (P : Type 0) (r : Result T E) (x : E) → r ≡ Err x → OnErr r P → P
+on_err P r x e h = subst (λ (r : Result _ _). OnErr r P) e h
+
+-- passes whose cells are these, in their order
+passes_of : {T P E O : Type 0} (cells : List (Cell T P E O)) (passes : List (Told E)) → map (λ (p : Told E). p.table) passes ≡ (roster_of cells).tables → ArePassesOf cells passes
+passes_of cells passes tables = record {
+  as_long = sym (length-map passes (λ p. p.table)) ∙ (ap length tables ∙ length-map cells (λ c. c.table.shared.table_id));
+  each = λ place pass e. sym (ap (λ ts. slice_get ts place) tables) ∙ mapped (λ p. p.table) passes place pass e;
+}
+
+module _ {F K : Type 0} where
+  -- the passes and tokens of connections that rest are a grid's pass
+  pub rest_gathers : (grid stage_grid : LiveGrid) (connections : Connections LiveWorld F K GridPlan (Event Request) Happened) (pass : GridPass) → grid ≡ stage_grid → pass.passes ≡ connections.passes → pass.tokens ≡ connections.tokens → Rests (place_of stage_grid) connections → IsGridPassOf grid pass
+  rest_gathers grid stage_grid connections pass same_grid same_passes same_tokens rests =
+      subst (λ (g : LiveGrid). IsGridPassOf g pass) (sym same_grid) (record {
+        cells = subst (λ passes. ArePassesOf (place_of stage_grid).cells.items passes.items) (sym same_passes) rests.passes;
+        workers = subst (λ tokens. AreTokensAt (place_of stage_grid) tokens.items) (sym same_tokens) rests.tokens;
+      })
+
+  module _ (options : ServeOptions) (forms : List Form) (setting : Setting F K) (is : IsSetting options forms setting) (stage_grid grid : LiveGrid) (same_grid : grid ≡ stage_grid) (made_grid : stage_grid ≡ setting.grid) where
+    -- the operator's passes are a grid's pass again, with the tokens that were put aside
+    pub may_gather : (last : GridPass) → MayControl stage_grid last → IsGridPassOf grid (record { passes = last.passes; tokens = setting.pass.tokens })
+    may_gather last kept = subst (λ (g : LiveGrid). IsGridPassOf g (record { passes = last.passes; tokens = setting.pass.tokens })) (sym same_grid) (record {
+      cells = passes_of (place_of stage_grid).cells.items last.passes.items kept.of_grid.tables;
+      workers = subst (λ (g : LiveGrid). AreTokensAt (place_of g) setting.pass.tokens.items) (sym made_grid) is.tokens;
+    })
+
+    pub has_served : (gives : ℕ → Type 0) (before after : Operator) (opened closed : AtDoors) (told status : Status) (ended : Result (Unit {0}) DoorFault) (stage_options : ServeOptions) (first last pass : GridPass) (connections : Connections LiveWorld F K GridPlan (Event Request) Happened)
+        → stage_options ≡ options → first.passes.items ≡ setting.pass.passes.items
+        → HasServedClients stage_grid gives connections opened.looks opened.faults closed.book closed.looks closed.faults ended
+        → HasOperated stage_grid stage_options.members told before.script.bytes after.script.bytes before.out.bytes after.out.bytes before.script.faults after.script.faults before.out.faults after.out.faults first last
+        → AreJoinedWith live_key last.passes.items (map (λ part. Some part) connections.passes.items) pass.passes.items
+        → EndsAs told status opened closed
+        → HasServed options forms gives before after opened closed status grid pass
+    has_served gives before after opened closed told status ended stage_options first last pass connections same_options same_first served operated joined ends =
+        subst (λ (g : LiveGrid). HasServed options forms gives before after opened closed status g pass) (sym same_grid) (record {
+          cells = subst (λ (g : LiveGrid). AreCells options.members options.backups forms options.capacity (place_of g).cells.items) (sym made_grid) is.cells;
+          first = first;
+          new = subst AreNew (sym same_first) is.unseen;
+          last = last;
+          told = told;
+          control = (subst (λ (o : ServeOptions). HasOperated stage_grid o.members told before.script.bytes after.script.bytes before.out.bytes after.out.bytes before.script.faults after.script.faults before.out.faults after.out.faults first last) same_options operated).control;
+          theirs = connections.passes.items;
+          clients = served.clients;
+          gathered = joined;
+          ends = ends;
+          read_fault = operated.read_fault;
+          write_fault = operated.write_fault;
+        })
