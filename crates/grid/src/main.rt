@@ -1,19 +1,30 @@
-//! The program: `grid replay` reads a script from standard input and prints its transcript.
+//! The program: `grid replay` runs a script and prints its transcript, and `grid serve` serves clients.
 #![tactic(auto)]
 
-use entry_processors::{Add, AddUpTo, Append, Clear, Processor, SetIfGreater};
+mod telling_doors;
+
+use crate::telling_doors::TellingDoors;
+use entry_processors::{Add, AddUpTo, Append, Clear, Form, Processor, SetIfGreater};
 use grid_base::Memory;
-use grid_cli::{Status, replay_command};
-use grid_edge::{StdSink, StdSource};
-use std::io::ErrorKind;
+use grid_cli::Status;
+use grid_edge::{StdClock, StdSink, StdSource};
+use grid_server::{grid_top, help_of_serve, why_refused};
+use std::alloc::AllocGlobal;
+use std::io::{Eprint, ErrorKind};
+use std::net::Net;
 use std::process::ExitCode;
+use std::sync::Wait;
+use std::thread::Threads;
+use std::time::Clock;
 use std::{env, io};
+use tcp_edge::TcpDoors;
 
 /// The words that are commands.
 const USAGE: &str = "\
-usage: grid replay < SCRIPT    runs a script and prints its transcript
-       grid --help             prints this
-       grid --version          prints the version";
+usage: grid replay < SCRIPT             runs a script and prints its transcript
+       grid serve [OPTIONS] < CONTROL   serves clients; grid serve --help has the options
+       grid --help                      prints this
+       grid --version                   prints the version";
 
 const VERSION: &str = "grid 0.1.0";
 
@@ -21,22 +32,34 @@ const VERSION: &str = "grid 0.1.0";
 const MOST_COUNTED: i64 = 1000;
 
 /// What the words after the program's name ask for.
-#[derive(Clone, Copy)]
+#[derive(Clone, Copy, Debug)]
 enum Request {
     Help,
+    /// The options of a server.
+    ServeHelp,
     Version,
     /// A command, or words that are none.
     Command,
 }
 
+fn is_serve(words: &[String]) -> bool {
+    match words {
+        [word, ..] => word.as_str() == "serve",
+        [] => false,
+    }
+}
+
 impl Request {
     fn of(words: &[String]) -> Request {
-        match words {
-            [word] if word.as_str() == "--help" => Request::Help,
-            [word] if word.as_str() == "--version" => Request::Version,
-            [command, word] if command.as_str() == "replay" && word.as_str() == "--help" => {
-                Request::Help
-            }
+        let (command, word) = match words {
+            [word] => ("", word.as_str()),
+            [command, word] => (command.as_str(), word.as_str()),
+            _ => return Request::Command,
+        };
+        match (command, word) {
+            ("" | "replay", "--help" | "-h") => Request::Help,
+            ("serve", "--help" | "-h") => Request::ServeHelp,
+            ("" | "replay" | "serve", "--version") => Request::Version,
             _ => Request::Command,
         }
     }
@@ -51,18 +74,46 @@ fn words(rt: &HostRuntime) -> io::Result<Vec<String>> {
     Ok(words)
 }
 
-/// Carries out the command of these words with the grid's processors, whose numbers go from 1.
-fn carry_out(rt: &HostRuntime, words: &[String]) -> Result<Status, Memory> {
+/// The grid's processors, whose numbers go from 1, and their forms.
+const FORMS: [Form; 5] = [
+    Form::Add,
+    Form::AddUpTo(MOST_COUNTED),
+    Form::Append,
+    Form::SetIfGreater,
+    Form::Clear,
+];
+
+/// Carries out the command of these words.
+fn carry_out<R>(
+    rt: &R,
+    words: &[String],
+    mut script: StdSource,
+    mut out: StdSink,
+) -> Result<Status, Memory>
+where
+    R: Threads + Wait + Net + Clock + Eprint + AllocGlobal + Sync,
+{
     let alloc = rt.alloc();
-    let mut processors: Vec<Box<dyn Processor>> = Vec::with_capacity(alloc, 5)?;
+    let mut processors: Vec<Box<dyn Processor>> = Vec::with_capacity(alloc, FORMS.len())?;
     processors.push(Box::new(alloc, Add)?)?;
     processors.push(Box::new(alloc, AddUpTo(MOST_COUNTED))?)?;
     processors.push(Box::new(alloc, Append)?)?;
     processors.push(Box::new(alloc, SetIfGreater)?)?;
     processors.push(Box::new(alloc, Clear)?)?;
-    let mut script = StdSource::new(rt.stdin());
-    let mut out = StdSink::new(rt.stdout());
-    Ok(replay_command(alloc, words, processors, &mut script, &mut out))
+    let clock = StdClock::new(rt);
+    let mut doors = TellingDoors::new(TcpDoors::new(rt), rt);
+    let ended = grid_top(
+        rt,
+        alloc,
+        words,
+        processors,
+        FORMS.as_slice(),
+        &mut script,
+        &mut out,
+        &clock,
+        &mut doors,
+    );
+    Ok(ended.status)
 }
 
 /// Prints a text and a newline to standard output.
@@ -73,12 +124,11 @@ fn print(rt: &HostRuntime, text: &str) -> Status {
     }
 }
 
-/// Does what the words ask for.
-fn respond(rt: &HostRuntime, words: &[String]) -> Status {
-    match Request::of(words) {
-        Request::Help => print(rt, USAGE),
-        Request::Version => print(rt, VERSION),
-        Request::Command => carry_out(rt, words).unwrap_or(Status::Memory),
+/// Prints the options of a server.
+fn print_options(rt: &HostRuntime) -> Status {
+    match help_of_serve(rt.alloc()) {
+        Ok(help) => print(rt, help.as_str().trim_end()),
+        Err(_) => Status::Memory,
     }
 }
 
@@ -88,21 +138,50 @@ fn cause(status: Status) -> Option<&'static str> {
         Status::Usage => Some(USAGE),
         Status::ReadFault => Some("grid: standard input can't be read"),
         Status::WriteFault => Some("grid: standard output can't be written"),
-        Status::DoorFault => Some("grid: the doors failed"),
+        Status::DoorFault => Some("grid: the doors failed; is a port taken?"),
         Status::Memory => Some("grid: out of memory"),
         Status::Done | Status::ScriptRefused { .. } | Status::Limit { .. } => None,
     }
 }
 
-/// Where standard error takes nothing, the exit status alone tells how the program ended.
-fn main(rt: HostRuntime) -> ExitCode {
-    let status = match words(&rt) {
-        Ok(words) => respond(&rt, words.as_slice()),
-        Err(error) if error.kind() == ErrorKind::OutOfMemory => Status::Memory,
-        Err(_) => Status::Usage,
-    };
-    if let Some(cause) = cause(status) {
+/// Tells standard error why the program ended so. Where it takes nothing, the exit status alone tells it.
+fn tell_cause(rt: &HostRuntime, words: &[String], status: Status) {
+    if status == Status::Usage
+        && is_serve(words)
+        && let Ok(why) = why_refused(rt.alloc(), words)
+    {
+        let _ = rt.eprintln(why.as_str().trim_end());
+    } else if let Some(cause) = cause(status) {
         let _ = rt.eprintln(cause);
     }
+}
+
+/// What a program comes to whose words can't be read.
+fn unread(error: &io::Error) -> Status {
+    match error.kind() {
+        ErrorKind::OutOfMemory => Status::Memory,
+        _ => Status::Usage,
+    }
+}
+
+fn main(rt: HostRuntime) -> ExitCode {
+    let alloc = rt.alloc();
+    let (words, request) = match words(&rt) {
+        Ok(words) => {
+            let request = Request::of(words.as_slice());
+            (words, Ok(request))
+        }
+        Err(error) => (Vec::new(alloc), Err(unread(&error))),
+    };
+    let words = words.as_slice();
+    let (script, out) = (StdSource::new(rt.stdin()), StdSink::new(rt.stdout()));
+    let status = match request {
+        Ok(Request::Help) => print(&rt, USAGE),
+        Ok(Request::ServeHelp) => print_options(&rt),
+        Ok(Request::Version) => print(&rt, VERSION),
+        Ok(Request::Command) => carry_out(&rt, words, script, out).unwrap_or(Status::Memory),
+        Err(status) => status,
+    };
+    tell_cause(&rt, words, status);
     ExitCode::from(status.code())
 }
