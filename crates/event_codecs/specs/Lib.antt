@@ -1,0 +1,4 @@
+pub mod Events
+pub mod Writing
+pub mod SpelledEvents
+pub mod Sent
