@@ -27,7 +27,7 @@ use Rattle.event_codecs.specs.Events.{number_at, key_in, value_in, rows_in, Read
 use Rattle.event_codecs.specs.SpelledEvents.{kind_of_event, correlation_of, partition_of, fields_of, IsKey, IsEvent, HoldValues, HoldEvent, HasArrived, Spells}
 use Rattle.event_codecs.specs.declared.events.ClientEvent.{ClientEvent}
 use Rattle.event_codecs.specs.declared.events.ClientEvent.TheVariants.{Entry, Invalidation, Rows}
-use Rattle.event_codecs.proofs.Fields.{number_is}
+use Rattle.event_codecs.proofs.Numbers.{number_is}
 use Rattle.event_codecs.proofs.RowReading.{list_found}
 
 -- ---- frames

@@ -22,7 +22,7 @@ use Rattle.event_codecs.specs.SpelledEvents.{kind_of_event, correlation_of, part
 use Rattle.event_codecs.specs.declared.events.ClientEvent.{ClientEvent}
 use Rattle.event_codecs.specs.declared.events.ClientEvent.TheVariants.{Entry, Invalidation, Rows}
 use Rattle.event_codecs.specs.declared.seen.SeenRow.{SeenRow}
-use Rattle.event_codecs.proofs.Fields.{number_read}
+use Rattle.event_codecs.proofs.Numbers.{number_read}
 use Rattle.event_codecs.proofs.RowSpelling.{list_read}
 
 -- ---- frames

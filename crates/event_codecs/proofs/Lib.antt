@@ -1,6 +1,6 @@
 pub mod Listing
 pub mod Appending
-pub mod Fields
+pub mod Numbers
 pub mod Refusals
 pub mod RowSpelling
 pub mod EventSpelling

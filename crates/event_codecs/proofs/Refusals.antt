@@ -1,17 +1,17 @@
 -- Only another type is unknown, only a message that spells no event of its type is bad, and no message says that memory is wanting.
-use Rattle.std.proofs.Common.{◌≡◌, ◌≢◌, ◌↔◌, ℕ, suc, ◌==◌, Bool, true, false, cond, List, [], ◌∷◌, Option, Some, None, Result, Ok, Err, All, refl, sym, ap, ◌∙◌, arith}
+use Rattle.std.proofs.Common.{◌≡◌, ◌≢◌, ◌↔◌, ℕ, suc, ◌==◌, Bool, true, false, cond, List, [], ◌∷◌, Option, Some, None, Result, Ok, Err, refl, sym, ap, subst, ◌∙◌, arith}
 use Rattle.std.specs.Prelude.{Any, drop}
 use Rattle.std.proofs.lemmas.Bool.{eqb-true}
 use Rattle.grid_base.specs.declared.refusal.CallRefused.{CallRefused}
 use Rattle.grid_base.specs.declared.refusal.CallRefused.TheVariants.{UnknownType, BadCall, Memory}
 use Rattle.frame_codec.specs.declared.frames.Frame.{Frame}
-use Rattle.fixed_fields.specs.Requests.{Row, kind_of, kinds_in, reader_of, reader_in}
+use Rattle.fixed_fields.specs.Requests.{IsReadAs, Row, kind_of, kinds_in, reader_of, reader_in}
 use Rattle.fixed_fields.proofs.Refusals.{bad_not_unknown, bad_not_memory}
 use Rattle.fixed_fields.proofs.Tables.{none_in}
 use Rattle.message_frames.specs.Assembly.{first_payload}
 use Rattle.message_frames.specs.declared.message.Message.{Message}
 use Rattle.event_codecs.specs.Events.{Reader, events, event_by, event_of}
-use Rattle.event_codecs.specs.SpelledEvents.{HasArrived, HasEventKind, IsEvent, Spells}
+use Rattle.event_codecs.specs.SpelledEvents.{HasArrived, HasEventKind, HasOtherKind, SpellsNone}
 use Rattle.event_codecs.specs.declared.events.ClientEvent.{ClientEvent}
 use Rattle.event_codecs.proofs.EventReading.{found}
 use Rattle.event_codecs.proofs.EventSpelling.{read_again}
@@ -25,7 +25,7 @@ module _ (payload : List ℕ) (frames : List Frame) where
   memory_by None e = cc
   memory_by (Some reader) e = bad_not_memory (reader payload frames) e
 
-pub only_unknown : (message : Message) → (event_of message ≡ Err UnknownType) ↔ All (λ kind. kind_of (first_payload message.frames) ≢ Some kind) (kinds_in events)
+pub only_unknown : (message : Message) → (event_of message ≡ Err UnknownType) ↔ HasOtherKind message
 unfolding event_of
 only_unknown message =
     let payload : List ℕ = first_payload message.frames in
@@ -60,16 +60,39 @@ bad_has_kind : (message : Message) → event_of message ≡ Err BadCall → HasE
 unfolding event_of
 bad_has_kind message e = let payload : List ℕ = first_payload message.frames in bad_by payload (drop 1 message.frames) (kind_of payload) (reader_in (kind_of payload) events) refl e
 
-pub only_bad : (message : Message) → HasArrived message → (event_of message ≡ Err BadCall) ↔ (HasEventKind message × ((event : ClientEvent) → IsEvent event → ¬ Spells message event))
+pub only_bad : (message : Message) → HasArrived message → (event_of message ≡ Err BadCall) ↔ SpellsNone message
 only_bad message all = (
-  (λ e. (bad_has_kind message e, (λ event its s. let read = read_again message event its s in cc))),
-  (λ parts. go (event_of message) refl parts.0 parts.1),
+  (λ e. record { kind = bad_has_kind message e; none = (λ event its s. let read = read_again message event its s in cc) }),
+  (λ spells. go (event_of message) refl spells),
 )
   where
-    go : (read : Result ClientEvent CallRefused) → event_of message ≡ read → HasEventKind message → ((event : ClientEvent) → IsEvent event → ¬ Spells message event) → event_of message ≡ Err BadCall
-    go (Ok event) e kind none = let is = found message event all e in absurd (none event is.0 is.1)
-    go (Err UnknownType) e kind none =
+    go : (read : Result ClientEvent CallRefused) → event_of message ≡ read → SpellsNone message → event_of message ≡ Err BadCall
+    go (Ok event) e spells = let is = found message event all e in absurd (spells.none event is.0 is.1)
+    go (Err UnknownType) e spells =
         let others = (only_unknown message).0 e in
+        let kind = spells.kind in
         absurd (others kind.0 kind.1 kind.2 (kind.4 ∙ ap Some (sym kind.3)))
-    go (Err BadCall) e kind none = e
-    go (Err Memory) e kind none = absurd (not_wanting message e)
+    go (Err BadCall) e spells = e
+    go (Err Memory) e spells = absurd (not_wanting message e)
+
+-- ---- the reader
+
+-- a message that begins with this frame, of that type
+module _ (message : Message) (first : Frame) (behind : List Frame) (kind : ℕ) (result : Result ClientEvent CallRefused) (cut : message.frames ≡ first ∷ behind) (typed : kind_of first.payload ≡ Some kind) (is : IsReadAs result (event_by first.payload behind (reader_of kind events))) where
+  event_is : event_of message ≡ event_by first.payload behind (reader_of kind events)
+  unfolding event_of
+  event_is =
+      ap (λ (frames : List Frame). event_by (first_payload frames) (drop 1 frames) (reader_in (kind_of (first_payload frames)) events)) cut
+      ∙ ap (λ (k : Option ℕ). event_by first.payload behind (reader_in k events)) typed
+
+  read_as : IsReadAs result (event_of message)
+  read_as = subst (IsReadAs result) (sym event_is) is
+
+  pub told_unknown : (result ≡ Err UnknownType) ↔ (reader_of kind events ≡ None) → (result ≡ Err UnknownType) ↔ HasOtherKind message
+  told_unknown exact = (
+    (λ e. (only_unknown message).0 (subst (λ r. IsReadAs r (event_of message)) e read_as)),
+    (λ other. exact.1 ((unknown_by first.payload behind (reader_of kind events)).0 (sym event_is ∙ (only_unknown message).1 other))),
+  )
+
+  pub told_bad : HasArrived message → result ≡ Err BadCall → SpellsNone message
+  told_bad all e = (only_bad message all).0 (subst (λ r. IsReadAs r (event_of message)) e read_as)

@@ -21,7 +21,7 @@ use Rattle.event_codecs.specs.Events.{number_at, mark_of, mark_at, row_of, rows_
 use Rattle.event_codecs.specs.SpelledEvents.{IsSeenRow, HoldAll, BeginsWithList}
 use Rattle.event_codecs.specs.Writing.{row_bytes}
 use Rattle.event_codecs.specs.declared.seen.SeenRow.{SeenRow}
-use Rattle.event_codecs.proofs.Fields.{number_is, mark_is}
+use Rattle.event_codecs.proofs.Numbers.{number_is, mark_is}
 use Rattle.event_codecs.proofs.Listing.{rows_behind, data_is_payload}
 
 -- what stands from a place on, where the byte there is known

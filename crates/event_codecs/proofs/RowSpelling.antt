@@ -15,7 +15,7 @@ use Rattle.event_codecs.specs.Events.{number_at, mark_at, row_of, rows_until_end
 use Rattle.event_codecs.specs.SpelledEvents.{IsSeenRow, HoldAll, BeginsWithList}
 use Rattle.event_codecs.specs.Writing.{row_bytes}
 use Rattle.event_codecs.specs.declared.seen.SeenRow.{SeenRow}
-use Rattle.event_codecs.proofs.Fields.{number_read, mark_read}
+use Rattle.event_codecs.proofs.Numbers.{number_read, mark_read}
 use Rattle.event_codecs.proofs.Listing.{at_frame}
 
 row_is : (bytes : List ℕ) (partition version count : ℕ) (lost : Bool) → number_at bytes 0 ≡ Some partition → number_at bytes 4 ≡ Some version → mark_at bytes 8 ≡ Some lost → byte_at bytes 9 ≡ Some count → nat_lt partition PARTITIONS ≡ true

@@ -2,3 +2,4 @@ pub mod Events
 pub mod Writing
 pub mod SpelledEvents
 pub mod Sent
+pub mod Examples

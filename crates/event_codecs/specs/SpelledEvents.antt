@@ -1,5 +1,5 @@
 -- Which events are read, and the messages that spell each of them.
-use Rattle.std.specs.Prelude.{◌≡◌, ℕ, ◌^◌, ◌<◌, ◌≤◌, ℤ, List, [], ◌∷◌, ◌++◌, length, drop, map, All, Any, Option, Some, None, IfSome, IsTrue, ⊤}
+use Rattle.std.specs.Prelude.{◌≡◌, ◌≢◌, ℕ, ◌^◌, ◌<◌, ◌≤◌, ℤ, List, [], ◌∷◌, ◌++◌, length, drop, map, All, Any, Option, Some, None, IfSome, IsTrue, ⊤}
 use Rattle.std.specs.Str.{IsUtf8}
 use Rattle.std.specs.Int.{w32, w64, to_le_bytes}
 use Rattle.std.specs.Int.RustNames.{FitsSigned}
@@ -108,3 +108,12 @@ pub record Spells (message : Message) (event : ClientEvent) : Type 0 where
 -- the type is one of the three events'
 abbrev pub HasEventKind : Message → Type 0
 HasEventKind message = Any (λ kind. kind_of (first_payload message.frames) ≡ Some kind) (kinds_in events)
+
+-- the type is none of them
+abbrev pub HasOtherKind : Message → Type 0
+HasOtherKind message = All (λ kind. kind_of (first_payload message.frames) ≢ Some kind) (kinds_in events)
+
+-- one of them, whose event the message doesn't spell
+pub record SpellsNone (message : Message) : Type 0 where
+  pub kind : HasEventKind message
+  pub none : (event : ClientEvent) → IsEvent event → ¬ Spells message event

@@ -1,15 +1,13 @@
 //! Reading an event is the inverse of spelling it. The functions compute nothing: their contracts are the laws.
 
-ghost use Rattle.std.specs.Prelude.{◌≡◌, ◌≢◌, ◌↔◌, ℕ, ℤ, Bool, List, map, pos, All, Some, Ok, Err};
-ghost use Rattle.fixed_fields.specs.Requests.{kind_of, kinds_in};
+ghost use Rattle.std.specs.Prelude.{◌≡◌, ◌≢◌, ◌↔◌, ℕ, ℤ, Bool, List, map, pos, Ok, Err};
 ghost use Rattle.grid_base.specs.declared.calls.Change.{Change as ChangeOf};
 ghost use Rattle.grid_base.specs.declared.refusal.CallRefused.TheVariants.{UnknownType, BadCall, Memory};
-ghost use Rattle.message_frames.specs.Assembly.{first_payload};
 ghost use Rattle.message_frames.specs.declared.message.Message.{Message as MessageOf};
 ghost use Rattle.partition_table.specs.declared.Row.{Row as RowOf};
-ghost use Rattle.event_codecs.specs.Events.{events, event_of};
+ghost use Rattle.event_codecs.specs.Events.{event_of};
 ghost use Rattle.event_codecs.specs.Sent.{FitMessage, AreHeardAs};
-ghost use Rattle.event_codecs.specs.SpelledEvents.{HasArrived, HasEventKind, IsEvent, Spells};
+ghost use Rattle.event_codecs.specs.SpelledEvents.{HasArrived, HasOtherKind, IsEvent, Spells, SpellsNone};
 ghost use Rattle.event_codecs.specs.Writing.{entry_event, entry_frames, invalidation_frames, rows_frames, seen};
 ghost use Rattle.event_codecs.specs.declared.events.ClientEvent.{ClientEvent as EventOf};
 ghost use Rattle.event_codecs.specs.declared.events.ClientEvent.TheVariants as told;
@@ -26,10 +24,9 @@ pub fn events_are_read_as_spelled()
 /// Exactly another type is unknown. Exactly a message of one of the types that spells no event is a
 /// bad call. No message says that memory is wanting.
 pub fn event_refusals_are_told_apart()
-    ensures unknown { (message : MessageOf) → (event_of message ≡ Err UnknownType)
-        ↔ All (λ kind. kind_of (first_payload message.frames) ≢ Some kind) (kinds_in events) }
-    ensures bad { (message : MessageOf) → HasArrived message → (event_of message ≡ Err BadCall)
-        ↔ (HasEventKind message × ((event : EventOf) → IsEvent event → ¬ Spells message event)) }
+    ensures unknown { (message : MessageOf) → (event_of message ≡ Err UnknownType) ↔ HasOtherKind message }
+    ensures bad { (message : MessageOf) → HasArrived message
+        → (event_of message ≡ Err BadCall) ↔ SpellsNone message }
     ensures memory { (message : MessageOf) → event_of message ≢ Err Memory }
 {}
 

@@ -3,6 +3,7 @@
 #![tactic(auto)]
 
 mod events;
+mod fields;
 mod kinds;
 pub mod laws;
 mod parts;

@@ -1,13 +1,14 @@
-ghost use Rattle.std.specs.Prelude.{◌≡◌, drop, Some, None, IfOk, IfErr, OnOk};
+ghost use Rattle.std.specs.Prelude.{◌≡◌, ◌↔◌, drop, Some, None, IfOk, IfErr, OnOk};
 ghost use Rattle.std.specs.Option.{ok_or, option_copied};
-ghost use Rattle.fixed_fields.specs.Fields.{int64_at, int32_at};
-ghost use Rattle.fixed_fields.specs.Requests.{IsReadAs};
-ghost use Rattle.event_codecs.specs.Events.{number_at, key_in, entry_in, invalidation_in, rows_event_in, event_of};
+ghost use Rattle.fixed_fields.specs.Requests.{IsReadAs, reader_of};
+ghost use Rattle.event_codecs.specs.Events.{key_in, entry_in, invalidation_in, rows_event_in, events, event_by, event_of};
+ghost use Rattle.event_codecs.specs.SpelledEvents.{HasArrived, HasOtherKind, SpellsNone};
 
 use crate::events::ClientEvent;
+use crate::fields::number_at;
 use crate::kinds::{ENTRY_EVENT_KIND, INVALIDATION_EVENT_KIND, ROWS_EVENT_KIND};
 use crate::rows::read_rows;
-use fixed_fields::{Cursor, FieldRefused, int32_at, int64_at, kind_of};
+use fixed_fields::{Cursor, int32_at, int64_at, kind_of};
 use frame_codec::Frame;
 use grid_base::{Bytes, CallRefused, Memory};
 use message_frames::Message;
@@ -27,13 +28,6 @@ const NUMBER_OFFSET: usize = 20;
 
 /// How many bytes a key has at least: those before its content.
 const SHORTEST_KEY: usize = 8;
-
-/// The number without a sign in the four bytes at a place.
-pub(crate) fn number_at(frame: &Frame, at: usize) -> Result<u32, FieldRefused>
-    ensures { result ≡ ok_or (number_at frame.now.payload at) FieldRefused.Short }
-{
-    Ok(int32_at(frame, at)?.cast_unsigned())
-}
 
 /// Passes a key.
 fn read_key<'a>(cursor: &mut Cursor<'a>) -> Result<&'a Bytes, CallRefused>
@@ -118,6 +112,24 @@ fn read_rows_event(
     Ok(ClientEvent::Rows { correlation, rows })
 }
 
+/// The event of that type which begins with this frame, and goes on with those behind it.
+fn read_kind(
+    alloc: Global,
+    kind: u32,
+    first: &Frame,
+    frames: &[Frame],
+) -> Result<ClientEvent, CallRefused>
+    ensures read { IsReadAs result (event_by first.now.payload frames.now (reader_of kind events)) }
+    ensures unknown { (result ≡ Err CallRefused.UnknownType) ↔ (reader_of kind events ≡ None) }
+{
+    match kind {
+        ENTRY_EVENT_KIND => read_entry(alloc, first, frames),
+        INVALIDATION_EVENT_KIND => read_invalidation(alloc, first, frames),
+        ROWS_EVENT_KIND => read_rows_event(alloc, first, frames),
+        _ => Err(CallRefused::UnknownType),
+    }
+}
+
 /// The event that a message is. Its flags aren't looked at.
 ///
 /// `UnknownType` where the message's type is none of the three events'. `BadCall` where the
@@ -129,15 +141,15 @@ fn read_rows_event(
 /// once.
 #[tactic(auto, unfolding(crate::specs::Events::event_of))]
 pub fn read_event(alloc: Global, message: &Message) -> Result<ClientEvent, CallRefused>
-    ensures { IsReadAs result (event_of message.now) }
+    ensures read { IsReadAs result (event_of message.now) }
+    ensures unknown { (result ≡ Err CallRefused.UnknownType) ↔ HasOtherKind message.now }
+    ensures bad { HasArrived message.now → result ≡ Err CallRefused.BadCall → SpellsNone message.now }
 {
     let Some((first, frames)) = message.frames.as_slice().split_first() else {
         return Err(CallRefused::UnknownType);
     };
     match kind_of(first) {
-        Some(ENTRY_EVENT_KIND) => read_entry(alloc, first, frames),
-        Some(INVALIDATION_EVENT_KIND) => read_invalidation(alloc, first, frames),
-        Some(ROWS_EVENT_KIND) => read_rows_event(alloc, first, frames),
-        _ => Err(CallRefused::UnknownType),
+        Some(kind) => read_kind(alloc, kind, first, frames),
+        None => Err(CallRefused::UnknownType),
     }
 }

@@ -2,9 +2,9 @@ ghost use Rattle.std.specs.Prelude.{◌≡◌};
 ghost use Rattle.std.specs.Option.{ok_or};
 ghost use Rattle.fixed_fields.specs.Requests.{IsReadAs};
 ghost use Rattle.fixed_fields.specs.Structures.{closes};
-ghost use Rattle.event_codecs.specs.Events.{mark_at, row_of, rows_in, rows_until_end};
+ghost use Rattle.event_codecs.specs.Events.{row_of, rows_in, rows_until_end};
 
-use crate::reading::number_at;
+use crate::fields::{mark_at, number_at};
 use crate::seen::{SeenMembers, SeenRow, SeenRows};
 use fixed_fields::{Cursor, byte_at};
 use frame_codec::Frame;
@@ -29,17 +29,6 @@ fn ends_list(frame: &Frame) -> bool
     ensures { result ≡ closes frame.now }
 {
     frame.has(END_STRUCTURE) && !frame.has(BEGIN_STRUCTURE)
-}
-
-/// The byte 1 for yes or 0 for no at a place.
-fn mark_at(frame: &Frame, at: usize) -> Result<bool, CallRefused>
-    ensures { result ≡ ok_or (mark_at frame.now.payload at) CallRefused.BadCall }
-{
-    match byte_at(frame, at)? {
-        0 => Ok(false),
-        1 => Ok(true),
-        _ => Err(CallRefused::BadCall),
-    }
 }
 
 /// The row that the frame's payload spells.
