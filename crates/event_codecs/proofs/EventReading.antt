@@ -105,7 +105,7 @@ module _ (kind : ℕ) (payload : List ℕ) (frames : List Frame) (bytes : IsByte
       let third = value_holds (drop 1 (drop 1 frames)) old [] (value_of (drop 1 (drop 1 frames)) old o) tt in
       let second = value_holds (drop 1 frames) new (old ∷ []) (value_of (drop 1 frames) new n) third in
       subst Found (given (Entry correlation partition change key new old) event e) (record {
-        its = (head.correlation_fits, head.partition_fits, field.fits, keyed.0);
+        its = record { correlation = head.correlation_fits; partition = head.partition_fits; parts = (field.fits, keyed.0) };
         kind_is = is;
         partition = partition;
         stated = refl;
@@ -129,7 +129,7 @@ module _ (kind : ℕ) (payload : List ℕ) (frames : List Frame) (bytes : IsByte
       let keyed = key_found (drop 1 frames) key y in
       let numbers : to_le_bytes w32 version ++ to_le_bytes w32 number ≡ take 4 (drop 16 payload) ++ take 4 (drop 20 payload) = (λ i. first.spelled i ++ second.spelled i) in
       subst Found (given (Invalidation correlation partition version number name key) event e) (record {
-        its = (head.correlation_fits, head.partition_fits, first.fits, second.fits, named.1, keyed.0);
+        its = record { correlation = head.correlation_fits; partition = head.partition_fits; parts = (first.fits, second.fits, named.1, keyed.0) };
         kind_is = is;
         partition = partition;
         stated = refl;
@@ -146,7 +146,7 @@ module _ (kind : ℕ) (payload : List ℕ) (frames : List Frame) (bytes : IsByte
       let head = head_found correlation partition c p in
       let list = list_found frames rows all r in
       subst Found (given (Rows correlation rows) event e) (record {
-        its = (head.correlation_fits, list.0);
+        its = record { correlation = head.correlation_fits; partition = tt; parts = list.0 };
         kind_is = is;
         partition = partition;
         stated = tt;

@@ -91,20 +91,20 @@ module _ (more : List ℕ) (frames : List Frame) where
       let third = value_next (drop 1 (drop 1 frames)) old [] second.1 in
       let head = request_head entry_kind correlation partition in
       let behind = int32_bytes kind ++ more in
-      let its = entry_is (head ++ behind) frames correlation partition kind key new old (correlation_read entry_kind correlation partition behind h.0) (partition_read entry_kind correlation partition behind h.1) (int32_read head more kind h.2)
-      (key_is frames key h.3 (ap (λ r. result_ok (not_null r)) first.0)) (ap result_ok second.0) (ap result_ok third.0) in
+      let its = entry_is (head ++ behind) frames correlation partition kind key new old (correlation_read entry_kind correlation partition behind h.correlation) (partition_read entry_kind correlation partition behind h.partition) (int32_read head more kind h.parts.0)
+      (key_is frames key h.parts.1 (ap (λ r. result_ok (not_null r)) first.0)) (ap result_ok second.0) (ap result_ok third.0) in
       subst (λ (p : ℤ). entry_in (payload_of (Entry correlation partition kind key new old) p) frames ≡ Some (Entry correlation partition kind key new old)) same its
   reader_again (Invalidation correlation partition version number name key) stated h same held =
       let first = first_held frames name (key ∷ []) held in
       let second = first_held (drop 1 frames) key [] first.1 in
       let head = request_head invalidation_kind correlation partition in
       let behind = to_le_bytes w32 version ++ to_le_bytes w32 number ++ more in
-      let its = invalidation_is (head ++ behind) frames correlation partition version number name key (correlation_read invalidation_kind correlation partition behind h.0) (partition_read invalidation_kind correlation partition behind h.1)
-      (number_read head (to_le_bytes w32 number ++ more) version h.2) (number_read (head ++ to_le_bytes w32 version) more number h.3)
-      (text_held frames name first.0 h.4) (key_is (drop 1 frames) key h.5 (data_held (drop 1 frames) key second.0)) in
+      let its = invalidation_is (head ++ behind) frames correlation partition version number name key (correlation_read invalidation_kind correlation partition behind h.correlation) (partition_read invalidation_kind correlation partition behind h.partition)
+      (number_read head (to_le_bytes w32 number ++ more) version h.parts.0) (number_read (head ++ to_le_bytes w32 version) more number h.parts.1)
+      (text_held frames name first.0 h.parts.2) (key_is (drop 1 frames) key h.parts.3 (data_held (drop 1 frames) key second.0)) in
       subst (λ (p : ℤ). invalidation_in (payload_of (Invalidation correlation partition version number name key) p) frames ≡ Some (Invalidation correlation partition version number name key)) same its
   reader_again (Rows correlation rows) stated h same held =
-      rows_is (request_head rows_kind correlation stated ++ more) frames correlation (int32_of (int32_bytes stated)) rows (correlation_read rows_kind correlation stated more h.0) (partition_there rows_kind correlation stated more) (list_read frames rows h.1 held)
+      rows_is (request_head rows_kind correlation stated ++ more) frames correlation (int32_of (int32_bytes stated)) rows (correlation_read rows_kind correlation stated more h.correlation) (partition_there rows_kind correlation stated more) (list_read frames rows h.parts held)
 
 -- ---- the message
 

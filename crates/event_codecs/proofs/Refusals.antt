@@ -60,11 +60,11 @@ bad_has_kind : (message : Message) → event_of message ≡ Err BadCall → HasE
 unfolding event_of
 bad_has_kind message e = let payload : List ℕ = first_payload message.frames in bad_by payload (drop 1 message.frames) (kind_of payload) (reader_in (kind_of payload) events) refl e
 
+pub bad_spells_none : (message : Message) → event_of message ≡ Err BadCall → SpellsNone message
+bad_spells_none message e = record { kind = bad_has_kind message e; none = (λ event its s. let read = read_again message event its s in cc) }
+
 pub only_bad : (message : Message) → HasArrived message → (event_of message ≡ Err BadCall) ↔ SpellsNone message
-only_bad message all = (
-  (λ e. record { kind = bad_has_kind message e; none = (λ event its s. let read = read_again message event its s in cc) }),
-  (λ spells. go (event_of message) refl spells),
-)
+only_bad message all = (bad_spells_none message, (λ spells. go (event_of message) refl spells))
   where
     go : (read : Result ClientEvent CallRefused) → event_of message ≡ read → SpellsNone message → event_of message ≡ Err BadCall
     go (Ok event) e spells = let is = found message event all e in absurd (spells.none event is.0 is.1)
@@ -94,5 +94,5 @@ module _ (message : Message) (first : Frame) (behind : List Frame) (kind : ℕ) 
     (λ other. exact.1 ((unknown_by first.payload behind (reader_of kind events)).0 (sym event_is ∙ (only_unknown message).1 other))),
   )
 
-  pub told_bad : HasArrived message → result ≡ Err BadCall → SpellsNone message
-  told_bad all e = (only_bad message all).0 (subst (λ r. IsReadAs r (event_of message)) e read_as)
+  pub told_bad : result ≡ Err BadCall → SpellsNone message
+  told_bad e = bad_spells_none message (subst (λ r. IsReadAs r (event_of message)) e read_as)

@@ -1,6 +1,6 @@
 -- A list of rows that is read is spelled by the frames that it was read of.
 use Rattle.std.proofs.Common.{◌≡◌, ℕ, suc, ◌<◌, arith, Bool, true, false, cond, List, [], ◌∷◌, ◌++◌, length, take, drop, map, All, Some, None, refl, sym, ap, subst, ◌∙◌, drop-cons, eqb-true}
-use Rattle.std.specs.Prelude.{IsTrue, ◌==◌, ◌&&◌, nat_lt}
+use Rattle.std.specs.Prelude.{IsTrue}
 use Rattle.std.specs.Int.{w32, to_le_bytes}
 use Rattle.std.proofs.lemmas.Bool.{and_parts, ltb-true}
 use Rattle.std.proofs.lemmas.List.{take-append-drop}
@@ -17,7 +17,7 @@ use Rattle.fixed_fields.specs.Structures.{opens, closes}
 use Rattle.fixed_fields.proofs.Parts.{data_of, first_holds}
 use Rattle.fixed_fields.proofs.ReadFields.{take_on}
 use Rattle.fixed_fields.proofs.Steps.{behind, given, if_some}
-use Rattle.event_codecs.specs.Events.{number_at, mark_of, mark_at, row_of, rows_until_end, rows_in}
+use Rattle.event_codecs.specs.Events.{number_at, mark_of, mark_at, is_row, row_of, rows_until_end, rows_in}
 use Rattle.event_codecs.specs.SpelledEvents.{IsSeenRow, HoldAll, BeginsWithList}
 use Rattle.event_codecs.specs.Writing.{row_bytes}
 use Rattle.event_codecs.specs.declared.seen.SeenRow.{SeenRow}
@@ -35,7 +35,7 @@ abbrev IsRowOf : List ℕ → SeenRow → Type 0
 IsRowOf bytes row = IsSeenRow row × (bytes ≡ row_bytes row)
 
 parts_found : (bytes : List ℕ) (partition version mark count : ℕ) (lost : Bool) → IsBytes bytes → number_at bytes 0 ≡ Some partition → number_at bytes 4 ≡ Some version → byte_at bytes 8 ≡ Some mark → mark_of mark ≡ Some lost → byte_at bytes 9 ≡ Some count
-    → (nat_lt partition PARTITIONS && (length (drop 10 bytes) == count)) ≡ true → IsRowOf bytes (record { partition = partition; version = version; lost = lost; members = drop 10 bytes })
+    → is_row partition count (drop 10 bytes) ≡ true → IsRowOf bytes (record { partition = partition; version = version; lost = lost; members = drop 10 bytes })
 parts_found bytes partition version mark count lost all p v m l c tests =
     let first = number_is bytes 0 partition all p in
     let second = number_is bytes 4 version all v in

@@ -1,9 +1,9 @@
 -- A list of rows is read from the frames that spell it.
 use Rattle.std.proofs.Common.{◌≡◌, ℕ, ◌^◌, ◌<◌, arith, eq-eqb, Bool, true, false, List, [], ◌∷◌, ◌++◌, length, map, All, Option, Some, None, refl, ap, ◌∙◌, cond}
-use Rattle.std.specs.Prelude.{IsTrue, ◌==◌, ◌||◌, not, drop, nat_lt}
+use Rattle.std.specs.Prelude.{IsTrue, ◌||◌, not, drop}
 use Rattle.grid_base.specs.declared.TheConstants.{PARTITIONS}
 use Rattle.std.specs.Int.{w32, to_le_bytes}
-use Rattle.std.proofs.lemmas.Bool.{lt-ltb}
+use Rattle.std.proofs.lemmas.Bool.{and_from, lt-ltb}
 use Rattle.std.proofs.lemmas.List.Elements.{All-head, All-tail}
 use Rattle.frame_codec.specs.declared.frames.Frame.{Frame}
 use Rattle.fixed_fields.specs.Fields.{byte_at}
@@ -11,16 +11,16 @@ use Rattle.fixed_fields.specs.Replies.{flag_byte}
 use Rattle.fixed_fields.specs.Requests.{◌>>=◌, data_in}
 use Rattle.fixed_fields.specs.Structures.{opens, closes, is_plain}
 use Rattle.fixed_fields.proofs.Parts.{first_held, data_held}
-use Rattle.event_codecs.specs.Events.{number_at, mark_at, row_of, rows_until_end, rows_in}
+use Rattle.event_codecs.specs.Events.{number_at, mark_at, is_row, row_of, rows_until_end, rows_in}
 use Rattle.event_codecs.specs.SpelledEvents.{IsSeenRow, HoldAll, BeginsWithList}
 use Rattle.event_codecs.specs.Writing.{row_bytes}
 use Rattle.event_codecs.specs.declared.seen.SeenRow.{SeenRow}
 use Rattle.event_codecs.proofs.Numbers.{number_read, mark_read}
 use Rattle.event_codecs.proofs.Listing.{at_frame}
 
-row_is : (bytes : List ℕ) (partition version count : ℕ) (lost : Bool) → number_at bytes 0 ≡ Some partition → number_at bytes 4 ≡ Some version → mark_at bytes 8 ≡ Some lost → byte_at bytes 9 ≡ Some count → nat_lt partition PARTITIONS ≡ true
-    → (length (drop 10 bytes) == count) ≡ true → row_of bytes ≡ Some (record { partition = partition; version = version; lost = lost; members = drop 10 bytes })
-row_is bytes partition version count lost p v l c one counted = rw (p, v, l, c, one, counted) refl
+row_is : (bytes : List ℕ) (partition version count : ℕ) (lost : Bool) → number_at bytes 0 ≡ Some partition → number_at bytes 4 ≡ Some version → mark_at bytes 8 ≡ Some lost → byte_at bytes 9 ≡ Some count → is_row partition count (drop 10 bytes) ≡ true
+    → row_of bytes ≡ Some (record { partition = partition; version = version; lost = lost; members = drop 10 bytes })
+row_is bytes partition version count lost p v l c is = rw (p, v, l, c, is) refl
 
 pub row_read : (row : SeenRow) → IsSeenRow row → row_of (row_bytes row) ≡ Some row
 row_read row h =
@@ -29,7 +29,7 @@ row_read row h =
     let small : row.partition < 2 ^ 32 = omega (arith, h.partition) in
     row_is (row_bytes row) row.partition row.version (length row.members) row.lost
     (number_read [] (to_le_bytes w32 row.version ++ behind) row.partition small) (number_read partition behind row.version h.version) (mark_read row.lost) refl
-    (lt-ltb row.partition PARTITIONS h.partition) (eq-eqb (length row.members) (length row.members) refl)
+    (and_from _ _ (lt-ltb row.partition PARTITIONS h.partition) (eq-eqb (length row.members) (length row.members) refl))
 
 -- a plain frame ends no list
 plain_goes_on : (frame : Frame) → IsTrue (is_plain frame) → closes frame ≡ false

@@ -19,7 +19,8 @@ use Rattle.event_codecs.specs.declared.seen.SeenRow.{SeenRow}
 
 -- ---- types
 
--- A message type is service × 65,536 + method × 256 + kind: service 0 is that of the client itself, service 1 that of maps, and kinds 2 and 3 are events.
+-- A message type is service × 65,536 + method × 256 + kind: service 0 is that of the client itself, service 1 that of maps.
+-- Kinds 2 and 3 are events.
 abbrev pub entry_kind : ℕ
 entry_kind = 0x011902
 
@@ -56,6 +57,10 @@ key_in frames = do
 
 -- ---- rows
 
+-- a partition that there is, and as many members as are counted
+abbrev pub is_row : ℕ → ℕ → List ℕ → Bool
+is_row partition count members = nat_lt partition PARTITIONS && (length members == count)
+
 -- A row has its partition, its version, whether it is lost, how many members it has, and a byte for each of them.
 abbrev pub row_of : List ℕ → Option SeenRow
 row_of bytes = do
@@ -63,7 +68,8 @@ row_of bytes = do
   version ← number_at bytes 4
   lost ← mark_at bytes 8
   count ← byte_at bytes 9
-  if nat_lt partition PARTITIONS && (length (drop 10 bytes) == count) then Some (record { partition = partition; version = version; lost = lost; members = drop 10 bytes }) else None
+  let members = drop 10 bytes in
+      if is_row partition count members then Some (record { partition = partition; version = version; lost = lost; members = members }) else None
 
 -- The rows up to the frame that ends their list, one a frame.
 abbrev pub rows_until_end : List Frame → Option (List SeenRow)
@@ -85,7 +91,8 @@ rows_in (frame ∷ frames) = if opens frame then rows_until_end frames else None
 abbrev pub Reader : Type 0
 Reader = List ℕ → List Frame → Option ClientEvent
 
--- The first payload has the correlation and the partition, and then the fields of the event. Bytes behind the last field and frames behind the last part are ignored.
+-- The first payload has the correlation and the partition, and then the fields of the event.
+-- Bytes behind the last field and frames behind the last part are ignored.
 
 abbrev pub entry_in : Reader
 entry_in payload frames = do

@@ -55,11 +55,16 @@ pub record IsSeenRow (row : SeenRow) : Type 0 where
   pub version : row.version < 2 ^ 32
   pub members : length row.members < 2 ^ 8
 
+abbrev pub HasParts : ClientEvent → Type 0
+HasParts (Entry correlation partition kind key new old) = FitsSigned w32 kind × IsKey key
+HasParts (Invalidation correlation partition version number name key) = (version < 2 ^ 32) × (number < 2 ^ 32) × IsUtf8 name × IsKey key
+HasParts (Rows correlation rows) = All IsSeenRow rows
+
 -- Each number is one of its size, and a name is a text.
-abbrev pub IsEvent : ClientEvent → Type 0
-IsEvent (Entry correlation partition kind key new old) = FitsSigned w64 correlation × FitsSigned w32 partition × FitsSigned w32 kind × IsKey key
-IsEvent (Invalidation correlation partition version number name key) = FitsSigned w64 correlation × FitsSigned w32 partition × (version < 2 ^ 32) × (number < 2 ^ 32) × IsUtf8 name × IsKey key
-IsEvent (Rows correlation rows) = FitsSigned w64 correlation × All IsSeenRow rows
+pub record IsEvent (event : ClientEvent) : Type 0 where
+  pub correlation : FitsSigned w64 (correlation_of event)
+  pub partition : IfSome (partition_of event) (FitsSigned w32)
+  pub parts : HasParts event
 
 -- ---- the messages that spell an event
 
@@ -96,7 +101,7 @@ HoldEvent frames (Rows correlation rows) = BeginsWithList frames (map row_bytes 
 abbrev pub HasArrived : Message → Type 0
 HasArrived message = All (λ frame. IsBytes frame.payload) message.frames
 
--- The first payload begins with the type, the correlation and a partition, and the event's fields, and the frames behind it hold the event.
+-- The first payload begins with the type, the correlation and a partition, and the event's fields; the frames behind it hold the event.
 -- What follows either doesn't count.
 pub record Spells (message : Message) (event : ClientEvent) : Type 0 where
   pub partition : ℤ

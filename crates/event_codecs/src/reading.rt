@@ -2,7 +2,7 @@ ghost use Rattle.std.specs.Prelude.{◌≡◌, ◌↔◌, drop, Some, None, IfOk
 ghost use Rattle.std.specs.Option.{ok_or, option_copied};
 ghost use Rattle.fixed_fields.specs.Requests.{IsReadAs, reader_of};
 ghost use Rattle.event_codecs.specs.Events.{key_in, entry_in, invalidation_in, rows_event_in, events, event_by, event_of};
-ghost use Rattle.event_codecs.specs.SpelledEvents.{HasArrived, HasOtherKind, SpellsNone};
+ghost use Rattle.event_codecs.specs.SpelledEvents.{HasOtherKind, SpellsNone};
 
 use crate::events::ClientEvent;
 use crate::fields::number_at;
@@ -143,7 +143,7 @@ fn read_kind(
 pub fn read_event(alloc: Global, message: &Message) -> Result<ClientEvent, CallRefused>
     ensures read { IsReadAs result (event_of message.now) }
     ensures unknown { (result ≡ Err CallRefused.UnknownType) ↔ HasOtherKind message.now }
-    ensures bad { HasArrived message.now → result ≡ Err CallRefused.BadCall → SpellsNone message.now }
+    ensures bad { result ≡ Err CallRefused.BadCall → SpellsNone message.now }
 {
     let Some((first, frames)) = message.frames.as_slice().split_first() else {
         return Err(CallRefused::UnknownType);
