@@ -63,7 +63,8 @@ without_values_both_are_null : spelled (entry_frames (pos 6) 5 update false)
 without_values_both_are_null = refl
 
 an_invalidation_is_written_so : spelled (invalidation_frames (pos 6) 5 1 3 m v)
-    ≡ (30 ∷ 0 ∷ 0 ∷ 0 ∷ 0 ∷ 194 ∷ 2 ∷ 63 ∷ 1 ∷ 0 ∷ placed) ++ (1 ∷ 0 ∷ 0 ∷ 0 ∷ 3 ∷ 0 ∷ 0 ∷ 0 ∷ []) ++ (7 ∷ 0 ∷ 0 ∷ 0 ∷ 0 ∷ 0 ∷ m) ++ (7 ∷ 0 ∷ 0 ∷ 0 ∷ 0 ∷ 32 ∷ v)
+    ≡ (30 ∷ 0 ∷ 0 ∷ 0 ∷ 0 ∷ 194 ∷ 2 ∷ 63 ∷ 1 ∷ 0 ∷ placed) ++ (1 ∷ 0 ∷ 0 ∷ 0 ∷ 3 ∷ 0 ∷ 0 ∷ 0 ∷ [])
+    ++ (7 ∷ 0 ∷ 0 ∷ 0 ∷ 0 ∷ 0 ∷ m) ++ (7 ∷ 0 ∷ 0 ∷ 0 ∷ 0 ∷ 32 ∷ v)
 an_invalidation_is_written_so = refl
 
 -- partition 5 in version 2, led by member 2 with member 0 for its backup
@@ -96,7 +97,8 @@ a_key_has_eight_bytes : event_of (message entry_kind four (frame 0 (replicate 7 
 unfolding event_of
 a_key_has_eight_bytes = refl
 
-further_bytes_and_frames_are_ignored : event_of (message entry_kind (four ++ 7 ∷ []) (frame 0 key ∷ frame 0 w ∷ frame 0 v ∷ frame 0x1000 [] ∷ [])) ≡ Ok (Entry (pos 6) (pos 5) (pos 4) key (Some w) (Some v))
+further_bytes_and_frames_are_ignored : event_of (message entry_kind (four ++ 7 ∷ []) (frame 0 key ∷ frame 0 w ∷ frame 0 v ∷ frame 0x1000 [] ∷ []))
+    ≡ Ok (Entry (pos 6) (pos 5) (pos 4) key (Some w) (Some v))
 unfolding event_of
 further_bytes_and_frames_are_ignored = refl
 

@@ -9,19 +9,22 @@ use crate::seen::{SeenMembers, SeenRow, SeenRows};
 use fixed_fields::{Cursor, byte_at};
 use frame_codec::Frame;
 use frame_codec::flags::{BEGIN_STRUCTURE, END_STRUCTURE};
-use grid_base::{CallRefused, PARTITIONS};
+use grid_base::{CallRefused, PARTITIONS, PartitionId};
 use std::alloc::Global;
 
-/// Where a row's frame has the partition, the version, the mark of a lost row, the number of members,
-/// and the members.
+/// Where a row's frame has the partition.
 const PARTITION_OFFSET: usize = 0;
 
+/// Where it has the version.
 const VERSION_OFFSET: usize = 4;
 
+/// Where it has the mark of a lost row.
 const LOST_OFFSET: usize = 8;
 
+/// Where it has the number of members.
 const COUNT_OFFSET: usize = 9;
 
+/// Where it has the members, one byte each.
 const MEMBERS_OFFSET: usize = 10;
 
 /// Whether the frame ends a list. One that has both flags of structures begins one.
@@ -44,7 +47,7 @@ fn read_row(alloc: Global, frame: &Frame) -> Result<SeenRow, CallRefused>
         return Err(CallRefused::BadCall);
     }
     Ok(SeenRow {
-        partition: partition as u16,
+        partition: partition as PartitionId,
         version,
         lost,
         members: SeenMembers::copied_from(alloc, members)?,
