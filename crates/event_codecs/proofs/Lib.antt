@@ -1,0 +1,9 @@
+pub mod Listing
+pub mod Appending
+pub mod Numbers
+pub mod Refusals
+pub mod RowSpelling
+pub mod EventSpelling
+pub mod Hearing
+pub mod RowReading
+pub mod EventReading

@@ -1,0 +1,5 @@
+pub mod Events
+pub mod Writing
+pub mod SpelledEvents
+pub mod Sent
+pub mod Examples

@@ -1,0 +1,24 @@
+//! The events that a client is sent unasked, written and read: how an entry's value changed, that a
+//! near cache is to give up an entry, and the rows that a member knows.
+#![tactic(auto)]
+
+mod events;
+mod fields;
+mod kinds;
+pub mod laws;
+mod parts;
+mod reading;
+mod rows;
+mod seen;
+mod writing;
+
+pub use events::ClientEvent;
+pub use kinds::{
+    ADDED, ENTRY_EVENT_KIND, EXPIRED, INVALIDATION_EVENT_KIND, REMOVED, ROWS_EVENT_KIND, UPDATED,
+};
+pub use reading::read_event;
+pub use seen::{SeenMembers, SeenRow, SeenRows};
+pub use writing::{write_entry_event, write_invalidation, write_rows};
+
+#[cfg(test)]
+mod tests;
