@@ -1,0 +1,5 @@
+pub mod Waiting
+pub mod Keeping
+pub mod Answering
+pub mod CallerLemmas
+pub mod Running

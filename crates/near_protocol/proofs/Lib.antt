@@ -1,0 +1,14 @@
+pub mod Parts
+pub mod Versions
+pub mod Orders
+pub mod Worlds
+pub mod Invariant
+pub mod Goes
+pub mod Saying
+pub mod Attaching
+pub mod Occur
+pub mod Hear
+pub mod HearRows
+pub mod Moves
+pub mod Theorem
+pub mod Holders
