@@ -178,6 +178,14 @@ def broken_standard_streams_end_the_server(checks: Checks) -> None:
     checks.equal("no standard error", (DONE, b"1 ok\n"), (no_error.returncode, no_error.stdout))
 
 
+def a_console_that_nobody_reads_ends_the_server(checks: Checks) -> None:
+    """Where what read standard output has gone, the next outcome ends the script with status 4, and no signal."""
+    with Server(stay=False) as server:
+        server.read_no_more()
+        server.type("# one\n")
+        checks.equal("status", WRITE_FAULT, server.wait())
+
+
 TESTS = (
     words_that_are_no_options_are_told,
     help_and_version_are_printed,
@@ -186,4 +194,5 @@ TESTS = (
     a_whole_control_script_runs,
     scripts_past_a_limit_end,
     broken_standard_streams_end_the_server,
+    a_console_that_nobody_reads_ends_the_server,
 )

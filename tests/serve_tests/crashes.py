@@ -48,27 +48,23 @@ def a_put_waits_for_a_crashed_backup(checks: Checks) -> None:
         checks.equal("a put behind that", wire.valued(Kind.PUT, 4, b"held"), putting.ask(wire.put(4, KEY, b"next")))
 
 
-def more_held_calls_than_a_worker_takes_are_refused(checks: Checks) -> None:
-    """Puts of two hundred connections wait for a crashed backup. Those that the worker has no room for are refused with 6, and
-    the others are answered behind the detection, not before; what was refused doesn't stand."""
+def many_held_calls_are_answered_or_refused(checks: Checks) -> None:
+    """Puts of two hundred connections wait for a crashed backup. All are answered behind the detection, not before, but for those
+    that the worker had no room for: they are refused with 6, and don't stand."""
     with Server() as server, ExitStack() as stack:
         clients = [stack.enter_context(server.known(PRIMARY, number)) for number in range(200)]
-        keys = [Key(5, f"{number:08}") for number in range(200)]
         checks.equal("crash", "1 ok", server.order(f"crash {BACKUP}"))
-        for number, (client, key) in enumerate(zip(clients, keys, strict=True)):
-            client.send(wire.put(number, key, b"held"))
+        for number, client in enumerate(clients):
+            client.send(wire.put(number, Key(5, f"{number}"), b"held"))
         early = {number: client.answer() for number, client in enumerate(clients) if client.comes(0.005) == "bytes"}
+        for number, answer in early.items():
+            checks.equal(f"put {number}, before the detection", wire.refused(number, Refusal.BUSY), answer)
         checks.equal("detect", "2 ok", server.order(f"detect {BACKUP}"))
-        refused = 0
-        for number, (client, key) in enumerate(zip(clients, keys, strict=True)):
+        for number, client in enumerate(clients):
             answer = early[number] if number in early else client.answer()
-            is_refused = answer == wire.refused(number, Refusal.BUSY)
-            refused += is_refused
-            if number in early or not is_refused:
-                wanted = wire.refused(number, Refusal.BUSY) if number in early else wire.valued(Kind.PUT, number, None)
-                checks.equal(f"put {number}", wanted, answer)
-            checks.equal(f"what stands of put {number}", None if is_refused else b"held", client.get(key).value)
-        checks.holds("refused puts", 0 < refused < 200, "some", refused)
+            was_refused = answer == wire.refused(number, Refusal.BUSY)
+            checks.equal(f"put {number}", True, was_refused or answer == wire.valued(Kind.PUT, number, None))
+            checks.equal(f"put {number} stands", None if was_refused else b"held", client.get(Key(5, f"{number}")).value)
 
 
 def a_crashed_member_ends_its_connections(checks: Checks) -> None:
@@ -329,7 +325,7 @@ def no_acknowledged_write_is_lost(checks: Checks) -> None:
 
 TESTS = (
     a_put_waits_for_a_crashed_backup,
-    more_held_calls_than_a_worker_takes_are_refused,
+    many_held_calls_are_answered_or_refused,
     a_crashed_member_ends_its_connections,
     an_answered_put_outlives_its_primary,
     moves_are_not_noticed,

@@ -189,6 +189,11 @@ class Server:
     def type_no_more(self) -> None:
         self.console.close()
 
+    def read_no_more(self) -> None:
+        """Closes the end of the pipe at which outcomes are read."""
+        assert self.process.stdout
+        self.process.stdout.close()
+
     # The process.
 
     def wait(self) -> int:
