@@ -57,8 +57,8 @@ def many_held_calls_are_answered_or_refused(checks: Checks) -> None:
         for number, client in enumerate(clients):
             client.send(wire.put(number, Key(5, f"{number}"), b"held"))
         early = {number: client.answer() for number, client in enumerate(clients) if client.comes(0.005) == "bytes"}
-        for number, answer in early.items():
-            checks.equal(f"put {number}, before the detection", wire.refused(number, Refusal.BUSY), answer)
+        wrong = [number for number, answer in early.items() if answer != wire.refused(number, Refusal.BUSY)]
+        checks.equal("puts that are answered before the detection, and not refused", [], wrong)
         checks.equal("detect", "2 ok", server.order(f"detect {BACKUP}"))
         for number, client in enumerate(clients):
             answer = early[number] if number in early else client.answer()
@@ -233,11 +233,11 @@ class Operator:
             outcome = self.order(f"advance {partition}")
         return outcome
 
-    def move(self, partition: int, source: int, target: int) -> list[str]:
-        """Moves a partition whose source leads it. The first words of what that came to."""
+    def move(self, partition: int, source: int, target: int) -> str:
+        """Moves a partition whose source leads it. What its beginning and its end came to, without the versions."""
         self.moves += 1
-        began = self.order(f"move {partition} {source} {target}")
-        return [began.split(" ")[0], self.finish_move(partition).split(" ")[0]]
+        outcomes = self.order(f"move {partition} {source} {target}"), self.finish_move(partition)
+        return ", ".join(outcome.split(" ")[0] for outcome in outcomes)
 
 
 def have_called(workers: Sequence[Worker], calls: int) -> bool:
@@ -260,12 +260,14 @@ def moves_are_not_noticed(checks: Checks) -> None:
     with Server() as server:
         operator = Operator(server)
         keepers = [Keeper(server, number, partitions) for number in range(4)]
+        outcomes = set()
         with working(checks, keepers):
             for turn in lasts(2.0, lambda: have_called(keepers, 100)):
                 partition = partitions[turn % len(partitions)]
                 there = [partition % 3, (partition + 2) % 3]
                 source, target = there if turn // len(partitions) % 2 == 0 else there[::-1]
-                checks.equal(f"move {turn}", ["row", "row"], operator.move(partition, source, target))
+                outcomes.add(operator.move(partition, source, target))
+        checks.equal("what the moves came to", {"row, row"}, outcomes)
         checks.at_least("moves", 2 * len(partitions), operator.moves)
         checks.at_least("calls of each client", 100, min(keeper.calls for keeper in keepers))
 
@@ -274,7 +276,7 @@ def move_some(checks: Checks, operator: Operator, partitions: list[int]) -> None
     """Moves these partitions from their first primaries to members outside their rows."""
     for partition in partitions:
         outcome = operator.move(partition, partition % 3, (partition + 2) % 3)
-        checks.equal(f"move of {partition}", ["row", "row"], outcome)
+        checks.equal(f"move of {partition}", "row, row", outcome)
 
 
 def begin_moves(operator: Operator, partitions: list[int]) -> None:
