@@ -287,11 +287,18 @@ def begin_moves(operator: Operator, partitions: list[int]) -> None:
             operator.order(f"advance {partition}")
 
 
+def go_on(operator: Operator, partition: int) -> bool:
+    """Has a move go on as far as it can now. Whether it did."""
+    steps = 0
+    while operator.order(f"advance {partition}") != "nothing":
+        steps += 1
+    return steps > 0
+
+
 def finish_moves(operator: Operator, partitions: list[int]) -> None:
-    """Has moves go on as far as they can."""
-    for partition in partitions:
-        while operator.order(f"advance {partition}") != "nothing":
-            pass
+    """Has moves go on until none does: a source that was frozen may have answers to give first."""
+    while any([go_on(operator, partition) for partition in partitions]):
+        pass
 
 
 def all_go_on(checks: Checks, writers: list[Writer], when: str) -> None:

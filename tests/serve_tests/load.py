@@ -31,12 +31,8 @@ def rests(server: Server) -> bool:
 
 def is_at_rest(checks: Checks, server: Server, when: str) -> None:
     """The server rests once it has done what it had to do, which takes a slow one a while."""
-    used = server.used_in(1.0)
-    for _ in range(10):
-        if used <= REST:
-            break
-        used = server.used_in(1.0)
-    checks.at_most(f"processor seconds in a second, {when}", REST, used)
+    rested = wait_until(lambda: rests(server), seconds=10)
+    checks.holds(f"processor seconds in a second, {when}", rested, f"at most {REST}", "more")
 
 
 # Floods and slow readers.
