@@ -1,0 +1,1 @@
+"""What tests of the command `grid serve` share: the client protocol's bytes, clients, a server, and how a test is told."""

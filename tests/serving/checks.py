@@ -1,0 +1,84 @@
+"""How a test is told: one line for each failure, and the counts."""
+
+from __future__ import annotations
+
+import time
+from collections.abc import Callable, Iterable
+
+# How much of a value a line shows.
+MOST_SHOWN = 200
+
+# How many seconds tests go on beginning. A server that works needs far fewer.
+LONGEST = 600
+
+
+def shown(value: object) -> str:
+    text = value.hex() if isinstance(value, (bytes, bytearray)) else str(value)
+    return text if len(text) <= MOST_SHOWN else f"{text[:MOST_SHOWN]}... ({len(text)} characters)"
+
+
+class Checks:
+    """What was compared in a test, which has passed where nothing differed."""
+
+    def __init__(self, name: str) -> None:
+        self.name = name
+        self.passed = 0
+        self.failed = 0
+
+    def equal(self, what: str, wanted: object, came: object) -> None:
+        """What came has to be what was wanted."""
+        self.holds(what, wanted == came, wanted, came)
+
+    def holds(self, what: str, holds: bool, wanted: object, came: object) -> None:
+        """This has to hold; else what was wanted and what came are told."""
+        if holds:
+            self.passed += 1
+            return
+        self.failed += 1
+        print(f"serve, {self.name}, {what}: '{shown(came)}' in place of '{shown(wanted)}'", flush=True)
+
+    def at_most(self, what: str, most: float, came: float) -> None:
+        self.holds(what, came <= most, f"at most {most:g}", f"{came:g}")
+
+    def at_least(self, what: str, least: float, came: float) -> None:
+        self.holds(what, came >= least, f"at least {least:g}", f"{came:g}")
+
+
+Test = Callable[[Checks], None]
+
+
+def name_of(test: Test) -> str:
+    return test.__name__.replace("_", " ")
+
+
+def not_run(test: Test) -> Checks:
+    """A test for which no time is left has failed."""
+    checks = Checks(name_of(test))
+    checks.holds("its turn", False, f"within {LONGEST} seconds", "none")
+    return checks
+
+
+def run_test(test: Test) -> Checks:
+    """Runs a test. A fault in it is a failure."""
+    checks = Checks(name_of(test))
+    try:
+        test(checks)
+    except Exception as error:  # whatever went wrong is told, and the next test runs
+        checks.holds("a fault", False, "none", f"{type(error).__name__}: {error}")
+    return checks
+
+
+def run_tests(tests: Iterable[Test], *, told: bool) -> bool:
+    """Runs tests one after the other, and prints the counts. True where none failed."""
+    passed = failed = 0
+    begin = time.monotonic()
+    for test in tests:
+        start = time.monotonic()
+        checks = run_test(test) if start < begin + LONGEST else not_run(test)
+        passed += checks.passed
+        failed += checks.failed
+        if told:
+            took = f"{time.monotonic() - start:6.2f} s"
+            print(f"{took}  {checks.passed:5} passed  {checks.failed:3} failed  {checks.name}", flush=True)
+    print(f"{passed} passed, {failed} failed")
+    return failed == 0
