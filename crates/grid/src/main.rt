@@ -8,8 +8,9 @@ use entry_processors::{Add, AddUpTo, Append, Clear, Form, Processor, SetIfGreate
 use grid_base::Memory;
 use grid_cli::Status;
 use grid_edge::{StdClock, StdSink, StdSource};
-use grid_server::{grid_top, help_of_serve, why_refused};
-use std::alloc::AllocGlobal;
+use grid_server::grid_top;
+use serve_options::{OptionsRefused, help_of_serve, read_options, why_refused};
+use std::alloc::{AllocGlobal, Global};
 use std::io::{Eprint, ErrorKind};
 use std::net::Net;
 use std::process::ExitCode;
@@ -49,8 +50,16 @@ fn is_serve(words: &[String]) -> bool {
     }
 }
 
+/// Whether these are words of a server that ask for help before anything in them is wrong.
+fn ask_for_help(alloc: Global, words: &[String]) -> bool {
+    is_serve(words) && read_options(alloc, words) == Err(OptionsRefused::Help)
+}
+
 impl Request {
-    fn of(words: &[String]) -> Request {
+    fn of(alloc: Global, words: &[String]) -> Request {
+        if ask_for_help(alloc, words) {
+            return Request::ServeHelp;
+        }
         let (command, word) = match words {
             [word] => ("", word.as_str()),
             [command, word] => (command.as_str(), word.as_str()),
@@ -58,7 +67,6 @@ impl Request {
         };
         match (command, word) {
             ("" | "replay", "--help" | "-h") => Request::Help,
-            ("serve", "--help" | "-h") => Request::ServeHelp,
             ("" | "replay" | "serve", "--version") => Request::Version,
             _ => Request::Command,
         }
@@ -148,7 +156,7 @@ fn cause(status: Status) -> Option<&'static str> {
 fn tell_cause(rt: &HostRuntime, words: &[String], status: Status) {
     if status == Status::Usage
         && is_serve(words)
-        && let Ok(why) = why_refused(rt.alloc(), words)
+        && let Ok(Some(why)) = why_refused(rt.alloc(), words)
     {
         let _ = rt.eprintln(why.as_str().trim_end());
     } else if let Some(cause) = cause(status) {
@@ -168,7 +176,7 @@ fn main(rt: HostRuntime) -> ExitCode {
     let alloc = rt.alloc();
     let (words, request) = match words(&rt) {
         Ok(words) => {
-            let request = Request::of(words.as_slice());
+            let request = Request::of(alloc, words.as_slice());
             (words, Ok(request))
         }
         Err(error) => (Vec::new(alloc), Err(unread(&error))),
