@@ -1,5 +1,5 @@
 -- The passes of a grid in which nothing has happened.
-use Rattle.std.proofs.Common.{◌≡◌, ℕ, true, List, [], ◌∷◌, map, length, Some, slice_get, sym, refl, ap, ◌∙◌, subst, zero, suc}
+use Rattle.std.proofs.Common.{◌≡◌, ℕ, true, List, [], ◌∷◌, map, length, Some, slice_get, sym, refl, ap, ◌∙◌, subst}
 use Rattle.grid_base.specs.declared.TheConstants.{PARTITIONS}
 use Rattle.grid_base.specs.declared.calls.Request.{Request}
 use Rattle.hand_cell.specs.declared.cell.Cell.{Cell}
@@ -14,7 +14,6 @@ use Rattle.session_calls.specs.Passes.{HaveNumber, giving_up, given}
 use Rattle.session_calls.proofs.OfCells.{came_from}
 use Rattle.live_grid.specs.declared.grid.GridPass.{GridPass}
 use Rattle.live_grid.specs.declared.grid.LiveGrid.{LiveGrid}
-use Rattle.live_grid.specs.Control.{IsPassOfGrid, HasControl, cells_of}
 use Rattle.live_grid.specs.Grids.{place_of}
 use Rattle.live_control.specs.Running.{MayServe}
 use Rattle.grid_server.specs.Settings.{AreNew}

@@ -2,5 +2,4 @@ mod Beginning
 mod Ending
 mod Handing
 mod Opening
-mod Refusing
 mod Replayed

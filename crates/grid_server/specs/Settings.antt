@@ -1,5 +1,5 @@
 -- What a server is made of before anything has happened.
-use Rattle.std.specs.Prelude.{◌≡◌, ℕ, ◌*◌, ◌≤◌, ◌<◌, List, [], length, Option, Some, None, slice_get}
+use Rattle.std.specs.Prelude.{◌≡◌, ℕ, ◌*◌, ◌≤◌, List, [], length, Option, Some, None, slice_get}
 use Rattle.std.specs.Vec.{vec_capacity}
 use Rattle.entry_processors.specs.declared.form.Form.{Form}
 use Rattle.grid_base.specs.declared.calls.Request.{Request}
@@ -8,9 +8,8 @@ use Rattle.partition_threads.specs.declared.workers.WorkerTokens.{WorkerTokens}
 use Rattle.partition_threads.specs.declared.workplace.Workplace.{Workplace}
 use Rattle.partition_threads.specs.Workplaces.{IsTokenAt, AreTokensAt}
 use Rattle.partition_world.specs.declared.event.Event.{Event}
-use Rattle.session_calls.specs.Passes.{ArePassesOf, HaveNumber}
+use Rattle.session_calls.specs.Passes.{HaveNumber}
 use Rattle.partition_world.specs.declared.event.Happened.{Happened}
-use Rattle.live_grid.specs.declared.grid.GridPass.{GridPass}
 use Rattle.live_grid.specs.declared.grid.LiveGrid.{LiveGrid}
 use Rattle.live_grid.specs.declared.plan.GridPlan.{GridPlan}
 use Rattle.live_grid.specs.declared.world.LiveWorld.{LiveWorld}

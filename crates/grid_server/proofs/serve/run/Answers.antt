@@ -1,5 +1,4 @@
-use Rattle.std.proofs.Common.{◌≡◌, List, Ok, Err, OnOk, OnErr, inl, inr, map, Some, refl, sym, ap, ◌∙◌, subst}
-use Rattle.grid_edge.specs.Faults.{Rose}
+use Rattle.std.proofs.Common.{inl, inr, map, Some, refl, subst}
 use Rattle.live_grid.specs.Histories.{live_key}
 use Rattle.session_calls.specs.Passes.{AreJoinedWith}
 use Rattle.grid_server.proofs.Ending.{may_gather, rest_gathers, has_served, on_ok, on_err}

@@ -1,8 +1,6 @@
-use Rattle.std.proofs.Common.{◌≡◌, ◌+◌, ◌*◌, ◌∷◌, [], Some, length, refl, sym, ap, ◌∙◌, subst, arith}
-use Rattle.std.proofs.lemmas.List.{length-append}
+use Rattle.std.proofs.Common.{length, refl, ap}
 use Rattle.live_grid.specs.Grids.{place_of}
-use Rattle.partition_threads.specs.Workplaces.{IsTokenAt}
-use Rattle.grid_server.proofs.Handing.{no_workers, workers_more}
+use Rattle.grid_server.proofs.Handing.{no_workers}
 use Rattle.grid_server.proofs.setting.tokens_of.Goals as goal
 
 pub tokens-requires-clause-pass : goal.tokens-requires-clause-pass

@@ -1,4 +1,4 @@
-use Rattle.std.proofs.Common.{◌≡◌, ◌≤◌, length}
+use Rattle.std.proofs.Common.{◌≡◌, length}
 use Rattle.live_grid.specs.Grids.{IsGridPassOf, place_of}
 use Rattle.grid_server.specs.Settings.{AreWorkers}
 use Rattle.grid_server.proofs.setting.tokens_of.Given as goal

@@ -1,4 +1,4 @@
-use Rattle.std.proofs.Common.{◌≡◌, ap, ◌∙◌}
+use Rattle.std.proofs.Common.{ap, ◌∙◌}
 use Rattle.grid_server.specs.Serving.{operator}
 use Rattle.grid_server.proofs.Replayed.{replayed_as, printed_as}
 use Rattle.grid_server.proofs.top.grid_top.Goals as goal

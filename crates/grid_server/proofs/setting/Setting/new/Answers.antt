@@ -1,8 +1,5 @@
-use Rattle.std.proofs.Common.{rules, ◌≡◌, ◌*◌, List, map, length, sym, ap, ◌∙◌, subst, arith}
-use Rattle.grid_base.specs.declared.calls.Request.{Request}
-use Rattle.hand_cell.specs.Told.{Told}
+use Rattle.std.proofs.Common.{◌≡◌, ◌*◌, map, length, sym, ap, ◌∙◌, subst, arith}
 use Rattle.hand_cell.specs.declared.names.Names.TheVariants.{Every}
-use Rattle.partition_world.specs.declared.event.Event.{Event}
 use Rattle.session_calls.specs.Passes.{giving_up, given, HaveNumber, ArePassesOf}
 use Rattle.partition_threads.specs.Workplaces.{AreTokensAt}
 use Rattle.live_grid.specs.Grids.{place_of}
