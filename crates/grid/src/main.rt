@@ -7,16 +7,14 @@ use crate::telling_doors::TellingDoors;
 use entry_processors::{Add, AddUpTo, Append, Clear, Form, Processor, SetIfGreater};
 use grid_base::Memory;
 use grid_cli::Status;
-use grid_edge::{StdClock, StdSink, StdSource};
+use grid_edge::{Clock, Doors, StdClock, StdSink, StdSource};
 use grid_server::grid_top;
 use serve_options::{OptionsRefused, help_of_serve, read_options, why_refused};
-use std::alloc::{AllocGlobal, Global};
-use std::io::{Eprint, ErrorKind};
-use std::net::Net;
+use std::alloc::Global;
+use std::io::ErrorKind;
 use std::process::ExitCode;
 use std::sync::Wait;
 use std::thread::Threads;
-use std::time::Clock;
 use std::{env, io};
 use tcp_edge::TcpDoors;
 
@@ -91,35 +89,30 @@ const FORMS: [Form; 5] = [
     Form::Clear,
 ];
 
-/// Carries out the command of these words.
-fn carry_out<R>(
+/// Carries out the command of these words with the grid's processors.
+fn carry_out<R, C, D>(
     rt: &R,
+    alloc: Global,
     words: &[String],
-    mut script: StdSource,
-    mut out: StdSink,
+    script: &mut StdSource,
+    out: &mut StdSink,
+    clock: &C,
+    doors: &mut D,
 ) -> Result<Status, Memory>
 where
-    R: Threads + Wait + Net + Clock + Eprint + AllocGlobal + Sync,
+    R: Threads + Wait + Sync,
+    C: Clock,
+    D: Doors<From: Drop, To: Drop, Waker: Drop>,
 {
-    let alloc = rt.alloc();
     let mut processors: Vec<Box<dyn Processor>> = Vec::with_capacity(alloc, FORMS.len())?;
     processors.push(Box::new(alloc, Add)?)?;
     processors.push(Box::new(alloc, AddUpTo(MOST_COUNTED))?)?;
     processors.push(Box::new(alloc, Append)?)?;
     processors.push(Box::new(alloc, SetIfGreater)?)?;
     processors.push(Box::new(alloc, Clear)?)?;
-    let clock = StdClock::new(rt);
-    let mut doors = TellingDoors::new(TcpDoors::new(rt), rt);
+    let forms = FORMS.as_slice();
     let ended = grid_top(
-        rt,
-        alloc,
-        words,
-        processors,
-        FORMS.as_slice(),
-        &mut script,
-        &mut out,
-        &clock,
-        &mut doors,
+        rt, alloc, words, processors, forms, script, out, clock, doors,
     );
     Ok(ended.status)
 }
@@ -182,12 +175,22 @@ fn main(rt: HostRuntime) -> ExitCode {
         Err(error) => (Vec::new(alloc), Err(unread(&error))),
     };
     let words = words.as_slice();
-    let (script, out) = (StdSource::new(rt.stdin()), StdSink::new(rt.stdout()));
+    let (mut script, mut out) = (StdSource::new(rt.stdin()), StdSink::new(rt.stdout()));
+    let clock = StdClock::new(&rt);
+    let mut doors = TellingDoors::new(TcpDoors::new(&rt), &rt);
     let status = match request {
         Ok(Request::Help) => print(&rt, USAGE),
         Ok(Request::ServeHelp) => print_options(&rt),
         Ok(Request::Version) => print(&rt, VERSION),
-        Ok(Request::Command) => carry_out(&rt, words, script, out).unwrap_or(Status::Memory),
+        Ok(Request::Command) => carry_out(
+            &rt,
+            alloc,
+            words,
+            &mut script,
+            &mut out,
+            &clock,
+            &mut doors,
+        ).unwrap_or(Status::Memory),
         Err(status) => status,
     };
     tell_cause(&rt, words, status);
