@@ -1,13 +1,13 @@
 #!/usr/bin/env bash
 # Runs the program `grid` as it is run by hand: its words, its exit statuses, and what it writes to its streams. Run it
 # from anywhere, after `rt ci` or `rt run` in crates/grid has built the program: tests/program.sh. GRID names another.
-# The last line is 'N passed, M failed', and the exit status is 0 where none failed.
+# The last line is 'N passed, M failed', and the exit status is 0 where none failed. A server that serves is run by serve.py.
 set -u
 cd "$(dirname "$0")/.." || exit 1
 
 grid=${GRID:-crates/grid/out/grid}
 script=crates/grid/stdin
-usage='usage: grid replay < SCRIPT    runs a script and prints its transcript'
+usage='usage: grid replay < SCRIPT             runs a script and prints its transcript'
 passed=0
 failed=0
 room=$(mktemp -d) || exit 1
@@ -45,7 +45,7 @@ fi
 # Words that are no command, one of them no text.
 run <"$script"
 ended 'no words' 1 '' "$usage"
-for words in 'serve' 'Replay' 'replay x' '--help x' '--version x' $'\xff'; do
+for words in 'Serve' 'Replay' 'replay x' '--help x' '--version x' $'\xff'; do
     # shellcheck disable=SC2086
     run $words <"$script"
     ended "the words $words" 1 '' "$usage"
@@ -59,8 +59,26 @@ for words in '--help' 'replay --help'; do
     run $words <"$script"
     ended "the words $words" 0 "$help" ''
 done
-run --version <"$script"
-ended 'the word --version' 0 'grid 0.1.0' ''
+for words in '--version' 'replay --version' 'serve --version'; do
+    # shellcheck disable=SC2086
+    run $words <"$script"
+    ended "the words $words" 0 'grid 0.1.0' ''
+done
+
+# The usage names both commands. A server's options are asked for, and others are told.
+for command in 'grid replay' 'grid serve'; do
+    compare "the usage of $command" 1 "$(grep -c "$command .*<" <<<"$help")"
+done
+run serve --help <"$script"
+compare 'the options, exit status' 0 "$status"
+compare 'the options, standard error' '' "$(cat "$room/err")"
+for option in members backups capacity port stay; do
+    compare "the option --$option" 1 "$(grep -c -- "--$option " "$room/out")"
+done
+run serve x <"$script"
+ended 'the words serve x' 1 '' "error: unexpected argument 'x' found"
+run serve --members 9 <"$script"
+ended 'the words serve --members 9' 1 '' "error: invalid value '9' for '--members <NUMBER>': 9 is not in 1..=8"
 
 # Scripts that end, are refused, and go past a limit.
 run replay <"$script"
@@ -74,7 +92,7 @@ ended 'a long line' 5 $'1 ok\nlimit 2 line' ''
 # Standard input that can't be read, and standard output that can't be written.
 run replay <.
 ended 'a directory' 3 '' "grid: standard input can't be read"
-for words in 'replay' '--help' '--version'; do
+for words in 'replay' '--help' 'serve --help' '--version'; do
     # shellcheck disable=SC2086
     timeout 60 "$grid" $words <"$script" >/dev/full 2>"$room/err"
     compare "a full disk and $words, exit status" 4 $?

@@ -48,23 +48,22 @@ def a_put_waits_for_a_crashed_backup(checks: Checks) -> None:
         checks.equal("a put behind that", wire.valued(Kind.PUT, 4, b"held"), putting.ask(wire.put(4, KEY, b"next")))
 
 
-def many_held_calls_are_answered_or_refused(checks: Checks) -> None:
-    """Puts of two hundred connections wait for a crashed backup. All are answered behind the detection, not before, but for those
-    that the worker had no room for: they are refused with 6, and don't stand."""
+def many_held_calls_are_answered(checks: Checks) -> None:
+    """Puts of two hundred connections on one partition wait for a crashed backup, and calls of another partition of that worker are
+    answered meanwhile. All puts are answered behind the detection, and none before."""
     with Server() as server, ExitStack() as stack:
         clients = [stack.enter_context(server.known(PRIMARY, number)) for number in range(200)]
+        other = stack.enter_context(server.known(PRIMARY, 200))
         checks.equal("crash", "1 ok", server.order(f"crash {BACKUP}"))
         for number, client in enumerate(clients):
             client.send(wire.put(number, Key(5, f"{number}"), b"held"))
-        early = {number: client.answer() for number, client in enumerate(clients) if client.comes(0.005) == "bytes"}
-        wrong = [number for number, answer in early.items() if answer != wire.refused(number, Refusal.BUSY)]
-        checks.equal("puts that are answered before the detection, and not refused", [], wrong)
+        early = [number for number, client in enumerate(clients) if client.comes(0.005) == "bytes"]
+        checks.equal("puts that are answered before the detection", [], early)
+        checks.equal("a get beside them", wire.valued(Kind.GET, 3, None), other.ask(wire.get(3, SAME_WORKER)))
         checks.equal("detect", "2 ok", server.order(f"detect {BACKUP}"))
         for number, client in enumerate(clients):
-            answer = early[number] if number in early else client.answer()
-            was_refused = answer == wire.refused(number, Refusal.BUSY)
-            checks.equal(f"put {number}", True, was_refused or answer == wire.valued(Kind.PUT, number, None))
-            checks.equal(f"put {number} stands", None if was_refused else b"held", client.get(Key(5, f"{number}")).value)
+            checks.equal(f"put {number}", wire.valued(Kind.PUT, number, None), client.answer())
+            checks.equal(f"put {number} stands", b"held", client.get(Key(5, f"{number}")).value)
 
 
 def a_crashed_member_ends_its_connections(checks: Checks) -> None:
@@ -334,7 +333,7 @@ def no_acknowledged_write_is_lost(checks: Checks) -> None:
 
 TESTS = (
     a_put_waits_for_a_crashed_backup,
-    many_held_calls_are_answered_or_refused,
+    many_held_calls_are_answered,
     a_crashed_member_ends_its_connections,
     an_answered_put_outlives_its_primary,
     moves_are_not_noticed,

@@ -11,7 +11,7 @@ from serving import wire
 from serving.checks import Checks
 from serving.client import PATIENCE, Client, wait_until
 from serving.server import Server
-from serving.wire import Key, Kind, Refusal
+from serving.wire import Key, Kind
 
 PRIMARY = 2
 
@@ -135,10 +135,8 @@ class Caller:
         self.client.send(wire.PREFIX, wire.authentication(0, client=number + 1), self.call)
 
     def is_answered(self) -> bool:
-        """Whether both are answered. A call that found its worker's queue full, as many come at once, is made again."""
+        """Whether both are answered."""
         accepted, answer = self.client.answers(2)
-        while answer == wire.refused(self.number, Refusal.BUSY):
-            answer = self.client.ask(self.call)
         return [accepted, answer] == [wire.accepted(0, self.member), wire.valued(Kind.GET, self.number, None)]
 
     def leave(self) -> None:

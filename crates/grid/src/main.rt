@@ -1,19 +1,32 @@
-//! The program: `grid replay` reads a script from standard input and prints its transcript.
+//! The program: `grid replay` runs a script and prints its transcript, and `grid serve` serves clients.
 #![tactic(auto)]
 
-use entry_processors::{Add, AddUpTo, Append, Clear, Processor, SetIfGreater};
+ghost use Rattle.std.specs.Prelude.{◌≡◌, map, IfOk};
+ghost use Rattle.entry_processors.specs.Forms.{form_of};
+
+mod telling_doors;
+
+use crate::telling_doors::TellingDoors;
+use entry_processors::{Add, AddUpTo, Append, Clear, Form, Processor, SetIfGreater};
 use grid_base::Memory;
-use grid_cli::{Status, replay_command};
-use grid_edge::{StdSink, StdSource};
+use grid_cli::Status;
+use grid_edge::{Clock, Doors, StdClock, StdSink, StdSource};
+use grid_server::grid_top;
+use serve_options::{OptionsRefused, help_of_serve, read_options, why_refused};
+use std::alloc::Global;
 use std::io::ErrorKind;
 use std::process::ExitCode;
+use std::sync::Wait;
+use std::thread::Threads;
 use std::{env, io};
+use tcp_edge::TcpDoors;
 
 /// The words that are commands.
 const USAGE: &str = "\
-usage: grid replay < SCRIPT    runs a script and prints its transcript
-       grid --help             prints this
-       grid --version          prints the version";
+usage: grid replay < SCRIPT             runs a script and prints its transcript
+       grid serve [OPTIONS] < CONTROL   serves clients; grid serve --help has the options
+       grid --help                      prints this
+       grid --version                   prints the version";
 
 const VERSION: &str = "grid 0.1.0";
 
@@ -21,22 +34,41 @@ const VERSION: &str = "grid 0.1.0";
 const MOST_COUNTED: i64 = 1000;
 
 /// What the words after the program's name ask for.
-#[derive(Clone, Copy)]
+#[derive(Clone, Copy, Debug)]
 enum Request {
     Help,
+    /// The options of a server.
+    ServeHelp,
     Version,
     /// A command, or words that are none.
     Command,
 }
 
+fn is_serve(words: &[String]) -> bool {
+    match words {
+        [word, ..] => word.as_str() == "serve",
+        [] => false,
+    }
+}
+
+/// Whether these are words of a server that ask for help before anything in them is wrong.
+fn ask_for_help(alloc: Global, words: &[String]) -> bool {
+    is_serve(words) && read_options(alloc, words) == Err(OptionsRefused::Help)
+}
+
 impl Request {
-    fn of(words: &[String]) -> Request {
-        match words {
-            [word] if word.as_str() == "--help" => Request::Help,
-            [word] if word.as_str() == "--version" => Request::Version,
-            [command, word] if command.as_str() == "replay" && word.as_str() == "--help" => {
-                Request::Help
-            }
+    fn of(alloc: Global, words: &[String]) -> Request {
+        if ask_for_help(alloc, words) {
+            return Request::ServeHelp;
+        }
+        let (command, word) = match words {
+            [word] => ("", word.as_str()),
+            [command, word] => (command.as_str(), word.as_str()),
+            _ => return Request::Command,
+        };
+        match (command, word) {
+            ("" | "replay", "--help" | "-h") => Request::Help,
+            ("" | "replay" | "serve", "--version") => Request::Version,
             _ => Request::Command,
         }
     }
@@ -51,18 +83,62 @@ fn words(rt: &HostRuntime) -> io::Result<Vec<String>> {
     Ok(words)
 }
 
+/// Appends a processor, and its form to the forms.
+fn enrol(
+    processors: &mut Vec<Box<dyn Processor>>,
+    forms: &mut Vec<Form>,
+    processor: Box<dyn Processor>,
+    its: Form,
+) -> Result<(), Memory>
+    requires forms { map form processors.old.items ≡ map form_of forms.old.items }
+    requires its { form processor ≡ form_of its }
+    ensures { IfOk result (λ _. map form processors.new.items ≡ map form_of forms.new.items) }
+{
+    processors.push(processor)?;
+    forms.push(its)?;
+    Ok(())
+}
+
 /// Carries out the command of these words with the grid's processors, whose numbers go from 1.
-fn carry_out(rt: &HostRuntime, words: &[String]) -> Result<Status, Memory> {
-    let alloc = rt.alloc();
-    let mut processors: Vec<Box<dyn Processor>> = Vec::with_capacity(alloc, 5)?;
-    processors.push(Box::new(alloc, Add)?)?;
-    processors.push(Box::new(alloc, AddUpTo(MOST_COUNTED))?)?;
-    processors.push(Box::new(alloc, Append)?)?;
-    processors.push(Box::new(alloc, SetIfGreater)?)?;
-    processors.push(Box::new(alloc, Clear)?)?;
-    let mut script = StdSource::new(rt.stdin());
-    let mut out = StdSink::new(rt.stdout());
-    Ok(replay_command(alloc, words, processors, &mut script, &mut out))
+fn carry_out<R, C, D>(
+    rt: &R,
+    alloc: Global,
+    words: &[String],
+    script: &mut StdSource,
+    out: &mut StdSink,
+    clock: &C,
+    doors: &mut D,
+) -> Result<Status, Memory>
+where
+    R: Threads + Wait + Sync,
+    C: Clock,
+    D: Doors<From: Drop, To: Drop, Waker: Drop>,
+{
+    let mut list: Vec<Box<dyn Processor>> = Vec::new(alloc);
+    let mut forms = Vec::new(alloc);
+    enrol(&mut list, &mut forms, Box::new(alloc, Add)?, Form::Add)?;
+    enrol(
+        &mut list,
+        &mut forms,
+        Box::new(alloc, AddUpTo(MOST_COUNTED))?,
+        Form::AddUpTo(MOST_COUNTED),
+    )?;
+    enrol(
+        &mut list,
+        &mut forms,
+        Box::new(alloc, Append)?,
+        Form::Append,
+    )?;
+    enrol(
+        &mut list,
+        &mut forms,
+        Box::new(alloc, SetIfGreater)?,
+        Form::SetIfGreater,
+    )?;
+    enrol(&mut list, &mut forms, Box::new(alloc, Clear)?, Form::Clear)?;
+    let forms = forms.as_slice();
+    let ended = grid_top(rt, alloc, words, list, forms, script, out, clock, doors);
+    Ok(ended.status)
 }
 
 /// Prints a text and a newline to standard output.
@@ -73,12 +149,11 @@ fn print(rt: &HostRuntime, text: &str) -> Status {
     }
 }
 
-/// Does what the words ask for.
-fn respond(rt: &HostRuntime, words: &[String]) -> Status {
-    match Request::of(words) {
-        Request::Help => print(rt, USAGE),
-        Request::Version => print(rt, VERSION),
-        Request::Command => carry_out(rt, words).unwrap_or(Status::Memory),
+/// Prints the options of a server.
+fn print_options(rt: &HostRuntime) -> Status {
+    match help_of_serve(rt.alloc()) {
+        Ok(help) => print(rt, help.as_str().trim_end()),
+        Err(_) => Status::Memory,
     }
 }
 
@@ -94,15 +169,54 @@ fn cause(status: Status) -> Option<&'static str> {
     }
 }
 
-/// Where standard error takes nothing, the exit status alone tells how the program ended.
-fn main(rt: HostRuntime) -> ExitCode {
-    let status = match words(&rt) {
-        Ok(words) => respond(&rt, words.as_slice()),
-        Err(error) if error.kind() == ErrorKind::OutOfMemory => Status::Memory,
-        Err(_) => Status::Usage,
-    };
-    if let Some(cause) = cause(status) {
+/// Tells standard error why the program ended so. Where it takes nothing, the exit status alone tells it.
+fn tell_cause(rt: &HostRuntime, words: &[String], status: Status) {
+    if status == Status::Usage
+        && is_serve(words)
+        && let Ok(Some(why)) = why_refused(rt.alloc(), words)
+    {
+        let _ = rt.eprintln(why.as_str().trim_end());
+    } else if let Some(cause) = cause(status) {
         let _ = rt.eprintln(cause);
     }
+}
+
+/// What a program comes to whose words can't be read.
+fn unread(error: &io::Error) -> Status {
+    match error.kind() {
+        ErrorKind::OutOfMemory => Status::Memory,
+        _ => Status::Usage,
+    }
+}
+
+fn main(rt: HostRuntime) -> ExitCode {
+    let alloc = rt.alloc();
+    let (words, request) = match words(&rt) {
+        Ok(words) => {
+            let request = Request::of(alloc, words.as_slice());
+            (words, Ok(request))
+        }
+        Err(error) => (Vec::new(alloc), Err(unread(&error))),
+    };
+    let words = words.as_slice();
+    let (mut script, mut out) = (StdSource::new(rt.stdin()), StdSink::new(rt.stdout()));
+    let clock = StdClock::new(&rt);
+    let mut doors = TellingDoors::new(TcpDoors::new(&rt), &rt);
+    let status = match request {
+        Ok(Request::Help) => print(&rt, USAGE),
+        Ok(Request::ServeHelp) => print_options(&rt),
+        Ok(Request::Version) => print(&rt, VERSION),
+        Ok(Request::Command) => carry_out(
+            &rt,
+            alloc,
+            words,
+            &mut script,
+            &mut out,
+            &clock,
+            &mut doors,
+        ).unwrap_or(Status::Memory),
+        Err(status) => status,
+    };
+    tell_cause(&rt, words, status);
     ExitCode::from(status.code())
 }

@@ -1,9 +1,11 @@
 -- What a server that has ended has done, of what its threads did.
-use Rattle.std.proofs.Common.{◌≡◌, ℕ, List, map, length, Some, Result, Ok, Err, OnOk, OnErr, slice_get, sym, ap, ◌∙◌, subst}
+use Rattle.std.proofs.Common.{◌≡◌, ◌⊎◌, inl, inr, ⊎_elim, ℕ, ◌-◌, ◌^◌, ◌<◌, ◌≤◌, List, map, length, Some, Result, Ok, Err, OnOk, OnErr, slice_get, sym, ap, ◌∙◌, subst, arith}
 use Rattle.std.proofs.lemmas.List.{length-map}
 use Rattle.entry_processors.specs.declared.form.Form.{Form}
 use Rattle.grid_base.specs.declared.calls.Request.{Request}
 use Rattle.grid_cli.specs.declared.status.Status.{Status}
+use Rattle.grid_cli.specs.declared.status.Status.TheVariants.{DoorFault as FaultOfDoors}
+use Rattle.grid_edge.specs.Faults.{Rose}
 use Rattle.grid_edge.specs.declared.doors.DoorFault.{DoorFault}
 use Rattle.hand_cell.specs.declared.cell.Cell.{Cell}
 use Rattle.hand_cell.specs.Told.{Told}
@@ -21,12 +23,13 @@ use Rattle.live_grid.specs.Grids.{AreCells, IsGridPassOf, place_of}
 use Rattle.live_grid.specs.Histories.{live_key}
 use Rattle.live_control.specs.Running.{MayServe as MayControl}
 use Rattle.live_server.specs.declared.connections.Connections.{Connections}
-use Rattle.live_server.specs.Standing.{Rests}
+use Rattle.live_server.specs.Standing.{Rests, HasLetAllIn}
 use Rattle.serve_options.specs.declared.options.ServeOptions.{ServeOptions}
 use Rattle.grid_server.specs.declared.setting.Setting.{Setting}
-use Rattle.grid_server.specs.Serving.{Operator, AtDoors, EndsAs, HasServed}
+use Rattle.grid_server.specs.Serving.{Operator, AtDoors, IsOpened, EndsAs, HasServed}
 use Rattle.grid_server.specs.Settings.{AreNew, IsSetting}
 use Rattle.grid_server.specs.Tasks.{HasServedClients, HasOperated}
+use Rattle.grid_server.proofs.Regained.{tables_of, still_controls}
 
 pub on_ok : {T E : Type 0} (P : Type 0) (r : Result T E) (x : T) → r ≡ Ok x → OnOk r P → P
 on_ok P r x e h = subst (λ (r : Result _ _). OnOk r P) e h
@@ -39,6 +42,14 @@ passes_of : {T P E O : Type 0} (cells : List (Cell T P E O)) (passes : List (Tol
 passes_of cells passes tables = record {
   as_long = sym (length-map passes (λ p. p.table)) ∙ (ap length tables ∙ length-map cells (λ c. c.table.shared.table_id));
   each = λ place pass e. sym (ap (λ ts. slice_get ts place) tables) ∙ mapped (λ p. p.table) passes place pass e;
+}
+
+-- the operator's pass may run events once it has taken the clients' in
+regained : (grid : LiveGrid) (last pass : GridPass) (theirs : List (Told (Event Request))) → MayControl grid last → length theirs ≡ length (place_of grid).cells.items
+    → AreJoinedWith live_key last.passes.items (map (λ part. Some part) theirs) pass.passes.items → IsGridPassOf grid pass → MayControl grid pass
+regained grid last pass theirs kept long joined whole = record {
+  of_grid = record { as_many = kept.of_grid.as_many; tables = tables_of (place_of grid).cells.items pass.passes.items whole.cells };
+  control = still_controls live_key last.passes.items theirs pass.passes.items (long ∙ sym (passes_of (place_of grid).cells.items last.passes.items kept.of_grid.tables).as_long) kept.control joined;
 }
 
 module _ {F K : Type 0} where
@@ -60,23 +71,59 @@ module _ {F K : Type 0} where
 
     pub has_served : (gives : ℕ → Type 0) (before after : Operator) (opened closed : AtDoors) (told status : Status) (ended : Result (Unit {0}) DoorFault) (stage_options : ServeOptions) (first last pass : GridPass) (connections : Connections LiveWorld F K GridPlan (Event Request) Happened)
         → stage_options ≡ options → first.passes.items ≡ setting.pass.passes.items
-        → HasServedClients stage_grid gives connections opened.looks opened.faults closed.book closed.looks closed.faults ended
-        → HasOperated stage_grid stage_options.members told before.script.bytes after.script.bytes before.out.bytes after.out.bytes before.script.faults after.script.faults before.out.faults after.out.faults first last
+        → IsOpened options opened.book
+        → HasServedClients stage_grid gives connections opened closed ended
+        → HasOperated stage_grid stage_options.members told before after first last
         → AreJoinedWith live_key last.passes.items (map (λ part. Some part) connections.passes.items) pass.passes.items
+        → IsGridPassOf grid pass
         → EndsAs told status opened closed
         → HasServed options forms gives before after opened closed status grid pass
-    has_served gives before after opened closed told status ended stage_options first last pass connections same_options same_first served operated joined ends =
+    has_served gives before after opened closed told status ended stage_options first last pass connections same_options same_first is_opened served operated joined whole ends =
         subst (λ (g : LiveGrid). HasServed options forms gives before after opened closed status g pass) (sym same_grid) (record {
+          opened = served.opening ∙ is_opened.opening;
           cells = subst (λ (g : LiveGrid). AreCells options.members options.backups forms options.capacity (place_of g).cells.items) (sym made_grid) is.cells;
           first = first;
           new = subst AreNew (sym same_first) is.unseen;
           last = last;
           told = told;
-          control = (subst (λ (o : ServeOptions). HasOperated stage_grid o.members told before.script.bytes after.script.bytes before.out.bytes after.out.bytes before.script.faults after.script.faults before.out.faults after.out.faults first last) same_options operated).control;
+          control = (subst (λ (o : ServeOptions). HasOperated stage_grid o.members told before after first last) same_options operated).control;
           theirs = connections.passes.items;
           clients = served.clients;
           gathered = joined;
+          may_go_on = regained stage_grid last pass connections.passes.items operated.kept served.rests.passes.as_long joined (subst (λ (g : LiveGrid). IsGridPassOf g pass) same_grid whole);
           ends = ends;
           read_fault = operated.read_fault;
           write_fault = operated.write_fault;
         })
+
+-- how a server ended, told of the doors as they were before they were opened
+ends_since : (told status : Status) (outside opened closed : AtDoors) → opened.looks ≡ outside.looks → outside.faults ≤ opened.faults → EndsAs told status opened closed → EndsAs told status outside closed
+ends_since told status outside opened closed looks faults ends = ⊎_elim
+    (λ (h : (status ≡ told) × HasLetAllIn opened.looks closed.looks closed.book.accepted). inl (h.0, subst (λ (n : ℕ). HasLetAllIn n closed.looks closed.book.accepted) looks h.1))
+    (λ (h : (status ≡ FaultOfDoors) × Rose opened.faults closed.faults). inr (
+      h.0,
+      ⊎_elim
+          (λ (more : opened.faults < closed.faults). inl (omega (arith, faults, more)))
+          (λ (last : closed.faults ≡ 2 ^ 64 - 1). inr last) h.1,
+    ))
+    ends
+
+pub served_since : (options : ServeOptions) (forms : List Form) (gives : ℕ → Type 0) (before after : Operator) (outside opened closed : AtDoors) (status : Status) (grid : LiveGrid) (pass : GridPass)
+    → opened.looks ≡ outside.looks → outside.faults ≤ opened.faults
+    → HasServed options forms gives before after opened closed status grid pass → HasServed options forms gives before after outside closed status grid pass
+served_since options forms gives before after outside opened closed status grid pass looks faults served = record {
+  opened = served.opened;
+  cells = served.cells;
+  first = served.first;
+  new = served.new;
+  last = served.last;
+  told = served.told;
+  control = served.control;
+  theirs = served.theirs;
+  clients = served.clients;
+  gathered = served.gathered;
+  may_go_on = served.may_go_on;
+  ends = ends_since served.told status outside opened closed looks faults served.ends;
+  read_fault = served.read_fault;
+  write_fault = served.write_fault;
+}

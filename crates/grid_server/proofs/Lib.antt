@@ -2,4 +2,5 @@ mod Beginning
 mod Ending
 mod Handing
 mod Opening
+mod Regained
 mod Replayed

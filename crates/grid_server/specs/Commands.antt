@@ -1,5 +1,5 @@
 -- The program's commands, and what each comes to.
-use Rattle.std.specs.Prelude.{◌≡◌, ◌≢◌, ◌↔◌, ℕ, Bool, false, List, [], ◌∷◌, codes, string_bytes}
+use Rattle.std.specs.Prelude.{◌≡◌, ◌≢◌, ◌↔◌, ℕ, Bool, false, List, [], ◌∷◌, IfSome, IfNone, codes, string_bytes}
 use Rattle.entry_processors.specs.declared.form.Form.{Form}
 use Rattle.entry_processors.specs.Processors.{ProcessorForm}
 use Rattle.script_lang.specs.Words.{are_same}
@@ -12,7 +12,8 @@ use Rattle.live_grid.specs.declared.grid.GridPass.{GridPass}
 use Rattle.live_grid.specs.declared.grid.LiveGrid.{LiveGrid}
 use Rattle.serve_options.specs.declared.options.ServeOptions.{ServeOptions}
 use Rattle.serve_options.specs.Options.{Words, AreOptions, faults}
-use Rattle.grid_server.specs.Serving.{Operator, AtDoors, IsOpened, HasServed}
+use Rattle.grid_server.specs.declared.ended.Ended.{Ended}
+use Rattle.grid_server.specs.Serving.{Operator, AtDoors, HasServed}
 
 -- The first of the words after the program's name is `serve`.
 abbrev pub is_serve : Words → Bool
@@ -43,10 +44,13 @@ pub record IsNotBegun (words : Words) (status : Status) (before after : Operator
   pub untouched : after ≡ before
   pub cause : IsNoGridFor status words outside closed
 
--- A grid was made by the options that the words give, behind doors that were opened for its members, and has served to its end
-pub record HasServedFrom (words : Words) (forms : List Form) (gives : ℕ → Type 0) (before after : Operator) (closed : AtDoors) (status : Status) (grid : LiveGrid) (pass : GridPass) : Type 0 where
+-- A grid was made by the options that the words give, and has served to its end
+pub record HasServedFrom (words : Words) (forms : List Form) (gives : ℕ → Type 0) (before after : Operator) (outside closed : AtDoors) (status : Status) (grid : LiveGrid) (pass : GridPass) : Type 0 where
   pub options : ServeOptions
   pub read : AreOptions words options
-  pub opened : AtDoors
-  pub is_opened : IsOpened options opened.book
-  pub served : HasServed options forms gives before after opened closed status grid pass
+  pub served : HasServed options forms gives before after outside closed status grid pass
+
+-- How a server has ended that was to be started by these words: it made a grid, or it has not begun
+pub record HasEnded (words : Words) (forms : List Form) (gives : ℕ → Type 0) (before after : Operator) (outside closed : AtDoors) (ended : Ended) : Type 0 where
+  pub served : IfSome ended.grid (λ held. HasServedFrom words forms gives before after outside closed ended.status held.0 held.1)
+  pub not_begun : IfNone ended.grid (IsNotBegun words ended.status before after outside closed)

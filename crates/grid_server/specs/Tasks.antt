@@ -1,5 +1,5 @@
 -- What the tasks of a server do.
-use Rattle.std.specs.Prelude.{◌≡◌, ℕ, ◌≤◌, List, Option, Result, OnOk}
+use Rattle.std.specs.Prelude.{◌≡◌, ℕ, ◌≤◌, Result, OnOk}
 use Rattle.grid_base.specs.declared.calls.Request.{Request}
 use Rattle.call_engine.specs.Limits.{RequestFits}
 use Rattle.grid_cli.specs.declared.status.Status.{Status}
@@ -23,6 +23,7 @@ use Rattle.live_server.specs.Serving.{HasServedAll}
 use Rattle.live_server.specs.Standing.{MayServe, Rests, HasLetAllIn}
 use Rattle.live_session.specs.Connections.{ServesCalls}
 use Rattle.serve_options.specs.declared.options.ServeOptions.{ServeOptions}
+use Rattle.grid_server.specs.Serving.{Operator, AtDoors}
 
 -- The operator's script may be run, and clients may be served
 pub record MayMeet {F K : Type 0} (options : ServeOptions) (grid : LiveGrid) (book : Book) (connections : Connections LiveWorld F K GridPlan (Event Request) Happened) (pass : GridPass) : Type 0 where
@@ -32,16 +33,17 @@ pub record MayMeet {F K : Type 0} (options : ServeOptions) (grid : LiveGrid) (bo
   pub calls : ServesCalls RequestFits (place_of grid)
   pub may : MayServe live_key (place_of grid) connections book
 
--- The clients that came through the doors were served, and no connection is left
-pub record HasServedClients {F K : Type 0} (grid : LiveGrid) (gives : ℕ → Type 0) (connections : Connections LiveWorld F K GridPlan (Event Request) Happened) (looks_before faults_before : ℕ) (book : Book) (looks faults : ℕ) (ended : Result (Unit {0}) DoorFault) : Type 0 where
-  pub clients : HasServedAll live_key LiveTells live_call (place_of grid) gives connections.passes.items book
-  pub let_in : OnOk ended (HasLetAllIn looks_before looks book.accepted)
+-- The clients that came through the doors were served, and no connection is left. The doors stand open as they did
+pub record HasServedClients {F K : Type 0} (grid : LiveGrid) (gives : ℕ → Type 0) (connections : Connections LiveWorld F K GridPlan (Event Request) Happened) (opened closed : AtDoors) (ended : Result (Unit {0}) DoorFault) : Type 0 where
+  pub clients : HasServedAll live_key LiveTells live_call (place_of grid) gives connections.passes.items closed.book
+  pub let_in : OnOk ended (HasLetAllIn opened.looks closed.looks closed.book.accepted)
   pub rests : Rests (place_of grid) connections
-  pub cause : HasCause faults_before faults ended
+  pub opening : closed.book.opening ≡ opened.book.opening
+  pub cause : HasCause opened.faults closed.faults ended
 
 -- The control script was run, and each fault that it ended with was counted
-pub record HasOperated (grid : LiveGrid) (members : ℕ) (status : Status) (script_before script_after out_before out_after : Option (List ℕ)) (reads_before reads writes_before writes : ℕ) (old new : GridPass) : Type 0 where
-  pub control : HasControlled grid members status script_before script_after out_before out_after old new
-  pub read_fault : status ≡ ReadFault → Rose reads_before reads
-  pub write_fault : status ≡ WriteFault → Rose writes_before writes
+pub record HasOperated (grid : LiveGrid) (members : ℕ) (status : Status) (before after : Operator) (old new : GridPass) : Type 0 where
+  pub control : HasControlled grid members status before.script.bytes after.script.bytes before.out.bytes after.out.bytes old new
+  pub read_fault : status ≡ ReadFault → Rose before.script.faults after.script.faults
+  pub write_fault : status ≡ WriteFault → Rose before.out.faults after.out.faults
   pub kept : MayControl grid new

@@ -1,6 +1,7 @@
 //! The side of a server that its operator meets.
 ghost use Rattle.std.specs.Prelude.{◌≤◌};
 ghost use Rattle.live_control.specs.Running.{MayServe};
+ghost use Rattle.grid_server.specs.Serving.{operator};
 ghost use Rattle.grid_server.specs.Tasks.{HasOperated};
 
 use crate::environment::Environment;
@@ -22,7 +23,10 @@ pub(crate) fn operate<N: Environment, S: Source, K: Sink, W: Wakes, R: Wait>(
     requires some { 1 ≤ stage.now.options.members }
     requires most { stage.now.options.members ≤ 8 }
     requires pass { MayServe stage.now.grid pass.old }
-    ensures { HasOperated stage.now.grid stage.now.options.members result (S.left script.old) (S.left script.new) (K.taken out.old) (K.taken out.new) (S.faults script.old) (S.faults script.new) (K.faults out.old) (K.faults out.new) pass.old pass.new }
+    ensures { HasOperated stage.now.grid stage.now.options.members result
+        (operator (S.left script.old) (S.faults script.old) (K.taken out.old) (K.faults out.old))
+        (operator (S.left script.new) (S.faults script.new) (K.taken out.new) (K.faults out.new))
+        pass.old pass.new }
 {
     let (grid, members) = (&stage.grid, stage.options.members);
     let status = serve_control(

@@ -4,6 +4,7 @@ ghost use Rattle.live_grid.specs.Grids.{place_of};
 ghost use Rattle.live_grid.specs.Histories.{live_key};
 ghost use Rattle.live_server.specs.Standing.{MayServe};
 ghost use Rattle.live_session.specs.Connections.{ServesCalls};
+ghost use Rattle.grid_server.specs.Serving.{at_doors};
 ghost use Rattle.grid_server.specs.Tasks.{HasServedClients};
 
 use crate::environment::Environment;
@@ -24,7 +25,8 @@ pub(crate) fn serve_hall<N: Environment, C: Clock, D: Doors, R: Wait>(
     requires calls { ServesCalls RequestFits (place_of stage.now.grid) }
     requires may { MayServe live_key (place_of stage.now.grid) connections.old (D.book doors.old) }
     ensures served { HasServedClients stage.now.grid (C.gives clock.now) connections.new
-        (D.empty_looks doors.old) (D.faults doors.old) (D.book doors.new) (D.empty_looks doors.new) (D.faults doors.new) result }
+        (at_doors (D.book doors.old) (D.empty_looks doors.old) (D.faults doors.old))
+        (at_doors (D.book doors.new) (D.empty_looks doors.new) (D.faults doors.new)) result }
 {
     serve(
         rt,

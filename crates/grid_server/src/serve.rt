@@ -1,12 +1,12 @@
 //! The command `serve`.
-ghost use Rattle.std.specs.Prelude.{◌≡◌, ◌≤◌, All, List, map, OnOk, IfSome, IfNone};
+ghost use Rattle.std.specs.Prelude.{◌≡◌, ◌≤◌, All, List, map, OnOk};
 ghost use Rattle.entry_processors.specs.Forms.{form_of};
 ghost use Rattle.entry_processors.specs.declared.form.Form.{Form as FormOf};
 ghost use Rattle.grid_edge.specs.Faults.{Rose, HasCause};
 ghost use Rattle.hand_cell.specs.Calls.{plan_of};
 ghost use Rattle.live_grid.specs.Grids.{place_of};
 ghost use Rattle.live_grid.specs.Plans.{settings_for};
-ghost use Rattle.grid_server.specs.Commands.{HasServedFrom, IsNotBegun, IsNoGridFor};
+ghost use Rattle.grid_server.specs.Commands.{HasEnded, IsNoGridFor};
 ghost use Rattle.grid_server.specs.Serving.{AtDoors, HasServed, IsOpened, operator, at_doors};
 ghost use Rattle.grid_server.specs.Settings.{IsSetting};
 ghost use Rattle.serve_options.specs.Options.{Words, IsRefusedFor, faults};
@@ -107,6 +107,7 @@ fn open<D: Doors>(doors: &mut D, options: ServeOptions) -> Result<D::Waker, Door
     requires most { options.members ≤ 8 }
     requires port { options.port ≤ 65528 }
     ensures ok { OnOk result (IsOpened options (D.book doors.new)) }
+    ensures looks { D.empty_looks doors.new ≡ D.empty_looks doors.old }
     ensures cause { HasCause (D.faults doors.old) (D.faults doors.new) result }
 {
     doors.open(options.members, options.port)?;
@@ -144,15 +145,11 @@ where
     D: Doors<From: Drop, To: Drop, Waker: Drop>,
     G: Gate,
     requires forms { map form processors.items ≡ map form_of forms.now }
-    ensures served { IfSome result.grid (λ held. HasServedFrom words.now forms.now (C.gives clock.now)
-        (operator (S.left script.old) (S.faults script.old) (K.taken out.old) (K.faults out.old))
-        (operator (S.left script.new) (S.faults script.new) (K.taken out.new) (K.faults out.new))
-        (at_doors (D.book doors.new) (D.empty_looks doors.new) (D.faults doors.new)) result.status held.0 held.1) }
-    ensures not_begun { IfNone result.grid (IsNotBegun words.now result.status
+    ensures { HasEnded words.now forms.now (C.gives clock.now)
         (operator (S.left script.old) (S.faults script.old) (K.taken out.old) (K.faults out.old))
         (operator (S.left script.new) (S.faults script.new) (K.taken out.new) (K.faults out.new))
         (at_doors (D.book doors.old) (D.empty_looks doors.old) (D.faults doors.old))
-        (at_doors (D.book doors.new) (D.empty_looks doors.new) (D.faults doors.new))) }
+        (at_doors (D.book doors.new) (D.empty_looks doors.new) (D.faults doors.new)) result }
 {
     let options = match read_options(alloc, words) {
         Ok(options) => options,
@@ -198,15 +195,11 @@ where
     C: Clock,
     D: Doors<From: Drop, To: Drop, Waker: Drop>,
     requires forms { map form processors.items ≡ map form_of forms.now }
-    ensures served { IfSome result.grid (λ held. HasServedFrom words.now forms.now (C.gives clock.now)
-        (operator (S.left script.old) (S.faults script.old) (K.taken out.old) (K.faults out.old))
-        (operator (S.left script.new) (S.faults script.new) (K.taken out.new) (K.faults out.new))
-        (at_doors (D.book doors.new) (D.empty_looks doors.new) (D.faults doors.new)) result.status held.0 held.1) }
-    ensures not_begun { IfNone result.grid (IsNotBegun words.now result.status
+    ensures { HasEnded words.now forms.now (C.gives clock.now)
         (operator (S.left script.old) (S.faults script.old) (K.taken out.old) (K.faults out.old))
         (operator (S.left script.new) (S.faults script.new) (K.taken out.new) (K.faults out.new))
         (at_doors (D.book doors.old) (D.empty_looks doors.old) (D.faults doors.old))
-        (at_doors (D.book doors.new) (D.empty_looks doors.new) (D.faults doors.new))) }
+        (at_doors (D.book doors.new) (D.empty_looks doors.new) (D.faults doors.new)) result }
 {
     serve_gated(
         rt, alloc, words, processors, forms, script, out, clock, doors, &OpenGate,

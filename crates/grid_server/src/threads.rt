@@ -7,6 +7,7 @@ ghost use Rattle.live_control.specs.Running.{MayServe as MayControl};
 ghost use Rattle.live_server.specs.Standing.{MayServe};
 ghost use Rattle.live_session.specs.Connections.{ServesCalls};
 ghost use Rattle.grid_server.specs.Settings.{AreWorkers};
+ghost use Rattle.grid_server.specs.Serving.{operator, at_doors};
 ghost use Rattle.grid_server.specs.Tasks.{MayMeet, HasServedClients, HasOperated};
 
 use crate::desk::operate;
@@ -42,8 +43,12 @@ where
     D: Doors,
     requires { MayMeet stage.now.options stage.now.grid (D.book doors.old) connections.old pass.old }
     ensures served { HasServedClients stage.now.grid (C.gives clock.now) connections.new
-        (D.empty_looks doors.old) (D.faults doors.old) (D.book doors.new) (D.empty_looks doors.new) (D.faults doors.new) result.0 }
-    ensures operated { HasOperated stage.now.grid stage.now.options.members result.1 (S.left script.old) (S.left script.new) (K.taken out.old) (K.taken out.new) (S.faults script.old) (S.faults script.new) (K.faults out.old) (K.faults out.new) pass.old pass.new }
+        (at_doors (D.book doors.old) (D.empty_looks doors.old) (D.faults doors.old))
+        (at_doors (D.book doors.new) (D.empty_looks doors.new) (D.faults doors.new)) result.0 }
+    ensures operated { HasOperated stage.now.grid stage.now.options.members result.1
+        (operator (S.left script.old) (S.faults script.old) (K.taken out.old) (K.faults out.old))
+        (operator (S.left script.new) (S.faults script.new) (K.taken out.new) (K.faults out.new))
+        pass.old pass.new }
 {
     let mut serving = || -> Result<(), DoorFault>
         requires { ServesCalls RequestFits (place_of stage.now.grid) × MayServe live_key (place_of stage.now.grid) connections.now (D.book doors.now) }
@@ -74,8 +79,12 @@ where
     D: Doors,
     requires { MayMeet stage.now.options stage.now.grid (D.book doors.old) connections.old pass.old }
     ensures served { HasServedClients stage.now.grid (C.gives clock.now) connections.new
-        (D.empty_looks doors.old) (D.faults doors.old) (D.book doors.new) (D.empty_looks doors.new) (D.faults doors.new) result.0 }
-    ensures operated { HasOperated stage.now.grid stage.now.options.members result.1 (S.left script.old) (S.left script.new) (K.taken out.old) (K.taken out.new) (S.faults script.old) (S.faults script.new) (K.faults out.old) (K.faults out.new) pass.old pass.new }
+        (at_doors (D.book doors.old) (D.empty_looks doors.old) (D.faults doors.old))
+        (at_doors (D.book doors.new) (D.empty_looks doors.new) (D.faults doors.new)) result.0 }
+    ensures operated { HasOperated stage.now.grid stage.now.options.members result.1
+        (operator (S.left script.old) (S.faults script.old) (K.taken out.old) (K.faults out.old))
+        (operator (S.left script.new) (S.faults script.new) (K.taken out.new) (K.faults out.new))
+        pass.old pass.new }
 {
     let ended = serve_both(rt, stage, clock, connections, doors, pass, script, out);
     stage.grid.workplace().stop();
@@ -106,8 +115,12 @@ where
     requires workers { AreWorkers (place_of stage.now.grid) workers.old.items }
     requires front { MayMeet stage.now.options stage.now.grid (D.book doors.old) connections.old pass.old }
     ensures served { HasServedClients stage.now.grid (C.gives clock.now) connections.new
-        (D.empty_looks doors.old) (D.faults doors.old) (D.book doors.new) (D.empty_looks doors.new) (D.faults doors.new) result.0 }
-    ensures operated { HasOperated stage.now.grid stage.now.options.members result.1 (S.left script.old) (S.left script.new) (K.taken out.old) (K.taken out.new) (S.faults script.old) (S.faults script.new) (K.faults out.old) (K.faults out.new) pass.old pass.new }
+        (at_doors (D.book doors.old) (D.empty_looks doors.old) (D.faults doors.old))
+        (at_doors (D.book doors.new) (D.empty_looks doors.new) (D.faults doors.new)) result.0 }
+    ensures operated { HasOperated stage.now.grid stage.now.options.members result.1
+        (operator (S.left script.old) (S.faults script.old) (K.taken out.old) (K.faults out.old))
+        (operator (S.left script.new) (S.faults script.new) (K.taken out.new) (K.faults out.new))
+        pass.old pass.new }
 {
     let mut working = ||
         requires { AreWorkers (place_of stage.now.grid) workers.now.items }

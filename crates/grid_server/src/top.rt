@@ -1,8 +1,8 @@
 //! The program's top call.
-ghost use Rattle.std.specs.Prelude.{◌≡◌, map, IfSome, IfNone, false, true};
+ghost use Rattle.std.specs.Prelude.{◌≡◌, map, false, true};
 ghost use Rattle.entry_processors.specs.Forms.{form_of};
 ghost use Rattle.grid_cli.specs.Commands.{PrintsHistories};
-ghost use Rattle.grid_server.specs.Commands.{is_serve, HasReplayedBy, HasServedFrom, IsNotBegun};
+ghost use Rattle.grid_server.specs.Commands.{is_serve, HasReplayedBy, HasEnded};
 ghost use Rattle.grid_server.specs.Serving.{operator, at_doors};
 
 use crate::ended::Ended;
@@ -54,16 +54,12 @@ where
     // Whatever the status, and whichever line prints it.
     ensures headline { is_serve words.now ≡ false → PrintsHistories (map form processors.items) result.status (S.left script.old) (S.left script.new) (K.taken out.old) (K.taken out.new) }
     // The control script was run on the grid that is handed back, in the histories that its pass has seen; and each client that
-    // came was answered by these.
-    ensures served { is_serve words.now ≡ true → IfSome result.grid (λ held. HasServedFrom words.now forms.now (C.gives clock.now)
-        (operator (S.left script.old) (S.faults script.old) (K.taken out.old) (K.faults out.old))
-        (operator (S.left script.new) (S.faults script.new) (K.taken out.new) (K.faults out.new))
-        (at_doors (D.book doors.new) (D.empty_looks doors.new) (D.faults doors.new)) result.status held.0 held.1) }
-    ensures not_begun { is_serve words.now ≡ true → IfNone result.grid (IsNotBegun words.now result.status
+    // came was answered by these. Where no grid was made, the words, the doors or memory are the cause.
+    ensures served { is_serve words.now ≡ true → HasEnded words.now forms.now (C.gives clock.now)
         (operator (S.left script.old) (S.faults script.old) (K.taken out.old) (K.faults out.old))
         (operator (S.left script.new) (S.faults script.new) (K.taken out.new) (K.faults out.new))
         (at_doors (D.book doors.old) (D.empty_looks doors.old) (D.faults doors.old))
-        (at_doors (D.book doors.new) (D.empty_looks doors.new) (D.faults doors.new))) }
+        (at_doors (D.book doors.new) (D.empty_looks doors.new) (D.faults doors.new)) result }
 {
     if is_serve_command(words) {
         return serve_command(

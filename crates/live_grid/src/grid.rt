@@ -16,8 +16,8 @@ use job_queues::QueuePass;
 use partition_threads::{THREADS, Workplace};
 use std::alloc::Global;
 
-/// How many jobs the queue of a worker holds.
-const JOBS: usize = 64;
+/// How many jobs the queue of a worker holds: as many as a server has connections, each with one call under way at most.
+const JOBS: usize = 1024;
 
 /// A grid whose partitions are run by threads: a cell of each partition, and four workers of each member.
 #[derive(Drop)]

@@ -16,7 +16,7 @@ use session_calls::{SessionPass, join_passes, split_passes, split_tokens};
 use std::alloc::Global;
 
 /// How many calls a worker holds at most. While it holds as many it takes no job.
-const HELD_CALLS: usize = 64;
+const HELD_CALLS: usize = 1024;
 
 impl LiveGrid {
     /// Opens a session of a connection to a member, as `SessionPass::open`: the grid's pass gives up the connection's

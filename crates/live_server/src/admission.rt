@@ -36,6 +36,7 @@ pub(crate) fn let_in<T: Served, D: Doors, C: Clock>(
 ) -> Result<Looks, DoorFault>
     requires { IsServing T.key_of T.tells T.call_of place.now (λ now. C.gives clock.now now) (telling_by D.From.left D.From.faults D.To.taken D.To.faults) connections.old (D.book doors.old) }
     ensures serving { IsServing T.key_of T.tells T.call_of place.now (λ now. C.gives clock.now now) (telling_by D.From.left D.From.faults D.To.taken D.To.faults) connections.new (D.book doors.new) }
+    ensures opening { (D.book doors.new).opening ≡ (D.book doors.old).opening }
     ensures looks { D.empty_looks doors.old ≤ D.empty_looks doors.new }
     ensures empty { IfOk result (λ looks. looks.empty ≡ true → Rose (D.empty_looks doors.old) (D.empty_looks doors.new)) }
     ensures cause { HasCause (D.faults doors.old) (D.faults doors.new) result }
@@ -72,6 +73,7 @@ fn admit<T: Served, D: Doors, C: Clock>(
     requires room { vec_len connections.old.clients < ROOM }
     requires numbers { connections.old.accepted < 2 ^ 32 }
     ensures serving { IsServing T.key_of T.tells T.call_of place.now (λ now. C.gives clock.now now) (telling_by D.From.left D.From.faults D.To.taken D.To.faults) connections.new (D.book doors.new) }
+    ensures opening { (D.book doors.new).opening ≡ (D.book doors.old).opening }
     ensures looks { D.empty_looks doors.new ≡ D.empty_looks doors.old }
     ensures faults { D.faults doors.new ≡ D.faults doors.old }
 {

@@ -25,6 +25,7 @@ pub(crate) fn go_round<T: Served, D: Doors, C: Clock, R: Wait>(
     requires serving { IsServing T.key_of T.tells T.call_of place.now (λ now. C.gives clock.now now) (telling_by D.From.left D.From.faults D.To.taken D.To.faults) connections.old (D.book doors.old) }
     ensures serving { IsServing T.key_of T.tells T.call_of place.now (λ now. C.gives clock.now now) (telling_by D.From.left D.From.faults D.To.taken D.To.faults) connections.new (D.book doors.new) }
     ensures accepted { (D.book doors.new).accepted ≡ (D.book doors.old).accepted }
+    ensures opening { (D.book doors.new).opening ≡ (D.book doors.old).opening }
     ensures looks { D.empty_looks doors.new ≡ D.empty_looks doors.old }
     ensures faults { D.faults doors.new ≡ D.faults doors.old }
 {
@@ -59,6 +60,7 @@ fn end<T: Served, D: Doors, C: Clock>(
     ensures serving { IsServing T.key_of T.tells T.call_of place.now (λ now. C.gives clock.now now) (telling_by D.From.left D.From.faults D.To.taken D.To.faults) connections.new (D.book doors.new) }
     ensures fewer { vec_len connections.new.clients + 1 ≡ vec_len connections.old.clients }
     ensures accepted { (D.book doors.new).accepted ≡ (D.book doors.old).accepted }
+    ensures opening { (D.book doors.new).opening ≡ (D.book doors.old).opening }
     ensures looks { D.empty_looks doors.new ≡ D.empty_looks doors.old }
     ensures faults { D.faults doors.new ≡ D.faults doors.old }
 {

@@ -48,6 +48,7 @@ pub fn serve<T: Served, D: Doors, C: Clock, R: Wait>(
     ensures served { HasServedAll T.key_of T.tells T.call_of place.now (λ now. C.gives clock.now now) connections.new.passes.items (D.book doors.new) }
     ensures all_in { OnOk result (HasLetAllIn (D.empty_looks doors.old) (D.empty_looks doors.new) (D.book doors.new).accepted) }
     ensures rests { Rests place.now connections.new }
+    ensures opening { (D.book doors.new).opening ≡ (D.book doors.old).opening }
     ensures cause { HasCause (D.faults doors.old) (D.faults doors.new) result }
 {
     let mut entrance = Entrance::Open;
@@ -79,6 +80,7 @@ fn look_outside<T: Served, D: Doors, C: Clock>(
     ensures serving { IsServing T.key_of T.tells T.call_of place.now (λ now. C.gives clock.now now) (telling_by D.From.left D.From.faults D.To.taken D.To.faults) connections.new (D.book doors.new) }
     ensures since { (looks faults : ℕ) → IsSince entrance looks (D.empty_looks doors.old) faults (D.faults doors.old) (D.book doors.old).accepted
         → IsSince result.entrance looks (D.empty_looks doors.new) faults (D.faults doors.new) (D.book doors.new).accepted }
+    ensures opening { (D.book doors.new).opening ≡ (D.book doors.old).opening }
 {
     if !entrance.is_open() {
         return Outside {

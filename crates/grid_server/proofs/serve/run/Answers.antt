@@ -20,7 +20,7 @@ pub returns : goal.returns
 returns g c =
     let joined = subst (λ passes. AreJoinedWith live_key c.run_threads-ended.new.pass.passes.items (map (λ part. Some part) passes.items) c.gather.new.pass.passes.items) c.into_parts-passes.ensures.0 c.gather.ensures.joined in
     record {
-      served = λ forms is. has_served c.args.options forms c.args.setting is _ _ c.into_grid-grid.ensures c.new-stage.ensures.grid _ _ _ _ _ _ _ _ _ _ _ _ c.run_threads-ended.new.connections c.new-stage.ensures.options refl c.run_threads-ended.ensures.served c.run_threads-ended.ensures.operated joined
+      served = λ forms is. has_served c.args.options forms c.args.setting is _ _ c.into_grid-grid.ensures c.new-stage.ensures.grid _ _ _ _ _ _ _ _ _ _ _ _ c.run_threads-ended.new.connections c.new-stage.ensures.options refl c.requires.doors c.run_threads-ended.ensures.served c.run_threads-ended.ensures.operated joined c.gather.ensures.kept
           (elim c.match-ended.branch [
             | in-Ok w ↦ inl (w.status-is, on_ok _ _ _ w.in-Ok.is c.run_threads-ended.ensures.served.let_in)
             | in-Err w ↦ inr (w.status-is, on_err _ _ _ w.in-Err.is c.run_threads-ended.ensures.served.cause.rose)

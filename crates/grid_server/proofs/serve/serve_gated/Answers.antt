@@ -1,10 +1,12 @@
+use Rattle.grid_server.proofs.Ending.{served_since}
 use Rattle.grid_server.proofs.serve.serve_gated.Goals as goal
 
-pub returns-clause-served : goal.returns-clause-served
-returns-clause-served g c = record {
-  options = c.in-Ok.options;
-  read = c.in-Ok.ensures.options;
-  opened = _;
-  is_opened = c.in-Ok-open.ensures.ok;
-  served = c.run-status.ensures.served c.args.forms.now c.in-Ok-new.ensures.setting;
+pub returns : goal.returns
+returns g c = record {
+  served = record {
+    options = c.in-Ok.options;
+    read = c.in-Ok.ensures.options;
+    served = served_since _ _ _ _ _ _ _ _ _ _ _ c.in-Ok-open.ensures.looks c.in-Ok-open.ensures.cause.never_falls (c.run-status.ensures.served c.args.forms.now c.in-Ok-new.ensures.setting);
+  };
+  not_begun = tt;
 }

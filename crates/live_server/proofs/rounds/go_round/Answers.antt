@@ -15,6 +15,7 @@ loop-at-preserved-in-Going g c =
       serving = goes_on g.T.Stands.key_of g.T.Served.tells g.T.Served.call_of c.args.place.now (λ now. g.C.Clock.gives c.args.clock.now now) (telling_by g.D.From.ReadySource.left g.D.From.ReadySource.faults g.D.To.ReadySink.taken g.D.To.ReadySink.faults) old _ book serving c.loop-at.at was c.go_on.new.self within c.index_mut-client.ensures.value c.go_on.ensures.number
           (c.in-Going.ensures.progress serving.arrivals there) refl refl refl;
       accepted = c.loop-at.invariant.accepted;
+      opening = c.loop-at.invariant.opening;
       looks = c.loop-at.invariant.looks;
       faults = c.loop-at.invariant.faults;
     }

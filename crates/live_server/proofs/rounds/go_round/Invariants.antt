@@ -3,11 +3,12 @@ use Rattle.live_server.specs.Clients.{telling_by}
 use Rattle.live_server.specs.Standing.{IsServing}
 use Rattle.live_server.proofs.rounds.go_round.Given as goal
 
--- no connection came, and the counts stay
+-- no connection came, the doors stand open as they did, and the counts stay
 abbrev pub invariant-loop-at : goal.invariant-loop-at
 invariant-loop-at g l = record {
   serving : IsServing g.T.Stands.key_of g.T.Served.tells g.T.Served.call_of l.place (λ now. g.C.Clock.gives l.clock now) (telling_by g.D.From.ReadySource.left g.D.From.ReadySource.faults g.D.To.ReadySink.taken g.D.To.ReadySink.faults) l.connections (g.D.Doors.book l.doors);
   accepted : (g.D.Doors.book l.doors).accepted ≡ (g.D.Doors.book l.initial.doors).accepted;
+  opening : (g.D.Doors.book l.doors).opening ≡ (g.D.Doors.book l.initial.doors).opening;
   looks : g.D.Doors.empty_looks l.doors ≡ g.D.Doors.empty_looks l.initial.doors;
   faults : g.D.Doors.faults l.doors ≡ g.D.Doors.faults l.initial.doors;
 }

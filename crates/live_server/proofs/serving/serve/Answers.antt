@@ -1,4 +1,4 @@
-use Rattle.std.proofs.Common.{rules, ◌≡◌, ap, arith}
+use Rattle.std.proofs.Common.{rules, ◌≡◌, refl, ap, ◌∙◌, arith}
 use Rattle.std.proofs.lemmas.List.{nil_from_length}
 use Rattle.grid_edge.specs.Doors.{Book}
 use Rattle.live_server.specs.Clients.{telling_by}
@@ -9,6 +9,7 @@ pub loop-init : goal.loop-init
 loop-init g c = record {
   serving = begins g.T.Stands.key_of g.T.Served.tells g.T.Served.call_of c.args.place.now (λ now. g.C.Clock.gives c.args.clock.now now) (telling_by g.D.From.ReadySource.left g.D.From.ReadySource.faults g.D.To.ReadySink.taken g.D.To.ReadySink.faults) c.args.connections.now (g.D.Doors.book c.args.doors.now)
       ((g.met.D.Doors g.world.𝓛 g.world.𝓜 g.world.𝓡 ((λ s x. x), (λ x. x), (λ x. x), λ x. x)).counted c.args.doors.now) c.requires.may;
+  opening = refl;
   since = record { looks_stay = omega arith; faults_stay = omega arith; why = tt };
 }
 
@@ -30,6 +31,7 @@ loop-preserved g c =
     outside (omega (arith, same_looks)) (omega (arith, same_faults)) c.go_round.ensures.accepted looked in
     record {
       serving = rw c.rest-rested.ensures.book c.go_round.ensures.serving;
+      opening = ap (λ (b : Book). b.opening) c.rest-rested.ensures.book ∙ (c.go_round.ensures.opening ∙ (c.look_outside-outside.ensures.opening ∙ c.loop.invariant.opening));
       since = after_rest (g.D.Doors.empty_looks c.args.doors.now) (g.D.Doors.empty_looks c.go_round.new.doors) (g.D.Doors.empty_looks c.rest-rested.new.doors)
           (g.D.Doors.faults c.args.doors.now) (g.D.Doors.faults c.go_round.new.doors) (g.D.Doors.faults c.rest-rested.new.doors)
           (g.D.Doors.book c.go_round.new.doors).accepted (g.D.Doors.book c.rest-rested.new.doors).accepted
