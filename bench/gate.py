@@ -1,10 +1,10 @@
 #!/usr/bin/env python3
 """Runs the gate, and says what each crate costs from nothing: bench/gate.py [FILE], from anywhere.
 
-While `.ci/run` runs, the processes of the prover are looked at twice a second, and their processor time is counted for the crate that
+While `.ci/run` runs, its processes of the prover are looked at twice a second, and their processor time is counted for the crate that
 they prove: its library or program, its tests, or its must-fail edits. What passed and failed is printed as it comes, each line behind
-the seconds since the beginning; the table is written at the end, in Markdown, to FILE or behind the rest. A process that lives for less
-than half a second is missed. The exit status is the gate's.
+the seconds since the beginning; the table is written at the end, in Markdown, behind the rest and to FILE, and all that the gate wrote to
+FILE.log. A process that lives for less than half a second is missed. The exit status is the gate's.
 """
 
 from __future__ import annotations
@@ -52,12 +52,26 @@ def seconds_of(process: Path) -> float:
     return (int(fields[11]) + int(fields[12])) / TICKS
 
 
-def processes() -> Iterator[tuple[str, list[str], float]]:
-    """Each process by its number and the moment of its start, with its words and its processor time."""
+def parent_of(process: Path) -> Path:
+    return process.with_name((process / "stat").read_text().rpartition(")")[2].split()[1])
+
+
+def is_below(process: Path, top: int) -> bool:
+    """Whether the process of that number, or one that it began, began this one."""
+    while process.name not in ("0", "1"):
+        if process.name == str(top):
+            return True
+        process = parent_of(process)
+    return False
+
+
+def processes(top: int) -> Iterator[tuple[str, list[str], float]]:
+    """Each process that the top one began, by its number and the moment of its start, with its words and its processor time."""
     for process in Path("/proc").glob("[0-9]*"):
         try:
-            started = (process / "stat").read_text().rpartition(")")[2].split()[19]
-            yield f"{process.name}/{started}", words_of(process), seconds_of(process)
+            if is_below(process, top):
+                started = (process / "stat").read_text().rpartition(")")[2].split()[19]
+                yield f"{process.name}/{started}", words_of(process), seconds_of(process)
         except (OSError, IndexError):
             continue
 
@@ -70,8 +84,8 @@ class Costs:
         self.programs = programs
         self.seen: dict[tuple[Work, str], float] = {}
 
-    def look(self) -> None:
-        for name, words, seconds in processes():
+    def look(self, top: int) -> None:
+        for name, words, seconds in processes(top):
             work = work_of(words, self.programs)
             if work is not None:
                 self.seen[work, name] = max(seconds, self.seen.get((work, name), 0.0))
@@ -100,27 +114,30 @@ def shown(seconds: float) -> str:
     return f"{seconds:,.0f}" if seconds >= 0.5 else ""
 
 
-def keep_looking(costs: Costs, ended: threading.Event) -> None:
+def keep_looking(costs: Costs, top: int, ended: threading.Event) -> None:
     while not ended.wait(0.5):
-        costs.look()
+        costs.look(top)
 
 
 def main() -> int:
     costs, ended, began = Costs(), threading.Event(), time.monotonic()
-    looking = threading.Thread(target=keep_looking, args=(costs, ended))
-    looking.start()
+    table = Path(sys.argv[1] if len(sys.argv) > 1 else os.devnull)
     gate = subprocess.Popen([TOP / ".ci/run"], stdout=subprocess.PIPE, stderr=subprocess.STDOUT, text=True, errors="replace")
+    looking = threading.Thread(target=keep_looking, args=(costs, gate.pid, ended))
+    looking.start()
     assert gate.stdout is not None
-    for line in gate.stdout:
-        if re.search(r"proved|PROVED|refused|passed|failed|FAILED|edits", line):
-            print(f"{time.monotonic() - began:7.0f}  {line}", end="", flush=True)
+    with open(f"{table}.log" if table != Path(os.devnull) else table, "w") as log:
+        for line in gate.stdout:
+            log.write(line)
+            log.flush()
+            if re.search(r"proved|PROVED|refused|passed|failed|FAILED|edits", line):
+                print(f"{time.monotonic() - began:7.0f}  {line}", end="", flush=True)
     status = gate.wait()
     ended.set()
     looking.join()
     minutes = (time.monotonic() - began) / 60
     text = f"{minutes:.0f} minutes on {os.cpu_count()} processors. In seconds of processor time:\n\n{costs.table()}\n"
-    if len(sys.argv) > 1:
-        Path(sys.argv[1]).write_text(text)
+    table.write_text(text)
     print(text)
     return status
 
