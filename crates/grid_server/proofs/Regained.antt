@@ -29,7 +29,7 @@ there_is (x ∷ xs) (suc k) less = there_is xs k (omega (arith, less))
 
 -- passes of cells have the cells' tables
 pub tables_of : {T P E O : Type 0} (cells : List (Cell T P E O)) (passes : List (Told E)) → ArePassesOf cells passes → map (λ (p : Told E). p.table) passes ≡ (roster_of cells).tables
-tables_of cells passes are = same_lists (map (λ (p : Told E). p.table) passes) (roster_of cells).tables
+tables_of {E = E} cells passes are = same_lists (map (λ (p : Told E). p.table) passes) (roster_of cells).tables
     (length-map passes (λ p. p.table) ∙ (are.as_long ∙ sym (length-map cells (λ c. c.table.shared.table_id))))
     (λ k t e. let was = came_from (λ (p : Told E). p.table) passes k t e in are.each k was.0 was.1 ∙ ap Some (sym was.2))
 
@@ -38,7 +38,7 @@ pub still_controls : {E : Type 0} (key_of : E → Key) (old others new : List (T
     → ((k : ℕ) (p : Told E) → slice_get old k ≡ Some p → has p.names Control ≡ true)
     → AreJoinedWith key_of old (map (λ pass. Some pass) others) new
     → (k : ℕ) (p : Told E) → slice_get new k ≡ Some p → has p.names Control ≡ true
-still_controls key_of old others new long controls joined k p e =
+still_controls {E = E} key_of old others new long controls joined k p e =
     let within : k < length new = slice_get_within new k p e in
     let as_long = joined.as_long in
     let was = there_is old k (omega (arith, within, as_long)) in
