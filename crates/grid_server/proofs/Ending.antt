@@ -1,5 +1,5 @@
 -- What a server that has ended has done, of what its threads did.
-use Rattle.std.proofs.Common.{◌≡◌, ◌⊎◌, inl, inr, ⊎_elim, ℕ, ◌-◌, ◌^◌, ◌<◌, ◌≤◌, List, map, length, Some, Result, Ok, Err, OnOk, OnErr, slice_get, sym, ap, ◌∙◌, subst, arith}
+use Rattle.std.proofs.Common.{◌≡◌, inl, inr, ⊎_elim, ℕ, ◌-◌, ◌^◌, ◌<◌, ◌≤◌, List, map, length, Some, Result, Ok, Err, OnOk, OnErr, slice_get, sym, ap, ◌∙◌, subst, arith}
 use Rattle.std.proofs.lemmas.List.{length-map}
 use Rattle.entry_processors.specs.declared.form.Form.{Form}
 use Rattle.grid_base.specs.declared.calls.Request.{Request}

@@ -3,8 +3,8 @@ use std::sync::Wait;
 use std::sync::atomic::{AtomicU64, Ordering};
 use std::thread;
 
-/// How often a thread looks for work before it sleeps.
-const MOST_LOOKS: u32 = 200;
+/// How often a thread looks for work before it sleeps. More looks would keep other threads from the processors.
+const MOST_LOOKS: u32 = 20;
 
 /// A bell that one thread sleeps on, until another rings it. What the thread waits for is made before the ring.
 ///
@@ -40,7 +40,7 @@ impl Bell {
         }
     }
 
-    /// What an idle thread does after a look that found nothing: after few in a row it lets others run, and after 200
+    /// What an idle thread does after a look that found nothing: after few in a row it lets others run, and after twenty
     /// it sleeps until the bell has rung since it showed `rings`. `idle` is how many looks in a row found nothing
     /// before; gives the number for the next. It may come back for no reason.
     pub fn rest<R: Wait>(&self, rt: &R, rings: u64, idle: u32) -> u32 {

@@ -13,8 +13,8 @@ use hand_cell::Served;
 use std::alloc::Global;
 use std::collections::VecDeque;
 
-/// How many bytes are asked for at a time.
-const PIECE: usize = 16_384;
+/// How many bytes are asked for at a time. They are zeroed before each read, so more would cost each one.
+const PIECE: usize = 4096;
 
 impl<T: Served> Connection<T> {
     /// Reads once, where all that was read is answered. The calls in what was read are looked at from the next turn on.
