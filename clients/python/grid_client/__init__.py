@@ -1,0 +1,81 @@
+"""A client of `grid serve`, on the standard library alone.
+
+    from grid_client import TEXT, GridClient
+
+    with GridClient(["127.0.0.1:5701", "127.0.0.1:5702", "127.0.0.1:5703"]) as client:
+        sessions = client.map("sessions", values=TEXT)
+        sessions.put("anna", "logged in", ttl=1800)
+
+README.md beside this package has a program for each use, and docs/guide of the repository a page."""
+
+from .client import GridClient
+from .codecs import BYTES, NUMBERS, TEXT, Codec
+from .errors import (
+    BadCall,
+    Busy,
+    ClientClosed,
+    ConnectionLost,
+    Exhausted,
+    GridError,
+    KeyLocked,
+    LeaseEnded,
+    LockTimeout,
+    Migrating,
+    NotAuthenticated,
+    NotOwner,
+    NotSent,
+    OutcomeUnknown,
+    PartitionLost,
+    ProtocolFault,
+    Refused,
+    RowRefused,
+    TooLarge,
+    UnknownProcessor,
+    UnknownType,
+    UnreadableValue,
+    WantOfMemory,
+    WrongCluster,
+    WrongPartition,
+    WrongTarget,
+)
+from .maps import Map, Processor
+from .partitions import partition_of
+from .queues import Queue
+
+__all__ = [
+    "BYTES",
+    "NUMBERS",
+    "TEXT",
+    "BadCall",
+    "Busy",
+    "ClientClosed",
+    "Codec",
+    "ConnectionLost",
+    "Exhausted",
+    "GridClient",
+    "GridError",
+    "KeyLocked",
+    "LeaseEnded",
+    "LockTimeout",
+    "Map",
+    "Migrating",
+    "NotAuthenticated",
+    "NotOwner",
+    "NotSent",
+    "OutcomeUnknown",
+    "PartitionLost",
+    "Processor",
+    "ProtocolFault",
+    "Queue",
+    "Refused",
+    "RowRefused",
+    "TooLarge",
+    "UnknownProcessor",
+    "UnknownType",
+    "UnreadableValue",
+    "WantOfMemory",
+    "WrongCluster",
+    "WrongPartition",
+    "WrongTarget",
+    "partition_of",
+]

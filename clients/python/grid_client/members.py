@@ -1,0 +1,201 @@
+"""The members of a grid, each with the one connection that the client keeps to it."""
+
+from __future__ import annotations
+
+import itertools
+import socket
+import threading
+import time
+from collections.abc import Iterator
+from contextlib import contextmanager, suppress
+from dataclasses import dataclass
+from typing import Final
+
+from . import wire
+from .errors import ClientClosed, ConnectionLost, NotSent, OutcomeUnknown, TooLarge, WrongCluster
+from .spans import Deadline
+from .wire import Answer, Request
+
+PIECE: Final = 1 << 16
+
+# How many seconds a connection may take until it is accepted.
+CONNECT_WITHIN: Final = 5.0
+
+# How many seconds a member is left alone whose connection ended in place of an answer: it may have crashed.
+LEFT_ALONE: Final = 1.0
+
+
+@dataclass(frozen=True)
+class Address:
+    """Where a member listens."""
+
+    host: str
+    port: int
+
+    @classmethod
+    def of(cls, given: str | tuple[str, int]) -> Address:
+        """From "HOST:PORT", or from both."""
+        if not isinstance(given, str):
+            return cls(*given)
+        host, colon, port = given.rpartition(":")
+        if not (host and colon and port.isascii() and port.isdigit()):
+            raise ValueError(f"'{given}' is no address: 'HOST:PORT' is wanted")
+        return cls(host, int(port))
+
+    def __str__(self) -> str:
+        return f"{self.host}:{self.port}"
+
+
+@dataclass(frozen=True)
+class Identity:
+    """Who the client is: the cluster that it wants, and its own number, which owns its locks."""
+
+    cluster: str
+    number: int
+
+
+class _Connection:
+    """A connection on which the client has made itself known. One thread at a time has it."""
+
+    def __init__(self, address: Address, identity: Identity, deadline: Deadline) -> None:
+        self._address = address
+        self._has = bytearray()
+        self._correlations = itertools.count(1)
+        self._socket = socket.create_connection((address.host, address.port), deadline.for_socket())
+        try:
+            self._socket.setsockopt(socket.IPPROTO_TCP, socket.TCP_NODELAY, 1)
+            self._make_known(identity, deadline)
+        except BaseException:
+            self.close()
+            raise
+
+    def _make_known(self, identity: Identity, deadline: Deadline) -> None:
+        request = wire.authentication(identity.cluster, identity.number)
+        if not self._exchange(wire.PREFIX, request, deadline).check_accepted():
+            raise WrongCluster(f"{self._address} doesn't belong to the cluster '{identity.cluster}'")
+
+    def ask(self, request: Request, deadline: Deadline) -> Answer:
+        return self._exchange(b"", request, deadline)
+
+    def _exchange(self, prefix: bytes, request: Request, deadline: Deadline) -> Answer:
+        correlation = next(self._correlations)
+        self._send(prefix + request.spelled(correlation), deadline)
+        return wire.read_answer(self._receive(deadline), request, correlation)
+
+    def _send(self, message: bytes, deadline: Deadline) -> None:
+        """Sends a message. Where that fails the member hasn't the whole of it, and so can't execute it."""
+        rest = memoryview(message)
+        try:
+            while rest:
+                self._socket.settimeout(deadline.for_socket())
+                rest = rest[self._socket.send(rest) :]
+        except OSError as error:
+            raise NotSent(f"{self._address} took only a part of the call: {error}") from error
+
+    def _receive(self, deadline: Deadline) -> bytes:
+        """The next message, whole."""
+        while (length := wire.message_length(self._has)) is None:
+            self._has += self._piece(deadline)
+        message = bytes(self._has[:length])
+        del self._has[:length]
+        return message
+
+    def _piece(self, deadline: Deadline) -> bytes:
+        try:
+            self._socket.settimeout(deadline.for_socket())
+            piece = self._socket.recv(PIECE)
+        except TimeoutError as error:
+            raise OutcomeUnknown(f"{self._address} didn't answer in time") from error
+        except OSError as error:
+            raise ConnectionLost(f"the connection to {self._address} broke before the answer: {error}") from error
+        if not piece:
+            raise ConnectionLost(f"{self._address} ended the connection before it answered")
+        return piece
+
+    def is_over(self) -> bool:
+        """Whether something comes though nothing was asked: the end, as a rule."""
+        try:
+            self._socket.settimeout(0)
+            self._socket.recv(1, socket.MSG_PEEK)
+        except BlockingIOError:
+            return False
+        except OSError:
+            return True
+        return True
+
+    def wake(self) -> None:
+        """Ends the connection under a thread that waits for it."""
+        with suppress(OSError):
+            self._socket.shutdown(socket.SHUT_RDWR)
+
+    def close(self) -> None:
+        self._socket.close()
+
+
+class Member:
+    """A member. Its connection is opened as it is first needed, and again once it was lost. Many threads may call it: each has
+    the connection to itself until its call is answered."""
+
+    def __init__(self, address: Address, identity: Identity) -> None:
+        self.address: Final = address
+        self._identity = identity
+        self._turn = threading.Lock()
+        self._connection: _Connection | None = None
+        self._is_closed = False
+        self._left_alone_until = 0.0
+
+    def ask(self, request: Request, deadline: Deadline) -> Answer:
+        """The member's answer. Raises `NotSent` where the call can't have reached it, and `OutcomeUnknown` where it may have."""
+        with self._turn_within(deadline):
+            connection = self._connected(deadline)
+            try:
+                return connection.ask(request, deadline)
+            except TooLarge:
+                raise
+            except BaseException as error:
+                self._drop()
+                if isinstance(error, ConnectionLost):
+                    self._left_alone_until = time.monotonic() + LEFT_ALONE
+                raise
+
+    def is_left_alone(self) -> bool:
+        """Whether its connection ended in place of an answer a moment ago."""
+        return time.monotonic() < self._left_alone_until
+
+    def close(self) -> None:
+        """Ends the connection, and calls under way with it."""
+        self._is_closed = True
+        if (connection := self._connection) is not None:
+            connection.wake()
+        with self._turn:
+            self._drop()
+
+    @contextmanager
+    def _turn_within(self, deadline: Deadline) -> Iterator[None]:
+        if not self._turn.acquire(timeout=deadline.left()):
+            raise NotSent(f"other threads' calls kept the connection to {self.address} until the time was up")
+        try:
+            yield
+        finally:
+            self._turn.release()
+
+    def _connected(self, deadline: Deadline) -> _Connection:
+        if self._connection is not None and self._connection.is_over():
+            self._drop()
+        if self._connection is None and not self._is_closed:
+            self._connection = self._connect(Deadline(min(CONNECT_WITHIN, deadline.left())))
+        if self._connection is None or self._is_closed:
+            self._drop()
+            raise ClientClosed("the client is closed")
+        return self._connection
+
+    def _connect(self, deadline: Deadline) -> _Connection:
+        try:
+            return _Connection(self.address, self._identity, deadline)
+        except (OSError, NotSent, OutcomeUnknown) as error:
+            raise NotSent(f"no connection to {self.address}: {error}") from error
+
+    def _drop(self) -> None:
+        if self._connection is not None:
+            self._connection.close()
+            self._connection = None

@@ -1,0 +1,63 @@
+"""Spans of time, which a caller gives in seconds, and moments until which something may take."""
+
+from __future__ import annotations
+
+import math
+import random
+import time
+from collections.abc import Iterator
+from datetime import timedelta
+from typing import Final, TypeAlias
+
+Span: TypeAlias = float | timedelta
+"""A span: a number of seconds, or a `timedelta`."""
+
+MOST_MILLISECONDS: Final = 2**63 - 1
+
+FIRST_PAUSE: Final = 0.002
+LONGEST_PAUSE: Final = 0.1
+
+
+def seconds(span: Span) -> float:
+    return span.total_seconds() if isinstance(span, timedelta) else float(span)
+
+
+def milliseconds(span: Span | None, what: str) -> int:
+    """A span as the server takes it: whole milliseconds, at least one, and 0 for no end."""
+    if span is None:
+        return 0
+    given = seconds(span)
+    if not 0 < given < MOST_MILLISECONDS / 1000:
+        raise ValueError(f"{what} of {span} seconds: it has to be more than 0, or None for no end")
+    return math.ceil(given * 1000)
+
+
+class Deadline:
+    """The moment at which a time is up."""
+
+    def __init__(self, span: Span) -> None:
+        self._end = time.monotonic() + seconds(span)
+
+    def left(self) -> float:
+        """How many seconds are left, at least 0."""
+        return max(0.0, self._end - time.monotonic())
+
+    def for_socket(self) -> float:
+        """As `left`, but never 0, which a socket takes for not waiting at all."""
+        return max(self.left(), 0.001)
+
+    def rest(self, pause: float) -> bool:
+        """Sleeps for that many seconds, or does nothing where fewer are left. Whether it slept."""
+        if self.left() <= pause:
+            return False
+        time.sleep(pause)
+        return True
+
+
+def growing_pauses() -> Iterator[float]:
+    """Pauses between attempts, in seconds: each about twice the one before, up to the longest. They are drawn at random, so that
+    clients that wait for one thing don't come all at once."""
+    longest = FIRST_PAUSE
+    while True:
+        yield random.uniform(longest / 2, longest)
+        longest = min(2 * longest, LONGEST_PAUSE)
