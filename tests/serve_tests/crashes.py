@@ -10,7 +10,9 @@ from contextlib import ExitStack, contextmanager
 
 from serving import wire
 from serving.checks import Checks
-from serving.client import PATIENCE, Silence, wait_until
+from serving.client import PATIENCE, wait_until
+from serving.columns import Column
+from serving.operating import Operator, begin_moves, finish_moves
 from serving.roaming import Roaming, Unanswered
 from serving.server import Server
 from serving.wire import Key, Kind, Refusal
@@ -142,24 +144,6 @@ def working(checks: Checks, workers: Sequence[Worker]) -> Iterator[None]:
             checks.equal(f"client {worker.number}", [], worker.wrong[:3])
 
 
-class Column:
-    """What one client knows of a key that it alone writes: the last number that was acknowledged, and those since then whose
-    answers didn't come, which may stand."""
-
-    def __init__(self, key: Key) -> None:
-        self.key = key
-        self.last = 0
-        self.acknowledged = 0
-        self.unanswered: list[int] = []
-
-    def may_be(self, value: bytes | None) -> bool:
-        number = int(value) if value is not None else 0
-        return number == self.acknowledged or number in self.unanswered
-
-    def told(self) -> str:
-        return f"{self.acknowledged} or one of {self.unanswered}"
-
-
 class Writer(Worker):
     """Puts rising numbers under its own keys. Each answer has to be what may have been there."""
 
@@ -208,37 +192,6 @@ class Keeper(Worker):
             self.wrong.append(f"a {call} of {key} found {value!r} in place of {self.values[key]!r}")
 
 
-class Operator:
-    """Types lines at a console."""
-
-    def __init__(self, server: Server) -> None:
-        self.server = server
-        self.lines = 0
-        self.moves = 0
-
-    def order(self, line: str) -> str:
-        """The outcome of a line, without its number."""
-        self.lines += 1
-        number, outcome = self.server.order(line).split(" ", 1)
-        if int(number) != self.lines:
-            raise Silence(f"outcome {number} in place of {self.lines}")
-        return outcome
-
-    def finish_move(self, partition: int) -> str:
-        """Has a move go on until it makes a row. The last outcome."""
-        end = time.monotonic() + PATIENCE
-        outcome = self.order(f"advance {partition}")
-        while not outcome.startswith("row ") and time.monotonic() < end:
-            outcome = self.order(f"advance {partition}")
-        return outcome
-
-    def move(self, partition: int, source: int, target: int) -> str:
-        """Moves a partition whose source leads it. What its beginning and its end came to, without the versions."""
-        self.moves += 1
-        outcomes = self.order(f"move {partition} {source} {target}"), self.finish_move(partition)
-        return ", ".join(outcome.split(" ")[0] for outcome in outcomes)
-
-
 def have_called(workers: Sequence[Worker], calls: int) -> bool:
     """Whether each client has had so many calls answered, or something went wrong in one."""
     return all(worker.calls >= calls for worker in workers) or any(worker.wrong for worker in workers)
@@ -276,28 +229,6 @@ def move_some(checks: Checks, operator: Operator, partitions: list[int]) -> None
     for partition in partitions:
         outcome = operator.move(partition, partition % 3, (partition + 2) % 3)
         checks.equal(f"move of {partition}", "row, row", outcome)
-
-
-def begin_moves(operator: Operator, partitions: list[int]) -> None:
-    """Begins to move these partitions, and leaves each move where it is: begun, with its source frozen, or done."""
-    for place, partition in enumerate(partitions):
-        operator.order(f"move {partition} {partition % 3} {(partition + 2) % 3}")
-        for _ in range(place % 3):
-            operator.order(f"advance {partition}")
-
-
-def go_on(operator: Operator, partition: int) -> bool:
-    """Has a move go on as far as it can now. Whether it did."""
-    steps = 0
-    while operator.order(f"advance {partition}") != "nothing":
-        steps += 1
-    return steps > 0
-
-
-def finish_moves(operator: Operator, partitions: list[int]) -> None:
-    """Has moves go on until none does: a source that was frozen may have answers to give first."""
-    while any([go_on(operator, partition) for partition in partitions]):
-        pass
 
 
 def all_go_on(checks: Checks, writers: list[Writer], when: str) -> None:

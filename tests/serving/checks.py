@@ -20,8 +20,9 @@ def shown(value: object) -> str:
 class Checks:
     """What was compared in a test, which has passed where nothing differed."""
 
-    def __init__(self, name: str) -> None:
+    def __init__(self, name: str, suite: str = "serve") -> None:
         self.name = name
+        self.suite = suite
         self.passed = 0
         self.failed = 0
 
@@ -35,7 +36,7 @@ class Checks:
             self.passed += 1
             return
         self.failed += 1
-        print(f"serve, {self.name}, {what}: '{shown(came)}' in place of '{shown(wanted)}'", flush=True)
+        print(f"{self.suite}, {self.name}, {what}: '{shown(came)}' in place of '{shown(wanted)}'", flush=True)
 
     def at_most(self, what: str, most: float, came: float) -> None:
         self.holds(what, came <= most, f"at most {most:g}", f"{came:g}")
@@ -51,16 +52,16 @@ def name_of(test: Test) -> str:
     return test.__name__.replace("_", " ")
 
 
-def not_run(test: Test) -> Checks:
+def not_run(test: Test, suite: str) -> Checks:
     """A test for which no time is left has failed."""
-    checks = Checks(name_of(test))
+    checks = Checks(name_of(test), suite)
     checks.holds("its turn", False, f"within {LONGEST} seconds", "none")
     return checks
 
 
-def run_test(test: Test) -> Checks:
+def run_test(test: Test, suite: str) -> Checks:
     """Runs a test. A fault in it is a failure."""
-    checks = Checks(name_of(test))
+    checks = Checks(name_of(test), suite)
     try:
         test(checks)
     except Exception as error:  # whatever went wrong is told, and the next test runs
@@ -68,13 +69,13 @@ def run_test(test: Test) -> Checks:
     return checks
 
 
-def run_tests(tests: Iterable[Test], *, told: bool) -> bool:
-    """Runs tests one after the other, and prints the counts. True where none failed."""
+def run_tests(tests: Iterable[Test], *, told: bool, suite: str = "serve") -> bool:
+    """Runs the tests of a suite one after the other, and prints the counts. True where none failed."""
     passed = failed = 0
     begin = time.monotonic()
     for test in tests:
         start = time.monotonic()
-        checks = run_test(test) if start < begin + LONGEST else not_run(test)
+        checks = run_test(test, suite) if start < begin + LONGEST else not_run(test, suite)
         passed += checks.passed
         failed += checks.failed
         if told:

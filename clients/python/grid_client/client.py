@@ -11,12 +11,11 @@ from typing import Any, Final, TypeVar, overload
 from .codecs import BYTES, TEXT, Codec
 from .errors import GridError, NotSent
 from .maps import Map
-from .members import Address, Identity, Member
+from .members import Address, Identity, Member, probe
 from .partitions import PARTITIONS
 from .queues import Queue, home_of
 from .routing import Router
 from .spans import Deadline, Span, seconds
-from .wire import Kind, Request
 
 K = TypeVar("K")
 V = TypeVar("V")
@@ -115,12 +114,13 @@ class GridClient:
         return Queue(self._router, self._timeout, name, values, home)
 
     def ping(self) -> dict[str, bool]:
-        """Whether each member answers, by its address."""
+        """Whether each member answers calls, by its address."""
         return {str(member.address): self._answers(member) for member in self._members}
 
     def _answers(self, member: Member) -> bool:
         with suppress(GridError):
-            return member.ask(Request(Kind.PING), Deadline(self._timeout)).refusal is None
+            member.ask(probe(), Deadline(self._timeout))
+            return True
         return False
 
     def _reach_one(self) -> None:
@@ -129,7 +129,7 @@ class GridClient:
         try:
             for member in self._members:
                 try:
-                    member.ask(Request(Kind.PING), Deadline(self._timeout))
+                    member.ask(probe(), Deadline(self._timeout))
                     return
                 except NotSent as error:
                     failures.append(error)

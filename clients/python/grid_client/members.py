@@ -3,6 +3,7 @@
 from __future__ import annotations
 
 import itertools
+import random
 import socket
 import threading
 import time
@@ -13,16 +14,23 @@ from typing import Final
 
 from . import wire
 from .errors import ClientClosed, ConnectionLost, NotSent, OutcomeUnknown, TooLarge, WrongCluster
+from .partitions import PARTITIONS
 from .spans import Deadline
-from .wire import Answer, Request
+from .wire import Answer, Kind, Request
 
 PIECE: Final = 1 << 16
 
 # How many seconds a connection may take until it is accepted.
 CONNECT_WITHIN: Final = 5.0
 
-# How many seconds a member is left alone whose connection ended in place of an answer: it may have crashed.
+# How many seconds a member is left alone that couldn't be reached, or whose connection ended in place of an answer.
 LEFT_ALONE: Final = 1.0
+
+
+def probe() -> Request:
+    """A read of a queue that nobody has. A member that has crashed still accepts connections, and ends them at the first call:
+    this one shows that it lives, also where it refuses it."""
+    return Request(Kind.SIZE, random.randrange(PARTITIONS), frames=(b"",))
 
 
 @dataclass(frozen=True)
@@ -55,7 +63,7 @@ class Identity:
 
 
 class _Connection:
-    """A connection on which the client has made itself known. One thread at a time has it."""
+    """A connection to a member that lives, on which the client has made itself known. One thread at a time has it."""
 
     def __init__(self, address: Address, identity: Identity, deadline: Deadline) -> None:
         self._address = address
@@ -73,6 +81,7 @@ class _Connection:
         request = wire.authentication(identity.cluster, identity.number)
         if not self._exchange(wire.PREFIX, request, deadline).check_accepted():
             raise WrongCluster(f"{self._address} doesn't belong to the cluster '{identity.cluster}'")
+        self.ask(probe(), deadline)
 
     def ask(self, request: Request, deadline: Deadline) -> Answer:
         return self._exchange(b"", request, deadline)
@@ -142,25 +151,33 @@ class Member:
         self._turn = threading.Lock()
         self._connection: _Connection | None = None
         self._is_closed = False
-        self._left_alone_until = 0.0
+        self._failed_at: float | None = None
 
     def ask(self, request: Request, deadline: Deadline) -> Answer:
         """The member's answer. Raises `NotSent` where the call can't have reached it, and `OutcomeUnknown` where it may have."""
         with self._turn_within(deadline):
             connection = self._connected(deadline)
             try:
-                return connection.ask(request, deadline)
+                answer = connection.ask(request, deadline)
             except TooLarge:
                 raise
             except BaseException as error:
                 self._drop()
                 if isinstance(error, ConnectionLost):
-                    self._left_alone_until = time.monotonic() + LEFT_ALONE
+                    self._failed_at = time.monotonic()
                 raise
+            self._failed_at = None
+            return answer
 
+    @property
+    def is_doubtful(self) -> bool:
+        """Whether it was last seen not to answer: it may have crashed."""
+        return self._failed_at is not None
+
+    @property
     def is_left_alone(self) -> bool:
-        """Whether its connection ended in place of an answer a moment ago."""
-        return time.monotonic() < self._left_alone_until
+        """Whether that was a moment ago."""
+        return self._failed_at is not None and time.monotonic() < self._failed_at + LEFT_ALONE
 
     def close(self) -> None:
         """Ends the connection, and calls under way with it."""
@@ -193,6 +210,7 @@ class Member:
         try:
             return _Connection(self.address, self._identity, deadline)
         except (OSError, NotSent, OutcomeUnknown) as error:
+            self._failed_at = time.monotonic()
             raise NotSent(f"no connection to {self.address}: {error}") from error
 
     def _drop(self) -> None:

@@ -3,14 +3,18 @@ who took a call last. A call that a member refused wasn't executed, so another o
 
 from __future__ import annotations
 
-from collections.abc import Iterator, Sequence
+from collections.abc import Sequence
 from typing import Final
 
 from .errors import Busy, GridError, Migrating, NotSent, OutcomeUnknown, PartitionLost, Refused, RowRefused, WrongTarget
 from .members import Member
 from .partitions import PARTITIONS
-from .spans import Deadline, Span, growing_pauses
+from .spans import Deadline, Span, growing_pauses, seconds
 from .wire import Answer, Request
+
+# The part of a call's time in which rounds are begun. The last one has the rest for its answers: what is sent just before the
+# time is up would have an outcome that nobody knows.
+_FOR_ROUNDS: Final = 0.75
 
 # Behind these another member may take the call, or this one a moment later.
 _ELSEWHERE: Final = (PartitionLost, WrongTarget, Migrating, Busy)
@@ -37,18 +41,19 @@ class Router:
         self._takers = [self.members[partition % len(self.members)] for partition in range(PARTITIONS)]
 
     def call(self, request: Request) -> Answer:
-        """The answer of the member that takes the call. Members are asked round after round until the time is up; then what the
-        last round came to is raised. A partition that is lost ends that at once."""
+        """The answer of the member that takes the call. Members are asked round after round until most of the time is up; then what
+        the last round came to is raised. A partition that is lost ends that at once."""
         deadline = Deadline(self._timeout)
+        last_round = Deadline(seconds(self._timeout) * _FOR_ROUNDS)
         pauses = growing_pauses()
         while True:
             try:
                 return self._round(request, deadline)
             except (NotSent, WrongTarget, Migrating, Busy):
-                if not deadline.rest(next(pauses)):
+                if not last_round.rest(next(pauses)):
                     raise
             except OutcomeUnknown:
-                if not self._may_repeat(request) or not deadline.rest(next(pauses)):
+                if not self._may_repeat(request) or not last_round.rest(next(pauses)):
                     raise
 
     def _round(self, request: Request, deadline: Deadline) -> Answer:
@@ -69,12 +74,14 @@ class Router:
                 refusals.append(answer.refusal)
         raise most_telling(refusals)
 
-    def _in_turn(self, partition: int) -> Iterator[Member]:
-        """The members, from the one that took the partition's last call on. Those that may have crashed are left alone for a
-        while, unless there are no others."""
+    def _in_turn(self, partition: int) -> Sequence[Member]:
+        """The members, from the one that took the partition's last call on. Those that may have crashed come last, and not too
+        often, unless there are no others."""
         first = self.members.index(self._takers[partition])
         turn = self.members[first:] + self.members[:first]
-        return iter([member for member in turn if not member.is_left_alone()] or turn)
+        trusted = [member for member in turn if not member.is_doubtful]
+        doubtful = [member for member in turn if member.is_doubtful and not member.is_left_alone]
+        return trusted + doubtful if trusted else turn
 
     def _taken(self, member: Member, request: Request, answer: Answer) -> Answer:
         self._takers[request.partition] = member

@@ -35,7 +35,6 @@ class Kind(IntEnum):
     """The types of requests. An answer has its request's type and 1 more, and an error 0."""
 
     AUTHENTICATION = 0x000100
-    PING = 0x000B00
     PUT = 0x010100
     SET = 0x010F00
     PUT_IF_ABSENT = 0x010E00
