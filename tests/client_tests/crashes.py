@@ -93,7 +93,7 @@ def moves_are_not_noticed(checks: Checks) -> None:
         writers = [Writer(client, number) for number in range(4)]
         with writing(checks, writers):
             all_go_on(checks, writers, "at first")
-            for partition in range(0, 271, 9):
+            for partition in range(0, 271, 15):
                 outcome = operator.move(partition, partition % 3, (partition + 2) % 3)
                 checks.equal(f"move of {partition}", "row, row", outcome)
             all_go_on(checks, writers, "behind the moves")

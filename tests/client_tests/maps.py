@@ -63,13 +63,13 @@ def values_end(checks: Checks) -> None:
     """Values end with their time to live, or once they weren't used for a while; others don't."""
     with Server() as server, client_of(server) as client:
         m = client.map("m", values=TEXT)
-        m.put("lives shortly", "v", ttl=0.3)
+        m.put("lives shortly", "v", ttl=1)
+        checks.equal("at once", "v", m.get("lives shortly"))
         m.set("is unused", "v", max_idle=timedelta(seconds=0.3))
-        m.put("is used", "v", ttl=60, max_idle=2)
+        m.put("is used", "v", ttl=60, max_idle=60)
         m.set("lives", "v", ttl=60)
         m.put_if_absent("is put if absent", "v", ttl=0.3)
-        checks.equal("at once", "v", m.get("lives shortly"))
-        time.sleep(0.4)
+        time.sleep(1.1)
         wanted = {"lives shortly": False, "is unused": False, "is used": True, "lives": True, "is put if absent": False}
         checks.equal("a while later", wanted, {key: key in m for key in wanted})
         spans: tuple[Span, ...] = (0, -1, timedelta(0), 2.0**60)

@@ -7,7 +7,7 @@ import time
 from functools import partial
 
 from grid_client import ClientClosed, ConnectionLost, GridClient, NotSent, OutcomeUnknown, ProtocolFault, WrongTarget
-from grid_client.members import Address, Identity, Member
+from grid_client.members import Address, Manner, Member
 from grid_client.spans import Deadline
 from grid_client.wire import Kind, Request
 from serving import wire
@@ -15,7 +15,7 @@ from serving.checks import Checks
 from serving.client import wait_until
 
 from client_tests.fakes import Behaviour, FakeMember, ending, finding_nothing, in_turn, refusing, silent
-from client_tests.shared import Running, raises
+from client_tests.shared import SHORT, Running, raises
 
 
 def a_call_that_may_have_been_executed_is_not_sent_again(checks: Checks) -> None:
@@ -35,7 +35,7 @@ def reads_are_made_again_where_that_is_wished(checks: Checks) -> None:
         with GridClient([member.address], repeat_reads=True) as client:
             checks.equal("a get", None, client.map("m").get("k"))
             checks.equal("how often it was made", 3, len(member.calls))
-    with FakeMember(ending) as member, GridClient([member.address], repeat_reads=True, timeout=0.3) as client:
+    with FakeMember(ending) as member, GridClient([member.address], repeat_reads=True, retry_for=SHORT) as client:
         raises(checks, "a put", ConnectionLost, client.map("m").put, "k", b"v")
         checks.equal("how often it was made", 1, len(member.calls))
         raises(checks, "a get that is never answered", ConnectionLost, client.map("m").get, "k")
@@ -43,21 +43,21 @@ def reads_are_made_again_where_that_is_wished(checks: Checks) -> None:
 
 def a_call_without_an_answer_ends_in_its_time(checks: Checks) -> None:
     """A member that doesn't answer keeps a call no longer than its timeout. An answer that comes late is nobody's."""
-    with FakeMember(in_turn(silent, finding_nothing)) as member, GridClient([member.address], timeout=0.3) as client:
+    with FakeMember(in_turn(silent, finding_nothing)) as member, GridClient([member.address], timeout=2) as client:
         begin = time.monotonic()
         raises(checks, "the call", OutcomeUnknown, client.map("m").put, "k", b"v")
-        checks.at_most("seconds until it ended", 2, time.monotonic() - begin)
+        checks.at_most("seconds until it ended", 10, time.monotonic() - begin)
         checks.equal("the next call", None, client.map("m").put("k", b"v"))
 
 
 def a_call_waits_for_the_connection_no_longer_than_its_time(checks: Checks) -> None:
     """A call that isn't answered keeps the connection from other threads' calls. Those weren't sent where their time is up."""
     with FakeMember(silent) as fake:
-        member = Member(Address(*fake.address), Identity("dev", 1))
+        member = Member(Address(*fake.address), Manner("dev", 1, 2))
         request = Request(Kind.POLL, 0, frames=(b"q",))
-        first = Running(lambda: member.ask(request, Deadline(1.0)))
+        first = Running(lambda: member.ask(request, Deadline(30)))
         until_called(fake)
-        raises(checks, "another call", NotSent, member.ask, request, Deadline(0.2))
+        raises(checks, "another call", NotSent, member.ask, request, Deadline(SHORT))
         raises(checks, "the first one", OutcomeUnknown, first.result)
         checks.equal("calls", 1, len(fake.calls))
         member.close()
@@ -119,11 +119,11 @@ def a_member_that_does_not_live_gets_no_call(checks: Checks) -> None:
     """A member that ends each connection at its first call is found out before a call is sent to it, and asked again later."""
     with FakeMember(finding_nothing) as crashed, FakeMember(refusing(8, 1)) as other:
         crashed.lives = False
-        with GridClient([crashed.address, other.address], timeout=0.3) as client:
+        with GridClient([crashed.address, other.address], retry_for=SHORT) as client:
             checks.equal("who answers", [False, True], list(client.ping().values()))
             raises(checks, "a call of its partition", WrongTarget, client.queue("q", partition=0).poll)
         crashed.lives = True
-        with GridClient([crashed.address, other.address], timeout=20) as client:
+        with GridClient([crashed.address, other.address], retry_for=20) as client:
             crashed.lives = False
             crashed.end_connections()
             polling = Running(client.queue("q", partition=0).poll)

@@ -18,7 +18,7 @@ from grid_client import (
     WrongPartition,
     WrongTarget,
 )
-from grid_client.members import Address, Identity, Member
+from grid_client.members import Address, Manner, Member
 from grid_client.spans import Deadline
 from grid_client.wire import Answer, Kind, Request
 from serving.checks import Checks
@@ -26,7 +26,7 @@ from serving.operating import Operator
 from serving.server import Server, free_ports
 
 from client_tests.fakes import Behaviour, FakeMember, finding_nothing, in_turn, refusing
-from client_tests.shared import Running, client_of, raises
+from client_tests.shared import SHORT, Running, client_of, raises
 
 # The number of each refusal, and its exception's name.
 NAMES = {
@@ -49,11 +49,11 @@ NAMES = {
 def each_number_has_its_exception(checks: Checks) -> None:
     """A member that refuses all calls with one number: its exception comes, with the number and its details."""
     for number, name in NAMES.items():
-        with FakeMember(refusing(number, 70, 8)) as member, GridClient([member.address], timeout=0.5) as client:
+        with FakeMember(refusing(number, 70, 8)) as member, GridClient([member.address], retry_for=SHORT) as client:
             error = raises(checks, f"error {number}", getattr(grid_client, name), client.map("m").remove, "k")
             checks.equal(f"the number of {name}", number, getattr(error, "number", None))
             checks.equal(f"the details of {name}", (70, 8), getattr(error, "details", None))
-    with FakeMember(refusing(99)) as member, GridClient([member.address], timeout=0.5) as client:
+    with FakeMember(refusing(99)) as member, GridClient([member.address], retry_for=SHORT) as client:
         error = raises(checks, "a number that the client doesn't know", Refused, client.map("m").remove, "k")
         checks.equal("its number", 99, getattr(error, "number", None))
 
@@ -67,7 +67,7 @@ def a_server_refuses_what_is_no_call(checks: Checks) -> None:
         ("a partition that isn't the key's", Request(Kind.GET, 6, bytes(8), (b"m", struct.pack(">ii", 5, 0))), WrongPartition),
     ]
     with Server() as server:
-        member = Member(Address("127.0.0.1", server.port), Identity("dev", 1))
+        member = Member(Address("127.0.0.1", server.port), Manner("dev", 1, 30))
         for what, request, wanted in messages:
             answer = member.ask(request, Deadline(30))
             checks.equal(what, wanted, type(answer.refusal))
@@ -83,11 +83,11 @@ def partitions_told(answer: Answer) -> tuple[int, int] | None:
 def a_client_needs_members_of_its_cluster(checks: Checks) -> None:
     """Where nobody listens, and where the cluster has another name, no client is made; nor is one without members."""
     nobody = [("127.0.0.1", port) for port in [free_ports(2)]]
-    raises(checks, "nobody there", NotSent, GridClient, nobody, timeout=1.0)
+    raises(checks, "nobody there", NotSent, GridClient, nobody, retry_for=SHORT)
     with Server() as server:
         address = f"127.0.0.1:{server.port}"
         raises(checks, "another cluster", WrongCluster, GridClient, [address], cluster="prod")
-        with GridClient([*nobody, address], timeout=5) as client:
+        with GridClient([*nobody, address]) as client:
             checks.equal("who answers", [False, True], list(client.ping().values()))
     faulty: tuple[list[str], ...] = ([], ["127.0.0.1"], ["127.0.0.1:x"], [":5701"])
     for members in faulty:
@@ -98,7 +98,7 @@ def a_call_goes_on_to_who_takes_it(checks: Checks) -> None:
     """Refusals 6, 8 and 9 are followed to another member, and who took the call is asked first from then on."""
     for number in (6, 8, 9):
         with FakeMember(refusing(number, 1)) as one, FakeMember(finding_nothing) as other:
-            with GridClient([one.address, other.address], timeout=20) as client:
+            with GridClient([one.address, other.address], retry_for=20) as client:
                 m = client.map("m")
                 for _ in range(3):
                     m.remove("k")
@@ -110,10 +110,10 @@ def a_refused_call_is_made_again(checks: Checks) -> None:
     """A member that refuses a while is asked again, more seldom each time, until it takes the call or the time is up."""
     for number in (6, 8, 9):
         behaviour: Behaviour = in_turn(*[refusing(number, 1)] * 4, finding_nothing)
-        with FakeMember(behaviour) as member, GridClient([member.address], timeout=20) as client:
+        with FakeMember(behaviour) as member, GridClient([member.address], retry_for=20) as client:
             checks.equal(f"a call that is refused four times with {number}", None, client.map("m").remove("k"))
             checks.equal("how often it was made", 5, len(member.calls))
-        with FakeMember(refusing(number, 1)) as member, GridClient([member.address], timeout=1.0) as client:
+        with FakeMember(refusing(number, 1)) as member, GridClient([member.address], retry_for=SHORT) as client:
             wanted = getattr(grid_client, NAMES[number])
             raises(checks, f"a call that is always refused with {number}", wanted, client.map("m").remove, "k")
             checks.at_least("how often it was made", 3, len(member.calls))
@@ -123,10 +123,10 @@ def a_refused_call_is_made_again(checks: Checks) -> None:
 def the_newest_row_says_whether_a_partition_is_lost(checks: Checks) -> None:
     """A member that knows an older row isn't believed that the partition is lost; behind the newest row no call is made again."""
     with FakeMember(refusing(7, 2)) as lost, FakeMember(in_turn(refusing(8, 3), finding_nothing)) as newer:
-        with GridClient([lost.address, newer.address], timeout=20) as client:
+        with GridClient([lost.address, newer.address], retry_for=20) as client:
             checks.equal("a call that is taken at last", None, client.map("m").remove("k"))
     with FakeMember(refusing(8, 2)) as older, FakeMember(refusing(7, 3)) as lost:
-        with GridClient([older.address, lost.address], timeout=20) as client:
+        with GridClient([older.address, lost.address], retry_for=20) as client:
             error = raises(checks, "a lost partition", PartitionLost, client.map("m").remove, "k")
             checks.equal("the row's version", 3, getattr(error, "version", None))
         checks.equal("calls", (1, 1), (len(older.calls), len(lost.calls)))
@@ -149,7 +149,7 @@ def a_lost_partition_is_told_until_it_is_reopened(checks: Checks) -> None:
 
 def a_frozen_partition_is_waited_for(checks: Checks) -> None:
     """While a partition is handed over its primary is frozen: a call waits until another member leads, or its time is up."""
-    with Server() as server, client_of(server) as client, client_of(server, timeout=1.0) as hasty:
+    with Server() as server, client_of(server) as client, client_of(server, retry_for=SHORT) as hasty:
         operator = Operator(server)
         client.queue("q", partition=5).offer(b"kept")
         checks.equal("move", "row 2", operator.order("move 5 2 1"))
@@ -167,7 +167,7 @@ def nobody_leads_before_a_crash_is_detected(checks: Checks) -> None:
     with Server() as server:
         Operator(server).order("crash 2")
         others = [("127.0.0.1", server.port + member) for member in (0, 1)]
-        with GridClient(others, timeout=1.0) as client:
+        with GridClient(others, retry_for=SHORT) as client:
             error = raises(checks, "a call", WrongTarget, client.queue("q", partition=5).poll)
             checks.equal("the row's version", 1, getattr(error, "version", None))
 

@@ -12,14 +12,19 @@ from serving.checks import Checks
 from serving.client import PATIENCE
 from serving.server import Server
 
+# A time that is to be up in a test. Nothing that has to come in that test has to come within it.
+SHORT = 0.3
+
 E = TypeVar("E", bound=BaseException)
 T = TypeVar("T")
 P = ParamSpec("P")
 
 
-def client_of(server: Server, *, timeout: float = PATIENCE, repeat_reads: bool = False) -> GridClient:
+def client_of(
+    server: Server, *, timeout: float = PATIENCE, retry_for: float = PATIENCE, repeat_reads: bool = False
+) -> GridClient:
     """A client of all members of a server. It is patient, since the machine may be busy."""
-    return GridClient.local(server.members, server.port, timeout=timeout, repeat_reads=repeat_reads)
+    return GridClient.local(server.members, server.port, timeout=timeout, retry_for=retry_for, repeat_reads=repeat_reads)
 
 
 def raises(checks: Checks, what: str, wanted: type[E], call: Callable[P, object], *args: P.args, **words: P.kwargs) -> E | None:

@@ -11,7 +11,7 @@ from typing import Any, Final, TypeVar, overload
 from .codecs import BYTES, TEXT, Codec
 from .errors import GridError, NotSent
 from .maps import Map
-from .members import Address, Identity, Member, probe
+from .members import Address, Manner, Member, probe
 from .partitions import PARTITIONS
 from .queues import Queue, home_of
 from .routing import Router
@@ -29,10 +29,10 @@ class GridClient:
         with GridClient(["127.0.0.1:5701", "127.0.0.1:5702", "127.0.0.1:5703"]) as client:
             carts = client.map("carts")
 
-    It keeps one connection to each member, and many threads may use it at once. `timeout` is how long a call may take, in
-    seconds: its way to the member that takes it, and its answer. `number` is who the client is where it locks keys; without one
-    it is drawn at random. With `repeat_reads` a call that only reads is made again, of this member or another one, where its
-    answer didn't come. No other call is sent again once it may have been executed.
+    It keeps one connection to each member, and many threads may use it at once. `timeout` is how long an answer is waited for, in
+    seconds, and a connection. `retry_for` is how long a call is made again that no member takes. `number` is who the client is
+    where it locks keys; without one it is drawn at random. With `repeat_reads` a call that only reads is made again, of this
+    member or another one, where its answer didn't come. No other call is sent again once it may have been executed.
 
     Raises `NotSent` where no member can be reached, and `WrongCluster` where they don't belong to `cluster`."""
 
@@ -42,19 +42,21 @@ class GridClient:
         *,
         cluster: str = "dev",
         timeout: Span = 10.0,
+        retry_for: Span = 10.0,
         number: int | None = None,
         repeat_reads: bool = False,
     ) -> None:
         addresses = [Address.of(member) for member in members]
         if not addresses:
             raise ValueError("a client needs the address of one member at least")
-        if seconds(timeout) <= 0:
-            raise ValueError(f"a timeout of {timeout} seconds: it has to be more than 0")
+        if seconds(timeout) <= 0 or seconds(retry_for) < 0:
+            raise ValueError(f"{timeout} and {retry_for} seconds: a timeout is more than 0, and a time of retries at least 0")
+        if number is not None and not 0 <= number < 2**128:
+            raise ValueError(f"the number {number} of a client: it has 128 bits")
         self.number: Final = uuid.uuid4().int if number is None else number
-        identity = Identity(cluster, self.number)
-        self._timeout = timeout
-        self._members = [Member(address, identity) for address in addresses]
-        self._router = Router(self._members, timeout, repeat_reads=repeat_reads)
+        manner = Manner(cluster, self.number, timeout)
+        self._members = [Member(address, manner) for address in addresses]
+        self._router = Router(self._members, retry_for, repeat_reads=repeat_reads)
         self._reach_one()
 
     @classmethod
@@ -64,12 +66,13 @@ class GridClient:
         port: int = FIRST_PORT,
         *,
         timeout: Span = 10.0,
+        retry_for: Span = 10.0,
         number: int | None = None,
         repeat_reads: bool = False,
     ) -> GridClient:
         """A client of `grid serve --members MEMBERS --port PORT` on this machine."""
         addresses = [("127.0.0.1", port + member) for member in range(members)]
-        return cls(addresses, timeout=timeout, number=number, repeat_reads=repeat_reads)
+        return cls(addresses, timeout=timeout, retry_for=retry_for, number=number, repeat_reads=repeat_reads)
 
     def __enter__(self) -> GridClient:
         return self
@@ -97,7 +100,7 @@ class GridClient:
 
     def map(self, name: str, *, keys: Codec[Any] = TEXT, values: Codec[Any] = BYTES) -> Map[Any, Any]:
         """The map of that name. Its keys are texts and its values bytes, where no codecs are given."""
-        return Map(self._router, self._timeout, name, keys, values)
+        return Map(self._router, name, keys, values)
 
     @overload
     def queue(self, name: str, *, partition: int | None = None) -> Queue[bytes]: ...
@@ -111,7 +114,7 @@ class GridClient:
         home = home_of(name) if partition is None else partition
         if not 0 <= home < PARTITIONS:
             raise ValueError(f"partition {home}: they go from 0 to {PARTITIONS - 1}")
-        return Queue(self._router, self._timeout, name, values, home)
+        return Queue(self._router, name, values, home)
 
     def ping(self) -> dict[str, bool]:
         """Whether each member answers calls, by its address."""
@@ -119,7 +122,7 @@ class GridClient:
 
     def _answers(self, member: Member) -> bool:
         with suppress(GridError):
-            member.ask(probe(), Deadline(self._timeout))
+            member.ask(probe(), Deadline(self._router.retry_for))
             return True
         return False
 
@@ -129,7 +132,7 @@ class GridClient:
         try:
             for member in self._members:
                 try:
-                    member.ask(probe(), Deadline(self._timeout))
+                    member.ask(probe(), Deadline(self._router.retry_for))
                     return
                 except NotSent as error:
                     failures.append(error)

@@ -45,10 +45,9 @@ class Map(Generic[K, V]):
     Spans are seconds, or a `timedelta`, and None is without an end. Each call may raise what `grid_client.errors` has: a write
     `KeyLocked` where another owner has locked the key. An owner is a thread of a client."""
 
-    def __init__(self, router: Router, timeout: Span, name: str, keys: Codec[K], values: Codec[V]) -> None:
+    def __init__(self, router: Router, name: str, keys: Codec[K], values: Codec[V]) -> None:
         self.name: Final = name
         self._router = router
-        self._timeout = timeout
         self._keys = keys
         self._values = values
 
@@ -181,7 +180,7 @@ class Map(Generic[K, V]):
     def lock(self, key: K, *, lease: Span | None = None, wait: Span | None = None) -> Iterator[None]:
         """Has the key's lock for a block: `with m.lock("k", lease=10): ...`
 
-        Waits up to `wait` seconds until others give it back, or the client's timeout, and raises `LockTimeout` behind that. With
+        Waits up to `wait` seconds until others give it back, or the client's `retry_for`, and raises `LockTimeout` behind that. With
         a lease the lock ends by itself where this program does. Where it ended before the block did, `LeaseEnded` is raised at
         the block's end: another owner may have written meanwhile."""
         self._take(key, lease, wait)
@@ -194,7 +193,7 @@ class Map(Generic[K, V]):
         self._give_back(key)
 
     def _take(self, key: K, lease: Span | None, wait: Span | None) -> None:
-        deadline = Deadline(self._timeout if wait is None else wait)
+        deadline = Deadline(self._router.retry_for if wait is None else wait)
         pauses = growing_pauses()
         while not self.try_lock(key, lease=lease):
             if not deadline.rest(next(pauses)):

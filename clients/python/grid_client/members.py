@@ -6,22 +6,19 @@ import itertools
 import random
 import socket
 import threading
-import time
 from collections.abc import Iterator
 from contextlib import contextmanager, suppress
 from dataclasses import dataclass
+from time import monotonic
 from typing import Final
 
 from . import wire
 from .errors import ClientClosed, ConnectionLost, NotSent, OutcomeUnknown, TooLarge, WrongCluster
 from .partitions import PARTITIONS
-from .spans import Deadline
+from .spans import Deadline, Span
 from .wire import Answer, Kind, Request
 
 PIECE: Final = 1 << 16
-
-# How many seconds a connection may take until it is accepted.
-CONNECT_WITHIN: Final = 5.0
 
 # How many seconds a member is left alone that couldn't be reached, or whose connection ended in place of an answer.
 LEFT_ALONE: Final = 1.0
@@ -55,36 +52,40 @@ class Address:
 
 
 @dataclass(frozen=True)
-class Identity:
-    """Who the client is: the cluster that it wants, and its own number, which owns its locks."""
+class Manner:
+    """How members are called: the cluster that is wanted, the client's own number, which owns its locks, and how long a member is
+    waited for, for a connection and for an answer."""
 
     cluster: str
-    number: int
+    client: int
+    timeout: Span
 
 
 class _Connection:
     """A connection to a member that lives, on which the client has made itself known. One thread at a time has it."""
 
-    def __init__(self, address: Address, identity: Identity, deadline: Deadline) -> None:
+    def __init__(self, address: Address, manner: Manner) -> None:
         self._address = address
+        self._timeout = manner.timeout
         self._has = bytearray()
         self._correlations = itertools.count(1)
+        deadline = Deadline(manner.timeout)
         self._socket = socket.create_connection((address.host, address.port), deadline.for_socket())
         try:
             self._socket.setsockopt(socket.IPPROTO_TCP, socket.TCP_NODELAY, 1)
-            self._make_known(identity, deadline)
+            self._make_known(manner, deadline)
         except BaseException:
             self.close()
             raise
 
-    def _make_known(self, identity: Identity, deadline: Deadline) -> None:
-        request = wire.authentication(identity.cluster, identity.number)
+    def _make_known(self, manner: Manner, deadline: Deadline) -> None:
+        request = wire.authentication(manner.cluster, manner.client)
         if not self._exchange(wire.PREFIX, request, deadline).check_accepted():
-            raise WrongCluster(f"{self._address} doesn't belong to the cluster '{identity.cluster}'")
-        self.ask(probe(), deadline)
+            raise WrongCluster(f"{self._address} doesn't belong to the cluster '{manner.cluster}'")
+        self._exchange(b"", probe(), deadline)
 
-    def ask(self, request: Request, deadline: Deadline) -> Answer:
-        return self._exchange(b"", request, deadline)
+    def ask(self, request: Request) -> Answer:
+        return self._exchange(b"", request, Deadline(self._timeout))
 
     def _exchange(self, prefix: bytes, request: Request, deadline: Deadline) -> Answer:
         correlation = next(self._correlations)
@@ -145,26 +146,27 @@ class Member:
     """A member. Its connection is opened as it is first needed, and again once it was lost. Many threads may call it: each has
     the connection to itself until its call is answered."""
 
-    def __init__(self, address: Address, identity: Identity) -> None:
+    def __init__(self, address: Address, manner: Manner) -> None:
         self.address: Final = address
-        self._identity = identity
+        self._manner = manner
         self._turn = threading.Lock()
         self._connection: _Connection | None = None
         self._is_closed = False
         self._failed_at: float | None = None
 
-    def ask(self, request: Request, deadline: Deadline) -> Answer:
-        """The member's answer. Raises `NotSent` where the call can't have reached it, and `OutcomeUnknown` where it may have."""
-        with self._turn_within(deadline):
-            connection = self._connected(deadline)
+    def ask(self, request: Request, turn_until: Deadline) -> Answer:
+        """The member's answer. Other threads' calls are waited for until the deadline. Raises `NotSent` where the call can't have
+        reached the member, and `OutcomeUnknown` where it may have."""
+        with self._turn_within(turn_until):
+            connection = self._connected()
             try:
-                answer = connection.ask(request, deadline)
+                answer = connection.ask(request)
             except TooLarge:
                 raise
             except BaseException as error:
                 self._drop()
                 if isinstance(error, ConnectionLost):
-                    self._failed_at = time.monotonic()
+                    self._failed_at = monotonic()
                 raise
             self._failed_at = None
             return answer
@@ -177,7 +179,7 @@ class Member:
     @property
     def is_left_alone(self) -> bool:
         """Whether that was a moment ago."""
-        return self._failed_at is not None and time.monotonic() < self._failed_at + LEFT_ALONE
+        return self._failed_at is not None and monotonic() < self._failed_at + LEFT_ALONE
 
     def close(self) -> None:
         """Ends the connection, and calls under way with it."""
@@ -196,21 +198,21 @@ class Member:
         finally:
             self._turn.release()
 
-    def _connected(self, deadline: Deadline) -> _Connection:
+    def _connected(self) -> _Connection:
         if self._connection is not None and self._connection.is_over():
             self._drop()
         if self._connection is None and not self._is_closed:
-            self._connection = self._connect(Deadline(min(CONNECT_WITHIN, deadline.left())))
+            self._connection = self._connect()
         if self._connection is None or self._is_closed:
             self._drop()
             raise ClientClosed("the client is closed")
         return self._connection
 
-    def _connect(self, deadline: Deadline) -> _Connection:
+    def _connect(self) -> _Connection:
         try:
-            return _Connection(self.address, self._identity, deadline)
+            return _Connection(self.address, self._manner)
         except (OSError, NotSent, OutcomeUnknown) as error:
-            self._failed_at = time.monotonic()
+            self._failed_at = monotonic()
             raise NotSent(f"no connection to {self.address}: {error}") from error
 
     def _drop(self) -> None:

@@ -24,11 +24,10 @@ class Queue(Generic[V]):
     A call may raise what `grid_client.errors` has. Behind an `OutcomeUnknown` of `poll` the item may be gone, and behind one of
     `offer` it may be there."""
 
-    def __init__(self, router: Router, timeout: Span, name: str, values: Codec[V], partition: int) -> None:
+    def __init__(self, router: Router, name: str, values: Codec[V], partition: int) -> None:
         self.name: Final = name
         self.partition: Final = partition
         self._router = router
-        self._timeout = timeout
         self._values = values
 
     def __repr__(self) -> str:

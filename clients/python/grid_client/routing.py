@@ -9,55 +9,56 @@ from typing import Final
 from .errors import Busy, GridError, Migrating, NotSent, OutcomeUnknown, PartitionLost, Refused, RowRefused, WrongTarget
 from .members import Member
 from .partitions import PARTITIONS
-from .spans import Deadline, Span, growing_pauses, seconds
+from .spans import Deadline, Span, growing_pauses
 from .wire import Answer, Request
-
-# The part of a call's time in which rounds are begun. The last one has the rest for its answers: what is sent just before the
-# time is up would have an outcome that nobody knows.
-_FOR_ROUNDS: Final = 0.75
 
 # Behind these another member may take the call, or this one a moment later.
 _ELSEWHERE: Final = (PartitionLost, WrongTarget, Migrating, Busy)
 
 
 def most_telling(refusals: Sequence[GridError]) -> GridError:
-    """Of what a round of members gave the one to tell: what the newest row says, or that a member is busy, or the last."""
+    """Of what a round of members gave the one to tell: that the outcome isn't known, or what the newest row says, or that a member is
+    busy, or the last."""
+    unknown = next((refusal for refusal in refusals if isinstance(refusal, OutcomeUnknown)), None)
+    busy = next((refusal for refusal in refusals if isinstance(refusal, Busy)), None)
     rows = [refusal for refusal in refusals if isinstance(refusal, RowRefused)]
     newest = max(rows, key=lambda refusal: refusal.version, default=None)
     if isinstance(newest, PartitionLost):
         return newest
-    busy = next((refusal for refusal in refusals if isinstance(refusal, Busy)), None)
-    return busy or newest or refusals[-1]
+    return unknown or busy or newest or refusals[-1]
 
 
 class Router:
     """Sends calls to the members that take them."""
 
-    def __init__(self, members: Sequence[Member], timeout: Span, *, repeat_reads: bool) -> None:
+    def __init__(self, members: Sequence[Member], retry_for: Span, *, repeat_reads: bool) -> None:
         self.members: Final = tuple(members)
-        self._timeout = timeout
+        self.retry_for: Final = retry_for
         self._repeat_reads = repeat_reads
         # Who took the last call of each partition; at first who leads it in a grid that has just been started.
         self._takers = [self.members[partition % len(self.members)] for partition in range(PARTITIONS)]
 
     def call(self, request: Request) -> Answer:
-        """The answer of the member that takes the call. Members are asked round after round until most of the time is up; then what
-        the last round came to is raised. A partition that is lost ends that at once."""
-        deadline = Deadline(self._timeout)
-        last_round = Deadline(seconds(self._timeout) * _FOR_ROUNDS)
+        """The answer of the member that takes the call. Members are asked round after round until the time is up; then what the
+        last round came to is raised. A partition that is lost ends that at once."""
+        deadline = Deadline(self.retry_for)
         pauses = growing_pauses()
+        unknown: GridError | None = None
         while True:
             try:
                 return self._round(request, deadline)
-            except (NotSent, WrongTarget, Migrating, Busy):
-                if not last_round.rest(next(pauses)):
+            except OutcomeUnknown as error:
+                if not self._may_repeat(request):
                     raise
-            except OutcomeUnknown:
-                if not self._may_repeat(request) or not last_round.rest(next(pauses)):
-                    raise
+                unknown = error
+                failure: GridError = error
+            except (NotSent, WrongTarget, Migrating, Busy) as error:
+                failure = unknown or error
+            if not deadline.rest(next(pauses)):
+                raise failure
 
     def _round(self, request: Request, deadline: Deadline) -> Answer:
-        """Asks each member once, at most, and gives the answer of the one that takes the call."""
+        """Asks the members, each once, while there is time, and gives the answer of the one that takes the call."""
         refusals: list[GridError] = []
         for member in self._in_turn(request.partition):
             try:
@@ -72,6 +73,8 @@ class Router:
                 if not isinstance(answer.refusal, _ELSEWHERE):
                     return self._taken(member, request, answer)
                 refusals.append(answer.refusal)
+            if deadline.is_over():
+                break
         raise most_telling(refusals)
 
     def _in_turn(self, partition: int) -> Sequence[Member]:

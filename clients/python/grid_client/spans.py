@@ -42,6 +42,9 @@ class Deadline:
         """How many seconds are left, at least 0."""
         return max(0.0, self._end - time.monotonic())
 
+    def is_over(self) -> bool:
+        return self.left() == 0
+
     def for_socket(self) -> float:
         """As `left`, but never 0, which a socket takes for not waiting at all."""
         return max(self.left(), 0.001)
