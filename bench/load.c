@@ -5,7 +5,7 @@
 //     load KIND PORT MEMBERS CONNECTIONS KEYS idle SECONDS PID..
 //     load KIND PORT MEMBERS CONNECTIONS KEYS memory FEW MANY PID..
 //
-// KIND is grid, redis or echo. Connection c goes to port PORT + c % MEMBERS. A grid's member is primary of the partitions
+// KIND is grid, redis, memcached or echo. Connection c goes to port PORT + c % MEMBERS. A grid's member is primary of the partitions
 // whose number, modulo the members, is its own; a connection's keys are in those, since a key may state its hash.
 //
 // run     puts every key once, warms up for a second, and prints calls, seconds, calls a second, and the median, the 99th
@@ -233,13 +233,14 @@ static size_t grid_answer(const struct connection *c, bool to_greeting) {
     return length;
 }
 
-// Redis's protocol: arrays of texts with their lengths, and lines.
-
-static size_t redis_greeting(const struct connection *c, uint8_t *out) {
+// The other protocols begin with a call.
+static size_t no_greeting(const struct connection *c, uint8_t *out) {
     (void)c;
     (void)out;
     return 0;
 }
+
+// Redis's protocol: arrays of texts with their lengths, and lines.
 
 static size_t redis_request(const struct connection *c, uint8_t *out) {
     if (!c->is_put) {
@@ -277,6 +278,56 @@ static size_t redis_answer(const struct connection *c, bool to_greeting) {
     return line + VALUE + 2;
 }
 
+// memcached's protocol, in its form of texts: lines, and values behind their lengths.
+
+static size_t memcached_request(const struct connection *c, uint8_t *out) {
+    if (!c->is_put) {
+        return (size_t)sprintf((char *)out, "get %08u\r\n", c->key);
+    }
+    size_t length = (size_t)sprintf((char *)out, "set %08u 0 0 %d\r\n", c->key, VALUE);
+    uint8_t *at = put_value(out + length, c->key);
+    at = put_text(at, "\r\n", 2);
+    return (size_t)(at - out);
+}
+
+// Whether these bytes, which have come, are that text.
+static bool is_text(const struct connection *c, size_t length, const char *text) {
+    return length == strlen(text) && memcmp(c->in, text, length) == 0;
+}
+
+static size_t memcached_answer(const struct connection *c, bool to_greeting) {
+    (void)to_greeting;
+    static const char end[] = "\r\nEND\r\n";
+    char head[32];
+    const uint8_t *newline = memchr(c->in, '\n', c->have);
+    if (newline == NULL) {
+        return INCOMPLETE;
+    }
+    size_t line = (size_t)(newline - c->in) + 1;
+    if (c->is_put) {
+        if (!is_text(c, line, "STORED\r\n")) {
+            fail("no answer to a put", c);
+        }
+        return line;
+    }
+    if (is_text(c, line, "END\r\n")) {
+        return line;
+    }
+    snprintf(head, sizeof head, "VALUE %08u 0 %d\r\n", c->key, VALUE);
+    if (!is_text(c, line, head)) {
+        fail("no answer to a get", c);
+    }
+    size_t whole = line + VALUE + sizeof end - 1;
+    if (c->have < whole) {
+        return INCOMPLETE;
+    }
+    check_value(c, c->in + line, VALUE);
+    if (memcmp(c->in + line + VALUE, end, sizeof end - 1) != 0) {
+        fail("no end of a value", c);
+    }
+    return whole;
+}
+
 // An echo: what is sent comes back.
 
 static size_t echo_answer(const struct connection *c, bool to_greeting) {
@@ -286,8 +337,9 @@ static size_t echo_answer(const struct connection *c, bool to_greeting) {
 
 static const struct protocol protocols[] = {
     {"grid", grid_greeting, grid_request, grid_answer},
-    {"redis", redis_greeting, redis_request, redis_answer},
-    {"echo", redis_greeting, grid_request, echo_answer},
+    {"redis", no_greeting, redis_request, redis_answer},
+    {"memcached", no_greeting, memcached_request, memcached_answer},
+    {"echo", no_greeting, grid_request, echo_answer},
 };
 
 // Connections.

@@ -1,21 +1,24 @@
 #!/usr/bin/env bash
-# Times `grid serve`, with 3 members and 1 backup, beside Redis with one replica and beside an echo, each over TCP on this
+# Times `grid serve`, with 3 members and 1 backup, beside Redis with one replica, memcached and an echo, each over TCP on this
 # machine: bench/serve.sh [SECONDS], from the repository's top once crates/grid is built (`rt run` there). SECONDS is how long
 # each shape of connections is timed, 5 where it isn't given. GRID names another program; KINDS, as "redis echo", names some.
+# bench/plot.py draws what it prints.
 #
 # load.c makes the calls, in a closed loop: each connection sends its next call once the one before is answered. Half are
 # puts and half are gets of 64-byte values, over 6,000 keys. A grid's connections are spread over the members, and send what
 # their member is primary of. A put of the grid answers the value before it; Redis's SET, as it is mostly used, answers OK. The
 # grid answers a put once its backup has it, and Redis before its replica has it, which is how it is run by default. Redis
-# writes nothing to disk here, as the grid doesn't. The echo is one thread that sends back what comes: the floor.
+# writes nothing to disk here, as the grid doesn't. memcached keeps one copy, and has the four threads of its default. The echo
+# is one thread that sends back what comes: the floor.
 #
-# The processor time at rest and the memory are those of all processes of a kind: Redis has two, the grid one.
+# The processor time at rest and the memory are those of all processes of a kind: Redis has two, the others one. A kind that
+# isn't installed is left out, with a word, and the exit status is then 1.
 set -euo pipefail
 
 cd "$(dirname "$0")/.."
 seconds=${1:-5}
 grid=${GRID:-crates/grid/out/grid}
-kinds=${KINDS:-grid redis echo}
+kinds=${KINDS:-grid redis memcached echo}
 keys=6000
 work=$(mktemp -d)
 started=()
@@ -101,6 +104,15 @@ start_redis() {
     exit 1
 }
 
+start_memcached() {
+    port=$(free_ports 1)
+    members=1
+    # the user counts only where root runs this
+    memcached -l 127.0.0.1 -p "$port" -U 0 -u nobody >"$work/memcached.log" 2>&1 &
+    started+=($!)
+    wait_for $! "$port"
+}
+
 start_echo() {
     port=$(free_ports 1)
     members=1
@@ -120,7 +132,7 @@ time_calls() {
         line=$(load "$connections" "$keys" run "$seconds")
         # calls, seconds, calls a second, and the times of the median, of 99 and of 999 in a thousand
         set -- $line
-        printf '%-6s %11d %12d %9.1f %9.1f %9.1f\n' "$kind" "$connections" "$3" "$4" "$5" "$6"
+        printf '%-9s %11d %12d %9.1f %9.1f %9.1f\n' "$kind" "$connections" "$3" "$4" "$5" "$6"
     done
 }
 
@@ -135,7 +147,7 @@ time_kind() {
     memory=$(load 16 "$keys" memory 10000 1000000 "${started[@]}")
     stop_all
     set -- $memory
-    printf '%-6s %11.2f %16d %16d\n' "$kind" "$rest" "$1" "$2" >>"$work/rest"
+    printf '%-9s %11.2f %16d %16d\n' "$kind" "$rest" "$1" "$2" >>"$work/rest"
 }
 
 is_there() {
@@ -152,13 +164,19 @@ is_there() {
             return 1
         fi
         ;;
+    memcached)
+        if ! command -v memcached >/dev/null; then
+            echo "no memcached: 'apt-get install memcached'" >&2
+            return 1
+        fi
+        ;;
     esac
 }
 
 cc -O2 -o "$work/load" bench/load.c
 cc -O2 -o "$work/echo" bench/echo.c
 : >"$work/rest"
-printf '%-6s %11s %12s %9s %9s %9s\n' kind connections calls/second p50/us p99/us p99.9/us
+printf '%-9s %11s %12s %9s %9s %9s\n' kind connections calls/second p50/us p99/us p99.9/us
 missing=0
 for kind in $kinds; do
     if is_there "$kind"; then
@@ -168,6 +186,6 @@ for kind in $kinds; do
     fi
 done
 echo
-printf '%-6s %11s %16s %16s\n' kind 'at rest/%' 'kB at 10,000' 'kB at 1,000,000'
+printf '%-9s %11s %16s %16s\n' kind 'at rest/%' 'kB at 10,000' 'kB at 1,000,000'
 cat "$work/rest"
 exit $missing

@@ -60,17 +60,23 @@ def each_call_of_a_map_answers(checks: Checks) -> None:
 
 
 def values_end(checks: Checks) -> None:
-    """Values end with their time to live, or once they weren't used for a while; others don't."""
+    """Values end with their time to live, whether or not they are used, or once they weren't used for a while; others don't."""
     with Server() as server, client_of(server) as client:
         m = client.map("m", values=TEXT)
         m.put("lives shortly", "v", ttl=1)
         checks.equal("at once", "v", m.get("lives shortly"))
         m.set("is unused", "v", max_idle=timedelta(seconds=0.3))
+        m.put("is used, and lives shortly", "v", ttl=1, max_idle=60)
         m.put("is used", "v", ttl=60, max_idle=60)
         m.set("lives", "v", ttl=60)
         m.put_if_absent("is put if absent", "v", ttl=0.3)
-        time.sleep(1.1)
-        wanted = {"lives shortly": False, "is unused": False, "is used": True, "lives": True, "is put if absent": False}
+        time.sleep(0.6)
+        checks.equal("what is used", True, "is used" in m)
+        m.get("is used, and lives shortly")
+        time.sleep(0.6)
+        there = ["is used", "lives"]
+        gone = ["lives shortly", "is unused", "is used, and lives shortly", "is put if absent"]
+        wanted = {key: key in there for key in (*there, *gone)}
         checks.equal("a while later", wanted, {key: key in m for key in wanted})
         spans: tuple[Span, ...] = (0, -1, timedelta(0), 2.0**60)
         for span in spans:

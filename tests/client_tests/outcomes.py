@@ -19,7 +19,8 @@ from client_tests.shared import SHORT, Running, raises
 
 
 def a_call_that_may_have_been_executed_is_not_sent_again(checks: Checks) -> None:
-    """Where a connection ends in place of an answer that is told, and the call was made once. The next one has a new connection."""
+    """Where a connection ends in place of an answer that is told, and the call was made once, of one member. The next one has a new
+    connection."""
     for call in ("put", "get"):
         with FakeMember(in_turn(ending, finding_nothing)) as member, GridClient([member.address]) as client:
             m = client.map("m")
@@ -27,6 +28,10 @@ def a_call_that_may_have_been_executed_is_not_sent_again(checks: Checks) -> None
             raises(checks, f"a {call}", ConnectionLost, make)
             checks.equal(f"how often the {call} was made", 1, len(member.calls))
             checks.equal("the next one", None, make())
+    with FakeMember(ending) as member, FakeMember(finding_nothing) as other:
+        with GridClient([member.address, other.address]) as client:
+            raises(checks, "a poll", ConnectionLost, client.queue("q", partition=0).poll)
+        checks.equal("calls of each member", (1, 0), (len(member.calls), len(other.calls)))
 
 
 def reads_are_made_again_where_that_is_wished(checks: Checks) -> None:

@@ -2,7 +2,7 @@
 
 from __future__ import annotations
 
-from grid_client import NUMBERS, TEXT
+from grid_client import NUMBERS, TEXT, partition_of
 from serving.checks import Checks
 from serving.server import Server
 
@@ -58,7 +58,9 @@ def queues_are_told_by_name_and_partition(checks: Checks) -> None:
         for place, queue in enumerate(queues):
             queue.offer(b"%d" % place)
         checks.equal("what each has", [b"0", b"1", b"2"], [queue.poll() for queue in queues])
-        client.queue("orders", values=TEXT).offer("x")
+        orders = client.queue("orders", values=TEXT)
+        checks.equal("the partition that a name tells", partition_of(TEXT.to_key("orders")), orders.partition)
+        orders.offer("x")
         checks.equal("a second object of that name", "x", client.queue("orders", values=TEXT).poll())
         for partition in (-1, 271):
             raises(checks, f"partition {partition}", ValueError, client.queue, "q", partition=partition)
