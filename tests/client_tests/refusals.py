@@ -92,6 +92,10 @@ def a_client_needs_members_of_its_cluster(checks: Checks) -> None:
     faulty: tuple[list[str], ...] = ([], ["127.0.0.1"], ["127.0.0.1:x"], [":5701"])
     for members in faulty:
         raises(checks, f"a client of {members}", ValueError, GridClient, members)
+    raises(checks, "a timeout of no time", ValueError, GridClient, nobody, timeout=0)
+    raises(checks, "retries for less than no time", ValueError, GridClient, nobody, retry_for=-1)
+    for number in (-1, 2**128):
+        raises(checks, f"a client with the number {number}", ValueError, GridClient, nobody, number=number)
 
 
 def a_call_goes_on_to_who_takes_it(checks: Checks) -> None:
