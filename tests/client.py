@@ -10,11 +10,10 @@ says what was wanted and what came; the last line is 'N passed, M failed', and t
 from __future__ import annotations
 
 import os
-import signal
 import sys
 
 from serving.checks import Test, run_tests
-from serving.server import TOP, program
+from serving.server import TOP, end_when_told, program
 
 sys.path.insert(0, str(TOP / "clients" / "python"))
 
@@ -34,8 +33,7 @@ def main(words: list[str]) -> int:
         print(f"no program at {program()}: build it with 'rt ci', or set GRID")
         print("0 passed, 1 failed")
         return 1
-    # a test that is ended from outside ends its servers too
-    signal.signal(signal.SIGTERM, lambda *_: sys.exit(1))
+    end_when_told()
     told = "--times" in words
     return 0 if run_tests(chosen([word for word in words if word != "--times"]), told=told, suite="client") else 1
 

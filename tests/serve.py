@@ -10,12 +10,11 @@ says what was wanted and what came; the last line is 'N passed, M failed', and t
 from __future__ import annotations
 
 import os
-import signal
 import sys
 
 from serve_tests import calls, command, console, crashes, load, scenarios, streams
 from serving.checks import Test, run_tests
-from serving.server import program, raise_descriptor_limit
+from serving.server import end_when_told, program, raise_descriptor_limit
 
 MODULES = (calls, scenarios, streams, load, command, console, crashes)
 
@@ -31,8 +30,7 @@ def main(words: list[str]) -> int:
         print(f"no program at {program()}: build it with 'rt ci', or set GRID")
         print("0 passed, 1 failed")
         return 1
-    # a test that is ended from outside ends its servers too
-    signal.signal(signal.SIGTERM, lambda *_: sys.exit(1))
+    end_when_told()
     raise_descriptor_limit()
     told = "--times" in words
     return 0 if run_tests(chosen([word for word in words if word != "--times"]), told=told) else 1

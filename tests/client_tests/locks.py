@@ -5,7 +5,7 @@ from __future__ import annotations
 import time
 from functools import partial
 
-from grid_client import NUMBERS, TEXT, KeyLocked, LeaseEnded, LockTimeout, NotOwner
+from grid_client import NUMBERS, TEXT, GridClient, KeyLocked, LeaseEnded, LockTimeout, NotOwner
 from serving.checks import Checks
 from serving.server import Server
 
@@ -74,6 +74,19 @@ def a_with_gives_its_lock_back(checks: Checks) -> None:
             checks.equal("a lock that was waited for", False, m.try_lock("k"))
 
 
+def a_number_says_who_a_client_is(checks: Checks) -> None:
+    """Two clients of one number are one owner, in one thread, and so are a client that ended and its next one."""
+    with Server() as server:
+        number = 2**127 + 5
+        with GridClient.local(3, server.port, number=number) as client:
+            checks.equal("its number", number, client.number)
+            client.map("m").try_lock("k")
+        with GridClient.local(3, server.port, number=number) as again, client_of(server) as other:
+            raises(checks, "another client's put", KeyLocked, other.map("m").put, "k", b"v")
+            checks.equal("the owner's put", None, again.map("m").put("k", b"v"))
+            again.map("m").unlock("k")
+
+
 def threads_count_under_a_lock(checks: Checks) -> None:
     """Threads of one client and of another one read and write a number under a lock, and none of their additions is lost."""
     with Server() as server, client_of(server) as client, client_of(server) as other:
@@ -94,5 +107,6 @@ TESTS = (
     a_lock_keeps_others_writes_away,
     a_lock_is_counted_and_ends_with_its_lease,
     a_with_gives_its_lock_back,
+    a_number_says_who_a_client_is,
     threads_count_under_a_lock,
 )

@@ -82,7 +82,7 @@ def partitions_told(answer: Answer) -> tuple[int, int] | None:
 
 def a_client_needs_members_of_its_cluster(checks: Checks) -> None:
     """Where nobody listens, and where the cluster has another name, no client is made; nor is one without members."""
-    nobody = [("127.0.0.1", port) for port in [free_ports(2)]]
+    nobody = [("127.0.0.1", free_ports(1))]
     raises(checks, "nobody there", NotSent, GridClient, nobody, retry_for=SHORT)
     with Server() as server:
         address = f"127.0.0.1:{server.port}"
@@ -92,6 +92,10 @@ def a_client_needs_members_of_its_cluster(checks: Checks) -> None:
     faulty: tuple[list[str], ...] = ([], ["127.0.0.1"], ["127.0.0.1:x"], [":5701"])
     for members in faulty:
         raises(checks, f"a client of {members}", ValueError, GridClient, members)
+    raises(checks, "a timeout of no time", ValueError, GridClient, nobody, timeout=0)
+    raises(checks, "retries for less than no time", ValueError, GridClient, nobody, retry_for=-1)
+    for number in (-1, 2**128):
+        raises(checks, f"a client with the number {number}", ValueError, GridClient, nobody, number=number)
 
 
 def a_call_goes_on_to_who_takes_it(checks: Checks) -> None:
@@ -102,8 +106,10 @@ def a_call_goes_on_to_who_takes_it(checks: Checks) -> None:
                 m = client.map("m")
                 for _ in range(3):
                     m.remove("k")
-        checks.equal(f"calls that were taken, by refusal {number}", 3, len(other.calls))
-        checks.at_most(f"calls that were refused with {number}", 1, len(one.calls))
+            with GridClient([one.address, other.address], retry_for=0) as client:
+                checks.equal("a client that asks each member once", None, client.map("m").remove("k"))
+        checks.equal(f"calls that were taken, by refusal {number}", 4, len(other.calls))
+        checks.at_most(f"calls that were refused with {number}", 2, len(one.calls))
 
 
 def a_refused_call_is_made_again(checks: Checks) -> None:
@@ -113,10 +119,10 @@ def a_refused_call_is_made_again(checks: Checks) -> None:
         with FakeMember(behaviour) as member, GridClient([member.address], retry_for=20) as client:
             checks.equal(f"a call that is refused four times with {number}", None, client.map("m").remove("k"))
             checks.equal("how often it was made", 5, len(member.calls))
-        with FakeMember(refusing(number, 1)) as member, GridClient([member.address], retry_for=SHORT) as client:
+        with FakeMember(refusing(number, 1)) as member, GridClient([member.address], retry_for=1) as client:
             wanted = getattr(grid_client, NAMES[number])
             raises(checks, f"a call that is always refused with {number}", wanted, client.map("m").remove, "k")
-            checks.at_least("how often it was made", 3, len(member.calls))
+            checks.at_least("how often it was made", 2, len(member.calls))
             checks.at_most("how often it was made", 100, len(member.calls))
 
 

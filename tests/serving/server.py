@@ -36,6 +36,19 @@ def raise_descriptor_limit() -> None:
     resource.setrlimit(resource.RLIMIT_NOFILE, (most, most))
 
 
+def end_when_told() -> None:
+    """Where the tests are ended from outside, from now on, they end their servers too, also one that is just being started."""
+
+    def end(*_: object) -> None:
+        for task in Path("/proc/self/task").iterdir():
+            for child in (task / "children").read_text().split():
+                os.kill(int(child), signal.SIGKILL)
+        os._exit(1)
+
+    for told in (signal.SIGTERM, signal.SIGINT):
+        signal.signal(told, end)
+
+
 def is_free(port: int) -> bool:
     with socket.socket(socket.AF_INET, socket.SOCK_STREAM) as probe:
         try:

@@ -9,7 +9,7 @@ from types import TracebackType
 from typing import Any, Final, TypeVar, overload
 
 from .codecs import BYTES, TEXT, Codec
-from .errors import GridError, NotSent
+from .errors import GridError, NotSent, OutcomeUnknown
 from .maps import Map
 from .members import Address, Manner, Member, probe
 from .partitions import PARTITIONS
@@ -128,13 +128,13 @@ class GridClient:
 
     def _reach_one(self) -> None:
         """Connects to the first member that can be reached. `NotSent` where none can."""
-        failures: list[NotSent] = []
+        failures: list[GridError] = []
         try:
             for member in self._members:
                 try:
                     member.ask(probe(), Deadline(self._router.retry_for))
                     return
-                except NotSent as error:
+                except (NotSent, OutcomeUnknown) as error:
                     failures.append(error)
             raise NotSent("; ".join(map(str, failures))) from failures[0]
         except BaseException:

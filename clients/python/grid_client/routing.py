@@ -58,13 +58,15 @@ class Router:
                 raise failure
 
     def _round(self, request: Request, deadline: Deadline) -> Answer:
-        """Asks the members, each once, while there is time, and gives the answer of the one that takes the call."""
+        """Asks the members, each once, and gives the answer of the one that takes the call."""
         refusals: list[GridError] = []
         for member in self._in_turn(request.partition):
             try:
                 answer = member.ask(request, deadline)
             except NotSent as error:
                 refusals.append(error)
+                if deadline.is_over():
+                    break
             except OutcomeUnknown as error:
                 if not self._may_repeat(request):
                     raise
@@ -73,8 +75,6 @@ class Router:
                 if not isinstance(answer.refusal, _ELSEWHERE):
                     return self._taken(member, request, answer)
                 refusals.append(answer.refusal)
-            if deadline.is_over():
-                break
         raise most_telling(refusals)
 
     def _in_turn(self, partition: int) -> Sequence[Member]:
