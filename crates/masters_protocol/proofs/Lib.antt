@@ -1,0 +1,15 @@
+pub mod Lists
+pub mod Tests
+pub mod Fronts
+pub mod Invariant
+pub mod Forward
+pub mod Keeps
+pub mod Serve
+pub mod Publish
+pub mod Members
+pub mod Events
+pub mod Sources
+pub mod Prompt
+pub mod Ranges
+pub mod Links
+pub mod Theorem
