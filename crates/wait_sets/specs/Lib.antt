@@ -1,0 +1,3 @@
+pub mod WaitSets
+pub mod Laws
+pub mod Rooms
