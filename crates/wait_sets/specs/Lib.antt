@@ -1,3 +1,0 @@
-pub mod WaitSets
-pub mod Laws
-pub mod Rooms
