@@ -5,25 +5,26 @@ use grid_base::Memory;
 use grid_cli::Status;
 use grid_edge::{Sink, Source, write_all};
 use std::alloc::Global;
-use watched_run::{Happening, Place};
+use watched_run::{Happening, Place, Told};
 
 /// Writes what happens at each line in words, before the next line runs.
+#[derive(Drop)]
 struct Explainer<'a, K> {
     out: &'a mut K,
 }
 
 /// Whether a line made rows in several partitions.
-fn has_many_rows(told: &[Happening]) -> bool {
-    let rows = told.iter().filter(|happening| matches!(happening, Happening::Row { .. }));
+fn has_many_rows(told: &[Told]) -> bool {
+    let rows = told.iter().filter(|told| matches!(told.happening, Happening::Row { .. }));
     rows.count() > 1
 }
 
 /// What happened at a line, in words.
-fn words_of(alloc: Global, at: Place, told: &[Happening]) -> Result<String, Memory> {
+fn words_of(alloc: Global, at: Place, told: &[Told]) -> Result<String, Memory> {
     let mut words = String::new(alloc);
     let together = has_many_rows(told);
     let mut rows = Rows::new(alloc);
-    for happening in told {
+    for Told { happening, .. } in told {
         if !together || !rows.take(alloc, happening)? {
             at.push(&mut words, happening)?;
         }
@@ -33,7 +34,7 @@ fn words_of(alloc: Global, at: Place, told: &[Happening]) -> Result<String, Memo
 }
 
 impl<'a, K: Sink> Watcher for Explainer<'a, K> {
-    fn tell(&mut self, alloc: Global, at: Place, told: Vec<Happening>) -> Result<(), Status> {
+    fn tell(&mut self, alloc: Global, at: Place, told: Vec<Told>) -> Result<(), Status> {
         let Ok(words) = words_of(alloc, at, told.as_slice()) else {
             return Err(Status::Memory);
         };

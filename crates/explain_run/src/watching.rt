@@ -8,12 +8,12 @@ use grid_cli::{LimitWhat, Status, push_limit, push_refused};
 use grid_edge::Source;
 use script_lang::{Line, LineRefused, LineWhy, read_line};
 use std::alloc::{AllocError, Global};
-use watched_run::{Happening, Place, RunEnd, Stage};
+use watched_run::{Place, RunEnd, Stage, Tale, Told};
 
 /// Who is told what happens at the lines of a script.
 pub trait Watcher {
     /// What happened at a line, in order. An `Err` ends the run with that status.
-    fn tell(&mut self, alloc: Global, at: Place, told: Vec<Happening>) -> Result<(), Status>;
+    fn tell(&mut self, alloc: Global, at: Place, told: Vec<Told>) -> Result<(), Status>;
 
     /// The run ends at a refused line or past a limit, which a transcript tells by this text.
     fn stop(&mut self, alloc: Global, text: &[u8]) -> Result<(), Status>;
@@ -114,6 +114,7 @@ fn run_line<N, W: Watcher>(
     members: u8,
     lines: &ScriptLines,
     stage: &mut Stage<'_, N>,
+    told: &mut Tale,
     watcher: &mut W,
 ) -> Result<bool, Stop>
 where
@@ -126,8 +127,7 @@ where
         Ok(line) => line,
         Err(refused) => return Err(stop_of(number, refused)),
     };
-    let mut told = Vec::new(alloc);
-    match stage.run(alloc, &line, lines.text(), &mut told) {
+    match stage.run(alloc, &line, lines.text(), told) {
         Ok(()) => {}
         Err(RunEnd::InFlight) => return Err(Stop::Limit(number, LimitWhat::InFlight)),
         Err(RunEnd::Memory) => return Err(Stop::Status(Status::Memory)),
@@ -137,7 +137,7 @@ where
         members,
         partition: partition_of(&line),
     };
-    watcher.tell(alloc, at, told)?;
+    watcher.tell(alloc, at, told.take(alloc))?;
     Ok(line.is_end())
 }
 
@@ -156,9 +156,10 @@ where
     requires most { setup.members ≤ 8 }
 {
     let mut stage = Stage::new(alloc, env, setup.members, setup.backups)?;
+    let mut told = Tale::new(alloc);
     for _ in 0..u64::MAX {
         next_line(lines, script)?;
-        if run_line(alloc, setup.members, lines, &mut stage, watcher)? {
+        if run_line(alloc, setup.members, lines, &mut stage, &mut told, watcher)? {
             break;
         }
     }
@@ -187,16 +188,9 @@ fn run_script<S: Source, W: Watcher>(
         members,
         partition: None,
     };
-    let mut told = Vec::new(alloc);
-    let made = told.push(Happening::Made {
-        members,
-        backups,
-        capacity,
-    });
-    if made.is_err() {
-        return Err(Stop::Status(Status::Memory));
-    }
-    watcher.tell(alloc, at, told)?;
+    let mut told = Tale::new(alloc);
+    told.begin(members, backups, capacity)?;
+    watcher.tell(alloc, at, told.take(alloc))?;
     let env = GridEnv {
         registry: Registry::new(processors),
         capacity,
@@ -216,7 +210,7 @@ fn stop_text(alloc: Global, stop: Stop) -> Result<Vec<u8>, AllocError> {
 }
 
 /// Tells where the run stops, and gives its status.
-fn stop<W: Watcher>(alloc: Global, stop: Stop, watcher: &mut W) -> Status {
+fn tell_stop<W: Watcher>(alloc: Global, stop: Stop, watcher: &mut W) -> Status {
     let status = match stop {
         Stop::Status(status) => return status,
         Stop::Refused(line, why) => Status::ScriptRefused { line, why },
@@ -241,6 +235,6 @@ pub fn watch_script<S: Source, W: Watcher>(
 ) -> Status {
     match run_script(alloc, processors, script, watcher) {
         Ok(()) => Status::Done,
-        Err(why) => stop(alloc, why, watcher),
+        Err(why) => tell_stop(alloc, why, watcher),
     }
 }

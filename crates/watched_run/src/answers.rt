@@ -3,11 +3,11 @@
 use crate::values::{push_hex, push_nullable};
 use fixed_fields::{Cursor, byte_at, int32_at, kind_of, uuid_at};
 use frame_codec::Frame;
-use grid_base::errors::{
-    BAD_CALL, KEY_LOCKED, MIGRATING, NOT_AUTHENTICATED, NOT_OWNER, PARTITION_LOST, UNKNOWN_PROCESSOR,
-    UNKNOWN_TYPE, WANT_OF_MEMORY, WRONG_PARTITION, WRONG_TARGET,
-};
 use grid_base::Memory;
+use grid_base::errors::{
+    BAD_CALL, KEY_LOCKED, MIGRATING, NOT_AUTHENTICATED, NOT_OWNER, PARTITION_LOST,
+    UNKNOWN_PROCESSOR, UNKNOWN_TYPE, WANT_OF_MEMORY, WRONG_PARTITION, WRONG_TARGET,
+};
 use message_frames::{Message, MessageReader};
 use std::alloc::Global;
 
@@ -36,13 +36,19 @@ fn shape_of(kind: u32) -> Shape {
     match kind {
         ERROR => Shape::Error,
         AUTHENTICATION => Shape::Authentication,
-        0x00_0b_01 | 0x01_09_01 | 0x01_0f_01 | 0x01_13_01 | 0x01_33_01 | 0x01_61_01 | 0x03_0f_01 => {
-            Shape::Void
-        }
+        0x00_0b_01 | 0x01_09_01 | 0x01_0f_01 | 0x01_13_01 | 0x01_33_01 | 0x01_61_01 | 0x03_0f_01 =>
+            { Shape::Void }
         0x01_05_01 | 0x01_06_01 | 0x01_08_01 | 0x01_11_01 | 0x01_12_01 | 0x03_01_01 => Shape::Flag,
         0x03_03_01 | 0x03_13_01 => Shape::Number,
-        0x01_01_01 | 0x01_02_01 | 0x01_03_01 | 0x01_04_01 | 0x01_0e_01 | 0x01_2e_01 | 0x01_60_01
-        | 0x03_05_01 | 0x03_07_01 => Shape::Data,
+        0x01_01_01
+        | 0x01_02_01
+        | 0x01_03_01
+        | 0x01_04_01
+        | 0x01_0e_01
+        | 0x01_2e_01
+        | 0x01_60_01
+        | 0x03_05_01
+        | 0x03_07_01 => Shape::Data,
         _ => Shape::Unknown,
     }
 }
@@ -69,9 +75,15 @@ fn error_words(code: i32) -> &'static str {
 fn push_error(out: &mut String, code: i32, one: i32, two: i32) -> Result<(), Memory> {
     let words = error_words(code);
     match code {
-        KEY_LOCKED | NOT_OWNER | UNKNOWN_PROCESSOR => write!(out, "answered: error {code}, {words}"),
+        KEY_LOCKED | NOT_OWNER | UNKNOWN_PROCESSOR => write!(
+            out,
+            "answered: error {code}, {words}"
+        ),
         WRONG_PARTITION => {
-            write!(out, "refused with {code}: {words}, {two} where {one} was stated")
+            write!(
+                out,
+                "refused with {code}: {words}, {two} where {one} was stated"
+            )
         }
         PARTITION_LOST | WRONG_TARGET | MIGRATING => {
             let version = one.cast_unsigned();
@@ -171,7 +183,10 @@ pub(crate) fn answer_words(alloc: Global, bytes: &[u8]) -> Result<String, Memory
 /// What an answer says in a history: its value, behind an `=`.
 pub(crate) fn push_result(alloc: Global, out: &mut String, bytes: &[u8]) -> Result<(), Memory> {
     let words = answer_words(alloc, bytes)?;
-    let value = words.as_str().strip_prefix("answered: ").unwrap_or(words.as_str());
+    let value = words
+        .as_str()
+        .strip_prefix("answered: ")
+        .unwrap_or(words.as_str());
     if value == "done" {
         return Ok(());
     }

@@ -53,21 +53,51 @@ impl<'a> Parts<'a> {
 /// What a call that stores a value says.
 fn parts_of_storing(call: &MapCall) -> Option<Parts<'_>> {
     match call {
-        MapCall::Put { owner, value, ttl, .. } => Some(Parts::storing("put", owner, value, *ttl)),
-        MapCall::Set { owner, value, ttl, .. } => Some(Parts::storing("set", owner, value, *ttl)),
-        MapCall::PutIfAbsent { owner, value, ttl, .. } => {
-            Some(Parts::storing("putIfAbsent", owner, value, *ttl))
-        }
-        MapCall::PutMaxIdle { owner, value, ttl, idle, .. } => Some(Parts {
+        MapCall::Put {
+            owner,
+            value,
+            ttl,
+            ..
+        } => Some(Parts::storing("put", owner, value, *ttl)),
+        MapCall::Set {
+            owner,
+            value,
+            ttl,
+            ..
+        } => Some(Parts::storing("set", owner, value, *ttl)),
+        MapCall::PutIfAbsent {
+            owner,
+            value,
+            ttl,
+            ..
+        } => { Some(Parts::storing("putIfAbsent", owner, value, *ttl)) }
+        MapCall::PutMaxIdle {
+            owner,
+            value,
+            ttl,
+            idle,
+            ..
+        } => Some(Parts {
             idle: *idle,
             ..Parts::storing("putMaxIdle", owner, value, *ttl)
         }),
-        MapCall::SetMaxIdle { owner, value, ttl, idle, .. } => Some(Parts {
+        MapCall::SetMaxIdle {
+            owner,
+            value,
+            ttl,
+            idle,
+            ..
+        } => Some(Parts {
             idle: *idle,
             ..Parts::storing("setMaxIdle", owner, value, *ttl)
         }),
         MapCall::Replace { owner, value, .. } => Some(Parts::storing("replace", owner, value, 0)),
-        MapCall::ReplaceIfSame { owner, test, value, .. } => Some(Parts {
+        MapCall::ReplaceIfSame {
+            owner,
+            test,
+            value,
+            ..
+        } => Some(Parts {
             test: Some(test),
             ..Parts::storing("replaceIfSame", owner, value, 0)
         }),
@@ -93,7 +123,12 @@ fn parts_of_map(call: &MapCall) -> Parts<'_> {
         MapCall::Unlock { owner, .. } => Parts::by("unlock", owner),
         MapCall::IsLocked { .. } => Parts::of("isLocked"),
         MapCall::ForceUnlock { .. } => Parts::of("forceUnlock"),
-        MapCall::ExecuteOnKey { owner, number, argument, .. } => Parts {
+        MapCall::ExecuteOnKey {
+            owner,
+            number,
+            argument,
+            ..
+        } => Parts {
             processor: Some((*number, argument)),
             ..Parts::by("executeOnKey", owner)
         },

@@ -78,7 +78,8 @@ impl Connections {
 
     /// Whether answers go to a connection.
     pub(crate) fn is_open(&self, conn: u32) -> bool {
-        self.get(conn).map_or(false, |connection| connection.is_open())
+        self.get(conn)
+            .map_or(false, |connection| connection.is_open())
     }
 
     /// Opens a connection to a member.

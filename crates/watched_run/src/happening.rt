@@ -10,8 +10,9 @@ pub struct Flight {
     pub partition: PartitionId,
     pub from: u8,
     pub to: u8,
-    /// The line that sent it.
+    /// The line that sent it, and the step of the run.
     pub sent: u32,
+    pub step: u32,
     pub letter: Letter,
 }
 
@@ -49,12 +50,13 @@ pub enum Happening {
         number: u32,
         saying: Saying,
     },
-    /// It is a call in that partition, and was executed there: its answer waits for the backups.
-    Held {
+    /// It is a call in that partition, and was executed there. Where it is held its answer waits for the backups.
+    Reached {
         conn: u32,
         number: u32,
         partition: PartitionId,
         member: MemberId,
+        held: bool,
     },
     /// A member answered a message.
     Answered {

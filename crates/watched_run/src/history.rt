@@ -5,6 +5,7 @@ use crate::calls::{push_deed, push_object};
 use crate::happening::Happening;
 use crate::rows::push_stored;
 use crate::stage::Stage;
+use crate::tale::Tale;
 use crate::watched::{CallNote, LinkPlace, Watched};
 use call_engine::GridShelf;
 use grid_base::{Bytes, Executes, MemberId, Memory, PartitionId, Request};
@@ -65,7 +66,10 @@ impl ObjectHistory {
     /// Adds the reopenings that came before the next call.
     fn add_resets(&mut self, reopened: &[u32], resets: usize) -> Result<(), Memory> {
         for line in reopened.iter().take(resets).skip(self.resets) {
-            write!(self.words, "emptied as the partition was reopened (line {line}), ")?;
+            write!(
+                self.words,
+                "emptied as the partition was reopened (line {line}), "
+            )?;
         }
         self.resets = resets;
         Ok(())
@@ -93,12 +97,18 @@ where
     GridShelf: Executes<N>,
 {
     /// Tells the histories of the partition's objects. Costs its history.
-    fn tell_history(&self, alloc: Global, told: &mut Vec<Happening>) -> Result<(), Memory> {
+    fn tell_history(&self, alloc: Global, told: &mut Tale) -> Result<(), Memory> {
         let trail = self.part.world().trail(alloc)?;
         let mut histories = Histories::new(alloc);
         let mut resets: usize = 0;
         for place in 0..trail.len() {
-            let Entry::Call { id, call, reply, .. } = trail.at(place) else {
+            let Entry::Call {
+                id,
+                call,
+                reply,
+                ..
+            } = trail.at(place)
+            else {
                 resets = resets.saturating_add(1);
                 continue;
             };
@@ -130,7 +140,7 @@ where
         &mut self,
         alloc: Global,
         partition: PartitionId,
-        told: &mut Vec<Happening>,
+        told: &mut Tale,
     ) -> Result<(), Memory> {
         let before = told.len();
         if let Some(watched) = self.partition(partition) {
@@ -144,11 +154,7 @@ where
     }
 
     /// `end`: the histories of all partitions.
-    pub(crate) fn tell_end(
-        &mut self,
-        alloc: Global,
-        told: &mut Vec<Happening>,
-    ) -> Result<(), Memory> {
+    pub(crate) fn tell_end(&mut self, alloc: Global, told: &mut Tale) -> Result<(), Memory> {
         told.push(Happening::Ended)?;
         for watched in self.partitions.as_slice() {
             watched.tell_history(alloc, told)?;
@@ -162,7 +168,7 @@ where
         alloc: Global,
         partition: PartitionId,
         member: MemberId,
-        told: &mut Vec<Happening>,
+        told: &mut Tale,
     ) -> Result<(), Memory> {
         let Some(watched) = self.partition(partition) else {
             return Ok(());
@@ -190,24 +196,20 @@ where
         &mut self,
         alloc: Global,
         partition: PartitionId,
-        told: &mut Vec<Happening>,
+        told: &mut Tale,
     ) -> Result<(), Memory> {
         let ends = self.members;
         let Some(watched) = self.partition(partition) else {
             return Ok(());
         };
-        let mut found = Vec::new(alloc);
-        for from in 0..=ends {
-            for to in 0..=ends {
-                watched.tell_link(alloc, from, to, &mut found)?;
-            }
-        }
         told.push(Happening::InFlight {
             partition,
-            count: found.len() as u64,
+            count: watched.in_flight(ends),
         })?;
-        for happening in found {
-            told.push(happening)?;
+        for from in 0..=ends {
+            for to in 0..=ends {
+                watched.tell_link(alloc, from, to, told)?;
+            }
         }
         Ok(())
     }
@@ -217,13 +219,25 @@ impl<'a, N> Watched<'a, N>
 where
     GridShelf: Executes<N>,
 {
+    /// How many messages are in flight between the ends up to that one.
+    fn in_flight(&self, last: u8) -> u64 {
+        let mut count: u64 = 0;
+        for from in 0..=last {
+            for to in 0..=last {
+                let messages = self.part.world().in_flight(from, to).len();
+                count = count.saturating_add(messages as u64);
+            }
+        }
+        count
+    }
+
     /// Tells the messages in flight on a link.
     fn tell_link(
         &mut self,
         alloc: Global,
         from: u8,
         to: u8,
-        told: &mut Vec<Happening>,
+        told: &mut Tale,
     ) -> Result<(), Memory> {
         let count = self.part.world().in_flight(from, to).len();
         for place in 0..count {

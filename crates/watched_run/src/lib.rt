@@ -14,6 +14,7 @@ mod run_end;
 mod sayings;
 mod sendings;
 mod stage;
+mod tale;
 mod telling;
 mod values;
 mod watched;
@@ -23,6 +24,7 @@ pub use rows::Letter;
 pub use run_end::RunEnd;
 pub use sayings::Saying;
 pub use stage::Stage;
+pub use tale::{Tale, Told};
 pub use telling::Place;
 
 #[cfg(test)]

@@ -2,7 +2,9 @@
 
 use crate::happening::Happening;
 use crate::run_end::RunEnd;
+use crate::sendings::Sending;
 use crate::stage::Stage;
+use crate::tale::Tale;
 use crate::watched::LinkPlace;
 use call_engine::GridShelf;
 use grid_base::{Executes, MemberId, Memory, Moment, PartitionId, Request};
@@ -66,12 +68,32 @@ fn reopen_refused_words(why: ReopenRefused) -> &'static str {
 /// The event of the table service that a line is, and its partition.
 fn table_event(line: &Line) -> Option<(PartitionId, Event<Request>)> {
     match line {
-        Line::Move { partition, from, to } => {
-            Some((*partition, Event::BeginMove { from: *from, to: *to }))
+        Line::Move {
+            partition,
+            from,
+            to,
+        } => {
+            Some((
+                *partition,
+                Event::BeginMove {
+                    from: *from,
+                    to: *to,
+                },
+            ))
         }
         Line::Join { partition, to } => Some((*partition, Event::BeginJoin { to: *to })),
-        Line::Handover { partition, from, to } => {
-            Some((*partition, Event::BeginHandover { from: *from, to: *to }))
+        Line::Handover {
+            partition,
+            from,
+            to,
+        } => {
+            Some((
+                *partition,
+                Event::BeginHandover {
+                    from: *from,
+                    to: *to,
+                },
+            ))
         }
         Line::Advance { partition } => Some((*partition, Event::Advance)),
         Line::Reopen { partition } => Some((*partition, Event::Reopen)),
@@ -90,23 +112,39 @@ where
         alloc: Global,
         line: &Line,
         text: &[u8],
-        told: &mut Vec<Happening>,
+        told: &mut Tale,
     ) -> Result<(), RunEnd> {
         self.line = self.line.saturating_add(1);
+        told.go_on();
         if let Some((partition, event)) = table_event(line) {
             return self.run_table(alloc, partition, event, told);
         }
         match line {
             Line::Arrive { conn, bytes } => self.arrive(alloc, *conn, bytes.as_slice(), told),
-            Line::Deliver { partition, from, to, place } => {
+            Line::Deliver {
+                partition,
+                from,
+                to,
+                place,
+            } => {
                 let (from, to, place) = (*from, *to, *place);
                 self.deliver(alloc, *partition, LinkPlace { from, to, place }, told)
             }
-            Line::Lose { partition, from, to, place } => {
+            Line::Lose {
+                partition,
+                from,
+                to,
+                place,
+            } => {
                 let (from, to, place) = (*from, *to, *place);
                 self.lose(alloc, *partition, LinkPlace { from, to, place }, told)
             }
-            Line::Repeat { partition, from, to, place } => {
+            Line::Repeat {
+                partition,
+                from,
+                to,
+                place,
+            } => {
                 let (from, to, place) = (*from, *to, *place);
                 self.repeat(alloc, *partition, LinkPlace { from, to, place }, told)
             }
@@ -129,12 +167,14 @@ where
         alloc: Global,
         line: &Line,
         text: &[u8],
-        told: &mut Vec<Happening>,
+        told: &mut Tale,
     ) -> Result<(), Memory> {
         match line {
             Line::OpenConn { conn, member } => self.open(alloc, *conn, *member, told),
             Line::Clock { member, moment } => self.set_clock(*member, *moment, told),
-            Line::Dump { partition, member } => self.tell_contents(alloc, *partition, *member, told),
+            Line::Dump { partition, member } => self.tell_contents(
+                alloc, *partition, *member, told,
+            ),
             Line::Links { partition } => self.tell_links(alloc, *partition, told),
             Line::Trail { partition } => self.tell_trail(alloc, *partition, told),
             Line::Comment => {
@@ -154,7 +194,7 @@ where
         alloc: Global,
         conn: u32,
         member: MemberId,
-        told: &mut Vec<Happening>,
+        told: &mut Tale,
     ) -> Result<(), Memory> {
         let happening = if self.connections.get(conn).is_some() {
             Happening::Nothing {
@@ -177,7 +217,7 @@ where
         &mut self,
         member: MemberId,
         moment: Moment,
-        told: &mut Vec<Happening>,
+        told: &mut Tale,
     ) -> Result<(), Memory> {
         if let Some(clock) = self.moments.get_mut(usize::from(member)) {
             *clock = moment;
@@ -192,7 +232,7 @@ where
         alloc: Global,
         partition: PartitionId,
         at: LinkPlace,
-        told: &mut Vec<Happening>,
+        told: &mut Tale,
     ) -> Result<(), RunEnd> {
         let line = self.line;
         let Some(watched) = self.partition(partition) else {
@@ -214,7 +254,7 @@ where
         alloc: Global,
         partition: PartitionId,
         at: LinkPlace,
-        told: &mut Vec<Happening>,
+        told: &mut Tale,
     ) -> Result<(), RunEnd> {
         let Some(watched) = self.partition(partition) else {
             return Ok(());
@@ -233,7 +273,7 @@ where
         alloc: Global,
         partition: PartitionId,
         at: LinkPlace,
-        told: &mut Vec<Happening>,
+        told: &mut Tale,
     ) -> Result<(), RunEnd> {
         let line = self.line;
         let Some(watched) = self.partition(partition) else {
@@ -253,7 +293,7 @@ where
         alloc: Global,
         partition: PartitionId,
         end: u8,
-        told: &mut Vec<Happening>,
+        told: &mut Tale,
     ) -> Result<(), RunEnd> {
         let line = self.line;
         let Some(watched) = self.partition(partition) else {
@@ -275,7 +315,7 @@ where
         alloc: Global,
         partition: PartitionId,
         most: u32,
-        told: &mut Vec<Happening>,
+        told: &mut Tale,
     ) -> Result<u32, RunEnd> {
         for count in 0..most {
             let line = self.line;
@@ -286,20 +326,17 @@ where
                 return Ok(count);
             };
             let (from, to) = (link.from, link.to);
+            told.go_on();
             watched.deliver(alloc, LinkPlace { from, to, place: 0 }, told)?;
-            watched.note_sent(alloc, line, to)?;
+            let step = told.step;
+            watched.note_sent(Sending { line, step }, to)?;
             self.give_out(alloc, partition, to, None, told)?;
         }
         Ok(most)
     }
 
     /// `flow all K`.
-    fn flow_all(
-        &mut self,
-        alloc: Global,
-        most: u32,
-        told: &mut Vec<Happening>,
-    ) -> Result<(), RunEnd> {
+    fn flow_all(&mut self, alloc: Global, most: u32, told: &mut Tale) -> Result<(), RunEnd> {
         let mut count: u32 = 0;
         for partition in 0..grid_base::PARTITIONS {
             count = count.saturating_add(self.flow(alloc, partition, most, told)?);
@@ -309,13 +346,9 @@ where
     }
 
     /// `crash M` and `detect M`: the event in every partition. What it came to in the first one is told.
-    fn run_fate(
-        &mut self,
-        alloc: Global,
-        fate: Fate,
-        told: &mut Vec<Happening>,
-    ) -> Result<(), RunEnd> {
+    fn run_fate(&mut self, alloc: Global, fate: Fate, told: &mut Tale) -> Result<(), RunEnd> {
         let (line, table) = (self.line, self.members);
+        let step = told.step;
         for watched in self.partitions.iter_mut() {
             let happened = watched.run(alloc, fate.event())?;
             if watched.partition == 0 {
@@ -328,7 +361,7 @@ where
             if matches!(happened, Happened::RowMade { .. }) {
                 watched.tell_row(alloc, told)?;
             }
-            watched.note_sent(alloc, line, table)?;
+            watched.note_sent(Sending { line, step }, table)?;
         }
         Ok(())
     }
@@ -339,7 +372,7 @@ where
         alloc: Global,
         partition: PartitionId,
         event: Event<Request>,
-        told: &mut Vec<Happening>,
+        told: &mut Tale,
     ) -> Result<(), RunEnd> {
         let (line, table) = (self.line, self.members);
         let advances = matches!(event, Event::Advance);

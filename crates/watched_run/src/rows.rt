@@ -104,7 +104,12 @@ pub(crate) fn push_record(
 }
 
 /// Appends the name of a map's entry.
-fn push_entry_name(alloc: Global, out: &mut String, map: &Bytes, key: &Bytes) -> Result<(), Memory> {
+fn push_entry_name(
+    alloc: Global,
+    out: &mut String,
+    map: &Bytes,
+    key: &Bytes,
+) -> Result<(), Memory> {
     push_name(alloc, out, map.as_slice())?;
     out.push_str(" ")?;
     push_data(alloc, out, key.as_slice())
@@ -246,7 +251,11 @@ fn letter_of_message(alloc: Global, message: &MemberMessage) -> Result<Letter, M
             let version = row.version;
             letter_of_row(alloc, format!(in alloc; "row {version}")?, row, None)
         }
-        MemberMessage::Sync { row, count, snapshot } => {
+        MemberMessage::Sync {
+            row,
+            count,
+            snapshot,
+        } => {
             let version = row.version;
             let title = format!(in alloc; "contents {version}.{count}")?;
             letter_of_row(alloc, title, row, Some(snapshot))
@@ -256,19 +265,32 @@ fn letter_of_message(alloc: Global, message: &MemberMessage) -> Result<Letter, M
             let title = format!(in alloc; "bridge {base}.{count} to {version}")?;
             letter_of_row(alloc, title, row, None)
         }
-        MemberMessage::Effect { version, number, effect } => {
+        MemberMessage::Effect {
+            version,
+            number,
+            effect,
+        } => {
             let mut letter = short(alloc, format!(in alloc; "effect {version}.{number}")?);
             push_effect_bytes(alloc, &mut letter.detail, effect)?;
             Ok(letter)
         }
         MemberMessage::Ack { version, count } => {
-            Ok(short(alloc, format!(in alloc; "acknowledgement {version}.{count}")?))
+            Ok(short(
+                alloc,
+                format!(in alloc; "acknowledgement {version}.{count}")?,
+            ))
         }
         MemberMessage::Joined { version, member } => {
             Ok(short(alloc, format!(in alloc; "joined {version} by {member}")?))
         }
-        MemberMessage::Freeze { version } => Ok(short(alloc, format!(in alloc; "freeze {version}")?)),
-        MemberMessage::Frozen { version } => Ok(short(alloc, format!(in alloc; "frozen {version}")?)),
+        MemberMessage::Freeze { version } => Ok(short(
+            alloc,
+            format!(in alloc; "freeze {version}")?,
+        )),
+        MemberMessage::Frozen { version } => Ok(short(
+            alloc,
+            format!(in alloc; "frozen {version}")?,
+        )),
     }
 }
 

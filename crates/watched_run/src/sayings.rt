@@ -64,8 +64,13 @@ fn is_usual(place: usize, last: usize, frame: &Frame) -> bool {
 fn is_exact(message: &Message, said: &Said) -> bool {
     let frames = message.frames.as_slice();
     let length = frames.first().map_or(0, |first| first.payload.len());
-    let usual = frames.iter().enumerate().all(|(place, frame)| is_usual(place, said.frames, frame));
-    usual && frames.len() == said.frames.saturating_add(1) && length == FIELDS.saturating_add(said.fields)
+    let usual = frames
+        .iter()
+        .enumerate()
+        .all(|(place, frame)| is_usual(place, said.frames, frame));
+    usual
+        && frames.len() == said.frames.saturating_add(1)
+        && length == FIELDS.saturating_add(said.fields)
 }
 
 /// How long the fields of a call on a map's entry are, and how many frames it has behind the first.
@@ -91,10 +96,18 @@ fn form_of(alloc: Global, call: &GridCall) -> Result<(usize, usize, i32), Memory
     match call {
         GridCall::Map(call) => {
             let (fields, frames) = form_of_map(call);
-            Ok((fields, frames, partition_of_key(call.key().as_slice()).unwrap_or(0)))
+            Ok((
+                fields,
+                frames,
+                partition_of_key(call.key().as_slice()).unwrap_or(0),
+            ))
         }
         GridCall::Queue(call) => {
-            let frames = if matches!(call, QueueCall::Offer { .. }) { 2 } else { 1 };
+            let frames = if matches!(call, QueueCall::Offer { .. }) {
+                2
+            } else {
+                1
+            };
             let partition = partition_of_name(alloc, call.queue().as_slice())?;
             Ok((0, frames, partition.unwrap_or(0)))
         }

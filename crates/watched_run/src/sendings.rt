@@ -2,11 +2,18 @@ use grid_base::Memory;
 use std::alloc::Global;
 use std::collections::VecDeque;
 
-/// At which line each message in flight of a partition was sent, link by link.
+/// When a message was sent: the line and the step of the run.
+#[derive(Clone, Copy, Debug, Default, PartialEq, Eq)]
+pub(crate) struct Sending {
+    pub(crate) line: u32,
+    pub(crate) step: u32,
+}
+
+/// When each message in flight of a partition was sent, link by link.
 #[derive(Drop)]
 pub(crate) struct Sendings {
     ends: usize,
-    lanes: Vec<VecDeque<u32>>,
+    lanes: Vec<VecDeque<Sending>>,
 }
 
 impl Sendings {
@@ -20,30 +27,36 @@ impl Sendings {
         Ok(Sendings { ends, lanes })
     }
 
-    fn lane(&mut self, from: u8, to: u8) -> Option<&mut VecDeque<u32>> {
+    fn lane(&mut self, from: u8, to: u8) -> Option<&mut VecDeque<Sending>> {
         let at = usize::from(from).checked_mul(self.ends)?;
         self.lanes.get_mut(at.checked_add(usize::from(to))?)
     }
 
-    /// So many messages are in flight on a link now: those that weren't before were sent at this line. Gives the place of
-    /// the first of these.
-    pub(crate) fn grow(&mut self, from: u8, to: u8, count: usize, line: u32) -> Result<usize, Memory> {
+    /// So many messages are in flight on a link now: those that weren't before were sent now. Gives the place of the first
+    /// of these.
+    pub(crate) fn grow(
+        &mut self,
+        from: u8,
+        to: u8,
+        count: usize,
+        now: Sending,
+    ) -> Result<usize, Memory> {
         let Some(lane) = self.lane(from, to) else {
             return Ok(count);
         };
         let before = lane.len();
         for _ in before..count {
-            lane.push_back(line)?;
+            lane.push_back(now)?;
         }
         Ok(before)
     }
 
-    /// The line of the message at a place.
-    pub(crate) fn line_at(&mut self, from: u8, to: u8, place: usize) -> u32 {
-        let Some(lane) = self.lane(from, to) else {
-            return 0;
-        };
-        lane.get(place).copied().unwrap_or(0)
+    /// When the message at a place was sent.
+    pub(crate) fn sending_at(&mut self, from: u8, to: u8, place: usize) -> Sending {
+        match self.lane(from, to) {
+            Some(lane) => lane.get(place).copied().unwrap_or_default(),
+            None => Sending::default(),
+        }
     }
 
     /// The message at a place is no longer in flight.

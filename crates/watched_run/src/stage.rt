@@ -5,6 +5,7 @@ use crate::connections::Connections;
 use crate::happening::Happening;
 use crate::part::Part;
 use crate::run_end::RunEnd;
+use crate::tale::Tale;
 use crate::watched::{CallNote, Watched};
 use call_engine::GridShelf;
 use grid_base::{Executes, MemberId, Memory, Moment, PARTITIONS, PartitionId, Request};
@@ -32,12 +33,7 @@ where
 {
     /// The grid after a script's first line. Costs its partitions, and in each of them its members and the links between
     /// them.
-    pub fn new(
-        alloc: Global,
-        env: &'a N,
-        members: u8,
-        backups: u8,
-    ) -> Result<Self, Memory>
+    pub fn new(alloc: Global, env: &'a N, members: u8, backups: u8) -> Result<Self, Memory>
         requires some { 1 ≤ members }
         requires most { members ≤ 8 }
     {
@@ -79,7 +75,7 @@ where
         partition: PartitionId,
         member: MemberId,
         own: Option<u32>,
-        told: &mut Vec<Happening>,
+        told: &mut Tale,
     ) -> Result<(), Memory> {
         let line = self.line;
         let Some(watched) = self.partitions.get_mut(usize::from(partition)) else {
@@ -111,7 +107,7 @@ where
         number: u32,
         member: MemberId,
         request: Request,
-        told: &mut Vec<Happening>,
+        told: &mut Tale,
     ) -> Result<(), RunEnd> {
         let line = self.line;
         let now = self.moments.get(usize::from(member)).copied().unwrap_or(0);
@@ -135,12 +131,16 @@ where
                 words,
             })?;
         }
-        if let Happened::Called(CallOutcome::Held { .. }) = happened {
-            told.push(Happening::Held {
+        if let Happened::Called(
+            CallOutcome::Held { .. } | CallOutcome::Released { .. },
+        ) = happened
+        {
+            told.push(Happening::Reached {
                 conn,
                 number,
                 partition,
                 member,
+                held: matches!(happened, Happened::Called(CallOutcome::Held { .. })),
             })?;
         }
         watched.tell_sent(alloc, line, member, told)?;
@@ -155,7 +155,7 @@ where
         number: u32,
         member: MemberId,
         item: Item,
-        told: &mut Vec<Happening>,
+        told: &mut Tale,
     ) -> Result<(), RunEnd> {
         match item {
             Item::Call(request) => self.ask(alloc, number, member, request, told),
@@ -177,7 +177,7 @@ where
         alloc: Global,
         conn: u32,
         bytes: &[u8],
-        told: &mut Vec<Happening>,
+        told: &mut Tale,
     ) -> Result<(), RunEnd> {
         let Some(member) = self.open_member(conn, told)? else {
             return Ok(());
@@ -187,7 +187,8 @@ where
         };
         let (fed, sayings) = connection.feed(alloc, conn, bytes)?;
         let mut number = connection.count;
-        connection.count = number.saturating_add(sayings.len() as u32);
+        let count = u32::try_from(sayings.len()).unwrap_or(u32::MAX);
+        connection.count = number.saturating_add(count);
         if sayings.is_empty() {
             told.push(Happening::Pieces {
                 conn,
@@ -195,6 +196,7 @@ where
             })?;
         }
         for (saying, item) in sayings.into_iter().zip(fed.items) {
+            told.go_on();
             told.push(saying)?;
             self.handle(alloc, conn, number, member, item, told)?;
             number = number.saturating_add(1);
@@ -210,11 +212,7 @@ where
     }
 
     /// The member of a connection on which bytes can arrive; else tells why none can.
-    fn open_member(
-        &self,
-        conn: u32,
-        told: &mut Vec<Happening>,
-    ) -> Result<Option<MemberId>, Memory> {
+    fn open_member(&self, conn: u32, told: &mut Tale) -> Result<Option<MemberId>, Memory> {
         let why = match self.connections.get(conn) {
             None => "the connection isn't open",
             Some(connection) if !connection.is_open() => "the connection has closed",

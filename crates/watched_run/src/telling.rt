@@ -114,14 +114,17 @@ impl Place {
                 write!(out, "connection {conn} is open to member {member}")?;
             }
             Happening::Pieces { conn, count } => {
-                write!(out, "{count} bytes on connection {conn}, and no message is whole yet")?;
+                write!(
+                    out,
+                    "{count} bytes on connection {conn}, and no message is whole yet"
+                )?;
             }
             Happening::Heard { conn, saying, .. } => {
                 out.push_str(if saying.exact { "say" } else { "heard" })?;
                 write!(out, " {conn} ")?;
                 out.push_str(saying.words.as_str())?;
             }
-            Happening::Held { member, .. } => {
+            Happening::Reached { member, .. } => {
                 write!(out, "held by member {member} for its backups")?;
             }
             Happening::Answered { conn, words, .. } => {
@@ -145,9 +148,17 @@ impl Place {
             }
             Happening::Crashed { member } => write!(out, "member {member} crashes")?,
             Happening::Detected { member } => {
-                write!(out, "the table service knows that member {member} has crashed")?;
+                write!(
+                    out,
+                    "the table service knows that member {member} has crashed"
+                )?;
             }
-            Happening::Row { partition, version, words, .. } => {
+            Happening::Row {
+                partition,
+                version,
+                words,
+                ..
+            } => {
                 write!(out, "row {version} of partition {partition}: ")?;
                 out.push_str(words.as_str())?;
             }
@@ -169,15 +180,30 @@ impl Place {
     /// Appends what a line printed or said.
     fn push_other(self, out: &mut String, happening: &Happening) -> Result<(), Memory> {
         match happening {
-            Happening::Made { members, backups, capacity } => {
-                write!(out, "grid of {members} members, {backups} backups, queues of {capacity}")
+            Happening::Made {
+                members,
+                backups,
+                capacity,
+            } => {
+                write!(
+                    out,
+                    "grid of {members} members, {backups} backups, queues of {capacity}"
+                )
             }
             Happening::Nothing { why } => {
                 out.push_str("nothing: ")?;
                 out.push_str(why)
             }
-            Happening::Contents { partition, member, version, count } => {
-                write!(out, "member {member} has partition {partition} as {version}.{count}")
+            Happening::Contents {
+                partition,
+                member,
+                version,
+                count,
+            } => {
+                write!(
+                    out,
+                    "member {member} has partition {partition} as {version}.{count}"
+                )
             }
             Happening::Kept { words } | Happening::History { words } => {
                 out.push_str(words.as_str())
@@ -191,8 +217,11 @@ impl Place {
         }
     }
 
-    /// Appends a line of what happened.
+    /// Appends a line of what happened, if there is more to tell than what was told before.
     pub fn push(self, out: &mut String, happening: &Happening) -> Result<(), Memory> {
+        if let Happening::Reached { held: false, .. } = happening {
+            return Ok(());
+        }
         let line = self.line;
         write!(out, "{line} ")?;
         let known = self.push_message(out, happening)?

@@ -1,4 +1,4 @@
-use crate::{Happening, Place, Stage};
+use crate::{Place, Stage, Tale};
 use call_engine::GridEnv;
 use entry_processors::Registry;
 use script_lang::{Line, read_line};
@@ -42,17 +42,19 @@ const TOLD: &str = "\
 
 // Runs the lines of a grid of three members, and appends what happened.
 fn explain(alloc: Global, stage: &mut Stage<'_, GridEnv>, out: &mut String) -> Result<(), Fail> {
+    let mut told = Tale::new(alloc);
     for text in SCRIPT {
         let line = read_line(alloc, text.as_bytes(), false, 3).map_err(|_| "refused")?;
-        let mut told = Vec::new(alloc);
-        stage.run(alloc, &line, text.as_bytes(), &mut told).map_err(|_| "ended")?;
+        stage
+            .run(alloc, &line, text.as_bytes(), &mut told)
+            .map_err(|_| "ended")?;
         let at = Place {
             line: stage.lines(),
             members: 3,
             partition: Some(5),
         };
-        for happening in told.as_slice() {
-            at.push(out, happening)?;
+        for told in told.take(alloc).as_slice() {
+            at.push(out, &told.happening)?;
         }
     }
     Ok(())

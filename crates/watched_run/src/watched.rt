@@ -4,7 +4,8 @@ use crate::happening::{Flight, Happening};
 use crate::part::Part;
 use crate::rows::{leader_of, letter_of, push_row};
 use crate::run_end::RunEnd;
-use crate::sendings::Sendings;
+use crate::sendings::{Sending, Sendings};
+use crate::tale::Tale;
 use call_engine::GridShelf;
 use grid_base::{Executes, Memory, PartitionId, Request};
 use partition_world::{Event, Happened};
@@ -78,41 +79,28 @@ where
             return Ok(None);
         };
         let letter = letter_of(alloc, bytes)?;
+        let Sending { line, step } = self.sendings.sending_at(at.from, at.to, at.place);
         Ok(Some(Flight {
             partition: self.partition,
             from: at.from,
             to: at.to,
-            sent: self.sendings.line_at(at.from, at.to, at.place),
+            sent: line,
+            step,
             letter,
         }))
     }
 
-    /// Notes the messages that an end sent at a line, and tells them.
-    fn note_link(
-        &mut self,
-        alloc: Global,
-        line: u32,
-        from: u8,
-        to: u8,
-        told: Option<&mut Vec<Happening>>,
-    ) -> Result<(), Memory> {
+    /// Notes the messages that were sent on a link now. Gives the places of the first of these and behind the last.
+    fn note_link(&mut self, now: Sending, from: u8, to: u8) -> Result<(usize, usize), Memory> {
         let count = self.part.world().in_flight(from, to).len();
-        let first = self.sendings.grow(from, to, count, line)?;
-        let Some(told) = told else {
-            return Ok(());
-        };
-        for place in first..count {
-            if let Some(flight) = self.flight_at(alloc, LinkPlace { from, to, place })? {
-                told.push(Happening::Sent(flight))?;
-            }
-        }
-        Ok(())
+        let first = self.sendings.grow(from, to, count, now)?;
+        Ok((first, count))
     }
 
-    /// Notes the messages that an end sent at a line.
-    pub(crate) fn note_sent(&mut self, alloc: Global, line: u32, from: u8) -> Result<(), Memory> {
+    /// Notes the messages that an end sent now.
+    pub(crate) fn note_sent(&mut self, now: Sending, from: u8) -> Result<(), Memory> {
         for to in 0..=self.service {
-            self.note_link(alloc, line, from, to, None)?;
+            self.note_link(now, from, to)?;
         }
         Ok(())
     }
@@ -123,10 +111,16 @@ where
         alloc: Global,
         line: u32,
         from: u8,
-        told: &mut Vec<Happening>,
+        told: &mut Tale,
     ) -> Result<(), Memory> {
+        let step = told.step;
         for to in 0..=self.service {
-            self.note_link(alloc, line, from, to, Some(told))?;
+            let (first, count) = self.note_link(Sending { line, step }, from, to)?;
+            for place in first..count {
+                if let Some(flight) = self.flight_at(alloc, LinkPlace { from, to, place })? {
+                    told.push(Happening::Sent(flight))?;
+                }
+            }
         }
         Ok(())
     }
@@ -150,7 +144,7 @@ where
         &mut self,
         alloc: Global,
         at: LinkPlace,
-        told: &mut Vec<Happening>,
+        told: &mut Tale,
     ) -> Result<Happened, RunEnd> {
         let flight = self.flight_at(alloc, at)?;
         let happened = self.run(
@@ -173,7 +167,7 @@ where
         &mut self,
         alloc: Global,
         at: LinkPlace,
-        told: &mut Vec<Happening>,
+        told: &mut Tale,
     ) -> Result<bool, RunEnd> {
         let Some(flight) = self.flight_at(alloc, at)? else {
             return Ok(false);
@@ -191,7 +185,7 @@ where
         alloc: Global,
         line: u32,
         at: LinkPlace,
-        told: &mut Vec<Happening>,
+        told: &mut Tale,
     ) -> Result<bool, RunEnd> {
         let flight = self.flight_at(alloc, at)?;
         let (from, to, place) = (at.from, at.to, at.place);
@@ -199,13 +193,14 @@ where
         let Some(flight) = flight else {
             return Ok(false);
         };
-        self.note_link(alloc, line, from, to, None)?;
+        let step = told.step;
+        self.note_link(Sending { line, step }, from, to)?;
         told.push(Happening::Repeated(flight))?;
         Ok(true)
     }
 
     /// Tells the row that the table service made.
-    pub(crate) fn tell_row(&self, alloc: Global, told: &mut Vec<Happening>) -> Result<(), Memory> {
+    pub(crate) fn tell_row(&self, alloc: Global, told: &mut Tale) -> Result<(), Memory> {
         let row = self.part.world().row();
         let mut words = String::new(alloc);
         push_row(&mut words, row)?;
