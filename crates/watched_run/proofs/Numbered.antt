@@ -97,11 +97,12 @@ module _ (s : Settings) (world : WatchedWorld) (members asked : ℕ) (events : L
     };
   }
 
-  pub call_next : (member : ℕ) (call : Request) (now : ℕ) (new : WatchedWorld) → StandsFor (meaning partition_shelf s) KeepsAll RequestFits new (events ++ Call member 0 asked call now ∷ []) → setup_of new ≡ setup_of world
-      → IsPart s new members (asked + 1) (events ++ Call member 0 asked call now ∷ [])
-  call_next member call now new stands same = record {
+  pub call_next : (member : ℕ) (call : Request) (now : ℕ) (new : WatchedWorld) (more : ℕ) → more ≡ asked + 1 → StandsFor (meaning partition_shelf s) KeepsAll RequestFits new (events ++ Call member 0 asked call now ∷ [])
+      → setup_of new ≡ setup_of world → IsPart s new members more (events ++ Call member 0 asked call now ∷ [])
+  call_next member call now new more is stands same = record {
     stands = stands;
     made_for = ap (λ z. z.members) same ∙ p.made_for;
-    numbered = subst (AreNumberedBelow (asked + 1)) (sym (names_more events (Call member 0 asked call now)))
-        (below_append (asked + 1) (names events) (record { conn = 0; number = asked } ∷ []) (below_more asked (names events) p.numbered) (omega arith, tt));
+    numbered = subst (λ (n : ℕ). AreNumberedBelow n (names (events ++ Call member 0 asked call now ∷ []))) (sym is)
+        (subst (AreNumberedBelow (asked + 1)) (sym (names_more events (Call member 0 asked call now)))
+        (below_append (asked + 1) (names events) (record { conn = 0; number = asked } ∷ []) (below_more asked (names events) p.numbered) (omega arith, tt)));
   }

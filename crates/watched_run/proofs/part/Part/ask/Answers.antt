@@ -1,6 +1,5 @@
-use Rattle.std.proofs.Common.{refl, arith, sym, subst, [], ◌∷◌, ◌++◌}
+use Rattle.std.proofs.Common.{refl, arith, [], ◌∷◌, ◌++◌}
 use Rattle.partition_protocol.specs.Events.{Call}
-use Rattle.watched_run.specs.Parts.{IsPart}
 use Rattle.watched_run.proofs.Numbered.{call_comes, call_next, same_part}
 use Rattle.watched_run.proofs.part.Part.ask.Goals as goal
 
@@ -19,5 +18,4 @@ pub invariant_of-self-2 : goal.invariant_of-self-2
 invariant_of-self-2 g c =
     let i = c.self.invariant in
     let comes = call_comes _ _ _ _ i.0 i.1 c.args.member c.args.request c.args.now (omega (arith, c.steps.ensures, c.if-steps-ge-MOST_EVENTS.false)) (c.if-not-call_fits.ensures refl, c.numbers_fit.ensures) in
-    let next = call_next _ _ _ _ i.0 i.1 c.args.member c.args.request c.args.now _ (c.in_ok-happened.ensures.stands i.0 comes) c.in_ok-happened.ensures.setup in
-    (i.0 ++ Call c.args.member 0 c.self.inside.asked c.args.request c.args.now ∷ [], subst (λ n. IsPart _ _ _ n _) (sym c.in-Some.ensures.1) next)
+    (i.0 ++ Call c.args.member 0 c.self.inside.asked c.args.request c.args.now ∷ [], call_next _ _ _ _ i.0 i.1 c.args.member c.args.request c.args.now _ c.in-Some.asked c.in-Some.ensures.1 (c.in_ok-happened.ensures.stands i.0 comes) c.in_ok-happened.ensures.setup)
