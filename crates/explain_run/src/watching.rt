@@ -1,5 +1,7 @@
 //! A script run line by line, with someone who is told what happens.
 
+ghost use Rattle.std.specs.Prelude.{◌≤◌};
+
 use crate::script::{NextLine, ScriptLines};
 use call_engine::{GridEnv, GridShelf};
 use entry_processors::{Processor, Registry};

@@ -1,5 +1,7 @@
 //! A grid whose lines are watched: what each does, and all that happens at it.
 
+ghost use Rattle.std.specs.Prelude.{◌≤◌};
+
 use crate::answers::{answer_words, refusal_words};
 use crate::connections::Connections;
 use crate::happening::Happening;
