@@ -1,0 +1,79 @@
+//! What a client sends first on a connection.
+use crate::requests::begun;
+use client_codecs::AUTHENTICATION_KIND;
+use fixed_fields::write_uuid;
+use frame_codec::flags::{FINAL, UNFRAGMENTED};
+use frame_codec::write_payload;
+use grid_base::{Bytes, Memory};
+use std::alloc::Global;
+
+/// With what each connection to a member begins.
+const PREFIX: &[u8] = b"CP2";
+
+/// The cluster's name.
+const CLUSTER: &[u8] = b"dev";
+
+/// The version of the serialization.
+const SERIALIZATION: u8 = 1;
+
+/// The message type of a registration of an invalidation listener.
+const INVALIDATION_LISTENER_KIND: u32 = 0x01_3f_00;
+
+/// The message type of a registration for rows.
+const CLUSTER_VIEW_KIND: u32 = 0x00_03_00;
+
+/// The correlation of the authentication.
+pub(crate) const AUTHENTICATION_CORRELATION: i64 = 1;
+
+/// The correlation of the invalidation listener, and of each invalidation.
+const INVALIDATIONS_CORRELATION: i64 = 2;
+
+/// The correlation of the registration for rows, and of each event of rows.
+const ROWS_CORRELATION: i64 = 3;
+
+/// The correlation of the first call.
+pub(crate) const FIRST_CORRELATION: i64 = 4;
+
+/// What stands for the partition where a request is in none.
+const NO_PARTITION: i32 = -1;
+
+fn write_authentication(alloc: Global, client: u128, out: &mut Vec<u8>) -> Result<(), Memory> {
+    let kind = AUTHENTICATION_KIND;
+    let mut first = begun(alloc, kind, AUTHENTICATION_CORRELATION, NO_PARTITION)?;
+    write_uuid(Some(client), &mut first)?;
+    first.push(SERIALIZATION)?;
+    write_payload(UNFRAGMENTED, first.as_slice(), out)?;
+    write_payload(FINAL, CLUSTER, out)
+}
+
+fn write_invalidation_listener(
+    alloc: Global,
+    map: &Bytes,
+    out: &mut Vec<u8>,
+) -> Result<(), Memory> {
+    let kind = INVALIDATION_LISTENER_KIND;
+    let first = begun(alloc, kind, INVALIDATIONS_CORRELATION, NO_PARTITION)?;
+    write_payload(UNFRAGMENTED, first.as_slice(), out)?;
+    write_payload(FINAL, map.as_slice(), out)
+}
+
+fn write_cluster_view(alloc: Global, out: &mut Vec<u8>) -> Result<(), Memory> {
+    let first = begun(alloc, CLUSTER_VIEW_KIND, ROWS_CORRELATION, NO_PARTITION)?;
+    write_payload(UNFRAGMENTED | FINAL, first.as_slice(), out)
+}
+
+/// The first bytes on a connection: the client makes itself known, asks for the invalidations of its near map where it
+/// has one, and for the rows.
+pub(crate) fn opening(
+    alloc: Global,
+    client: u128,
+    near_map: Option<&Bytes>,
+) -> Result<Bytes, Memory> {
+    let mut bytes = Vec::from_slice(alloc, PREFIX)?;
+    write_authentication(alloc, client, &mut bytes)?;
+    if let Some(map) = near_map {
+        write_invalidation_listener(alloc, map, &mut bytes)?;
+    }
+    write_cluster_view(alloc, &mut bytes)?;
+    Ok(Bytes::from_vec(bytes))
+}

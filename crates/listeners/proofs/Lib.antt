@@ -1,0 +1,4 @@
+pub mod Placing
+pub mod Keeping
+pub mod Ordering
+pub mod Events

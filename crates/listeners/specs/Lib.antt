@@ -1,0 +1,7 @@
+pub mod Registrations
+pub mod Standing
+pub mod Telling
+pub mod Tables
+pub mod StandsFor
+pub mod Steps
+pub mod Examples

@@ -1,0 +1,16 @@
+//! Who listens to which map, and to the rows, of those connected to a member; and what each of them is sent at the
+//! release of an answer and at the adoption of a row.
+#![tactic(auto)]
+
+mod audience;
+pub mod laws;
+mod listeners;
+mod maps;
+mod registration;
+mod telling;
+
+pub use listeners::Listeners;
+pub use registration::{Listener, Registration};
+
+#[cfg(test)]
+mod tests;
