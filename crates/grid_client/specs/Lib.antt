@@ -1,3 +1,4 @@
+pub mod Numbers
 pub mod Requests
 pub mod Readdressing
 pub mod Openings
@@ -5,3 +6,4 @@ pub mod Answers
 pub mod Clients
 pub mod StandsFor
 pub mod Outcomes
+pub mod Laws

@@ -3,16 +3,13 @@ use Rattle.std.specs.Prelude.{◌≡◌, ℕ, ◌≤◌, ◌++◌, false, ℤ, p
 use Rattle.std.specs.Str.{IsUtf8}
 use Rattle.grid_base.specs.declared.names.ClientKey.TheVariants.{Known}
 use Rattle.grid_base.specs.declared.calls.GridCall.{GridCall}
-use Rattle.grid_base.specs.declared.calls.GridCall.TheVariants.{Map, Queue}
+use Rattle.grid_base.specs.declared.calls.GridCall.TheVariants.{Map}
 use Rattle.grid_base.specs.declared.calls.MapCall.TheVariants.{Get}
 use Rattle.message_frames.specs.Messages.{messages_of, fault_of}
-use Rattle.message_frames.specs.Writing.{IsWritable}
 use Rattle.message_frames.specs.declared.message.Message.{Message}
-use Rattle.map_codecs.specs.SpelledCalls.{IsCallOf}
-use Rattle.queue_codecs.specs.SpelledCalls.{IsCall}
 use Rattle.near_cache.specs.Caches as near
-use Rattle.session_core.specs.Places.{BelongsTo, partition_of_key}
-use Rattle.grid_client.specs.Requests.{request, request_bytes, kind_of_call}
+use Rattle.session_core.specs.Places.{partition_of_key}
+use Rattle.grid_client.specs.Requests.{request_bytes, kind_of_call}
 use Rattle.grid_client.specs.Clients.{Client, NearMap, Sent, text_on, way_to, misdirected_call, again, retried, sent, kept_of, used, looked_up, fed}
 use Rattle.grid_client.specs.StandsFor.{StandsForClient}
 use Rattle.grid_client.specs.declared.client.GridClient.{GridClient}
@@ -31,17 +28,6 @@ pub record MayBeNear (wanted : List ℕ × ℕ) : Type 0 where
 
 abbrev pub near_map : List ℕ × ℕ → NearMap
 near_map wanted = record { name = wanted.0; cache = near.new_cache wanted.1 }
-
--- a call that the grid reads as it is
-abbrev pub IsReadFrom : ℕ → GridCall → Type 0
-IsReadFrom client (Map call) = IsCallOf (Known client) call
-IsReadFrom client (Queue call) = IsCall call
-
--- A client may ask for a call in a partition: its message fits, the grid reads it as this call, and it belongs there.
-pub record MayBeAsked (client partition : ℕ) (call : GridCall) : Type 0 where
-  pub fits : (correlation : ℤ) → IsWritable (request correlation partition call).frames
-  pub read : IsReadFrom client call
-  pub placed : BelongsTo call partition
 
 -- ---- what is sent
 

@@ -1,7 +1,8 @@
 ghost use Rattle.std.specs.Prelude.{◌≡◌, ◌≤◌, ◌<◌, ◌↔◌, [], length, option_map, IsTrue, IfOk, IfErr, OnOk, OnErr, IfSome};
 ghost use Rattle.grid_client.specs.Clients.{Client as ClientOf, new_client, attached, is_attached};
 ghost use Rattle.grid_client.specs.Openings.{opening as opening_of};
-ghost use Rattle.grid_client.specs.Outcomes.{MayBeNear, MayBeAsked, Asks, RetriesTo, LooksTo, HearsFrom, near_map};
+ghost use Rattle.grid_client.specs.Requests.{MayBeAsked};
+ghost use Rattle.grid_client.specs.Outcomes.{MayBeNear, Asks, RetriesTo, LooksTo, HearsFrom, near_map};
 
 use crate::calls::{Calls, SentCall, readdressed};
 use crate::connections::Connections;

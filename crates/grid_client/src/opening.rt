@@ -1,9 +1,14 @@
 //! What a client sends first on a connection.
-use crate::requests::begun;
+
+ghost use Rattle.std.specs.Prelude.{◌≡◌, ◌++◌, IfOk, OnOk};
+ghost use Rattle.std.specs.Option.{option_copied};
+ghost use Rattle.frame_codec.specs.Laws.{spelled};
+ghost use Rattle.grid_client.specs.Openings.{authentication_frames, listener_frames, view_frames, opening as opening_bytes};
+
+use crate::requests::{begun, write_part};
 use client_codecs::AUTHENTICATION_KIND;
 use fixed_fields::write_uuid;
 use frame_codec::flags::{FINAL, UNFRAGMENTED};
-use frame_codec::write_payload;
 use grid_base::{Bytes, Memory};
 use std::alloc::Global;
 
@@ -37,29 +42,35 @@ pub(crate) const FIRST_CORRELATION: i64 = 4;
 /// What stands for the partition where a request is in none.
 const NO_PARTITION: i32 = -1;
 
-fn write_authentication(alloc: Global, client: u128, out: &mut Vec<u8>) -> Result<(), Memory> {
+fn write_authentication(alloc: Global, client: u128, out: &mut Vec<u8>) -> Result<(), Memory>
+    ensures { OnOk result (out.new.items ≡ out.old.items ++ spelled (authentication_frames client)) }
+{
     let kind = AUTHENTICATION_KIND;
     let mut first = begun(alloc, kind, AUTHENTICATION_CORRELATION, NO_PARTITION)?;
     write_uuid(Some(client), &mut first)?;
     first.push(SERIALIZATION)?;
-    write_payload(UNFRAGMENTED, first.as_slice(), out)?;
-    write_payload(FINAL, CLUSTER, out)
+    write_part(UNFRAGMENTED, first.as_slice(), out)?;
+    write_part(FINAL, CLUSTER, out)
 }
 
-fn write_invalidation_listener(
-    alloc: Global,
-    map: &Bytes,
-    out: &mut Vec<u8>,
-) -> Result<(), Memory> {
+/// Asks for the invalidations of the near map, where there is one.
+fn write_listener(alloc: Global, map: Option<&Bytes>, out: &mut Vec<u8>) -> Result<(), Memory>
+    ensures { OnOk result (out.new.items ≡ out.old.items ++ spelled (listener_frames (option_copied map.entry))) }
+{
+    let Some(map) = map else {
+        return Ok(());
+    };
     let kind = INVALIDATION_LISTENER_KIND;
     let first = begun(alloc, kind, INVALIDATIONS_CORRELATION, NO_PARTITION)?;
-    write_payload(UNFRAGMENTED, first.as_slice(), out)?;
-    write_payload(FINAL, map.as_slice(), out)
+    write_part(UNFRAGMENTED, first.as_slice(), out)?;
+    write_part(FINAL, map.as_slice(), out)
 }
 
-fn write_cluster_view(alloc: Global, out: &mut Vec<u8>) -> Result<(), Memory> {
+fn write_cluster_view(alloc: Global, out: &mut Vec<u8>) -> Result<(), Memory>
+    ensures { OnOk result (out.new.items ≡ out.old.items ++ spelled view_frames) }
+{
     let first = begun(alloc, CLUSTER_VIEW_KIND, ROWS_CORRELATION, NO_PARTITION)?;
-    write_payload(UNFRAGMENTED | FINAL, first.as_slice(), out)
+    write_part(UNFRAGMENTED | FINAL, first.as_slice(), out)
 }
 
 /// The first bytes on a connection: the client makes itself known, asks for the invalidations of its near map where it
@@ -68,12 +79,12 @@ pub(crate) fn opening(
     alloc: Global,
     client: u128,
     near_map: Option<&Bytes>,
-) -> Result<Bytes, Memory> {
+) -> Result<Bytes, Memory>
+    ensures { IfOk result (λ bytes. bytes ≡ opening_bytes client (option_copied near_map.entry)) }
+{
     let mut bytes = Vec::from_slice(alloc, PREFIX)?;
     write_authentication(alloc, client, &mut bytes)?;
-    if let Some(map) = near_map {
-        write_invalidation_listener(alloc, map, &mut bytes)?;
-    }
+    write_listener(alloc, near_map, &mut bytes)?;
     write_cluster_view(alloc, &mut bytes)?;
     Ok(Bytes::from_vec(bytes))
 }

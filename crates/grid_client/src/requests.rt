@@ -1,8 +1,20 @@
 //! Calls as the messages that ask for them.
 
+ghost use Rattle.std.specs.Prelude.{◌≡◌, ◌++◌, [], map, option_to_list, flat_map, if◌then◌else◌, IfOk, OnOk};
+ghost use Rattle.partition_table.specs.Rows.{is_empty};
+ghost use Rattle.frame_codec.specs.Frames.{frame_bytes};
+ghost use Rattle.frame_codec.specs.Laws.{spelled};
+ghost use Rattle.fixed_fields.specs.Fields.{int32_bytes, int64_bytes};
+ghost use Rattle.fixed_fields.specs.Responses.{final};
+ghost use Rattle.fixed_fields.specs.Spelled.{request_head, with_parts};
+ghost use Rattle.map_codecs.specs.SpelledCalls.{kind_of_call as kind_of_map_call, numbers_of as numbers_of_call, call_fields, parts_of as parts_of_map_call, call_message as map_message};
+ghost use Rattle.queue_codecs.specs.SpelledCalls.{kind_of_call as kind_of_queue_call, parts_of as parts_of_queue_call, call_message as queue_message};
+ghost use Rattle.grid_client.specs.Numbers.{numbers_in};
+ghost use Rattle.grid_client.specs.Requests.{kind_of_call, request_bytes};
+
 use fixed_fields::{write_int32, write_int64};
 use frame_codec::flags::{FINAL, UNFRAGMENTED};
-use frame_codec::write_payload;
+use frame_codec::{MAX_PAYLOAD, write_payload};
 use grid_base::{Bytes, GridCall, MapCall, Memory, PartitionId, QueueCall};
 use map_codecs::{
     CONTAINS_KEY_KIND, DELETE_KIND, EXECUTE_ON_KEY_KIND, FORCE_UNLOCK_KIND, GET_KIND,
@@ -13,20 +25,34 @@ use map_codecs::{
 use queue_codecs::{
     CLEAR_KIND, OFFER_KIND, PEEK_KIND, POLL_KIND, REMAINING_CAPACITY_KIND, SIZE_KIND,
 };
-use std::alloc::Global;
+use std::alloc::{AllocError, Global};
 
 /// How many bytes the first payload of a request has at most: the head's sixteen, and three numbers of eight.
 const FIRST_LENGTH: usize = 40;
 
+/// The numbers that a call on a map's entry brings.
+#[derive(Clone, Copy)]
+struct Numbers {
+    /// The caller's thread.
+    thread: Option<i64>,
+    /// The time to live, or the lease.
+    time: Option<i64>,
+    idle: Option<i64>,
+}
+
 /// The message type of a call.
-pub(crate) fn kind_of(call: &GridCall) -> u32 {
+pub(crate) fn kind_of(call: &GridCall) -> u32
+    ensures { result ≡ kind_of_call call.now }
+{
     match call {
         GridCall::Map(call) => map_kind(call),
         GridCall::Queue(call) => queue_kind(call),
     }
 }
 
-fn map_kind(call: &MapCall) -> u32 {
+fn map_kind(call: &MapCall) -> u32
+    ensures { result ≡ kind_of_map_call call.now }
+{
     match call {
         MapCall::Put { .. } => PUT_KIND,
         MapCall::Set { .. } => SET_KIND,
@@ -48,7 +74,9 @@ fn map_kind(call: &MapCall) -> u32 {
     }
 }
 
-fn queue_kind(call: &QueueCall) -> u32 {
+fn queue_kind(call: &QueueCall) -> u32
+    ensures { result ≡ kind_of_queue_call call.now }
+{
     match call {
         QueueCall::Offer { .. } => OFFER_KIND,
         QueueCall::Poll { .. } => POLL_KIND,
@@ -59,22 +87,9 @@ fn queue_kind(call: &QueueCall) -> u32 {
     }
 }
 
-/// A first payload that begins as that of a request of that type does.
-pub(crate) fn begun(
-    alloc: Global,
-    kind: u32,
-    correlation: i64,
-    partition: i32,
-) -> Result<Vec<u8>, Memory> {
-    let mut head = Vec::with_capacity(alloc, FIRST_LENGTH)?;
-    head.extend_from_slice(&kind.to_le_bytes())?;
-    write_int64(correlation, &mut head)?;
-    write_int32(partition, &mut head)?;
-    Ok(head)
-}
-
-/// Appends the fields of a call: its caller's thread, and its times.
-fn write_numbers(call: &MapCall, head: &mut Vec<u8>) -> Result<(), Memory> {
+fn numbers_of(call: &MapCall) -> Numbers
+    ensures { numbers_in result ≡ numbers_of_call call.now }
+{
     match call {
         MapCall::Put { owner, ttl, .. }
         | MapCall::Set { owner, ttl, .. }
@@ -83,10 +98,11 @@ fn write_numbers(call: &MapCall, head: &mut Vec<u8>) -> Result<(), Memory> {
             owner,
             lease: ttl,
             ..
-        } => {
-            write_int64(owner.thread, head)?;
-            write_int64(*ttl, head)
-        }
+        } => Numbers {
+            thread: Some(owner.thread),
+            time: Some(*ttl),
+            idle: None,
+        },
         MapCall::Get { owner, .. }
         | MapCall::ContainsKey { owner, .. }
         | MapCall::Remove { owner, .. }
@@ -95,8 +111,16 @@ fn write_numbers(call: &MapCall, head: &mut Vec<u8>) -> Result<(), Memory> {
         | MapCall::ReplaceIfSame { owner, .. }
         | MapCall::RemoveIfSame { owner, .. }
         | MapCall::Unlock { owner, .. }
-        | MapCall::ExecuteOnKey { owner, .. } => write_int64(owner.thread, head),
-        MapCall::IsLocked { .. } | MapCall::ForceUnlock { .. } => Ok(()),
+        | MapCall::ExecuteOnKey { owner, .. } => Numbers {
+            thread: Some(owner.thread),
+            time: None,
+            idle: None,
+        },
+        MapCall::IsLocked { .. } | MapCall::ForceUnlock { .. } => Numbers {
+            thread: None,
+            time: None,
+            idle: None,
+        },
         MapCall::PutMaxIdle {
             owner,
             ttl,
@@ -108,16 +132,82 @@ fn write_numbers(call: &MapCall, head: &mut Vec<u8>) -> Result<(), Memory> {
             ttl,
             idle,
             ..
-        } => {
-            write_int64(owner.thread, head)?;
-            write_int64(*ttl, head)?;
-            write_int64(*idle, head)
-        }
+        } => Numbers {
+            thread: Some(owner.thread),
+            time: Some(*ttl),
+            idle: Some(*idle),
+        },
     }
 }
 
+/// A first payload that begins as that of a request of that type does.
+pub(crate) fn begun(
+    alloc: Global,
+    kind: u32,
+    correlation: i64,
+    partition: i32,
+) -> Result<Vec<u8>, Memory>
+    ensures { IfOk result (λ head. head.items ≡ request_head kind correlation partition) }
+{
+    let mut head = Vec::with_capacity(alloc, FIRST_LENGTH)?;
+    head.extend_from_slice(&kind.to_le_bytes())?;
+    write_int64(correlation, &mut head)?;
+    write_int32(partition, &mut head)?;
+    Ok(head)
+}
+
+/// Appends a number, where there is one.
+fn write_number(number: Option<i64>, out: &mut Vec<u8>) -> Result<(), Memory>
+    ensures { OnOk result (out.new.items ≡ out.old.items ++ flat_map int64_bytes (option_to_list number)) }
+{
+    match number {
+        Some(number) => write_int64(number, out),
+        None => Ok(()),
+    }
+}
+
+/// Appends the numbers, one after the other.
+fn write_numbers(numbers: Numbers, out: &mut Vec<u8>) -> Result<(), Memory>
+    ensures { OnOk result (out.new.items ≡ out.old.items ++ flat_map int64_bytes (numbers_in numbers)) }
+{
+    write_number(numbers.thread, out)?;
+    write_number(numbers.time, out)?;
+    write_number(numbers.idle, out)
+}
+
+/// Appends a frame with these flags. One that is longer than a frame can be is answered as want of memory.
+pub(crate) fn write_part(flags: u16, part: &[u8], out: &mut Vec<u8>) -> Result<(), Memory>
+    ensures { OnOk result (out.new.items ≡ out.old.items ++ frame_bytes (record { flags = flags; payload = part.now })) }
+{
+    if part.len() > MAX_PAYLOAD {
+        return Err(AllocError);
+    }
+    write_payload(flags, part, out)
+}
+
+/// The flags of a part's frame: the last one ends the message.
+fn part_flags(behind: &[&[u8]]) -> u16
+    ensures { result ≡ (if is_empty behind.now then final else 0) }
+{
+    if behind.is_empty() { FINAL } else { 0 }
+}
+
+/// Appends a frame for each of the parts.
+fn write_parts(parts: &[&[u8]], out: &mut Vec<u8>) -> Result<(), Memory>
+    ensures { OnOk result (out.new.items ≡ out.old.items ++ spelled (with_parts (map (λ part. part.now) parts.now) [])) }
+{
+    let mut rest = parts;
+    while let Some((part, behind)) = rest.split_first() {
+        write_part(part_flags(behind), part, out)?;
+        rest = behind;
+    }
+    Ok(())
+}
+
 /// What a processor's frame holds: its number, and what it is given.
-fn processor_part(alloc: Global, number: i32, argument: &Bytes) -> Result<Vec<u8>, Memory> {
+fn processor_part(alloc: Global, number: i32, argument: &Bytes) -> Result<Vec<u8>, Memory>
+    ensures { IfOk result (λ part. part.items ≡ int32_bytes number ++ argument.now) }
+{
     let mut part = Vec::new(alloc);
     write_int32(number, &mut part)?;
     part.extend_from_slice(argument.as_slice())?;
@@ -125,7 +215,9 @@ fn processor_part(alloc: Global, number: i32, argument: &Bytes) -> Result<Vec<u8
 }
 
 /// Appends the frames of a call on a map's entry behind the first.
-fn write_map_parts(alloc: Global, call: &MapCall, out: &mut Vec<u8>) -> Result<(), Memory> {
+fn write_map_parts(alloc: Global, call: &MapCall, out: &mut Vec<u8>) -> Result<(), Memory>
+    ensures { OnOk result (out.new.items ≡ out.old.items ++ spelled (with_parts (parts_of_map_call call.now) [])) }
+{
     let (name, key) = (call.map().as_slice(), call.key().as_slice());
     match call {
         MapCall::Put { value, .. }
@@ -144,19 +236,15 @@ fn write_map_parts(alloc: Global, call: &MapCall, out: &mut Vec<u8>) -> Result<(
             let processor = processor_part(alloc, *number, argument)?;
             write_parts(&[name, processor.as_slice(), key], out)
         }
-        _ => write_parts(&[name, key], out),
+        MapCall::Get { .. }
+        | MapCall::ContainsKey { .. }
+        | MapCall::Remove { .. }
+        | MapCall::Delete { .. }
+        | MapCall::TryLock { .. }
+        | MapCall::Unlock { .. }
+        | MapCall::IsLocked { .. }
+        | MapCall::ForceUnlock { .. } => write_parts(&[name, key], out),
     }
-}
-
-/// Appends a frame for each of the parts, the last one the message's last.
-fn write_parts(parts: &[&[u8]], out: &mut Vec<u8>) -> Result<(), Memory> {
-    let Some((last, others)) = parts.split_last() else {
-        return Ok(());
-    };
-    for part in others {
-        write_payload(0, part, out)?;
-    }
-    write_payload(FINAL, last, out)
 }
 
 fn write_map_call(
@@ -164,42 +252,60 @@ fn write_map_call(
     correlation: i64,
     partition: i32,
     call: &MapCall,
-) -> Result<Bytes, Memory> {
+) -> Result<Bytes, Memory>
+    ensures { IfOk result (λ request. request ≡ spelled (map_message correlation partition call.now [] []).frames) }
+{
     let mut first = begun(alloc, map_kind(call), correlation, partition)?;
-    write_numbers(call, &mut first)?;
+    write_numbers(numbers_of(call), &mut first)?;
     let mut request = Vec::new(alloc);
-    write_payload(UNFRAGMENTED, first.as_slice(), &mut request)?;
+    write_part(UNFRAGMENTED, first.as_slice(), &mut request)?;
     write_map_parts(alloc, call, &mut request)?;
     Ok(Bytes::from_vec(request))
+}
+
+/// Appends the frames of a call on a queue behind the first.
+fn write_queue_parts(call: &QueueCall, out: &mut Vec<u8>) -> Result<(), Memory>
+    ensures { OnOk result (out.new.items ≡ out.old.items ++ spelled (with_parts (parts_of_queue_call call.now) [])) }
+{
+    match call {
+        QueueCall::Offer { name, value } => {
+            write_parts(&[name.as_slice(), value.as_slice()], out)
+        }
+        QueueCall::Poll { name }
+        | QueueCall::Peek { name }
+        | QueueCall::Size { name }
+        | QueueCall::RemainingCapacity { name }
+        | QueueCall::Clear { name } => write_parts(&[name.as_slice()], out),
+    }
 }
 
 fn write_queue_call(
     alloc: Global,
     correlation: i64,
-    partition: i32,
+    partition: PartitionId,
     call: &QueueCall,
-) -> Result<Bytes, Memory> {
-    let first = begun(alloc, queue_kind(call), correlation, partition)?;
+) -> Result<Bytes, Memory>
+    ensures { IfOk result (λ request. request ≡ spelled (queue_message correlation partition call.now [] []).frames) }
+{
+    let first = begun(alloc, queue_kind(call), correlation, i32::from(partition))?;
     let mut request = Vec::new(alloc);
-    write_payload(UNFRAGMENTED, first.as_slice(), &mut request)?;
-    let name = call.queue().as_slice();
-    match call {
-        QueueCall::Offer { value, .. } => write_parts(&[name, value.as_slice()], &mut request)?,
-        _ => write_parts(&[name], &mut request)?,
-    }
+    write_part(UNFRAGMENTED, first.as_slice(), &mut request)?;
+    write_queue_parts(call, &mut request)?;
     Ok(Bytes::from_vec(request))
 }
 
-/// The message that asks for a call in a partition. Copies each part once.
+/// The message that asks for a call in a partition. Copies each part once. A part that is longer than a frame can be is
+/// answered as want of memory.
 pub(crate) fn write_request(
     alloc: Global,
     correlation: i64,
     partition: PartitionId,
     call: &GridCall,
-) -> Result<Bytes, Memory> {
-    let partition = i32::from(partition);
+) -> Result<Bytes, Memory>
+    ensures { IfOk result (λ request. request ≡ request_bytes correlation partition call.now) }
+{
     match call {
-        GridCall::Map(call) => write_map_call(alloc, correlation, partition, call),
+        GridCall::Map(call) => write_map_call(alloc, correlation, i32::from(partition), call),
         GridCall::Queue(call) => write_queue_call(alloc, correlation, partition, call),
     }
 }

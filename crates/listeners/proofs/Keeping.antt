@@ -1,10 +1,10 @@
 -- What the tables of listeners keep, as listeners come and go.
-use Rattle.std.proofs.Common.{◌≡◌, ℕ, Bool, true, false, not, cond, ◌==◌, ◌||◌, bytes_eq, List, [], ◌∷◌, filter, map, Option, Some, None, option_map, unwrap_or, ◌↔◌, IsTrue, ap, sym, subst, ◌∙◌, refl, rules}
+use Rattle.std.proofs.Common.{◌≡◌, ℕ, Bool, true, false, not, cond, ◌||◌, bytes_eq, List, [], ◌∷◌, filter, map, Option, Some, None, option_map, unwrap_or, ◌↔◌, IsTrue, ap, sym, subst, ◌∙◌, refl}
 use Rattle.std.specs.List.{IsDistinct, list_any}
 use Rattle.std.specs.Map.{keys_of, lookup}
 use Rattle.std.specs.Map.Calls.{RetainsPairs}
 use Rattle.std.specs.Option.{is_none, option_map_or}
-use Rattle.std.specs.HashMap.{HashMap, IsUnique, get}
+use Rattle.std.specs.HashMap.{IsUnique, get}
 use Rattle.std.specs.Cmp.Lexicographic.{nat_list_eq_equiv, bytes_decides}
 use Rattle.std.proofs.lemmas.Map.Entries.{option_filter, lookup-filter-values}
 use Rattle.std.proofs.lemmas.Map.Made.{lookup-map_values, keys_of-map_values}
@@ -34,6 +34,7 @@ module _ {S : Type 0} where
     where
       about : (other : List ℕ) (b : Bool) → bytes_eq name other ≡ b → is_about other listener ≡ b
       about other b e = ap (λ map. option_map_or (λ map. bytes_eq map other) map false) of ∙ e
+
       by : (other : List ℕ) (b : Bool) → bytes_eq name other ≡ b
           → unwrap_or (cond b (Some (placed listener (kept_for old name))) (get bytes_eq old other)) [] ≡ filter (is_about other) (placed listener all)
       by other true e =

@@ -1,12 +1,11 @@
 -- The order in which those who listen are told.
 use Rattle.std.proofs.Common.{◌≡◌, ℕ, ◌≤◌, Bool, true, false, not, cond, ◌==◌, List, [], ◌∷◌, ◌++◌, filter, Option, Some, None, option_map, ap, sym, ◌∙◌, refl, arith}
-use Rattle.std.specs.List.{AllByRecursion, filter_map, cons_option}
+use Rattle.std.specs.List.{AllByRecursion, cons_option}
 use Rattle.std.proofs.lemmas.Bool.{eqb-true, eqb-false, ne_eqb, le-ltb}
 use Rattle.grid_base.specs.declared.calls.Change.{Change}
-use Rattle.partition_table.specs.declared.Row.{Row}
 use Rattle.primary_hold.specs.declared.answer.CallAnswer.{CallAnswer}
 use Rattle.listeners.specs.Standing.{placed, without}
-use Rattle.listeners.specs.Telling.{Sent, told, events_of, change_events, change_event, rows_of, row_event}
+use Rattle.listeners.specs.Telling.{Sent, told, events_of, change_events, change_event, row_event}
 use Rattle.listeners.specs.Tables.{AreInOrder}
 use Rattle.listeners.specs.Steps.{Step, Registered, Closed, after, registered, GoInOrder, EveryConnectionKeepsItsOrder, EveryEventGoesInOrder}
 use Rattle.listeners.specs.declared.registration.Listener.{Listener}

@@ -8,7 +8,6 @@ use Rattle.primary_hold.specs.declared.answer.CallAnswer.{CallAnswer}
 use Rattle.event_codecs.specs.Writing.{entry_frames, invalidation_frames, rows_frames}
 use Rattle.listeners.specs.Telling.{events_of, rows_of}
 use Rattle.listeners.specs.Steps.{Step, Registered, Closed, after}
-use Rattle.listeners.specs.declared.registration.Listener.{Listener}
 use Rattle.listeners.specs.declared.registration.Registration.{Registration}
 use Rattle.listeners.specs.declared.registration.Registration.TheVariants.{Entries, Invalidations, Rows}
 

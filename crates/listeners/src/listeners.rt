@@ -86,7 +86,13 @@ impl Listeners {
             return Ok(Vec::new(self.alloc));
         };
         match self.maps.get(&change.name) {
-            Some(audience) => change_events(self.alloc, partition, answer, change, audience.as_slice()),
+            Some(audience) => change_events(
+                self.alloc,
+                partition,
+                answer,
+                change,
+                audience.as_slice(),
+            ),
             None => Ok(Vec::new(self.alloc)),
         }
     }

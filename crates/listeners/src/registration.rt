@@ -21,7 +21,9 @@ pub enum Registration {
         name: Bytes,
     },
     /// Which rows the member adopts.
-    Rows { correlation: i64 },
+    Rows {
+        correlation: i64,
+    },
 }
 
 impl Registration {
@@ -32,7 +34,9 @@ impl Registration {
         ensures { option_copied result ≡ map_of self.now }
     {
         match self {
-            Registration::Entries { name, .. } | Registration::Invalidations { name, .. } => Some(name),
+            Registration::Entries { name, .. } | Registration::Invalidations { name, .. } => Some(
+                name,
+            ),
             Registration::Rows { .. } => None,
         }
     }

@@ -11,11 +11,7 @@ use primary_hold::CallAnswer;
 use std::alloc::Global;
 
 /// Appends an event for a connection, if there is one.
-fn push_event(
-    events: &mut Vec<(u32, Bytes)>,
-    conn: u32,
-    event: Option<Bytes>,
-) -> Result<(), Memory>
+fn push_event(events: &mut Vec<(u32, Bytes)>, conn: u32, event: Option<Bytes>) -> Result<(), Memory>
     ensures { OnOk result (events.new.items ≡ events.old.items ++ option_to_list (option_map (λ bytes. (conn, bytes)) event)) }
 {
     if let Some(event) = event {
@@ -42,7 +38,15 @@ fn change_event(
         } => write_entry_event(alloc, *correlation, partition, change, *with_value)?,
         Registration::Invalidations { correlation, .. } => {
             let (version, seen) = (answer.version, answer.seen);
-            write_invalidation(alloc, *correlation, partition, version, seen, &change.name, &change.key)?
+            write_invalidation(
+                alloc,
+                *correlation,
+                partition,
+                version,
+                seen,
+                &change.name,
+                &change.key,
+            )?
         }
         Registration::Rows { .. } => return Ok(None),
     };

@@ -19,7 +19,8 @@ const ADDED_UNTOLD: &[u8] = b"\x1a\0\0\0\0\xc2\x02\x19\x01\0\x04\0\0\0\0\0\0\0\x
     \x0f\0\0\0\0\0\0\0\0\x05\xff\xff\xff\xf5k\x06\0\0\0\0\x04\x06\0\0\0\0\x24";
 
 /// A near cache is to give up the key of `m`, as of version 1 and number 1, for the correlation 3.
-const INVALIDATED: &[u8] = b"\x1e\0\0\0\0\xc2\x02\x3f\x01\0\x03\0\0\0\0\0\0\0\x05\0\0\0\x01\0\0\0\x01\0\0\0\
+const INVALIDATED: &[u8] =
+    b"\x1e\0\0\0\0\xc2\x02\x3f\x01\0\x03\0\0\0\0\0\0\0\x05\0\0\0\x01\0\0\0\x01\0\0\0\
     \x07\0\0\0\0\0m\x0f\0\0\0\0\x20\0\0\0\x05\xff\xff\xff\xf5k";
 
 /// Partition 5 was lost in version 2, for the correlation 9.
@@ -90,7 +91,11 @@ fn a_release_is_told_in_order(rt: HostRuntime) -> Result<(), Fail> {
     let mut listeners = listening(alloc)?;
     let mut put = put(alloc)?;
     let events = listeners.events_of(5, &put)?;
-    are(&rt, events.as_slice(), &[(2, ADDED), (2, INVALIDATED), (9, ADDED_UNTOLD)]);
+    are(
+        &rt,
+        events.as_slice(),
+        &[(2, ADDED), (2, INVALIDATED), (9, ADDED_UNTOLD)],
+    );
     listeners.drop_connection(2);
     let events = listeners.events_of(5, &put)?;
     are(&rt, events.as_slice(), &[(9, ADDED_UNTOLD)]);

@@ -1,4 +1,4 @@
-use Rattle.std.proofs.Common.{◌≡◌, Bool, true, false, not, ap, sym, ◌∙◌, [], List, unwrap_or, ◌↔◌, IsTrue}
+use Rattle.std.proofs.Common.{◌≡◌, not, ap, ◌∙◌, [], List, unwrap_or}
 use Rattle.partition_table.specs.Rows.{is_empty}
 use Rattle.listeners.specs.Tables.{kept_for}
 use Rattle.listeners.specs.Standing.{is_about}

@@ -1,4 +1,4 @@
-use Rattle.std.proofs.Common.{◌≡◌, ap, ◌∙◌}
+use Rattle.std.proofs.Common.{ap, ◌∙◌}
 use Rattle.std.proofs.lemmas.Result.{IfOk-weaker}
 use Rattle.listeners.specs.Telling.{told, row_event}
 use Rattle.listeners.proofs.listeners.Listeners.rows_of.Goals as goal
