@@ -9,7 +9,7 @@ use Rattle.fixed_fields.specs.Requests.{◌>>=◌, kind_of}
 use Rattle.message_frames.specs.Assembly.{first_payload}
 use Rattle.message_frames.specs.declared.message.Message.{Message}
 use Rattle.client_codecs.specs.Authentications.{authentication_kind}
-use Rattle.grid_client.specs.Openings.{authentication_correlation}
+use Rattle.request_codecs.specs.Openings.{authentication_correlation}
 
 -- an error's type
 abbrev pub error_kind : ℕ

@@ -1,5 +1,6 @@
 -- A client: what it knows, what it is asked for, and what each message does to it.
-use Rattle.std.specs.Prelude.{ℕ, Bool, true, false, not, ◌&&◌, ◌||◌, ◌==◌, nat_eq, nat_lt, bytes_eq, if◌then◌else◌, ℤ, pos, ◌+ℤ◌, List, [], ◌∷◌, ◌++◌, filter, Option, Some, None, option_map, is_some, Result, Ok, Err}
+use Rattle.std.specs.Prelude.{ℕ, Bool, false, not, ◌&&◌, ◌||◌, ◌==◌, nat_eq, nat_lt, bytes_eq, if◌then◌else◌, ℤ, pos, ◌+ℤ◌}
+use Rattle.std.specs.Prelude.{List, [], ◌∷◌, ◌++◌, filter, Option, Some, None, option_map, is_some, Result, Ok, Err}
 use Rattle.std.specs.List.{find, list_any}
 use Rattle.std.specs.Option.{option_and_then, option_map_or, option_or, option_eq}
 use Rattle.std.specs.Ordering.{int_eq}
@@ -15,9 +16,10 @@ use Rattle.near_cache.specs.Caches as near
 use Rattle.near_cache.specs.declared.look_up.Overtaking.{Overtaking}
 use Rattle.near_cache.specs.declared.look_up.Filled.{Filled}
 use Rattle.near_cache.specs.declared.look_up.Filled.TheVariants as filled
+use Rattle.grid_client.specs.Rows.{first_member}
 use Rattle.grid_client.specs.Answers.{responds, refusal_in, value_in, acceptance_in, is_authentication}
-use Rattle.grid_client.specs.Openings.{first_correlation}
-use Rattle.grid_client.specs.Readdressing.{readdressed}
+use Rattle.request_codecs.specs.Openings.{first_correlation}
+use Rattle.request_codecs.specs.Readdressing.{readdressed}
 use Rattle.grid_client.specs.declared.heard.Heard.{Heard}
 use Rattle.grid_client.specs.declared.heard.Heard.TheVariants.{Answered, Kept, Overtaken, Invalidated, Cleared, Refused}
 
@@ -206,10 +208,6 @@ is_near name c = option_map_or (λ map. bytes_eq map.name name) c.near false
 -- what an invalidation of a map takes out of the cache, and what overtook
 abbrev pub overtaking : ℕ → ℕ → Overtaking
 overtaking version number = record { version = version; number = number }
-
-abbrev pub first_member : List ℕ → Option ℕ
-first_member [] = None
-first_member (member ∷ members) = Some member
 
 abbrev pub knowing : SeenRow → Client → Client
 knowing row c = record c { rows = record { partition = row.partition; version = row.version; primary = first_member row.members } ∷ c.rows }

@@ -1,9 +1,5 @@
-pub mod Numbers
-pub mod Requests
-pub mod Readdressing
-pub mod Openings
+pub mod Rows
 pub mod Answers
 pub mod Clients
 pub mod StandsFor
 pub mod Outcomes
-pub mod Laws

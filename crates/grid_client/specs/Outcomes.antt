@@ -9,7 +9,7 @@ use Rattle.message_frames.specs.Messages.{messages_of, fault_of}
 use Rattle.message_frames.specs.declared.message.Message.{Message}
 use Rattle.near_cache.specs.Caches as near
 use Rattle.session_core.specs.Places.{partition_of_key}
-use Rattle.grid_client.specs.Requests.{request_bytes, kind_of_call}
+use Rattle.request_codecs.specs.Requests.{request_bytes, kind_of_call}
 use Rattle.grid_client.specs.Clients.{Client, NearMap, Sent, text_on, way_to, misdirected_call, again, retried, sent, kept_of, used, looked_up, fed}
 use Rattle.grid_client.specs.StandsFor.{StandsForClient}
 use Rattle.grid_client.specs.declared.client.GridClient.{GridClient}

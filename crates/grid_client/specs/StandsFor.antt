@@ -1,10 +1,8 @@
 -- What a client of the code stands for.
-use Rattle.std.specs.Prelude.{◌≡◌, ℕ, ◌<◌, false, ℤ, List, [], ◌∷◌, Option, option_map, slice_get, ⊤}
+use Rattle.std.specs.Prelude.{◌≡◌, ℕ, nat_eq, false, ℤ, List, [], ◌∷◌, Option, option_map, ⊤}
 use Rattle.std.specs.List.{find}
-use Rattle.std.specs.Option.{option_and_then}
 use Rattle.std.specs.HashMap.{get}
 use Rattle.std.specs.Ordering.{int_eq}
-use Rattle.grid_base.specs.declared.TheConstants.{PARTITIONS}
 use Rattle.message_frames.specs.MessageReaders.{StandsFor}
 use Rattle.grid_client.specs.Clients.{Client, Link, Sent, KnownRow, NearMap, known_row}
 use Rattle.grid_client.specs.declared.calls.SentCall.{SentCall}
@@ -50,8 +48,7 @@ pub record StandsForClient (client : GridClient) (c : Client) : Type 0 where
   pub number : client.client ≡ c.number
   pub near : option_map near_of client.near ≡ c.near
   pub links : StandForLinks client.connections.list.items c.links
-  pub rows : (partition : ℕ) → partition < PARTITIONS →
-      option_map (row_of partition) (option_and_then (λ row. row) (slice_get client.rows.rows.items partition)) ≡ known_row partition c
+  pub rows : (partition : ℕ) → option_map (row_of partition) (get nat_eq client.rows.by_partition partition) ≡ known_row partition c
   pub waiting : (correlation : ℤ) → option_map (sent_of correlation) (get int_eq client.calls.waiting correlation) ≡ call_of correlation c.waiting
   pub misdirected : (correlation : ℤ) → option_map (sent_of correlation) (get int_eq client.calls.misdirected correlation) ≡ call_of correlation c.misdirected
   pub next : client.next ≡ c.next

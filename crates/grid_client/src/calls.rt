@@ -7,12 +7,6 @@ use std::collections::HashMap;
 /// The message type of an error.
 const ERROR_KIND: u32 = 0;
 
-/// Where the bytes of a request have its correlation: behind the frame's header and the type.
-const CORRELATION_START: usize = 10;
-
-/// Where they go on behind it.
-const CORRELATION_END: usize = 18;
-
 /// A call that was sent.
 #[derive(Debug, Drop)]
 pub(crate) struct SentCall {
@@ -83,18 +77,4 @@ impl Calls {
     pub fn drop_misdirected(&mut self, correlation: i64) {
         self.misdirected.remove(&correlation);
     }
-}
-
-/// The same request under another correlation.
-pub(crate) fn readdressed(
-    alloc: Global,
-    request: &Bytes,
-    correlation: i64,
-) -> Result<Bytes, Memory> {
-    let bytes = request.as_slice();
-    let mut again = Vec::with_capacity(alloc, bytes.len())?;
-    again.extend_from_slice(&bytes[..CORRELATION_START])?;
-    again.extend_from_slice(&correlation.to_le_bytes())?;
-    again.extend_from_slice(&bytes[CORRELATION_END..])?;
-    Ok(Bytes::from_vec(again))
 }

@@ -1,19 +1,17 @@
 ghost use Rattle.std.specs.Prelude.{◌≡◌, ◌≤◌, ◌<◌, ◌↔◌, [], length, option_map, IsTrue, IfOk, IfErr, OnOk, OnErr, IfSome};
 ghost use Rattle.grid_client.specs.Clients.{Client as ClientOf, new_client, attached, is_attached};
-ghost use Rattle.grid_client.specs.Openings.{opening as opening_of};
-ghost use Rattle.grid_client.specs.Requests.{MayBeAsked};
+ghost use Rattle.request_codecs.specs.Openings.{opening as opening_of};
+ghost use Rattle.request_codecs.specs.Requests.{MayBeAsked};
 ghost use Rattle.grid_client.specs.Outcomes.{MayBeNear, Asks, RetriesTo, LooksTo, HearsFrom, near_map};
 
-use crate::calls::{Calls, SentCall, readdressed};
+use crate::calls::{Calls, SentCall};
 use crate::connections::Connections;
 use crate::heard::Heard;
 use crate::messages::{
     Head, acceptance_in, bytes_of, head_of, is_authentication, refusal_in, value_in,
 };
 use crate::near::NearMap;
-use crate::opening::{AUTHENTICATION_CORRELATION, FIRST_CORRELATION, opening};
 use crate::refusal::ClientRefused;
-use crate::requests::{kind_of, write_request};
 use crate::rows::{KnownRows, RowNews};
 use event_codecs::{ClientEvent, SeenRow, read_event};
 use frame_codec::{MAX_PAYLOAD, Malformed};
@@ -24,6 +22,10 @@ use grid_base::{
 use message_frames::Message;
 use murmur_partition::{key_hash, partition_of};
 use near_cache::{Filled, NearCache, Reservation};
+use request_codecs::{
+    AUTHENTICATION_CORRELATION, FIRST_CORRELATION, kind_of, readdressed, write_opening,
+    write_request,
+};
 use std::alloc::{AllocError, Global};
 
 /// Bytes to be sent on a connection: a call, whose answer has that correlation.
@@ -89,7 +91,7 @@ impl GridClient {
             client,
             near,
             connections: Connections::new(alloc),
-            rows: KnownRows::new(alloc)?,
+            rows: KnownRows::new(alloc),
             calls: Calls::new(alloc),
             next: FIRST_CORRELATION,
             alloc,
@@ -108,7 +110,7 @@ impl GridClient {
             return Err(ClientRefused::Known);
         }
         let map = self.near.as_ref().map(|near| &near.name);
-        let bytes = opening(self.alloc, self.client, map)?;
+        let bytes = write_opening(self.alloc, self.client, map)?;
         self.connections.add(self.alloc, conn)?;
         Ok(bytes)
     }
@@ -338,7 +340,7 @@ impl GridClient {
             heard.push(Heard::Cleared(row.partition))?;
         }
         if news != RowNews::Known {
-            self.rows.learn(row);
+            self.rows.learn(row)?;
         }
         Ok(())
     }

@@ -9,12 +9,9 @@ mod calls;
 mod client;
 mod connections;
 mod heard;
-pub mod laws;
 mod messages;
 mod near;
-mod opening;
 mod refusal;
-mod requests;
 mod rows;
 
 pub use client::{FedClient, GridClient, NearLook, Sending};

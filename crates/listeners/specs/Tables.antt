@@ -16,7 +16,9 @@ module _ {S : Type 0} where
 
   -- One listener more for a map.
   abbrev pub Adds : Maps S → Maps S → List ℕ → Listener → Type 0
-  Adds old new name listener = (other : List ℕ) → get bytes_eq new other ≡ (if bytes_eq name other then Some (placed listener (kept_for old name)) else get bytes_eq old other)
+  Adds old new name listener =
+      (other : List ℕ) → get bytes_eq new other
+      ≡ (if bytes_eq name other then Some (placed listener (kept_for old name)) else get bytes_eq old other)
 
   -- The same for each map.
   abbrev pub AreSame : Maps S → Maps S → Type 0

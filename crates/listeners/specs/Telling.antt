@@ -22,7 +22,8 @@ told event listeners = filter_map (λ listener. option_map (λ bytes. (listener.
 -- A listener of the map is sent the change, or the version in which the call was executed and the count that it saw.
 abbrev pub change_event : ℕ → CallAnswer → Change → Registration → Option (List ℕ)
 change_event partition answer change (Entries correlation name with_value) = Some (spelled (entry_frames correlation partition change with_value))
-change_event partition answer change (Invalidations correlation name) = Some (spelled (invalidation_frames correlation partition answer.version answer.seen change.name change.key))
+change_event partition answer change (Invalidations correlation name) =
+    Some (spelled (invalidation_frames correlation partition answer.version answer.seen change.name change.key))
 change_event partition answer change (Rows correlation) = None
 
 abbrev pub change_events : ℕ → CallAnswer → Option Change → List Listener → List Sent

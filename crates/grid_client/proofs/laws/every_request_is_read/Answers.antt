@@ -1,5 +1,0 @@
-use Rattle.grid_client.proofs.Sessions.{every_request_is_read}
-use Rattle.grid_client.proofs.laws.every_request_is_read.Goals as goal
-
-pub returns : goal.returns
-returns c = every_request_is_read
