@@ -3,3 +3,4 @@ pub mod Answers
 pub mod Clients
 pub mod StandsFor
 pub mod Outcomes
+pub mod Laws

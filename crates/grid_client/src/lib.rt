@@ -9,6 +9,7 @@ mod calls;
 mod client;
 mod connections;
 mod heard;
+pub mod laws;
 mod messages;
 mod near;
 mod refusal;

@@ -89,4 +89,3 @@ pub(crate) fn write_numbers(numbers: Numbers, out: &mut Vec<u8>) -> Result<(), M
     write_number(numbers.time, out)?;
     write_number(numbers.idle, out)
 }
-

@@ -75,11 +75,7 @@ fn write_cluster_view(alloc: Global, out: &mut Vec<u8>) -> Result<(), Memory>
 
 /// The first bytes on a connection to a member: the client makes itself known by its number, asks for the invalidations of
 /// its near map where it has one, and for the rows. A name that is longer than a frame can be is answered as want of memory.
-pub fn write_opening(
-    alloc: Global,
-    client: u128,
-    near_map: Option<&Bytes>,
-) -> Result<Bytes, Memory>
+pub fn write_opening(alloc: Global, client: u128, near_map: Option<&Bytes>) -> Result<Bytes, Memory>
     ensures { IfOk result (λ bytes. bytes ≡ opening client (option_copied near_map.entry)) }
 {
     let mut bytes = Vec::from_slice(alloc, PREFIX)?;

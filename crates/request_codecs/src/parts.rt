@@ -1,9 +1,8 @@
 //! The frames of a request.
 
-ghost use Rattle.std.specs.Prelude.{◌≡◌, ◌==◌, ◌++◌, [], map, if◌then◌else◌, IfOk, OnOk};
+ghost use Rattle.std.specs.Prelude.{◌≡◌, ◌++◌, ◌∷◌, [], IfOk, OnOk};
 ghost use Rattle.frame_codec.specs.Frames.{frame_bytes};
 ghost use Rattle.frame_codec.specs.Laws.{spelled};
-ghost use Rattle.fixed_fields.specs.Responses.{final};
 ghost use Rattle.fixed_fields.specs.Spelled.{request_head, with_parts};
 
 use fixed_fields::{write_int32, write_int64};
@@ -41,21 +40,46 @@ pub(crate) fn write_part(flags: u16, part: &[u8], out: &mut Vec<u8>) -> Result<(
     write_payload(flags, part, out)
 }
 
-/// The flags of a part's frame, behind which so many follow: the last one ends the message.
-fn part_flags(behind: usize) -> u16
-    ensures { result ≡ (if behind == 0 then final else 0) }
+/// Appends the frame of a part that ends a message.
+pub(crate) fn write_one(part: &[u8], out: &mut Vec<u8>) -> Result<(), Memory>
+    ensures { OnOk result (out.new.items ≡ out.old.items ++ spelled (with_parts (part.now ∷ []) [])) }
 {
-    if behind == 0 { FINAL } else { 0 }
+    write_part(FINAL, part, out)
 }
 
-/// Appends a frame for each of the parts.
-pub(crate) fn write_parts(parts: &[&[u8]], out: &mut Vec<u8>) -> Result<(), Memory>
-    ensures { OnOk result (out.new.items ≡ out.old.items ++ spelled (with_parts (map (λ part. part.now) parts.now) [])) }
+/// Appends the frames of two parts that end a message.
+pub(crate) fn write_two(first: &[u8], second: &[u8], out: &mut Vec<u8>) -> Result<(), Memory>
+    ensures { OnOk result (out.new.items ≡ out.old.items ++ spelled (with_parts (first.now ∷ second.now ∷ []) [])) }
 {
-    let mut behind = parts.len();
-    for part in parts {
-        behind -= 1;
-        write_part(part_flags(behind), part, out)?;
-    }
-    Ok(())
+    write_part(0, first, out)?;
+    write_one(second, out)
+}
+
+/// Appends the frames of three parts that end a message.
+pub(crate) fn write_three(
+    first: &[u8],
+    second: &[u8],
+    third: &[u8],
+    out: &mut Vec<u8>,
+) -> Result<(), Memory>
+    ensures { OnOk result (out.new.items
+        ≡ out.old.items ++ spelled (with_parts (first.now ∷ second.now ∷ third.now ∷ []) [])) }
+{
+    write_part(0, first, out)?;
+    write_two(second, third, out)
+}
+
+/// Appends the frames of four parts that end a message.
+pub(crate) fn write_four(
+    first: &[u8],
+    second: &[u8],
+    third: &[u8],
+    fourth: &[u8],
+    out: &mut Vec<u8>,
+) -> Result<(), Memory>
+    ensures { OnOk result (out.new.items
+        ≡ out.old.items ++ spelled (with_parts (first.now ∷ second.now ∷ third.now ∷ fourth.now ∷ []) [])) }
+{
+    write_part(0, first, out)?;
+    write_three(second, third, fourth, out)
 }

@@ -10,7 +10,7 @@ ghost use Rattle.queue_codecs.specs.SpelledCalls.{kind_of_call as kind_of_queue_
 ghost use Rattle.request_codecs.specs.Requests.{kind_of_call, request_bytes};
 
 use crate::numbers::{numbers_of, write_numbers};
-use crate::parts::{begun, write_part, write_parts};
+use crate::parts::{begun, write_four, write_one, write_part, write_three, write_two};
 use fixed_fields::write_int32;
 use frame_codec::flags::UNFRAGMENTED;
 use grid_base::{Bytes, GridCall, MapCall, Memory, PartitionId, QueueCall};
@@ -94,15 +94,17 @@ fn write_map_parts(alloc: Global, call: &MapCall, out: &mut Vec<u8>) -> Result<(
         | MapCall::Replace { value, .. }
         | MapCall::RemoveIfSame { test: value, .. }
         | MapCall::PutMaxIdle { value, .. }
-        | MapCall::SetMaxIdle { value, .. } => write_parts(&[name, key, value.as_slice()], out),
+        | MapCall::SetMaxIdle { value, .. } => { write_three(name, key, value.as_slice(), out) },
         MapCall::ReplaceIfSame { test, value, .. } => {
-            write_parts(&[name, key, test.as_slice(), value.as_slice()], out)
+            write_four(name, key, test.as_slice(), value.as_slice(), out)
         }
         MapCall::ExecuteOnKey {
-            number, argument, ..
+            number,
+            argument,
+            ..
         } => {
             let processor = processor_part(alloc, *number, argument)?;
-            write_parts(&[name, processor.as_slice(), key], out)
+            write_three(name, processor.as_slice(), key, out)
         }
         MapCall::Get { .. }
         | MapCall::ContainsKey { .. }
@@ -111,7 +113,7 @@ fn write_map_parts(alloc: Global, call: &MapCall, out: &mut Vec<u8>) -> Result<(
         | MapCall::TryLock { .. }
         | MapCall::Unlock { .. }
         | MapCall::IsLocked { .. }
-        | MapCall::ForceUnlock { .. } => write_parts(&[name, key], out),
+        | MapCall::ForceUnlock { .. } => write_two(name, key, out),
     }
 }
 
@@ -136,14 +138,12 @@ fn write_queue_parts(call: &QueueCall, out: &mut Vec<u8>) -> Result<(), Memory>
     ensures { OnOk result (out.new.items ≡ out.old.items ++ spelled (with_parts (parts_of_queue_call call.now) [])) }
 {
     match call {
-        QueueCall::Offer { name, value } => {
-            write_parts(&[name.as_slice(), value.as_slice()], out)
-        }
+        QueueCall::Offer { name, value } => { write_two(name.as_slice(), value.as_slice(), out) }
         QueueCall::Poll { name }
         | QueueCall::Peek { name }
         | QueueCall::Size { name }
         | QueueCall::RemainingCapacity { name }
-        | QueueCall::Clear { name } => write_parts(&[name.as_slice()], out),
+        | QueueCall::Clear { name } => write_one(name.as_slice(), out),
     }
 }
 

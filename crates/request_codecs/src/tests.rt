@@ -60,10 +60,16 @@ fn an_opening_is_written(rt: HostRuntime) -> Result<(), Fail> {
     let mut wanted = Vec::from_slice(alloc, AUTHENTICATION)?;
     wanted.extend_from_slice(LISTENER)?;
     wanted.extend_from_slice(VIEW)?;
-    assert_eq!(rt; write_opening(alloc, 1001, Some(&map))?.as_slice(), wanted.as_slice());
+    assert_eq!(rt;
+        write_opening(alloc, 1001, Some(&map))?.as_slice(),
+        wanted.as_slice()
+    );
     let mut wanted = Vec::from_slice(alloc, AUTHENTICATION)?;
     wanted.extend_from_slice(VIEW)?;
-    assert_eq!(rt; write_opening(alloc, 1001, None)?.as_slice(), wanted.as_slice());
+    assert_eq!(rt;
+        write_opening(alloc, 1001, None)?.as_slice(),
+        wanted.as_slice()
+    );
     Ok(())
 }
 
@@ -72,7 +78,10 @@ fn requests_are_written(rt: HostRuntime) -> Result<(), Fail> {
     let alloc = rt.alloc();
     let put = put(alloc)?;
     assert_eq!(rt; kind_of(&put), 0x01_01_00);
-    assert_eq!(rt; write_request(alloc, FIRST_CORRELATION, 5, &put)?.as_slice(), PUT);
+    assert_eq!(rt;
+        write_request(alloc, FIRST_CORRELATION, 5, &put)?.as_slice(),
+        PUT
+    );
     let execute = GridCall::Map(MapCall::ExecuteOnKey {
         name: bytes(alloc, b"m")?,
         key: bytes(alloc, KEY)?,
@@ -80,11 +89,17 @@ fn requests_are_written(rt: HostRuntime) -> Result<(), Fail> {
         number: 1,
         argument: bytes(alloc, &[2])?,
     });
-    assert_eq!(rt; write_request(alloc, FIRST_CORRELATION, 5, &execute)?.as_slice(), EXECUTE);
+    assert_eq!(rt;
+        write_request(alloc, FIRST_CORRELATION, 5, &execute)?.as_slice(),
+        EXECUTE
+    );
     let poll = GridCall::Queue(QueueCall::Poll {
         name: bytes(alloc, b"q")?,
     });
-    assert_eq!(rt; write_request(alloc, FIRST_CORRELATION, 100, &poll)?.as_slice(), POLL);
+    assert_eq!(rt;
+        write_request(alloc, FIRST_CORRELATION, 100, &poll)?.as_slice(),
+        POLL
+    );
     Ok(())
 }
 
@@ -95,6 +110,9 @@ fn a_request_is_readdressed(rt: HostRuntime) -> Result<(), Fail> {
     let request = write_request(alloc, FIRST_CORRELATION, 5, &put)?;
     let other = write_request(alloc, -3, 5, &put)?;
     assert!(rt; request.len() >= 18);
-    assert_eq!(rt; readdressed(alloc, &request, -3)?.as_slice(), other.as_slice());
+    assert_eq!(rt;
+        readdressed(alloc, &request, -3)?.as_slice(),
+        other.as_slice()
+    );
     Ok(())
 }

@@ -13,5 +13,5 @@ returns c =
     let l = listener_frames (option_copied c.args.near_map) in
     c.from_vec.ensures
     ∙ all_written frame_bytes c.in_ok-bytes.bytes.items c.write_authentication.new.out.items c.write_listener.new.out.items c.write_cluster_view.new.out.items a l view_frames
-      c.in_ok-write_authentication.ensures c.in_ok-write_listener.ensures c.in_ok-write_cluster_view.ensures
+    c.in_ok-write_authentication.ensures c.in_ok-write_listener.ensures c.in_ok-write_cluster_view.ensures
     ∙ ap (λ (prefix : List ℕ). prefix ++ spelled (a ++ l ++ view_frames)) c.in_ok-bytes.ensures.items
