@@ -1,5 +1,5 @@
 -- What a member's session makes of a request.
-use Rattle.std.proofs.Common.{◌≡◌, ℕ, ◌<◌, ◌^◌, ◌==◌, Bool, true, false, cond, ℤ, pos, List, [], ◌∷◌, ◌++◌, drop, Option, Some, None, Ok, Err, unwrap_or, refl, ap, sym, subst, ◌∙◌, append-nil, arith, lit<}
+use Rattle.std.proofs.Common.{◌≡◌, ℕ, ◌<◌, ◌^◌, ◌==◌, Bool, false, cond, ℤ, pos, List, [], ◌++◌, drop, Option, Some, None, Ok, Err, unwrap_or, refl, ap, sym, subst, ◌∙◌, append-nil, arith, lit<}
 use Rattle.std.specs.Int.{w32, w64, to_le_bytes}
 use Rattle.std.specs.Int.RustNames.{FitsSigned}
 use Rattle.std.specs.Ordering.{int_eq}

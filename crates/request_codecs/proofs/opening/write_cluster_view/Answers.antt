@@ -1,4 +1,4 @@
-use Rattle.std.proofs.Common.{◌≡◌, pos, negsuc, rules}
+use Rattle.std.proofs.Common.{◌≡◌, pos, rules}
 use Rattle.std.proofs.lemmas.Result.{on_ok_weaker}
 use Rattle.fixed_fields.specs.Responses.{single}
 use Rattle.request_codecs.specs.Openings.{registration_head, cluster_view_kind}

@@ -1,4 +1,4 @@
-use Rattle.std.proofs.Common.{◌≡◌, ◌++◌, OnOk, Some, pos, rules, subst, sym}
+use Rattle.std.proofs.Common.{◌≡◌, ◌++◌, OnOk, pos, rules, subst, sym}
 use Rattle.std.specs.Option.{option_copied}
 use Rattle.std.proofs.lemmas.Result.{on_ok_weaker}
 use Rattle.frame_codec.specs.Laws.{spelled}

@@ -1,8 +1,7 @@
-use Rattle.std.proofs.Common.{◌≡◌, ◌++◌, ◌∙◌, ap, List, ℕ, true}
+use Rattle.std.proofs.Common.{◌++◌, ◌∙◌, ap, List, ℕ}
 use Rattle.std.specs.Option.{option_copied}
 use Rattle.frame_codec.specs.Frames.{frame_bytes}
 use Rattle.frame_codec.specs.Laws.{spelled}
-use Rattle.message_frames.specs.Messages.{prefix_of}
 use Rattle.request_codecs.specs.Openings.{authentication_frames, listener_frames, view_frames}
 use Rattle.request_codecs.proofs.Writing.{all_written}
 use Rattle.request_codecs.proofs.opening.write_opening.Goals as goal
