@@ -1,4 +1,4 @@
-use crate::{FIRST_CORRELATION, kind_of, readdressed, write_opening, write_request};
+use crate::{FIRST_CORRELATION, kind_of, write_opening, write_request};
 use grid_base::{Bytes, ClientKey, GridCall, MapCall, Memory, Owner, QueueCall};
 use std::alloc::Global;
 use std::test::Fail;
@@ -99,20 +99,6 @@ fn requests_are_written(rt: HostRuntime) -> Result<(), Fail> {
     assert_eq!(rt;
         write_request(alloc, FIRST_CORRELATION, 100, &poll)?.as_slice(),
         POLL
-    );
-    Ok(())
-}
-
-#[test]
-fn a_request_is_readdressed(rt: HostRuntime) -> Result<(), Fail> {
-    let alloc = rt.alloc();
-    let put = put(alloc)?;
-    let request = write_request(alloc, FIRST_CORRELATION, 5, &put)?;
-    let other = write_request(alloc, -3, 5, &put)?;
-    assert!(rt; request.len() >= 18);
-    assert_eq!(rt;
-        readdressed(alloc, &request, -3)?.as_slice(),
-        other.as_slice()
     );
     Ok(())
 }
