@@ -1,0 +1,5 @@
+pub mod Layouts
+pub mod Heads
+pub mod Calls
+pub mod Items
+pub mod Streams

@@ -1,0 +1,73 @@
+-- What is said goes on any stream of a connection that has room for it.
+use Rattle.std.proofs.Common.{◌≡◌, ℕ, ◌+◌, ◌<◌, ◌≤◌, ℤ, SFits, Bool, true, List, [], ◌∷◌, ◌++◌, length, Option, None, refl, sym, ap, subst, ◌∙◌, append_assoc, append-nil, arith}
+use Rattle.std.specs.List.{flat_map}
+use Rattle.std.specs.Int.{w64}
+use Rattle.std.proofs.lemmas.List.Concat.{flat_map-append}
+use Rattle.grid_base.specs.declared.names.ClientKey.{ClientKey}
+use Rattle.message_frames.specs.Assembly.{first_payload}
+use Rattle.message_frames.specs.Grammar.{Piece, Unfragmented, piece_bytes, stream_of}
+use Rattle.message_frames.specs.Laws.{IsStream, messages_in}
+use Rattle.message_frames.specs.Messages.{prefix_of, shortest_start, Heard, heard, messages_of}
+use Rattle.message_frames.specs.Writing.{IsWritable, HasRoomFor}
+use Rattle.message_frames.specs.declared.message.Message.{Message}
+use Rattle.message_frames.proofs.HeardPieces.{grammar_heard}
+use Rattle.message_frames.proofs.Written.{written_message_heard}
+use Rattle.session_core.specs.Items.{identity_after_all, item_of, items_from, items_of}
+use Rattle.session_core.specs.declared.item.Item.{Item}
+use Rattle.session_core.proofs.ItemLists.{items_from-append, identity_after_all-append}
+use Rattle.compose_words.specs.Sayings.{message_of, bytes_of, IsPlaced, FitMessage}
+use Rattle.compose_words.specs.Sessions.{item_said, identity_said, HasRoom, AddsSaying, Say}
+use Rattle.compose_words.specs.declared.saying.Saying.{Saying}
+use Rattle.compose_words.proofs.Layouts.{form_is}
+use Rattle.compose_words.proofs.Heads.{said_head}
+use Rattle.compose_words.proofs.Items.{CanBeSaid, item_is_said, client_is_said}
+
+pub writable : (correlation : ℤ) (saying : Saying) → FitMessage (message_of correlation saying).frames → IsWritable (message_of correlation saying).frames
+writable correlation saying fit = record { each = fit.each; form = form_is correlation saying; fits = fit.all }
+
+-- one piece more
+stream_longer : (pieces : List Piece) (piece : Piece) → stream_of true pieces ++ piece_bytes piece ≡ stream_of true (pieces ++ piece ∷ [])
+stream_longer pieces piece =
+    append_assoc (prefix_of true) (flat_map piece_bytes pieces) (piece_bytes piece)
+    ∙ ap (λ bytes. prefix_of true ++ (flat_map piece_bytes pieces ++ bytes)) (sym (append-nil (piece_bytes piece)))
+    ∙ ap (λ bytes. prefix_of true ++ bytes) (sym (flat_map-append piece_bytes pieces (piece ∷ [])))
+
+-- one message more
+item_longer : (conn member : ℕ) (messages : List Message) (message : Message)
+    → items_of conn member (messages ++ message ∷ []) ≡ items_of conn member messages ++ item_of member (record { conn = conn; number = length messages }) (identity_after_all conn None messages) message ∷ []
+item_longer conn member messages message =
+    let here : 0 + length messages ≡ length messages = omega arith in
+    items_from-append conn member 0 None messages (message ∷ [])
+    ∙ ap (λ n. items_from conn member 0 None messages ++ items_from conn member n (identity_after_all conn None messages) (message ∷ [])) here
+
+module _ (correlation : ℤ) (saying : Saying) (fits : SFits w64 correlation) (placed : IsPlaced saying) (can : CanBeSaid saying) where
+  items_longer : (conn member : ℕ) (messages : List Message)
+      → items_of conn member (messages ++ message_of correlation saying ∷ [])
+      ≡ items_of conn member messages ++ item_said member (record { conn = conn; number = length messages }) (identity_after_all conn None messages) correlation saying ∷ []
+  items_longer conn member messages =
+      item_longer conn member messages (message_of correlation saying)
+      ∙ ap (λ item. items_of conn member messages ++ item ∷ []) (item_is_said member (record { conn = conn; number = length messages }) (identity_after_all conn None messages) correlation saying fits placed can)
+
+  client_longer : (conn : ℕ) (messages : List Message) → identity_after_all conn None (messages ++ message_of correlation saying ∷ []) ≡ identity_said conn (identity_after_all conn None messages) saying
+  client_longer conn messages =
+      identity_after_all-append conn None messages (message_of correlation saying ∷ [])
+      ∙ client_is_said 0 (record { conn = conn; number = 0 }) conn (identity_after_all conn None messages) correlation saying fits placed can
+
+  pub said_bytes : FitMessage (message_of correlation saying).frames → Say correlation saying (bytes_of correlation saying)
+  said_bytes fit pieces room =
+      let frames = (message_of correlation saying).frames in
+      let piece = Unfragmented frames in
+      let adds = written_message_heard 16 pieces frames (writable correlation saying fit) (record { stream = room.stream; head = (said_head correlation saying fits placed).long; number = room.number }) in
+      let before = ap (λ (h : Heard). h.messages) (grammar_heard true pieces room.stream) in
+      let after = ap (heard true) (stream_longer pieces piece) ∙ grammar_heard true (pieces ++ piece ∷ []) adds.stream in
+      let messages : messages_of true (stream_of true pieces ++ bytes_of correlation saying) ≡ messages_of true (stream_of true pieces) ++ message_of correlation saying ∷ [] =
+      ap (λ (h : Heard). h.messages) after ∙ adds.messages ∙ ap (λ ms. ms ++ message_of correlation saying ∷ []) (sym before)
+      in
+      record {
+        piece = piece;
+        spelled = refl;
+        stream = adds.stream;
+        whole = ap (λ (h : Heard). h.fault) after;
+        item = λ conn member. ap (items_of conn member) messages ∙ items_longer conn member (messages_of true (stream_of true pieces));
+        client = λ conn. ap (identity_after_all conn None) messages ∙ client_longer conn (messages_of true (stream_of true pieces));
+      }
