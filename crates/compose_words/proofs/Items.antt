@@ -33,7 +33,7 @@ use Rattle.compose_words.specs.declared.saying.Saying.{Saying}
 use Rattle.compose_words.specs.declared.saying.Saying.TheVariants.{Hello, Ping, OnMap, OnQueue}
 use Rattle.compose_words.proofs.Layouts.{map_kind_apart, queue_kind_apart}
 use Rattle.compose_words.proofs.Heads.{said_head, HasHead, has_head}
-use Rattle.compose_words.proofs.Calls.{IsSayable, same_key, map_read, queue_read}
+use Rattle.compose_words.proofs.ReadCalls.{IsSayable, same_key, map_read, queue_read}
 
 -- what can be said
 abbrev pub CanBeSaid : Saying → Type 0

@@ -1,5 +1,5 @@
 pub mod Layouts
 pub mod Heads
-pub mod Calls
+pub mod ReadCalls
 pub mod Items
 pub mod Streams

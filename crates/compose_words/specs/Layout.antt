@@ -1,6 +1,9 @@
 -- How a message is laid out: its first payload, and the parts of the frames behind it.
-use Rattle.std.specs.Prelude.{ℕ, ℤ, pos, List, [], ◌∷◌, ◌++◌}
+use Rattle.std.specs.Prelude.{◌≡◌, ℕ, ◌^◌, ◌<◌, ℤ, pos, List, [], ◌∷◌, ◌++◌, All, IfSome, ⊤}
+use Rattle.std.specs.Int.{w32, w64}
+use Rattle.std.specs.Int.RustNames.{FitsSigned}
 use Rattle.grid_base.specs.Names.{key_of}
+use Rattle.frame_codec.specs.Laws.{IsWithinLimits, spelled}
 use Rattle.frame_codec.specs.declared.frames.Frame.{Frame}
 use Rattle.fixed_fields.specs.Fields.{uuid_bytes}
 use Rattle.fixed_fields.specs.Responses.{single, unfragmented}
@@ -49,3 +52,20 @@ first_flags (part ∷ parts) = unfragmented
 
 abbrev pub frames_with : List ℕ → List (List ℕ) → List Frame
 frames_with payload parts = record { flags = first_flags parts; payload = payload } ∷ with_parts parts []
+
+abbrev pub inner_frame : List ℕ → Frame
+inner_frame part = record { flags = 0; payload = part }
+
+-- ---- what a message of its layout keeps to
+
+-- The numbers of a saying are those of their types.
+abbrev pub NumbersFit : Saying → Type 0
+NumbersFit (Hello authentication) = IfSome authentication.client (λ number. number < 2 ^ 128)
+NumbersFit Ping = ⊤
+NumbersFit (OnMap call) = All (FitsSigned w64) (maps.numbers_of call) × IfSome (maps.processor_of call) (FitsSigned w32)
+NumbersFit (OnQueue partition call) = ⊤
+
+-- These frames were appended, each within the limits of a frame.
+pub record Appended (old new : List ℕ) (frames : List Frame) : Type 0 where
+  pub bytes : new ≡ old ++ spelled frames
+  pub limits : All IsWithinLimits frames

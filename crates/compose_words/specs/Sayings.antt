@@ -44,15 +44,12 @@ abbrev pub IsPlaced : Saying → Type 0
 IsPlaced (OnQueue partition call) = partition < PARTITIONS
 IsPlaced saying = ⊤
 
--- the name that is said: of the cluster, the map or the queue
-abbrev pub name_in : Saying → List ℕ
-name_in (Hello authentication) = authentication.name
-name_in Ping = []
-name_in (OnMap call) = map_of call
-name_in (OnQueue partition call) = queue_of call
-
+-- A name, of the cluster, the map or the queue, is a text.
 abbrev pub IsNamed : Saying → Type 0
-IsNamed saying = IsUtf8 (name_in saying)
+IsNamed (Hello authentication) = IsUtf8 authentication.name
+IsNamed Ping = ⊤
+IsNamed (OnMap call) = IsUtf8 (map_of call)
+IsNamed (OnQueue partition call) = IsUtf8 (queue_of call)
 
 -- A key has at least the eight bytes before its content.
 abbrev pub IsKeyed : Saying → Type 0
