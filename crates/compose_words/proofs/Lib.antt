@@ -3,3 +3,4 @@ pub mod Heads
 pub mod ReadCalls
 pub mod Items
 pub mod Streams
+pub mod Writing

@@ -1,9 +1,11 @@
 -- What is said goes on any stream of a connection that has room for it.
-use Rattle.std.proofs.Common.{◌≡◌, ℕ, ◌+◌, ◌<◌, ◌≤◌, ℤ, SFits, Bool, true, List, [], ◌∷◌, ◌++◌, length, Option, None, refl, sym, ap, subst, ◌∙◌, append_assoc, append-nil, arith}
+use Rattle.std.proofs.Common.{◌≡◌, ℕ, ◌+◌, ◌<◌, ◌≤◌, ℤ, SFits, Bool, true, List, [], ◌∷◌, ◌++◌, length, Option, None, Result, Ok, Err, refl, sym, ap, subst, ◌∙◌, append_assoc, append-nil, arith}
+use Rattle.std.specs.Prelude.{IfOk, OnOk}
 use Rattle.std.specs.List.{flat_map}
 use Rattle.std.specs.Int.{w64}
 use Rattle.std.proofs.lemmas.List.Concat.{flat_map-append}
 use Rattle.grid_base.specs.declared.names.ClientKey.{ClientKey}
+use Rattle.frame_codec.specs.Laws.{spelled}
 use Rattle.message_frames.specs.Assembly.{first_payload}
 use Rattle.message_frames.specs.Grammar.{Piece, Unfragmented, piece_bytes, stream_of}
 use Rattle.message_frames.specs.Laws.{IsStream, messages_in}
@@ -15,12 +17,22 @@ use Rattle.message_frames.proofs.Written.{written_message_heard}
 use Rattle.session_core.specs.Items.{identity_after_all, item_of, items_from, items_of}
 use Rattle.session_core.specs.declared.item.Item.{Item}
 use Rattle.session_core.proofs.ItemLists.{items_from-append, identity_after_all-append}
-use Rattle.compose_words.specs.Sayings.{message_of, bytes_of, IsPlaced, FitMessage}
+use Rattle.compose_words.specs.Sayings.{message_of, bytes_of, IsPlaced, IsNamed, IsKeyed, FitMessage}
 use Rattle.compose_words.specs.Sessions.{item_said, identity_said, HasRoom, AddsSaying, Say}
+use Rattle.compose_words.specs.Layout.{payload_of, parts_of, frames_with, NumbersFit}
+use Rattle.compose_words.specs.declared.refusal.SayRefused.{SayRefused}
 use Rattle.compose_words.specs.declared.saying.Saying.{Saying}
-use Rattle.compose_words.proofs.Layouts.{form_is}
+use Rattle.compose_words.specs.declared.saying.Saying.TheVariants.{Hello, Ping, OnMap, OnQueue}
+use Rattle.compose_words.proofs.Layouts.{form_is, frames_are}
 use Rattle.compose_words.proofs.Heads.{said_head}
 use Rattle.compose_words.proofs.Items.{CanBeSaid, item_is_said, client_is_said}
+
+-- what is named and keyed can be said
+pub can_be_said : (saying : Saying) → IsNamed saying → IsKeyed saying → NumbersFit saying → CanBeSaid saying
+can_be_said (Hello authentication) named keyed numbers = record { fits = numbers; text = named }
+can_be_said Ping named keyed numbers = tt
+can_be_said (OnMap call) named keyed numbers = record { name = named; key = keyed; numbers = numbers.0; processor = numbers.1 }
+can_be_said (OnQueue partition call) named keyed numbers = named
 
 pub writable : (correlation : ℤ) (saying : Saying) → FitMessage (message_of correlation saying).frames → IsWritable (message_of correlation saying).frames
 writable correlation saying fit = record { each = fit.each; form = form_is correlation saying; fits = fit.all }
@@ -71,3 +83,11 @@ module _ (correlation : ℤ) (saying : Saying) (fits : SFits w64 correlation) (p
         item = λ conn member. ap (items_of conn member) messages ∙ items_longer conn member (messages_of true (stream_of true pieces));
         client = λ conn. ap (identity_after_all conn None) messages ∙ client_longer conn (messages_of true (stream_of true pieces));
       }
+
+-- what was laid out of its payload and its parts says it
+pub laid_out_says : (r : Result (List ℕ) SayRefused) (correlation : ℤ) (saying : Saying) (payload : List ℕ) (parts : List (List ℕ)) → SFits w64 correlation → IsPlaced saying → CanBeSaid saying
+    → payload ≡ payload_of correlation saying → parts ≡ parts_of saying → IfOk r (λ bytes. bytes ≡ spelled (frames_with payload parts)) → OnOk r (FitMessage (frames_with payload parts)) → IfOk r (λ bytes. Say correlation saying bytes)
+laid_out_says (Err why) correlation saying payload parts fits placed can p ps bytes fit = tt
+laid_out_says (Ok bytes) correlation saying payload parts fits placed can p ps is fit =
+    let same : frames_with payload parts ≡ (message_of correlation saying).frames = (λ i. frames_with (p i) (ps i)) ∙ sym (frames_are correlation saying) in
+    subst (Say correlation saying) (sym (is ∙ ap spelled same)) (said_bytes correlation saying fits placed can (subst FitMessage same fit))

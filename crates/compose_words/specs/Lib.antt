@@ -1,3 +1,5 @@
 pub mod Sayings
 pub mod Sessions
 pub mod Layout
+pub mod Lines
+pub mod Endings

@@ -1,5 +1,5 @@
 use client_codecs::Authentication;
-use grid_base::{MapCall, PartitionId, QueueCall};
+use grid_base::{MapCall, PARTITIONS, PartitionId, QueueCall};
 
 /// What a client says in one message.
 #[derive(Debug, Drop)]
@@ -15,4 +15,19 @@ pub enum Saying {
         partition: PartitionId,
         call: QueueCall,
     },
+}
+
+impl Saying {
+    ghost use Rattle.std.specs.Prelude.{◌↔◌, IsTrue};
+    ghost use Rattle.compose_words.specs.Sayings.{IsPlaced};
+
+    /// Whether a queue that is called is in one of the grid's partitions.
+    pub fn is_placed(&self) -> bool
+        ensures { IsTrue result ↔ IsPlaced self.now }
+    {
+        match self {
+            Saying::OnQueue { partition, .. } => *partition < PARTITIONS,
+            Saying::Hello(_) | Saying::Ping | Saying::OnMap(_) => true,
+        }
+    }
 }
