@@ -4,6 +4,7 @@ ghost use Rattle.std.specs.Prelude.{◌≡◌, ◌≤◌};
 use crate::arrival::{write_arrival, write_say_line};
 use crate::reading::{SayLine, Told, read_say_line};
 use crate::refusal::SayRefused;
+use crate::saying::Saying;
 use grid_base::Memory;
 use script_lang::{Line, LineRefused, LineWhy, read_line};
 use std::alloc::{AllocError, AllocFailed, Global};
@@ -176,25 +177,40 @@ impl Composer {
         })
     }
 
+    /// What was said on a connection so far.
+    fn talk(&self, conn: u32) -> Talk {
+        self.talks.get(conn as usize).copied().unwrap_or(SILENT)
+    }
+
+    /// Appends the line of a message.
+    fn say_message(
+        &mut self,
+        alloc: Global,
+        conn: u32,
+        correlation: Option<i64>,
+        saying: &Saying,
+        out: &mut Vec<u8>,
+    ) -> Result<(), Failed> {
+        if !saying.is_placed() {
+            return Err(Failed::Refused(LineWhy::Number));
+        }
+        let talk = self.talk(conn);
+        let correlation = correlation.unwrap_or(talk.next);
+        write_say_line(alloc, conn, talk.begun, correlation, saying, out)?;
+        self.follow(conn, correlation);
+        Ok(())
+    }
+
     /// Appends the line that says this.
-    fn say(&mut self, alloc: Global, line: SayLine, out: &mut Vec<u8>) -> Result<(), Failed> {
-        let SayLine { conn, told } = line;
-        let talk = self.talks.get(conn as usize).copied().unwrap_or(SILENT);
-        match told {
-            Told::Raw(bytes) => write_arrival(alloc, conn, bytes.as_slice(), out)?,
+    fn say(&mut self, alloc: Global, line: &SayLine, out: &mut Vec<u8>) -> Result<(), Failed> {
+        match &line.told {
+            Told::Raw(bytes) => write_arrival(alloc, line.conn, bytes.as_slice(), out)?,
             Told::Message {
                 correlation,
                 saying,
-            } => {
-                if !saying.is_placed() {
-                    return Err(Failed::Refused(LineWhy::Number));
-                }
-                let correlation = correlation.unwrap_or(talk.next);
-                write_say_line(alloc, conn, talk.begun, correlation, &saying, out)?;
-                self.follow(conn, correlation);
-            }
+            } => self.say_message(alloc, line.conn, *correlation, saying, out)?,
         }
-        self.begin(conn);
+        self.begin(line.conn);
         Ok(())
     }
 
@@ -216,7 +232,7 @@ impl Composer {
             Some(_) if self.lines == 0 => Err(Failed::Refused(LineWhy::NoGrid)),
             Some(words) => {
                 let line = read_say_line(alloc, words.as_slice())?;
-                self.say(alloc, line, out)?;
+                self.say(alloc, &line, out)?;
                 Ok(Composed::Goes)
             }
         }

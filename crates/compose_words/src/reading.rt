@@ -36,29 +36,39 @@ pub(crate) struct SayLine {
     pub(crate) told: Told,
 }
 
-/// An entry of a map, and who calls it.
-#[derive(Drop)]
-struct Called {
-    name: Bytes,
-    key: Bytes,
+/// Who calls, and the times of a call.
+#[derive(Clone, Copy)]
+struct Terms {
     owner: Owner,
+    ttl: i64,
+    idle: i64,
+    lease: i64,
 }
 
-fn bare_call(which: Bare, called: Called) -> Saying {
-    let Called {
-        name,
-        key,
-        owner: _,
-    } = called;
-    Saying::OnMap(match which {
+fn read_bare(
+    alloc: Global,
+    which: Bare,
+    map: &[u8],
+    key: &[u8],
+) -> Result<MapCall, LineRefused> {
+    let name = read_text(alloc, map)?;
+    let key = read_data(alloc, key)?;
+    Ok(match which {
         Bare::IsLocked => MapCall::IsLocked { name, key },
         Bare::ForceUnlock => MapCall::ForceUnlock { name, key },
     })
 }
 
-fn keyed_call(which: Keyed, called: Called) -> Saying {
-    let Called { name, key, owner } = called;
-    Saying::OnMap(match which {
+fn read_keyed(
+    alloc: Global,
+    which: Keyed,
+    map: &[u8],
+    key: &[u8],
+    owner: Owner,
+) -> Result<MapCall, LineRefused> {
+    let name = read_text(alloc, map)?;
+    let key = read_data(alloc, key)?;
+    Ok(match which {
         Keyed::Get => MapCall::Get { name, key, owner },
         Keyed::ContainsKey => MapCall::ContainsKey { name, key, owner },
         Keyed::Remove => MapCall::Remove { name, key, owner },
@@ -67,19 +77,34 @@ fn keyed_call(which: Keyed, called: Called) -> Saying {
     })
 }
 
-fn lock_call(called: Called, lease: i64) -> Saying {
-    let Called { name, key, owner } = called;
-    Saying::OnMap(MapCall::TryLock {
+fn read_lock(
+    alloc: Global,
+    map: &[u8],
+    key: &[u8],
+    terms: Terms,
+) -> Result<MapCall, LineRefused> {
+    let name = read_text(alloc, map)?;
+    let key = read_data(alloc, key)?;
+    Ok(MapCall::TryLock {
         name,
         key,
-        owner,
-        lease,
+        owner: terms.owner,
+        lease: terms.lease,
     })
 }
 
-fn valued_call(which: Valued, called: Called, value: Bytes) -> Saying {
-    let Called { name, key, owner } = called;
-    Saying::OnMap(match which {
+fn read_valued(
+    alloc: Global,
+    which: Valued,
+    map: &[u8],
+    key: &[u8],
+    value: &[u8],
+    owner: Owner,
+) -> Result<MapCall, LineRefused> {
+    let name = read_text(alloc, map)?;
+    let key = read_data(alloc, key)?;
+    let value = read_data(alloc, value)?;
+    Ok(match which {
         Valued::Replace => MapCall::Replace {
             name,
             key,
@@ -95,9 +120,19 @@ fn valued_call(which: Valued, called: Called, value: Bytes) -> Saying {
     })
 }
 
-fn compared_call(called: Called, test: Bytes, value: Bytes) -> Saying {
-    let Called { name, key, owner } = called;
-    Saying::OnMap(MapCall::ReplaceIfSame {
+fn read_compared(
+    alloc: Global,
+    map: &[u8],
+    key: &[u8],
+    test: &[u8],
+    value: &[u8],
+    owner: Owner,
+) -> Result<MapCall, LineRefused> {
+    let name = read_text(alloc, map)?;
+    let key = read_data(alloc, key)?;
+    let test = read_data(alloc, test)?;
+    let value = read_data(alloc, value)?;
+    Ok(MapCall::ReplaceIfSame {
         name,
         key,
         owner,
@@ -106,9 +141,19 @@ fn compared_call(called: Called, test: Bytes, value: Bytes) -> Saying {
     })
 }
 
-fn stored_call(which: Stored, called: Called, value: Bytes, ttl: i64) -> Saying {
-    let Called { name, key, owner } = called;
-    Saying::OnMap(match which {
+fn read_stored(
+    alloc: Global,
+    which: Stored,
+    map: &[u8],
+    key: &[u8],
+    value: &[u8],
+    terms: Terms,
+) -> Result<MapCall, LineRefused> {
+    let Terms { owner, ttl, .. } = terms;
+    let name = read_text(alloc, map)?;
+    let key = read_data(alloc, key)?;
+    let value = read_data(alloc, value)?;
+    Ok(match which {
         Stored::Put => MapCall::Put {
             name,
             key,
@@ -133,9 +178,21 @@ fn stored_call(which: Stored, called: Called, value: Bytes, ttl: i64) -> Saying 
     })
 }
 
-fn idle_call(which: Idle, called: Called, value: Bytes, ttl: i64, idle: i64) -> Saying {
-    let Called { name, key, owner } = called;
-    Saying::OnMap(match which {
+fn read_idle(
+    alloc: Global,
+    which: Idle,
+    map: &[u8],
+    key: &[u8],
+    value: &[u8],
+    terms: Terms,
+) -> Result<MapCall, LineRefused> {
+    let Terms {
+        owner, ttl, idle, ..
+    } = terms;
+    let name = read_text(alloc, map)?;
+    let key = read_data(alloc, key)?;
+    let value = read_data(alloc, value)?;
+    Ok(match which {
         Idle::PutMaxIdle => MapCall::PutMaxIdle {
             name,
             key,
@@ -155,9 +212,19 @@ fn idle_call(which: Idle, called: Called, value: Bytes, ttl: i64, idle: i64) -> 
     })
 }
 
-fn processor_call(called: Called, number: i32, argument: Bytes) -> Saying {
-    let Called { name, key, owner } = called;
-    Saying::OnMap(MapCall::ExecuteOnKey {
+fn read_processing(
+    alloc: Global,
+    map: &[u8],
+    key: &[u8],
+    number: &[u8],
+    argument: &[u8],
+    owner: Owner,
+) -> Result<MapCall, LineRefused> {
+    let name = read_text(alloc, map)?;
+    let key = read_data(alloc, key)?;
+    let number = or_refused(read_i32(number), LineWhy::Number)?;
+    let argument = read_argument(alloc, argument)?;
+    Ok(MapCall::ExecuteOnKey {
         name,
         key,
         owner,
@@ -185,23 +252,66 @@ fn partition_of_name(alloc: Global, name: &Bytes) -> Result<PartitionId, LineRef
     }
 }
 
-/// A call on a queue, in the partition that was said, or else in that of its name.
-fn on_queue(
+/// The partition that was said, or else that of the queue's name.
+fn queue_partition(
     alloc: Global,
-    call: QueueCall,
-    partition: Option<PartitionId>,
-) -> Result<Saying, LineRefused> {
-    let partition = match partition {
-        Some(partition) => partition,
-        None => partition_of_name(alloc, call.queue())?,
-    };
-    Ok(Saying::OnQueue { partition, call })
+    call: &QueueCall,
+    said: Option<PartitionId>,
+) -> Result<PartitionId, LineRefused> {
+    match said {
+        Some(partition) => Ok(partition),
+        None => partition_of_name(alloc, call.queue()),
+    }
+}
+
+fn read_queue_call(
+    alloc: Global,
+    what: What,
+    words: &[&[u8]],
+) -> Result<QueueCall, LineRefused> {
+    match (what, words) {
+        (What::Offer, [queue, value]) => {
+            let name = read_text(alloc, queue)?;
+            let value = read_data(alloc, value)?;
+            Ok(QueueCall::Offer { name, value })
+        }
+        (What::Named(which), [queue]) => Ok(named_call(which, read_text(alloc, queue)?)),
+        _ => refused(LineWhy::Count),
+    }
+}
+
+fn read_map_call(
+    alloc: Global,
+    what: What,
+    words: &[&[u8]],
+    terms: Terms,
+) -> Result<MapCall, LineRefused> {
+    let owner = terms.owner;
+    match (what, words) {
+        (What::Bare(which), [map, key]) => read_bare(alloc, which, map, key),
+        (What::Keyed(which), [map, key]) => read_keyed(alloc, which, map, key, owner),
+        (What::TryLock, [map, key]) => read_lock(alloc, map, key, terms),
+        (What::Valued(which), [map, key, value]) => {
+            read_valued(alloc, which, map, key, value, owner)
+        }
+        (What::Stored(which), [map, key, value]) => {
+            read_stored(alloc, which, map, key, value, terms)
+        }
+        (What::Idle(which), [map, key, value]) => read_idle(alloc, which, map, key, value, terms),
+        (What::ReplaceIfSame, [map, key, test, value]) => {
+            read_compared(alloc, map, key, test, value, owner)
+        }
+        (What::ExecuteOnKey, [map, key, number, argument]) => {
+            read_processing(alloc, map, key, number, argument, owner)
+        }
+        _ => refused(LineWhy::Count),
+    }
 }
 
 /// What makes a client known.
-fn hello(alloc: Global, options: Options) -> Result<Saying, LineRefused> {
-    let name = match options.cluster {
-        Some(name) => name,
+fn hello(alloc: Global, options: &Options) -> Result<Saying, LineRefused> {
+    let name = match &options.cluster {
+        Some(name) => name.copied(alloc)?,
         None => Bytes::copied_from(alloc, CLUSTER)?,
     };
     Ok(Saying::Hello(Authentication {
@@ -210,52 +320,17 @@ fn hello(alloc: Global, options: Options) -> Result<Saying, LineRefused> {
     }))
 }
 
-/// The map and the key of a call, and the caller. Of the caller the thread alone is said.
-fn read_called(
-    alloc: Global,
-    map: &[u8],
-    key: &[u8],
-    conn: u32,
-    options: &Options,
-) -> Result<Called, LineRefused> {
-    let name = read_text(alloc, map)?;
-    let key = read_data(alloc, key)?;
-    let owner = Owner {
-        client: ClientKey::OfConn(conn),
-        thread: options.thread.unwrap_or(THREAD),
-    };
-    Ok(Called { name, key, owner })
-}
-
-/// A call on an entry with these words behind the map and the key.
-fn on_entry(
-    alloc: Global,
-    what: What,
-    called: Called,
-    words: &[&[u8]],
-    options: &Options,
-) -> Result<Saying, LineRefused> {
-    let ttl = options.ttl.unwrap_or(0);
-    Ok(match (what, words) {
-        (What::Bare(which), []) => bare_call(which, called),
-        (What::Keyed(which), []) => keyed_call(which, called),
-        (What::TryLock, []) => lock_call(called, options.lease.unwrap_or(0)),
-        (What::Valued(which), [value]) => valued_call(which, called, read_data(alloc, value)?),
-        (What::Stored(which), [value]) => stored_call(which, called, read_data(alloc, value)?, ttl),
-        (What::Idle(which), [value]) => {
-            let value = read_data(alloc, value)?;
-            idle_call(which, called, value, ttl, options.idle.unwrap_or(0))
-        }
-        (What::ReplaceIfSame, [test, value]) => {
-            let test = read_data(alloc, test)?;
-            compared_call(called, test, read_data(alloc, value)?)
-        }
-        (What::ExecuteOnKey, [number, argument]) => {
-            let number = or_refused(read_i32(number), LineWhy::Number)?;
-            processor_call(called, number, read_argument(alloc, argument)?)
-        }
-        _ => return refused(LineWhy::Count),
-    })
+/// Who calls, and when what ends. Of the caller the thread alone is said.
+fn terms_of(conn: u32, options: &Options) -> Terms {
+    Terms {
+        owner: Owner {
+            client: ClientKey::OfConn(conn),
+            thread: options.thread.unwrap_or(THREAD),
+        },
+        ttl: options.ttl.unwrap_or(0),
+        idle: options.idle.unwrap_or(0),
+        lease: options.lease.unwrap_or(0),
+    }
 }
 
 /// What these words say, with these options behind them.
@@ -264,25 +339,20 @@ fn read_saying(
     conn: u32,
     what: What,
     words: &[&[u8]],
-    options: Options,
+    options: &Options,
 ) -> Result<Saying, LineRefused> {
-    match (what, words) {
-        (What::Hello, []) => hello(alloc, options),
-        (What::Ping, []) => Ok(Saying::Ping),
-        (What::Offer, [queue, value]) => {
-            let name = read_text(alloc, queue)?;
-            let value = read_data(alloc, value)?;
-            on_queue(alloc, QueueCall::Offer { name, value }, options.partition)
+    match what {
+        What::Hello => hello(alloc, options),
+        What::Ping => Ok(Saying::Ping),
+        What::Offer | What::Named(_) => {
+            let call = read_queue_call(alloc, what, words)?;
+            let partition = queue_partition(alloc, &call, options.partition)?;
+            Ok(Saying::OnQueue { partition, call })
         }
-        (What::Named(which), [queue]) => {
-            let call = named_call(which, read_text(alloc, queue)?);
-            on_queue(alloc, call, options.partition)
+        _ => {
+            let call = read_map_call(alloc, what, words, terms_of(conn, options))?;
+            Ok(Saying::OnMap(call))
         }
-        (what, [map, key, more @ ..]) => {
-            let called = read_called(alloc, map, key, conn, &options)?;
-            on_entry(alloc, what, called, more, &options)
-        }
-        _ => refused(LineWhy::Count),
     }
 }
 
@@ -305,9 +375,10 @@ fn read_message(
     let what = or_refused(What::of_word(word), LineWhy::Word)?;
     let (given, behind) = or_refused(words.split_at_checked(what.count()), LineWhy::Count)?;
     let options = read_options(alloc, what.settings(), behind)?;
+    let saying = read_saying(alloc, conn, what, given, &options)?;
     Ok(Told::Message {
         correlation: options.correlation,
-        saying: read_saying(alloc, conn, what, given, options)?,
+        saying,
     })
 }
 
