@@ -1,5 +1,5 @@
 -- The head of what is said is read as it was written.
-use Rattle.std.proofs.Common.{◌≡◌, ℕ, ◌+◌, ◌<◌, ◌≤◌, ◌^◌, ℤ, pos, negsuc, SFits, List, [], ◌∷◌, ◌++◌, length, Some, refl, sym, ap, subst, ◌∙◌, append_assoc, arith, length-append}
+use Rattle.std.proofs.Common.{◌≡◌, ℕ, ◌<◌, ◌≤◌, ◌^◌, ℤ, pos, SFits, List, ◌++◌, length, Some, refl, sym, ap, subst, ◌∙◌, append_assoc, arith, length-append}
 use Rattle.std.specs.Prelude.{unwrap_or}
 use Rattle.std.specs.Int.{w32, w64, to_le_bytes}
 use Rattle.grid_base.specs.Names.{key_of}
@@ -11,7 +11,7 @@ use Rattle.message_frames.specs.Assembly.{first_payload}
 use Rattle.session_core.specs.Items.{kind_of as kind_of_message, correlation_of, stated_partition}
 use Rattle.session_core.proofs.CallsAt.{below_partitions}
 use Rattle.compose_words.specs.Sayings.{message_of, IsPlaced}
-use Rattle.compose_words.specs.Layout.{kind_of, partition_of, fields_of, payload_of}
+use Rattle.compose_words.specs.Layout.{kind_of, partition_of, fields_of}
 use Rattle.compose_words.specs.declared.saying.Saying.{Saying}
 use Rattle.compose_words.specs.declared.saying.Saying.TheVariants.{Hello, Ping, OnMap, OnQueue}
 use Rattle.compose_words.proofs.Layouts.{payload_is, kind_small}

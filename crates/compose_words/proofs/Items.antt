@@ -1,6 +1,6 @@
 -- What is said gives its item.
-use Rattle.std.proofs.Common.{◌≡◌, ℕ, ◌<◌, ◌==◌, ℤ, pos, SFits, Bool, true, false, cond, List, [], ◌∷◌, Option, Some, None, Result, Ok, Err, refl, sym, ap, ◌∙◌}
-use Rattle.std.specs.Prelude.{IfSome, ◌^◌, unsigned_abs}
+use Rattle.std.proofs.Common.{◌≡◌, ℕ, ◌==◌, ℤ, pos, SFits, true, false, cond, [], Option, Some, None, Result, Ok, refl, sym, ap, ◌∙◌}
+use Rattle.std.specs.Prelude.{unsigned_abs}
 use Rattle.std.specs.Ordering.{int_eq}
 use Rattle.std.specs.Int.{w64}
 use Rattle.std.proofs.lemmas.Bool.Decides.{Decides-int_eq}
@@ -27,8 +27,7 @@ use Rattle.session_core.specs.Places.{partition_of_key}
 use Rattle.session_core.specs.declared.item.Item.{Item}
 use Rattle.session_core.specs.declared.item.Item.TheVariants.{Call, Reply}
 use Rattle.compose_words.specs.Sayings.{message_of, no_partition, version, IsPlaced}
-use Rattle.compose_words.specs.Sessions.{made_by, item_after, served_item, item_said, identity_said}
-use Rattle.compose_words.specs.Layout.{kind_of}
+use Rattle.compose_words.specs.Sessions.{made_by, item_after, item_said, identity_said}
 use Rattle.compose_words.specs.declared.saying.Saying.{Saying}
 use Rattle.compose_words.specs.declared.saying.Saying.TheVariants.{Hello, Ping, OnMap, OnQueue}
 use Rattle.compose_words.proofs.Layouts.{map_kind_apart, queue_kind_apart}

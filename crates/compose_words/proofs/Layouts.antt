@@ -1,10 +1,9 @@
 -- The message of a saying has the layout that is written.
-use Rattle.std.proofs.Common.{◌≡◌, ℕ, ◌+◌, ◌<◌, ◌≤◌, ◌^◌, ℤ, ◌==◌, true, false, List, [], ◌∷◌, ◌++◌, length, refl, sym, ap, ◌∙◌, append_assoc, append-nil, lit<}
+use Rattle.std.proofs.Common.{◌≡◌, ℕ, ◌<◌, ◌^◌, ℤ, ◌==◌, true, false, List, [], ◌∷◌, refl, sym, ap, ◌∙◌, append_assoc, append-nil, lit<}
 use Rattle.grid_base.specs.declared.calls.MapCall.{MapCall}
 use Rattle.grid_base.specs.declared.calls.MapCall.TheVariants.{Put, Set, PutIfAbsent, Get, ContainsKey, Remove, Delete, Replace, ReplaceIfSame, RemoveIfSame, TryLock, Unlock, IsLocked, ForceUnlock, ExecuteOnKey, PutMaxIdle, SetMaxIdle}
 use Rattle.grid_base.specs.declared.calls.QueueCall.{QueueCall}
 use Rattle.grid_base.specs.declared.calls.QueueCall.TheVariants.{Offer, Poll, Peek, Size, RemainingCapacity, Clear}
-use Rattle.frame_codec.specs.declared.frames.Frame.{Frame}
 use Rattle.fixed_fields.specs.Fields.{uuid_bytes}
 use Rattle.fixed_fields.specs.Responses.{unfragmented}
 use Rattle.fixed_fields.specs.Spelled.{request_head, with_parts}

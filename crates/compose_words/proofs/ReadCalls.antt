@@ -1,5 +1,5 @@
 -- What is said of a call is read as that call of the client.
-use Rattle.std.proofs.Common.{◌≡◌, ℕ, ◌<◌, ◌≤◌, ℤ, pos, List, [], ◌∷◌, length, All, Option, Some, None, Result, Ok, Err, refl, sym, ap, ◌∙◌}
+use Rattle.std.proofs.Common.{◌≡◌, ℕ, ◌<◌, ◌≤◌, ℤ, [], length, All, Option, Some, None, Result, Ok, Err, refl, sym, ap, ◌∙◌}
 use Rattle.std.specs.Prelude.{IfSome, drop}
 use Rattle.std.specs.Str.{IsUtf8}
 use Rattle.std.specs.Int.{w32, w64}
@@ -11,7 +11,6 @@ use Rattle.grid_base.specs.declared.calls.MapCall.{MapCall}
 use Rattle.grid_base.specs.declared.calls.MapCall.TheVariants.{Put, Set, PutIfAbsent, Get, ContainsKey, Remove, Delete, Replace, ReplaceIfSame, RemoveIfSame, TryLock, Unlock, IsLocked, ForceUnlock, ExecuteOnKey, PutMaxIdle, SetMaxIdle}
 use Rattle.grid_base.specs.declared.calls.QueueCall.{QueueCall}
 use Rattle.grid_base.specs.declared.calls.QueueCall.TheVariants.{Offer, Poll, Peek, Size, RemainingCapacity, Clear}
-use Rattle.grid_base.specs.declared.calls.GridCall.{GridCall}
 use Rattle.grid_base.specs.declared.calls.GridCall.TheVariants as calls
 use Rattle.grid_base.specs.declared.refusal.CallRefused.{CallRefused}
 use Rattle.grid_base.specs.declared.refusal.CallRefused.TheVariants.{UnknownType}
@@ -19,7 +18,7 @@ use Rattle.fixed_fields.specs.Requests.{kind_of as kind_in, reader_in}
 use Rattle.message_frames.specs.Assembly.{first_payload}
 use Rattle.message_frames.specs.declared.message.Message.{Message}
 use Rattle.map_codecs.specs.Calls.{Reader, map_calls, call_by, map_call_of}
-use Rattle.map_codecs.specs.SpelledCalls.{kind_of_call, numbers_of, processor_of, parts_of, IsCallOf, call_message}
+use Rattle.map_codecs.specs.SpelledCalls.{numbers_of, processor_of, IsCallOf, call_message}
 use Rattle.map_codecs.proofs.Spelling.{sent_again}
 use Rattle.queue_codecs.specs.Calls.{queue_call_of}
 use Rattle.queue_codecs.specs.SpelledCalls as queues

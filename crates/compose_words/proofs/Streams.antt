@@ -1,24 +1,21 @@
 -- What is said goes on any stream of a connection that has room for it.
-use Rattle.std.proofs.Common.{◌≡◌, ℕ, ◌+◌, ◌<◌, ◌≤◌, ℤ, SFits, Bool, true, List, [], ◌∷◌, ◌++◌, length, Option, None, Result, Ok, Err, refl, sym, ap, subst, ◌∙◌, append_assoc, append-nil, arith}
+use Rattle.std.proofs.Common.{◌≡◌, ℕ, ◌+◌, ℤ, SFits, to_z, of_z, true, List, [], ◌∷◌, ◌++◌, length, None, Result, Ok, Err, refl, sym, ap, subst, ◌∙◌, append_assoc, append-nil, arith}
 use Rattle.std.specs.Prelude.{IfOk, OnOk}
 use Rattle.std.specs.List.{flat_map}
 use Rattle.std.specs.Int.{w64}
+use Rattle.std.proofs.lemmas.Int.{to_z-of_z}
 use Rattle.std.proofs.lemmas.List.Concat.{flat_map-append}
-use Rattle.grid_base.specs.declared.names.ClientKey.{ClientKey}
 use Rattle.frame_codec.specs.Laws.{spelled}
-use Rattle.message_frames.specs.Assembly.{first_payload}
 use Rattle.message_frames.specs.Grammar.{Piece, Unfragmented, piece_bytes, stream_of}
-use Rattle.message_frames.specs.Laws.{IsStream, messages_in}
-use Rattle.message_frames.specs.Messages.{prefix_of, shortest_start, Heard, heard, messages_of}
-use Rattle.message_frames.specs.Writing.{IsWritable, HasRoomFor}
+use Rattle.message_frames.specs.Messages.{prefix_of, Heard, heard, messages_of}
+use Rattle.message_frames.specs.Writing.{IsWritable}
 use Rattle.message_frames.specs.declared.message.Message.{Message}
 use Rattle.message_frames.proofs.HeardPieces.{grammar_heard}
 use Rattle.message_frames.proofs.Written.{written_message_heard}
 use Rattle.session_core.specs.Items.{identity_after_all, item_of, items_from, items_of}
-use Rattle.session_core.specs.declared.item.Item.{Item}
 use Rattle.session_core.proofs.ItemLists.{items_from-append, identity_after_all-append}
 use Rattle.compose_words.specs.Sayings.{message_of, bytes_of, IsPlaced, IsNamed, IsKeyed, FitMessage}
-use Rattle.compose_words.specs.Sessions.{item_said, identity_said, HasRoom, AddsSaying, Say}
+use Rattle.compose_words.specs.Sessions.{item_said, identity_said, Say}
 use Rattle.compose_words.specs.Layout.{payload_of, parts_of, frames_with, NumbersFit}
 use Rattle.compose_words.specs.declared.refusal.SayRefused.{SayRefused}
 use Rattle.compose_words.specs.declared.saying.Saying.{Saying}
@@ -84,10 +81,24 @@ module _ (correlation : ℤ) (saying : Saying) (fits : SFits w64 correlation) (p
         client = λ conn. ap (identity_after_all conn None) messages ∙ client_longer conn (messages_of true (stream_of true pieces));
       }
 
--- what was laid out of its payload and its parts says it
+laid_out_same : (correlation : ℤ) (saying : Saying) (payload : List ℕ) (parts : List (List ℕ)) → payload ≡ payload_of correlation saying → parts ≡ parts_of saying
+    → frames_with payload parts ≡ (message_of correlation saying).frames
+laid_out_same correlation saying payload parts p ps = (λ i. frames_with (p i) (ps i)) ∙ sym (frames_are correlation saying)
+
+-- what was laid out of its payload and its parts is the message,
+pub laid_out_is : (r : Result (List ℕ) SayRefused) (correlation : ℤ) (saying : Saying) (payload : List ℕ) (parts : List (List ℕ)) → payload ≡ payload_of correlation saying → parts ≡ parts_of saying
+    → IfOk r (λ bytes. bytes ≡ spelled (frames_with payload parts)) → IfOk r (λ bytes. bytes ≡ bytes_of correlation saying)
+laid_out_is (Err why) correlation saying payload parts p ps bytes = tt
+laid_out_is (Ok bytes) correlation saying payload parts p ps is = is ∙ ap spelled (laid_out_same correlation saying payload parts p ps)
+
+-- and says it
 pub laid_out_says : (r : Result (List ℕ) SayRefused) (correlation : ℤ) (saying : Saying) (payload : List ℕ) (parts : List (List ℕ)) → SFits w64 correlation → IsPlaced saying → CanBeSaid saying
     → payload ≡ payload_of correlation saying → parts ≡ parts_of saying → IfOk r (λ bytes. bytes ≡ spelled (frames_with payload parts)) → OnOk r (FitMessage (frames_with payload parts)) → IfOk r (λ bytes. Say correlation saying bytes)
 laid_out_says (Err why) correlation saying payload parts fits placed can p ps bytes fit = tt
 laid_out_says (Ok bytes) correlation saying payload parts fits placed can p ps is fit =
-    let same : frames_with payload parts ≡ (message_of correlation saying).frames = (λ i. frames_with (p i) (ps i)) ∙ sym (frames_are correlation saying) in
+    let same = laid_out_same correlation saying payload parts p ps in
     subst (Say correlation saying) (sym (is ∙ ap spelled same)) (said_bytes correlation saying fits placed can (subst FitMessage same fit))
+
+-- a correlation is the same as its bits say
+pub same_payload : (n : ℤ) (saying : Saying) → SFits w64 n → payload_of (to_z w64 (of_z w64 n)) saying ≡ payload_of n saying
+same_payload n saying fits = ap (λ (k : ℤ). payload_of k saying) (to_z-of_z w64 n fits)

@@ -1,7 +1,8 @@
 -- Frames are appended one after another, and make a message.
-use Rattle.std.proofs.Common.{◌≡◌, ℕ, ◌+◌, ◌<◌, ◌≤◌, ℤ, true, List, [], ◌∷◌, suc, ◌++◌, length, get_or, map, take, All, refl, sym, ap, subst, ◌∙◌, append_assoc, append-nil, length-append, arith}
+use Rattle.std.proofs.Common.{◌≡◌, ℕ, ◌+◌, ◌<◌, ◌≤◌, ℤ, SFits, to_z, of_z, List, [], ◌∷◌, suc, ◌++◌, length, get_or, map, take, refl, sym, ap, subst, ◌∙◌, append_assoc, append-nil, length-append, arith}
 use Rattle.std.specs.Prelude.{sum_by}
-use Rattle.std.specs.List.{flat_map}
+use Rattle.std.specs.Int.{w64}
+use Rattle.std.proofs.lemmas.Int.{to_z-of_z}
 use Rattle.std.proofs.lemmas.Bool.{and_from, le-leb}
 use Rattle.std.proofs.lemmas.Grind.{flat_map-append}
 use Rattle.std.proofs.lemmas.List.{map-append, take_more}
@@ -16,7 +17,7 @@ use Rattle.fixed_fields.specs.Responses.{final}
 use Rattle.fixed_fields.specs.Spelled.{with_parts}
 use Rattle.message_frames.specs.Assembly.{most_frames, most_length}
 use Rattle.compose_words.specs.Sayings.{FitMessage}
-use Rattle.compose_words.specs.Layout.{Appended, inner_frame, first_flags, frames_with}
+use Rattle.compose_words.specs.Layout.{Appended, inner_frame, frames_with}
 
 pub appended_none : (out : List ℕ) → Appended out out []
 appended_none out = record { bytes = sym (append-nil out); limits = All-nil IsWithinLimits }
@@ -34,16 +35,6 @@ same_frames {old} {new} {frames} {others} a same = subst (Appended old new) same
 pub whole : {old new bytes : List ℕ} {frames : List Frame} → old ≡ [] → bytes ≡ new → Appended old new frames → Appended [] bytes frames
 whole {old} {new} {bytes} {frames} empty same a =
     subst (λ (b : List ℕ). Appended [] b frames) (sym same) (subst (λ (b : List ℕ). Appended b new frames) empty a)
-
--- one number more, at a step through numbers
-pub next_number : (old mid new : List ℕ) (numbers : List ℤ) (i : ℕ) (d : ℤ) → i < length numbers → mid ≡ old ++ flat_map int64_bytes (take i numbers) → new ≡ mid ++ int64_bytes (get_or numbers i d)
-    → new ≡ old ++ flat_map int64_bytes (take (i + 1) numbers)
-next_number old mid new numbers i d within before a =
-    let number : ℤ = get_or numbers i d in
-    let split : flat_map int64_bytes (take (i + 1) numbers) ≡ flat_map int64_bytes (take i numbers) ++ int64_bytes number =
-    ap (flat_map int64_bytes) (take_more numbers i d within) ∙ flat_map-append int64_bytes (take i numbers) (number ∷ []) ∙ ap (λ (bytes : List ℕ). flat_map int64_bytes (take i numbers) ++ bytes) (append-nil (int64_bytes number))
-    in
-    a ∙ ap (λ (front : List ℕ). front ++ int64_bytes number) before ∙ append_assoc old (flat_map int64_bytes (take i numbers)) (int64_bytes number) ∙ ap (λ (bytes : List ℕ). old ++ bytes) (sym split)
 
 -- one inner frame more, at a step through parts
 pub next_inner : (old mid new payload : List ℕ) (parts : List (List ℕ)) (i : ℕ) (part : List ℕ) → i < length parts → part ≡ get_or parts i part → payload ≡ part → Appended old mid (map inner_frame (take i parts))
@@ -87,3 +78,14 @@ laid payload bytes parts a short few =
     let size : sum_by frame_length frames ≤ most_length = subst (λ n. n ≤ most_length) (ap length a.bytes ∙ spelled_length frames) short in
     let count : length frames ≤ most_frames = omega (arith, few, parts_length parts) in
     record { each = a.limits; all = and_from _ _ (le-leb _ _ count) (le-leb _ _ size) }
+
+-- ---- numbers
+
+-- two texts, one behind the other, however they are named
+pub two_written : (old mid new first second a b : List ℕ) → first ≡ a → second ≡ b → mid ≡ old ++ first → new ≡ mid ++ second → new ≡ old ++ (a ++ b)
+two_written old mid new first second a b same_first same_second before after =
+    after ∙ (λ i. before i ++ same_second i) ∙ append_assoc old first b ∙ ap (λ (text : List ℕ). old ++ (text ++ b)) same_first
+
+-- a number is the same as its bits say
+pub same_bytes : (n : ℤ) → SFits w64 n → int64_bytes (to_z w64 (of_z w64 n)) ≡ int64_bytes n
+same_bytes n fits = ap int64_bytes (to_z-of_z w64 n fits)

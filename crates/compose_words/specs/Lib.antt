@@ -2,4 +2,3 @@ pub mod Sayings
 pub mod Sessions
 pub mod Layout
 pub mod Lines
-pub mod Endings

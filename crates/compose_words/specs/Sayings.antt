@@ -1,5 +1,5 @@
 -- What is said, and the message that says it.
-use Rattle.std.specs.Prelude.{◌≡◌, ℕ, ◌<◌, ◌≤◌, ℤ, pos, negsuc, List, [], ◌∷◌, length, All, IsTrue, ⊤}
+use Rattle.std.specs.Prelude.{ℕ, ◌<◌, ◌≤◌, ℤ, pos, negsuc, List, [], ◌∷◌, length, All, IsTrue, ⊤}
 use Rattle.std.specs.Str.{IsUtf8}
 use Rattle.grid_base.specs.Names.{map_of, key_of, queue_of}
 use Rattle.grid_base.specs.declared.TheConstants.{PARTITIONS}

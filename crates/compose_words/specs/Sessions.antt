@@ -13,7 +13,6 @@ use Rattle.message_frames.specs.Assembly.{most_messages}
 use Rattle.message_frames.specs.Grammar.{Piece, stream_of, piece_bytes}
 use Rattle.message_frames.specs.Laws.{IsStream, messages_in}
 use Rattle.message_frames.specs.Messages.{shortest_start, messages_of, fault_of}
-use Rattle.message_frames.specs.declared.message.Message.{Message}
 use Rattle.client_codecs.specs.Authentications.{ping_kind}
 use Rattle.client_codecs.specs.Replies.{authentication_reply}
 use Rattle.map_codecs.specs.SpelledCalls as maps

@@ -25,8 +25,9 @@ fn write_hex(alloc: Global, bytes: &[u8], out: &mut Vec<u8>) -> Result<(), Memor
     Ok(out.extend_from_slice(digits.as_bytes())?)
 }
 
-/// Appends the line at which bytes arrive on a connection, with its newline.
-pub(crate) fn write_arrival(
+/// Appends the line at which bytes arrive on a connection, with its newline. `Long` where it is longer than one may be.
+/// After an `Err` it may stand in part.
+pub fn write_arrival(
     alloc: Global,
     conn: u32,
     bytes: &[u8],

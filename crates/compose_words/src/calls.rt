@@ -1,6 +1,5 @@
 //! What a message has of a call: its type, its numbers and its parts.
 ghost use Rattle.std.specs.Prelude.{◌≡◌, ◌++◌, ◌∷◌, [], All, IfOk, OnOk, IfSome};
-ghost use Rattle.std.specs.List.{flat_map};
 ghost use Rattle.std.specs.Int.{w32, w64};
 ghost use Rattle.std.specs.Int.RustNames.{FitsSigned};
 ghost use Rattle.fixed_fields.specs.Fields.{int32_bytes, int64_bytes};
@@ -59,14 +58,20 @@ pub(crate) fn queue_kind(call: &QueueCall) -> u32
     }
 }
 
-/// Appends numbers of eight bytes, one behind the other.
-fn write_numbers(numbers: &[i64], out: &mut Vec<u8>) -> Result<(), Memory>
-    ensures { OnOk result (out.new.items ≡ out.old.items ++ flat_map int64_bytes numbers.now) }
+/// Appends two numbers of eight bytes,
+fn write_two(first: i64, second: i64, out: &mut Vec<u8>) -> Result<(), Memory>
+    ensures { OnOk result (out.new.items ≡ out.old.items ++ (int64_bytes first ++ int64_bytes second)) }
 {
-    for number in numbers {
-        write_int64(*number, out)?;
-    }
-    Ok(())
+    write_int64(first, out)?;
+    write_int64(second, out)
+}
+
+/// or three.
+fn write_three(first: i64, second: i64, third: i64, out: &mut Vec<u8>) -> Result<(), Memory>
+    ensures { OnOk result (out.new.items ≡ out.old.items ++ (int64_bytes first ++ (int64_bytes second ++ int64_bytes third))) }
+{
+    write_int64(first, out)?;
+    write_two(second, third, out)
 }
 
 /// Appends the fields of a call on an entry: the caller's thread, and then the times.
@@ -83,7 +88,7 @@ pub(crate) fn write_fields(call: &MapCall, out: &mut Vec<u8>) -> Result<(), Memo
         | MapCall::ReplaceIfSame { owner, .. }
         | MapCall::RemoveIfSame { owner, .. }
         | MapCall::Unlock { owner, .. }
-        | MapCall::ExecuteOnKey { owner, .. } => write_numbers(&[owner.thread], out),
+        | MapCall::ExecuteOnKey { owner, .. } => write_int64(owner.thread, out),
         MapCall::Put { owner, ttl, .. }
         | MapCall::Set { owner, ttl, .. }
         | MapCall::PutIfAbsent { owner, ttl, .. }
@@ -91,7 +96,7 @@ pub(crate) fn write_fields(call: &MapCall, out: &mut Vec<u8>) -> Result<(), Memo
             owner,
             lease: ttl,
             ..
-        } => write_numbers(&[owner.thread, *ttl], out),
+        } => write_two(owner.thread, *ttl, out),
         MapCall::PutMaxIdle {
             owner,
             ttl,
@@ -103,7 +108,7 @@ pub(crate) fn write_fields(call: &MapCall, out: &mut Vec<u8>) -> Result<(), Memo
             ttl,
             idle,
             ..
-        } => write_numbers(&[owner.thread, *ttl, *idle], out),
+        } => write_three(owner.thread, *ttl, *idle, out),
     }
 }
 
@@ -177,12 +182,42 @@ pub(crate) fn map_parts(alloc: Global, call: &MapCall) -> Result<Vec<Bytes>, Mem
         | MapCall::Unlock { name, key, .. }
         | MapCall::IsLocked { name, key }
         | MapCall::ForceUnlock { name, key } => two_parts(alloc, name, key),
-        MapCall::Put { name, key, value, .. }
-        | MapCall::Set { name, key, value, .. }
-        | MapCall::PutIfAbsent { name, key, value, .. }
-        | MapCall::PutMaxIdle { name, key, value, .. }
-        | MapCall::SetMaxIdle { name, key, value, .. }
-        | MapCall::Replace { name, key, value, .. }
+        MapCall::Put {
+            name,
+            key,
+            value,
+            ..
+        }
+        | MapCall::Set {
+            name,
+            key,
+            value,
+            ..
+        }
+        | MapCall::PutIfAbsent {
+            name,
+            key,
+            value,
+            ..
+        }
+        | MapCall::PutMaxIdle {
+            name,
+            key,
+            value,
+            ..
+        }
+        | MapCall::SetMaxIdle {
+            name,
+            key,
+            value,
+            ..
+        }
+        | MapCall::Replace {
+            name,
+            key,
+            value,
+            ..
+        }
         | MapCall::RemoveIfSame {
             name,
             key,

@@ -1,8 +1,6 @@
 //! What is said, as the bytes of its message.
 ghost use Rattle.std.specs.Prelude.{◌≡◌, ◌≢◌, ◌↔◌, ◌<◌, ◌^◌, ◌++◌, ◌∷◌, [], map, IsTrue, IfOk, OnOk, IsErrOf};
 ghost use Rattle.std.specs.Str.{IsUtf8};
-ghost use Rattle.std.specs.Int.{w64};
-ghost use Rattle.std.specs.Int.RustNames.{FitsSigned};
 ghost use Rattle.frame_codec.specs.Laws.{spelled};
 ghost use Rattle.fixed_fields.specs.Spelled.{with_parts};
 ghost use Rattle.compose_words.specs.Sayings.{bytes_of, IsPlaced, IsNamed, IsKeyed, FitMessage};
@@ -232,10 +230,6 @@ fn numbers_fit(saying: &Saying)
     }
 }
 
-fn correlation_fits(_correlation: i64)
-    ensures { FitsSigned w64 _correlation }
-{}
-
 /// The bytes that say this, as one unfragmented message with that correlation; before them no prefix. Copies each name,
 /// key and value.
 ///
@@ -249,7 +243,6 @@ pub fn say(alloc: Global, correlation: i64, saying: &Saying) -> Result<Bytes, Sa
     ensures name { IsErrOf result SayRefused.Name ↔ ¬ (IsNamed saying.now) }
     ensures key { IsErrOf result SayRefused.Key ↔ (IsNamed saying.now × ¬ (IsKeyed saying.now)) }
 {
-    correlation_fits(correlation);
     numbers_fit(saying);
     check(saying)?;
     let payload = payload_of(alloc, correlation, saying)?;
