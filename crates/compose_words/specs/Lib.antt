@@ -1,0 +1,4 @@
+pub mod Sayings
+pub mod Sessions
+pub mod Layout
+pub mod Lines
