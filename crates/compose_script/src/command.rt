@@ -78,8 +78,7 @@ impl Composing {
     }
 
     /// Stops at a limit, in the next line.
-    fn stop_at_limit(&mut self, what: LimitWhat) -> Stop
-    {
+    fn stop_at_limit(&mut self, what: LimitWhat) -> Stop {
         let line = self.next_line();
         tell_limit(&mut self.script, line, what)
     }
@@ -97,8 +96,7 @@ impl Composing {
     }
 
     /// Composes a line. An `Err` is how the script ends there.
-    fn compose(&mut self, alloc: Global, text: &[u8]) -> Result<(), Stop>
-    {
+    fn compose(&mut self, alloc: Global, text: &[u8]) -> Result<(), Stop> {
         let line = self.next_line();
         match self.composer.compose(alloc, text, &mut self.script) {
             Ok(Composed::Goes) => Ok(()),
@@ -110,16 +108,14 @@ impl Composing {
     }
 
     /// Composes the line that ends with these bytes and a newline.
-    fn complete(&mut self, alloc: Global, end: &[u8]) -> Result<(), Stop>
-    {
+    fn complete(&mut self, alloc: Global, end: &[u8]) -> Result<(), Stop> {
         self.keep(end)?;
         let text = mem::replace(&mut self.unfinished, Vec::new(alloc));
         self.compose(alloc, text.as_slice())
     }
 
     /// Keeps bytes of a line whose newline hasn't come.
-    fn keep(&mut self, more: &[u8]) -> Result<(), Stop>
-    {
+    fn keep(&mut self, more: &[u8]) -> Result<(), Stop> {
         if let Some(what) = self.limit_in(more) {
             return Err(self.stop_at_limit(what));
         }
@@ -130,12 +126,12 @@ impl Composing {
     }
 
     /// Takes the next bytes, and copies each once.
-    fn take(&mut self, alloc: Global, piece: &[u8]) -> Result<(), Stop>
-    {
+    fn take(&mut self, alloc: Global, piece: &[u8]) -> Result<(), Stop> {
         let mut rest = piece;
         'lines: while let Some(at) = memchr(b'\n', rest) {
-            self.complete(alloc, &rest[..at])?;
-            rest = &rest[at + 1..];
+            let (end, behind) = rest.split_at(at);
+            self.complete(alloc, end)?;
+            rest = &behind[1..];
         }
         if rest.is_empty() {
             return Ok(());
@@ -144,8 +140,7 @@ impl Composing {
     }
 
     /// The words have ended: what no newline ended is their last line.
-    fn finish(&mut self, alloc: Global) -> Stop
-    {
+    fn finish(&mut self, alloc: Global) -> Stop {
         let text = mem::replace(&mut self.unfinished, Vec::new(alloc));
         if !text.is_empty() {
             if let Err(stop) = self.compose(alloc, text.as_slice()) {

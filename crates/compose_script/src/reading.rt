@@ -1,6 +1,8 @@
 //! The words of a `say` line, read.
 
-use crate::data::{or_refused, plain_text_data, read_argument, read_data, read_hex, read_text, refused};
+use crate::data::{
+    or_refused, plain_text_data, read_argument, read_data, read_hex, read_text, refused,
+};
 use crate::numbers::{read_conn, read_i32};
 use crate::options::{Options, read_options};
 use crate::what::{Bare, Idle, Keyed, Named, Stored, Valued, What};
@@ -45,12 +47,7 @@ struct Terms {
     lease: i64,
 }
 
-fn read_bare(
-    alloc: Global,
-    which: Bare,
-    map: &[u8],
-    key: &[u8],
-) -> Result<MapCall, LineRefused> {
+fn read_bare(alloc: Global, which: Bare, map: &[u8], key: &[u8]) -> Result<MapCall, LineRefused> {
     let name = read_text(alloc, map)?;
     let key = read_data(alloc, key)?;
     Ok(match which {
@@ -77,12 +74,7 @@ fn read_keyed(
     })
 }
 
-fn read_lock(
-    alloc: Global,
-    map: &[u8],
-    key: &[u8],
-    terms: Terms,
-) -> Result<MapCall, LineRefused> {
+fn read_lock(alloc: Global, map: &[u8], key: &[u8], terms: Terms) -> Result<MapCall, LineRefused> {
     let name = read_text(alloc, map)?;
     let key = read_data(alloc, key)?;
     Ok(MapCall::TryLock {
@@ -187,7 +179,10 @@ fn read_idle(
     terms: Terms,
 ) -> Result<MapCall, LineRefused> {
     let Terms {
-        owner, ttl, idle, ..
+        owner,
+        ttl,
+        idle,
+        ..
     } = terms;
     let name = read_text(alloc, map)?;
     let key = read_data(alloc, key)?;
@@ -264,11 +259,7 @@ fn queue_partition(
     }
 }
 
-fn read_queue_call(
-    alloc: Global,
-    what: What,
-    words: &[&[u8]],
-) -> Result<QueueCall, LineRefused> {
+fn read_queue_call(alloc: Global, what: What, words: &[&[u8]]) -> Result<QueueCall, LineRefused> {
     match (what, words) {
         (What::Offer, [queue, value]) => {
             let name = read_text(alloc, queue)?;

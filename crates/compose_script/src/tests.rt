@@ -106,7 +106,8 @@ fn what_is_not_said_has_its_default(rt: HostRuntime) -> Result<(), Fail> {
         bytes 0 2600000000c000010100010000000000000005000000010000000000000000000000000000000700000000006d0f000000000000000005fffffff56b0f000000002000000000fffffff576\n\
         open 0 0\n\
         bytes 0 1e00000000c000020100ffffffffffffffff0500000001000000000000000700000000006d0f000000002000000005fffffff56b\n\
-        bytes 0 1600000000e0000b00000000000000000000ffffffff\nend\n".as_slice()
+        bytes 0 1600000000e0000b00000000000000000000ffffffff\nend\n"
+            .as_slice()
     );
     Ok(())
 }
@@ -116,13 +117,19 @@ fn words_outside_the_language_are_told(rt: HostRuntime) -> Result<(), Fail> {
     let (status, script) = composed(rt.alloc(), b"grid 1 0 10\nsay 0 put m text:k\nend\n")?;
     let why = LineWhy::Count;
     assert_eq!(rt; status, Status::ScriptRefused { line: 2, why });
-    assert_eq!(rt; script.as_slice(), b"grid 1 0 10\nrefused 2 count\n".as_slice());
+    assert_eq!(rt;
+        script.as_slice(),
+        b"grid 1 0 10\nrefused 2 count\n".as_slice()
+    );
     Ok(())
 }
 
 #[test]
 fn bytes_said_raw_stand_as_they_are(rt: HostRuntime) -> Result<(), Fail> {
-    let (_, script) = composed(rt.alloc(), b"grid 1 0 10\nsay 1 raw 4350AA\nsay 1 ping\nend")?;
+    let (_, script) = composed(
+        rt.alloc(),
+        b"grid 1 0 10\nsay 1 raw 4350AA\nsay 1 ping\nend",
+    )?;
     assert_eq!(rt;
         script.as_slice(),
         b"grid 1 0 10\nbytes 1 4350aa\nbytes 1 1600000000e0000b00000000000000000000ffffffff\nend\n".as_slice()

@@ -158,14 +158,7 @@ impl What {
             }
             What::TryLock => &[Setting::As, Setting::Thread, Setting::Lease],
             What::Stored(_) => &[Setting::As, Setting::Thread, Setting::Ttl],
-            What::Idle(_) => {
-                &[
-                    Setting::As,
-                    Setting::Thread,
-                    Setting::Ttl,
-                    Setting::Idle,
-                ]
-            }
+            What::Idle(_) => { &[Setting::As, Setting::Thread, Setting::Ttl, Setting::Idle] }
             What::Offer | What::Named(_) => &[Setting::As, Setting::Partition],
         }
     }
