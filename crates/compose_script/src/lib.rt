@@ -1,0 +1,15 @@
+//! `grid compose`: reads a script in words, and writes the script that they stand for.
+#![tactic(auto)]
+
+mod command;
+mod composer;
+mod data;
+mod numbers;
+mod options;
+mod reading;
+mod what;
+
+pub use command::compose_command;
+
+#[cfg(test)]
+mod tests;
