@@ -54,19 +54,19 @@ done
 # The usage and the version are asked for.
 run
 help=$(cat "$room/err")
-for words in '--help' 'replay --help'; do
+for words in '--help' 'replay --help' 'compose --help'; do
     # shellcheck disable=SC2086
     run $words <"$script"
     ended "the words $words" 0 "$help" ''
 done
-for words in '--version' 'replay --version' 'serve --version'; do
+for words in '--version' 'replay --version' 'compose --version' 'serve --version'; do
     # shellcheck disable=SC2086
     run $words <"$script"
     ended "the words $words" 0 'grid 0.1.0' ''
 done
 
-# The usage names both commands. A server's options are asked for, and others are told.
-for command in 'grid replay' 'grid serve'; do
+# The usage names each command. A server's options are asked for, and others are told.
+for command in 'grid replay' 'grid compose' 'grid serve'; do
     compare "the usage of $command" 1 "$(grep -c "$command .*<" <<<"$help")"
 done
 run serve --help <"$script"
@@ -89,10 +89,21 @@ ended 'a script without an end' 2 $'1 ok\nrefused 1 noend' ''
 run replay <"$room/long"
 ended 'a long line' 5 $'1 ok\nlimit 2 line' ''
 
+# Words that are composed: they are those of scenarios. And words that nobody says.
+data=crates/compose_script/data
+for words in "$data"/*/*.words; do
+    name=${words#"$data/"}
+    name=${name%.words}
+    run compose <"$words"
+    ended "the words of $name" 0 "$(cat "crates/grid_scenarios/data/$name.script")" ''
+done
+run compose <<<$'grid 1 0 10\nsay 0 fly'
+ended 'words that nobody says' 2 $'grid 1 0 10\nrefused 2 word' ''
+
 # Standard input that can't be read, and standard output that can't be written.
 run replay <.
 ended 'a directory' 3 '' "grid: standard input can't be read"
-for words in 'replay' '--help' 'serve --help' '--version'; do
+for words in 'replay' 'compose' '--help' 'serve --help' '--version'; do
     # shellcheck disable=SC2086
     timeout 60 "$grid" $words <"$script" >/dev/full 2>"$room/err"
     compare "a full disk and $words, exit status" 4 $?

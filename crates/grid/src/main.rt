@@ -1,4 +1,5 @@
-//! The program: `grid replay` runs a script and prints its transcript, and `grid serve` serves clients.
+//! The program: `grid replay` runs a script and prints its transcript, `grid compose` writes a script of words, and
+//! `grid serve` serves clients.
 #![tactic(auto)]
 
 ghost use Rattle.std.specs.Prelude.{◌≡◌, map, IfOk};
@@ -7,6 +8,7 @@ ghost use Rattle.entry_processors.specs.Forms.{form_of};
 mod telling_doors;
 
 use crate::telling_doors::TellingDoors;
+use compose_script::compose_command;
 use entry_processors::{Add, AddUpTo, Append, Clear, Form, Processor, SetIfGreater};
 use grid_base::Memory;
 use grid_cli::Status;
@@ -24,6 +26,7 @@ use tcp_edge::TcpDoors;
 /// The words that are commands.
 const USAGE: &str = "\
 usage: grid replay < SCRIPT             runs a script and prints its transcript
+       grid compose < WORDS             writes the script that words stand for
        grid serve [OPTIONS] < CONTROL   serves clients; grid serve --help has the options
        grid --help                      prints this
        grid --version                   prints the version";
@@ -40,7 +43,9 @@ enum Request {
     /// The options of a server.
     ServeHelp,
     Version,
-    /// A command, or words that are none.
+    /// Words to be composed.
+    Compose,
+    /// Another command, or words that are none.
     Command,
 }
 
@@ -67,8 +72,9 @@ impl Request {
             _ => return Request::Command,
         };
         match (command, word) {
-            ("" | "replay", "--help" | "-h") => Request::Help,
-            ("" | "replay" | "serve", "--version") => Request::Version,
+            ("" | "replay" | "compose", "--help" | "-h") => Request::Help,
+            ("" | "replay" | "compose" | "serve", "--version") => Request::Version,
+            ("", "compose") => Request::Compose,
             _ => Request::Command,
         }
     }
@@ -206,6 +212,7 @@ fn main(rt: HostRuntime) -> ExitCode {
         Ok(Request::Help) => print(&rt, USAGE),
         Ok(Request::ServeHelp) => print_options(&rt),
         Ok(Request::Version) => print(&rt, VERSION),
+        Ok(Request::Compose) => compose_command(alloc, &mut script, &mut out),
         Ok(Request::Command) => carry_out(
             &rt,
             alloc,
