@@ -3,3 +3,4 @@ pub mod EffectChanges
 pub mod ExecutionLaws
 pub mod Found
 pub mod ShelfSteps
+pub mod Wishes

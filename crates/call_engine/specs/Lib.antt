@@ -8,6 +8,7 @@ pub mod Executions
 pub mod Fitting
 pub mod Limits
 pub mod Objects
+pub mod Readiness
 pub mod ShelfLaws
 pub mod Shelves
 pub mod Within

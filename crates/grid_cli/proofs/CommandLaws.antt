@@ -14,7 +14,8 @@ use Rattle.entry_processors.specs.Processors.{ProcessorForm}
 use Rattle.object_store.specs.Partitions.{Partition}
 use Rattle.call_engine.specs.Calls.{Settings}
 use Rattle.call_engine.specs.Objects.{partition_object}
-use Rattle.replay_run.specs.Runs.{Run, begun, next_line, after_line, after_lines}
+use Rattle.replay_run.specs.Runs.{Run, begun, next_line}
+use Rattle.replay_run.specs.AfterLines.{after_line, after_lines}
 use Rattle.replay_run.specs.Printing.{ok_text, line_text, appended_text, entry_text, all_entries}
 use Rattle.replay_run.specs.Linearizability.{IsLinearizable}
 use Rattle.grid_cli.specs.Scripts.{lines_of, limit_of}

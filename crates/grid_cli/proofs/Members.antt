@@ -6,12 +6,14 @@ use Rattle.grid_base.specs.declared.calls.Request.{Request}
 use Rattle.object_store.specs.Partitions.{Partition}
 use Rattle.partition_protocol.specs.Service.{numbers_below}
 use Rattle.partition_protocol.specs.Events as event
-use Rattle.replay_run.specs.Runs.{Run, Connection, Arrival, partitions, world_at, is_full, connection_of, takes_bytes, can_open, event_by, after_line, bytes_arrived, next_line, took_bytes, handled, handled_all, asked, asks, arrival_at, is_skipped, items_by}
+use Rattle.replay_run.specs.Runs.{Run, Connection, Arrival, partitions, world_at, is_full, connection_of, takes_bytes, can_open, event_by, bytes_arrived, next_line, took_bytes, handled, handled_all, asked, asks, arrival_at, is_skipped, items_by}
+use Rattle.replay_run.specs.AfterLines.{after_line}
 use Rattle.replay_run.specs.ScriptRuns.{IsRun, grid_begun, line_counted, clock_was_set, connection_opened, bytes_taken, answer_told, event_occurred, call_arrived, run_given_up, call_asked}
 use Rattle.session_core.specs.declared.item.Item.{Item}
 use Rattle.session_core.specs.declared.item.Item.TheVariants.{Call as Asks, Reply}
 use Rattle.script_lang.specs.declared.line.Line.{Line}
-use Rattle.script_lang.specs.declared.line.Line.TheVariants.{OpenConn, Arrive, Clock, Flow, FlowAll, Crash, Detect}
+use Rattle.script_lang.specs.declared.line.Line.TheVariants.{OpenConn, Arrive, Clock, Flow, FlowAll, Crash, Detect, Rebalance}
+use Rattle.replay_run.proofs.Rebalanced.{rebalanced_kept}
 use Rattle.replay_run.proofs.EventRuns.{takes_in_kept, flowed_kept, flowed_in_kept}
 use Rattle.replay_run.proofs.SkipLaws.{event_kept}
 
@@ -50,6 +52,7 @@ members_stay o skips r (Flow partition most) = (flowed_kept o (next_line r) part
 members_stay o skips r (FlowAll most) = (flowed_in_kept o (next_line r) most (numbers_below partitions)).members
 members_stay o skips r (Crash member) = (takes_in_kept o (next_line r) (event.Crash member) (numbers_below partitions)).members
 members_stay o skips r (Detect member) = (takes_in_kept o (next_line r) (event.Detect member) (numbers_below partitions)).members
+members_stay o skips r (Rebalance most) = (rebalanced_kept o (next_line r) most).members
 members_stay o skips r line = (event_kept o (next_line r) (event_by line)).members
 
 -- and it has some

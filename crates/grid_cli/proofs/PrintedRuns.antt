@@ -13,12 +13,16 @@ use Rattle.call_engine.specs.Calls.{Settings}
 use Rattle.call_engine.specs.Objects.{partition_object}
 use Rattle.script_lang.specs.Lines.{line_of, is_end}
 use Rattle.script_lang.specs.declared.line.Line.{Line}
-use Rattle.script_lang.specs.declared.line.Line.TheVariants.{Grid, OpenConn, Arrive}
+use Rattle.script_lang.specs.declared.line.Line.TheVariants.{Grid, OpenConn, Arrive, Rebalance}
 use Rattle.script_lang.specs.declared.refusal.LineWhy.{LineWhy}
-use Rattle.replay_run.specs.Runs.{Run, Connection, Appended, begun, connection_of, takes_bytes, can_open, next_line, opened, after_line}
-use Rattle.replay_run.specs.Printing.{ok_text, nothing_text, line_text, does_nothing, outcome_text, appended_text, new_messages, line_close, line_dump, line_links, entry_text, printed_by}
+use Rattle.replay_run.specs.Runs.{Run, Connection, Appended, begun, connection_of, takes_bytes, can_open, next_line, opened}
+use Rattle.replay_run.specs.AfterLines.{after_line}
+use Rattle.replay_run.specs.Printing.{ok_text, nothing_text, line_text, does_nothing, outcome_text, appended_text, new_messages, line_messages, line_close, line_dump, line_links, entry_text, printed_by}
 use Rattle.replay_run.proofs.SkipLaws.{on_bytes}
-use Rattle.replay_run.proofs.Growing.{line_grows}
+use Rattle.rebalance.specs.declared.Step.{Step}
+use Rattle.replay_run.specs.Rebalancing.{is_moving_at, stepped, stepped_all, steps_in}
+use Rattle.replay_run.specs.RebalancingTexts.{end_text, ran_text, ran_texts}
+use Rattle.replay_run.proofs.Growing.{line_grows, stepped_grows, stepped_all_grows}
 use Rattle.grid_cli.specs.Scripts.{lines_of, limit_of}
 use Rattle.grid_cli.specs.Transcripts.{Transcript, Ended, settings, first_line, later_lines, after_first, following, refused, too_long}
 use Rattle.grid_cli.specs.PrintedRuns.{printed_after, printed_by_grid, printed_of, HasPart, EveryMessageIsPrinted}
@@ -56,18 +60,46 @@ part_of_all m (n ∷ ms) (inr i) = part_right (appended_text n) (flat_map append
 abbrev something_text : Settings → Run → Line → Run → List ℕ
 something_text s r line next =
     let o = partition_object s in
-    outcome_text s r line next ++ flat_map appended_text (new_messages r next) ++ line_close next line ++ line_dump o next line ++ line_links s next line ++ flat_map (entry_text next.lines) (printed_by o next line)
+    outcome_text s r line next ++ line_messages s r line next ++ line_close next line ++ line_dump o next line ++ line_links s next line ++ flat_map (entry_text next.lines) (printed_by o next line)
 
-new_is_printed : (s : Settings) (r : Run) (line : Line) (next : Run) (m : Appended) → In m (new_messages r next) → HasPart (something_text s r line next) (appended_text m)
+-- Where a line runs steps, each step's messages stand before its end.
+
+module _ (o : Object Request Partition) (m : Appended) where
+  split_new : (r mid next : Run) (first rest : List Appended) → r.appended ++ first ≡ mid.appended → mid.appended ++ rest ≡ next.appended → In m (new_messages r next) → In m (new_messages r mid) ⊎ In m (new_messages mid next)
+  split_new r mid next first rest one two i =
+      let whole : new_messages r next ≡ first ++ rest = ap (drop (length r.appended)) (sym two ∙ ap (λ ms. ms ++ rest) (sym one) ∙ append_assoc r.appended first rest) ∙ drop-append_seam r.appended (first ++ rest) in
+      let front : new_messages r mid ≡ first = ap (drop (length r.appended)) (sym one) ∙ drop-append_seam r.appended first in
+      let behind : new_messages mid next ≡ rest = ap (drop (length mid.appended)) (sym two) ∙ drop-append_seam mid.appended rest in
+      ⊎_elim (λ j. inl (subst (In m) (sym front) j)) (λ j. inr (subst (In m) (sym behind) j)) (in_cases m first rest (subst (In m) whole i))
+
+  none_new : (r : Run) → In m (new_messages r r) → ⊥
+  none_new r i = subst (In m) (ap (drop (length r.appended)) (sym (append-nil r.appended)) ∙ drop-append_seam r.appended []) i
+
+  steps_print : (r : Run) (steps : List Step) → In m (new_messages r (stepped_all o r steps)) → HasPart (ran_texts o r steps) (appended_text m)
+  steps_print r [] i = absurd (none_new r i)
+  steps_print r (step ∷ steps) i =
+      let mid = stepped o r step in
+      let one = (stepped_grows o r step).appended in
+      let two = (stepped_all_grows o mid steps).appended in
+      ⊎_elim
+      (λ j. part_left (ran_text o r step) (ran_texts o mid steps) (appended_text m) (part_left (flat_map appended_text (new_messages r mid)) (end_text r.lines step.partition (is_moving_at o mid step.partition)) (appended_text m) (part_of_all m (new_messages r mid) j)))
+      (λ j. part_right (ran_text o r step) (ran_texts o mid steps) (appended_text m) (steps_print mid steps j))
+      (split_new r mid (stepped_all o mid steps) one.0 two.0 one.1 two.1 i)
+
+messages_print : (s : Settings) (skips : List CallId) (r : Run) (line : Line) (m : Appended) → In m (new_messages r (after_line (partition_object s) skips r line)) → HasPart (line_messages s r line (after_line (partition_object s) skips r line)) (appended_text m)
+messages_print s skips r (Rebalance most) m i = steps_print (partition_object s) m (next_line r) (steps_in (partition_object s) (next_line r) most) i
+messages_print s skips r line m i = part_of_all m (new_messages r (after_line (partition_object s) skips r line)) i
+
+new_is_printed : (s : Settings) (r : Run) (line : Line) (next : Run) (m : Appended) → HasPart (line_messages s r line next) (appended_text m) → HasPart (something_text s r line next) (appended_text m)
 new_is_printed s r line next m i =
     let o = partition_object s in
     let outcome = outcome_text s r line next in
-    let messages = flat_map appended_text (new_messages r next) in
+    let messages = line_messages s r line next in
     part_left _ (flat_map (entry_text next.lines) (printed_by o next line)) (appended_text m)
     (part_left _ (line_links s next line) (appended_text m)
     (part_left _ (line_dump o next line) (appended_text m)
     (part_left _ (line_close next line) (appended_text m)
-    (part_right outcome messages (appended_text m) (part_of_all m (new_messages r next) i)))))
+    (part_right outcome messages (appended_text m) i))))
 
 -- A line that does nothing appends nothing.
 
@@ -115,7 +147,7 @@ line_prints s skips r line m i = ⊎_elim idle (λ free. on_new free (in_cases m
     on_new free (inl j) = inl j
     on_new free (inr j) =
         let shown : line_text s r line next ≡ something_text s r line next = ap (λ b. cond b (nothing_text next.lines) (something_text s r line next)) free in
-        inr (subst (λ text. HasPart text (appended_text m)) (sym shown) (new_is_printed s r line next m (subst (In m) (sym new) j)))
+        inr (subst (λ text. HasPart text (appended_text m)) (sym shown) (new_is_printed s r line next m (messages_print s skips r line m (subst (In m) (sym new) j))))
 
 -- lines
 

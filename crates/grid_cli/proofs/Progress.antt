@@ -10,7 +10,8 @@ use Rattle.entry_processors.specs.Processors.{ProcessorForm}
 use Rattle.object_store.specs.Partitions.{Partition}
 use Rattle.call_engine.specs.Calls.{Settings}
 use Rattle.call_engine.specs.Objects.{partition_object}
-use Rattle.replay_run.specs.Runs.{Run, Arrival, begun, after_line, is_skipped}
+use Rattle.replay_run.specs.Runs.{Run, Arrival, begun, is_skipped}
+use Rattle.replay_run.specs.AfterLines.{after_line}
 use Rattle.replay_run.specs.Printing.{ok_text, line_text}
 use Rattle.replay_run.specs.Skips.{AgreeOn, AreOfLine, calls_at}
 use Rattle.grid_cli.specs.Transcripts.{Transcript, settings, Ended, TooLong, first_line, later_lines, after_first, following, stopped, refused, limit_text, too_long}

@@ -13,7 +13,8 @@ use Rattle.script_lang.specs.declared.line.Line.{Line}
 use Rattle.script_lang.specs.declared.line.Line.TheVariants.{Grid}
 use Rattle.script_lang.specs.declared.refusal.LineWhy.{LineWhy}
 use Rattle.script_lang.specs.declared.refusal.LineWhy.TheVariants.{NoGrid}
-use Rattle.replay_run.specs.Runs.{Run, begun, after_line}
+use Rattle.replay_run.specs.Runs.{Run, begun}
+use Rattle.replay_run.specs.AfterLines.{after_line}
 use Rattle.replay_run.specs.Printing.{ok_text, line_text}
 use Rattle.replay_run.specs.SkippedCalls.{TellsOfNoSkip}
 use Rattle.replay_run.proofs.Growing.{Grows, grows_refl, grows_trans, line_grows}

@@ -16,7 +16,8 @@ use Rattle.entry_processors.specs.Processors.{ProcessorForm}
 use Rattle.object_store.specs.Partitions.{Partition}
 use Rattle.call_engine.specs.Calls.{Settings}
 use Rattle.call_engine.specs.Objects.{partition_object}
-use Rattle.replay_run.specs.Runs.{Run, begun, after_line}
+use Rattle.replay_run.specs.Runs.{Run, begun}
+use Rattle.replay_run.specs.AfterLines.{after_line}
 use Rattle.replay_run.specs.Printing.{ok_text}
 use Rattle.replay_run.specs.Grids.{FormOf, Stands, IsGivenUp, HasRun as RanLine}
 use Rattle.replay_run.specs.declared.grid.Grid.{Grid}

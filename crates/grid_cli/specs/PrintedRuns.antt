@@ -9,7 +9,8 @@ use Rattle.script_lang.specs.Lines.{line_of, is_end}
 use Rattle.script_lang.specs.declared.line.Line.{Line}
 use Rattle.script_lang.specs.declared.line.Line.TheVariants.{Grid}
 use Rattle.script_lang.specs.declared.refusal.LineWhy.{LineWhy}
-use Rattle.replay_run.specs.Runs.{Run, Appended, begun, after_line}
+use Rattle.replay_run.specs.Runs.{Run, Appended, begun}
+use Rattle.replay_run.specs.AfterLines.{after_line}
 use Rattle.replay_run.specs.Printing.{appended_text}
 use Rattle.grid_cli.specs.Scripts.{lines_of}
 use Rattle.grid_cli.specs.Transcripts.{settings, transcript}

@@ -9,7 +9,8 @@ use Rattle.script_lang.specs.declared.line.Line.TheVariants.{Grid}
 use Rattle.script_lang.specs.declared.refusal.LineWhy.{LineWhy}
 use Rattle.entry_processors.specs.Processors.{ProcessorForm}
 use Rattle.call_engine.specs.Objects.{partition_object}
-use Rattle.replay_run.specs.Runs.{Run, Arrival, begun, after_line}
+use Rattle.replay_run.specs.Runs.{Run, Arrival, begun}
+use Rattle.replay_run.specs.AfterLines.{after_line}
 use Rattle.replay_run.specs.Skips.{AgreeOn}
 use Rattle.grid_cli.specs.Transcripts.{settings, first_line, later_lines, following}
 use Rattle.grid_cli.specs.declared.status.LimitWhat.{LimitWhat}

@@ -9,7 +9,8 @@ use Rattle.script_lang.specs.declared.line.Line.{Line}
 use Rattle.script_lang.specs.declared.line.Line.TheVariants.{Grid}
 use Rattle.script_lang.specs.declared.refusal.LineWhy.{LineWhy}
 use Rattle.script_lang.specs.declared.refusal.LineWhy.TheVariants.{NoGrid, NoEnd}
-use Rattle.replay_run.specs.Runs.{Run, begun, after_line}
+use Rattle.replay_run.specs.Runs.{Run, begun}
+use Rattle.replay_run.specs.AfterLines.{after_line}
 use Rattle.replay_run.specs.Dumps.{number, line_end}
 use Rattle.replay_run.specs.Printing.{ok_text, line_text}
 use Rattle.grid_cli.specs.Scripts.{lines_of, limit_of}

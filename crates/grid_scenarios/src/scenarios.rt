@@ -10,7 +10,7 @@ pub(crate) struct Subject {
 }
 
 /// All of them, in the order in which they run.
-pub(crate) const SUBJECTS: [Subject; 18] = [
+pub(crate) const SUBJECTS: [Subject; 19] = [
     Subject {
         folder: "sessions",
         scenarios: SESSIONS,
@@ -66,6 +66,10 @@ pub(crate) const SUBJECTS: [Subject; 18] = [
     Subject {
         folder: "reopenings",
         scenarios: REOPENINGS,
+    },
+    Subject {
+        folder: "rebalancing",
+        scenarios: REBALANCING,
     },
     Subject {
         folder: "outside_bytes",
@@ -342,6 +346,25 @@ const REOPENINGS: &[(&str, u8)] = &[
     ("a_member_that_missed_the_reopening", 0),
     ("a_partition_is_reopened_twice", 0),
     ("a_reopened_partition_moves_on", 0),
+];
+
+const REBALANCING: &[(&str, u8)] = &[
+    ("the_plan_after_a_crash", 0),
+    ("all_steps_of_a_plan", 0),
+    ("some_steps_of_a_plan", 0),
+    ("equal_loads_go_by_number", 0),
+    ("nobody_is_left_to_lead", 0),
+    ("a_plan_after_each_of_two_crashes", 0),
+    ("a_reopened_row_is_unsettled", 0),
+    ("a_step_from_a_crashed_member_stays_open", 0),
+    ("a_step_to_a_crashed_member_stays_open", 0),
+    ("a_handover_makes_its_partition_unsettled", 0),
+    ("a_joiner_makes_its_partition_unsettled", 0),
+    ("lost_rows_are_no_load", 0),
+    ("rows_after_a_handover_and_a_move", 0),
+    ("a_held_put_is_answered_by_a_step", 0),
+    ("lost_messages_are_sent_again_by_a_step", 0),
+    ("contents_go_with_their_partition", 0),
 ];
 
 /// Random scripts of an outside program, of connections alone.

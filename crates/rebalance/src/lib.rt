@@ -2,10 +2,11 @@
 //!
 //! A member's load is the number of partitions of which it is the primary. `plan` answers what the loads are to be, the
 //! targets, and the steps that lead to them. `specs/` has the members and their loads (`Members`), the targets
-//! (`Targets`), the rule of the steps (`Steps`), and what else could have been chosen (`Choices`).
+//! (`Targets`), the rule of the steps (`Steps`), what else could have been chosen (`Choices`), and the plan as a function
+//! of what it reads (`Plans`).
 //!
-//! Built ahead: no crate calls it yet. It is for a script's line `rebalance`, which runs the steps one after another as
-//! moves and handovers of their partitions.
+//! A script's line `rebalance` prints the plan, and runs the steps one after another as moves and handovers of their
+//! partitions.
 #![tactic(auto)]
 
 ghost use Rattle.std.specs.Prelude.{◌≡◌, ℕ, ◌+◌, ◌≤◌, ◌<◌, ◌^◌, ◌↔◌, length, IfOk, slice_index};
@@ -14,6 +15,7 @@ ghost use Rattle.rebalance.specs.Members.{AreUndetected, is_undetected, undetect
 ghost use Rattle.rebalance.specs.Choices.{IsChoice, changes, IsBalanced, ChangesAtLeast};
 ghost use Rattle.rebalance.specs.Targets.{target_of, excess_of};
 ghost use Rattle.rebalance.specs.Steps.{after, FollowsRule, HasRightKinds};
+ghost use Rattle.rebalance.specs.Plans.{plan_of, Gives};
 
 pub mod laws;
 mod members;
@@ -48,6 +50,9 @@ pub fn plan(
     requires marks { length moving.now ≡ length rows.now }
     requires size { length rows.now ≤ 2 ^ 16 }
     requires sound { AreUndetected detected.now members (primaries rows.now) }
+
+    // It is this function of what it reads.
+    ensures plan { Gives result (plan_of rows.now moving.now detected.now members) }
 
     ensures no_member { (result ≡ Err PlanRefused.NoMember) ↔ (undetected_count detected.now members ≡ 0) }
     ensures unsettled { (partition : ℕ) → (result ≡ Err (PlanRefused.Unsettled partition)) ↔

@@ -2,6 +2,7 @@
 
 ghost use Rattle.std.specs.Prelude.{◌≡◌, ℕ, ◌≤◌, ◌^◌, false, length, MatchOption};
 ghost use Rattle.rebalance.specs.Rows.{primary_of, may_all_lead, is_unsettled, is_unsettled_at, IsFirstUnsettled};
+ghost use Rattle.rebalance.specs.Plans.{first_unsettled};
 
 use grid_base::{MemberId, PartitionId};
 use partition_table::Row;
@@ -32,9 +33,10 @@ fn is_unsettled(row: &Row, moving: bool) -> bool
 pub(crate) fn first_unsettled(rows: &[Row], moving: &[bool]) -> Option<PartitionId>
     requires marks { length moving.now ≡ length rows.now }
     requires size { length rows.now ≤ 2 ^ 16 }
-    ensures { MatchOption result
+    ensures rule { MatchOption result
         ((p : ℕ) → is_unsettled_at rows.now moving.now p ≡ false)
         (IsFirstUnsettled rows.now moving.now) }
+    ensures first { result ≡ first_unsettled rows.now moving.now }
 {
     for (partition, row) in rows.iter().enumerate() {
         if is_unsettled(row, moving[partition]) {

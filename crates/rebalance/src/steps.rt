@@ -6,6 +6,7 @@ ghost use Rattle.rebalance.specs.Rows.{primaries, primary_of};
 ghost use Rattle.rebalance.specs.Choices.{changes};
 ghost use Rattle.rebalance.specs.Targets.{excess_of};
 ghost use Rattle.rebalance.specs.Steps.{after, IsLowestBelow, TakesFrom, FollowsRule};
+ghost use Rattle.rebalance.specs.Plans.{steps_from};
 
 use crate::rows::primary_of;
 use crate::targets::Targets;
@@ -146,6 +147,7 @@ pub(crate) fn steps_of(
     requires same { total (slice_index loads.items) members ≡ total (slice_index targets.now) members }
     ensures rule { IfOk result (λ steps.
         FollowsRule rows.now (slice_index targets.now) members steps.items) }
+    ensures steps { IfOk result (λ steps. steps.items ≡ steps_from (slice_index targets.now) members (primaries rows.now) 0 rows.now) }
     ensures count { IfOk result (λ steps. length steps.items ≡
         excess_of (slice_index loads.items) (slice_index targets.now) members) }
     ensures changes { IfOk result (λ steps.

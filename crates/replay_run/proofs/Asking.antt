@@ -21,6 +21,7 @@ use Rattle.partition_world.specs.Worlds.{steps_of, run_of, Comes}
 use Rattle.partition_world.proofs.Places.{read_there}
 use Rattle.replay_run.specs.declared.grid.Grid.{Grid}
 use Rattle.replay_run.specs.Runs.{Run, Arrival, events_at, moment_of, world_at, call_of, arrival_at, arrived, happening, partitions}
+use Rattle.replay_run.specs.Rebalancing.{most_line_events}
 use Rattle.replay_run.specs.Shelves.{grid_meaning}
 use Rattle.replay_run.specs.Grids.{FormOf, GridWorld, StandsForEvents, IsWorld, Holds, Stands, AreFew}
 use Rattle.replay_run.specs.ScriptRuns.{IsRun, IsNext, call_asked}
@@ -62,7 +63,7 @@ module _ {V : Type 0} {T : V → Type 0} {form : FormOf V T} {settings : Setting
     world_is = indexed_world grid.worlds.items r p i world (h.worlds p low) same read
 
     -- it has room for one event more
-    pub world_room : length r.arrivals + 1001 * r.lines + 1 < 2 ^ 32 - 1 → AreFew r → steps_of world + 1 < 2 ^ 32 - 1
+    pub world_room : length r.arrivals + most_line_events * r.lines + 1 < 2 ^ 32 - 1 → AreFew r → steps_of world + 1 < 2 ^ 32 - 1
     world_room room few = let own = few p in omega (arith, room, world_is.stands.steps, own)
 
 -- the clock of a member, where the code reads it

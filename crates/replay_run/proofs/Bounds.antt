@@ -17,10 +17,12 @@ use Rattle.session_core.specs.declared.item.Item.TheVariants.{Call as Asks, Repl
 use Rattle.script_lang.specs.Limits.{most_lines, most_line_bytes}
 use Rattle.script_lang.specs.Lines.{IsWithin}
 use Rattle.script_lang.specs.declared.line.Line.{Line}
-use Rattle.script_lang.specs.declared.line.Line.TheVariants.{OpenConn, Arrive, Clock, Flow, FlowAll, Crash, Detect}
-use Rattle.replay_run.specs.Runs.{Run, At, Connection, Arrival, partitions, events_at, world_at, clock_set, is_connection, connection_of, messages_on, bytes_of, updated, takes_bytes, can_open, is_full, with_bytes, took_bytes, opened, next_line, items_by, told, refusal, arrival_at, happening, arrived, is_skipped, given_up, asked, asks, takes, takes_in, flowed, flowed_in, bytes_arrived, event_by, after_event, after_line, handled_all}
+use Rattle.script_lang.specs.declared.line.Line.TheVariants.{OpenConn, Arrive, Clock, Flow, FlowAll, Crash, Detect, Rebalance}
+use Rattle.replay_run.specs.Runs.{Run, At, Connection, Arrival, partitions, events_at, world_at, clock_set, is_connection, connection_of, messages_on, bytes_of, updated, takes_bytes, can_open, is_full, with_bytes, took_bytes, opened, next_line, items_by, told, refusal, arrival_at, happening, arrived, is_skipped, given_up, asked, asks, takes, takes_in, flowed, flowed_in, bytes_arrived, event_by, handled_all}
+use Rattle.replay_run.specs.AfterLines.{after_event, after_line}
 use Rattle.replay_run.specs.Linearizability.{Before}
 use Rattle.replay_run.specs.ScriptRuns.{IsRun}
+use Rattle.replay_run.specs.Rebalancing.{most_line_events, rebalanced}
 use Rattle.replay_run.specs.Grids.{IsSmall, AreFew}
 use Rattle.replay_run.specs.WorldCalls.{HasRoom}
 use Rattle.replay_run.proofs.Counts.{count}
@@ -30,6 +32,8 @@ use Rattle.replay_run.proofs.Places.{same_number}
 use Rattle.replay_run.proofs.Trails.{find_some}
 use Rattle.replay_run.proofs.RunFacts.{AreApart, RunOk}
 use Rattle.replay_run.proofs.EventRuns.{Kept, kept_refl, takes_kept, takes_in_kept, flowed_kept, flowed_in_kept, events_more, takes_few, takes_in_few, flowed_few, flowed_in_few}
+use Rattle.replay_run.proofs.Rebalanced.{rebalanced_kept}
+use Rattle.replay_run.proofs.Planning.{rebalanced_few}
 use Rattle.replay_run.proofs.Arriving.{same_test, its_event}
 use Rattle.replay_run.proofs.RunsOfLines.{run_ok}
 use Rattle.replay_run.proofs.Lines.{connection_there, asks_come, handled_all_come}
@@ -228,7 +232,7 @@ module _ (o : Object Request Partition) (skips : List CallId) where
   asked_few r a few p = go (is_skipped skips a.request.id)
     where
       go : (b : Bool) → let next = cond b (arrived r a [] (refusal a.line a.request (pos want_of_memory) 0 ∷ [])) (arrived r a (its_event a ∷ []) (happening o r a)) in
-          length (events_at p next.events) ≤ length next.arrivals + 1001 * next.lines
+          length (events_at p next.events) ≤ length next.arrivals + most_line_events * next.lines
       go true = let f = few p in let more = events_more p r.events [] in let come = length-append r.arrivals (a ∷ []) in omega (arith, f, more, come)
       go false = let f = few p in let more = events_more p r.events (its_event a ∷ []) in let come = length-append r.arrivals (a ∷ []) in omega (arith, f, more, come)
 
@@ -275,10 +279,10 @@ module _ (o : Object Request Partition) (skips : List CallId) where
   found_few r bytes None few = next_few r few
   found_few r bytes (Some k) few = bytes_few r k bytes few
 
--- what lines of events add: 1,001 events of a partition at most
+-- what lines of events add: 5,014 events of a partition at most
 
 module _ {State : Type 0} (o : Object Request State) (r : Run) (few : AreFew r) where
-  kept_few : (next : Run) (most : ℕ) → most ≤ 1001 → Kept (next_line r) next → ((p : ℕ) → length (events_at p next.events) ≤ length (events_at p r.events) + most) → AreFew next
+  kept_few : (next : Run) (most : ℕ) → most ≤ most_line_events → Kept (next_line r) next → ((p : ℕ) → length (events_at p next.events) ≤ length (events_at p r.events) + most) → AreFew next
   kept_few next most size kept more p =
       let f = few p in
       let m = more p in
@@ -298,11 +302,14 @@ module _ {State : Type 0} (o : Object Request State) (r : Run) (few : AreFew r) 
       kept_few (flowed_in o (next_line r) most (numbers_below partitions)) most (omega (arith, size)) (flowed_in_kept o (next_line r) most (numbers_below partitions))
       (flowed_in_few o (next_line r) most partitions)
 
+  pub rebalance_few : (most : ℕ) → AreFew (rebalanced o (next_line r) most)
+  rebalance_few most = kept_few (rebalanced o (next_line r) most) most_line_events (omega arith) (rebalanced_kept o (next_line r) most) (rebalanced_few o (next_line r) most)
+
   pub in_all_few : (event : Event Request) → AreFew (takes_in o (next_line r) event (numbers_below partitions))
   in_all_few event =
       kept_few (takes_in o (next_line r) event (numbers_below partitions)) 1 (omega arith) (takes_in_kept o (next_line r) event (numbers_below partitions)) (takes_in_few o (next_line r) event partitions)
 
--- A line within its limits adds 1,001 events of a partition at most beside those of its calls.
+-- A line within its limits adds 5,014 events of a partition at most beside those of its calls.
 pub stays_few : (o : Object Request Partition) (skips : List CallId) (r : Run) (members size : ℕ) (line : Line) → IsWithin members size line → AreFew r → AreFew (after_line o skips r line)
 stays_few o skips r members size (OpenConn c member) within few = on_if AreFew (can_open o r c member) (opened r c member) (next_line r) (opened_few o skips r c member few) (next_few o skips r few)
 stays_few o skips r members size (Arrive c bytes) within few = found_few o skips r bytes (connection_of r c) few
@@ -311,6 +318,7 @@ stays_few o skips r members size (Flow partition most) within few = flow_few o r
 stays_few o skips r members size (FlowAll most) within few = flow_all_few o r few most within.1
 stays_few o skips r members size (Crash member) within few = in_all_few o r few (event.Crash member)
 stays_few o skips r members size (Detect member) within few = in_all_few o r few (event.Detect member)
+stays_few o skips r members size (Rebalance most) within few = rebalance_few o r few most
 stays_few o skips r members size line within few = event_line_few o r few (event_by line)
 
 -- the bytes of a line
@@ -347,6 +355,7 @@ module _ {o : Object Request Partition} (skips : List CallId) (r : Run) (is : Is
   line_adds (FlowAll most) = kept_no_more (flowed_in o (next_line r) most (numbers_below partitions)) (flowed_in_kept o (next_line r) most (numbers_below partitions))
   line_adds (Crash member) = kept_no_more (takes_in o (next_line r) (event.Crash member) (numbers_below partitions)) (takes_in_kept o (next_line r) (event.Crash member) (numbers_below partitions))
   line_adds (Detect member) = kept_no_more (takes_in o (next_line r) (event.Detect member) (numbers_below partitions)) (takes_in_kept o (next_line r) (event.Detect member) (numbers_below partitions))
+  line_adds (Rebalance most) = kept_no_more (rebalanced o (next_line r) most) (rebalanced_kept o (next_line r) most)
   line_adds line = kept_no_more (after_event o (next_line r) (event_by line)) (event_kept o (next_line r) (event_by line))
 
   -- and so many lines have no more bytes than their texts have room for

@@ -11,12 +11,14 @@ use Rattle.call_engine.specs.Objects.{partition_object}
 use Rattle.script_lang.specs.Limits.{most_lines}
 use Rattle.script_lang.specs.Lines.{IsWithin}
 use Rattle.script_lang.specs.declared.line.Line.{Line as ScriptLine}
-use Rattle.script_lang.specs.declared.line.Line.TheVariants.{Grid as Begin, OpenConn, Arrive, Clock, Deliver, Lose, Repeat, Flow, FlowAll, Resend, Crash, Detect, Move, Join, Handover, Advance, Reopen, Dump, Links, Trail, Comment, End}
+use Rattle.script_lang.specs.declared.line.Line.TheVariants.{Grid as Begin, OpenConn, Arrive, Clock, Deliver, Lose, Repeat, Flow, FlowAll, Resend, Crash, Detect, Move, Join, Handover, Advance, Reopen, Rebalance, Dump, Links, Trail, Comment, End}
 use Rattle.replay_run.specs.declared.events.Fate.{Fate}
 use Rattle.replay_run.specs.declared.events.Fate.TheVariants as fate
 use Rattle.replay_run.specs.declared.grid.Grid.{Grid}
-use Rattle.replay_run.specs.Runs.{Run, At, partitions, is_connection, world_at, next_line, event_by, meets_full, takes, takes_in, after_line}
-use Rattle.replay_run.specs.Printing.{does_nothing, line_close, line_dump, line_links, line_text, printed_by, entry_text, outcome_text, outcome_at, words_line, words_of, done_word, fate_words, flow_text, new_events}
+use Rattle.replay_run.specs.Runs.{Run, At, partitions, is_connection, world_at, next_line, event_by, meets_full, takes, takes_in}
+use Rattle.replay_run.specs.AfterLines.{after_line}
+use Rattle.replay_run.specs.Printing.{does_nothing, line_close, line_dump, line_links, line_text, printed_by, entry_text, outcome_text, outcome_at, words_line, words_of, done_word, fate_words, flow_text, new_events, line_messages, new_messages}
+use Rattle.replay_run.specs.Rebalancing.{most_line_events}
 use Rattle.replay_run.specs.Skips.{AreOfLine}
 use Rattle.replay_run.specs.ScriptRuns.{IsRun}
 use Rattle.replay_run.specs.Grids.{FormOf, IsSmall, AreFew, Stands, HasRun, IsGivenUp}
@@ -31,18 +33,18 @@ pub counted_amid : {V : Type 0} {T : V → Type 0} {form : FormOf V T} {settings
 counted_amid grid r number s at_line = let stands = counted_stands grid r number s at_line in record { run = stands.run; holds = stands.holds; settled = stands.settled }
 
 -- Each partition has room for the events of one line.
-line_room : (settings : Settings) (r : Run) → IsRun (partition_object settings) r → IsSmall r → AreFew r → r.lines + 1 ≤ most_lines → (p most : ℕ) → most ≤ 1000 → HasRoomAt (next_line r) p most
+line_room : (settings : Settings) (r : Run) → IsRun (partition_object settings) r → IsSmall r → AreFew r → r.lines + 1 ≤ most_lines → (p most : ℕ) → most ≤ most_line_events → HasRoomAt (next_line r) p most
 line_room settings r run small few lines p most size =
     let own = few p in
     let calls = arrivals_fewer r run in
     let messages = messages_fewer r in
     omega (arith, own, calls, messages, small, lines, size)
 
-pub stands_room : {V : Type 0} {T : V → Type 0} {form : FormOf V T} {settings : Settings} (grid : Grid V T) (r : Run) → Stands form settings grid r → r.lines + 1 ≤ most_lines → (p most : ℕ) → most ≤ 1000 → HasRoomAt (next_line r) p most
+pub stands_room : {V : Type 0} {T : V → Type 0} {form : FormOf V T} {settings : Settings} (grid : Grid V T) (r : Run) → Stands form settings grid r → r.lines + 1 ≤ most_lines → (p most : ℕ) → most ≤ most_line_events → HasRoomAt (next_line r) p most
 stands_room {settings = settings} grid r s = line_room settings r s.run s.small s.few
 
 -- A line of events brings no call.
-no_calls : (settings : Settings) (r : Run) (line : ScriptLine) → AreOfLine (partition_object settings) r line []
+pub no_calls : (settings : Settings) (r : Run) (line : ScriptLine) → AreOfLine (partition_object settings) r line []
 no_calls settings r line id there = absurd (in_contains id [] there)
 
 pub line_given_up : (settings : Settings) (r : Run) (line : ScriptLine) → (after_line (partition_object settings) [] r line).full ≡ true → IsGivenUp settings r line
@@ -51,6 +53,7 @@ line_given_up settings r line full = record { skips = []; of_line = no_calls set
 -- It prints its outcome and its messages alone.
 pub record PrintsMessages (settings : Settings) (r next : Run) (line : ScriptLine) : Type 0 where
   pub goes : does_nothing (partition_object settings) r line ≡ false
+  pub said : line_messages settings r line next ≡ texts_of (new_messages r next)
   pub close : line_close next line ≡ []
   pub dump : line_dump (partition_object settings) next line ≡ []
   pub links : line_links settings next line ≡ []
@@ -74,7 +77,7 @@ module _ {V : Type 0} {T : V → Type 0} {form : FormOf V T} {settings : Setting
 
   its_text : line_text settings r line next ≡ outcome_text settings r line next ++ texts_of on.messages
   its_text =
-      text_with settings r next line on.messages prints.goes on.appended
+      text_with settings r next line on.messages prints.goes prints.said on.appended
       ∙ (λ i. parts ++ prints.close i ++ prints.dump i ++ prints.links i ++ flat_map (entry_text next.lines) (prints.printed i))
       ∙ append-nil (parts ++ [] ++ [] ++ []) ∙ append-nil (parts ++ [] ++ []) ∙ append-nil (parts ++ []) ∙ append-nil parts
 
@@ -104,23 +107,23 @@ module _ (settings : Settings) (r : Run) where
 
   pub of_event : (line : ScriptLine) (e : At) → event_by line ≡ Some e → IsOfEvent settings r line e
   of_event (Deliver p from to place) e same = same_event (Deliver p from to place) (record { partition = p; event = event.Deliver from to place }) e same
-      (record { after = refl; outcome = λ next. refl; prints = λ next. record { goes = refl; close = refl; dump = refl; links = refl; printed = refl }; unasked = refl; within = λ members size h. (let low = h.0 in omega (arith, low)) })
+      (record { after = refl; outcome = λ next. refl; prints = λ next. record { goes = refl; said = refl; close = refl; dump = refl; links = refl; printed = refl }; unasked = refl; within = λ members size h. (let low = h.0 in omega (arith, low)) })
   of_event (Lose p from to place) e same = same_event (Lose p from to place) (record { partition = p; event = event.Lose from to place }) e same
-      (record { after = refl; outcome = λ next. refl; prints = λ next. record { goes = refl; close = refl; dump = refl; links = refl; printed = refl }; unasked = refl; within = λ members size h. (let low = h.0 in omega (arith, low)) })
+      (record { after = refl; outcome = λ next. refl; prints = λ next. record { goes = refl; said = refl; close = refl; dump = refl; links = refl; printed = refl }; unasked = refl; within = λ members size h. (let low = h.0 in omega (arith, low)) })
   of_event (Repeat p from to place) e same = same_event (Repeat p from to place) (record { partition = p; event = event.Repeat from to place }) e same
-      (record { after = refl; outcome = λ next. refl; prints = λ next. record { goes = refl; close = refl; dump = refl; links = refl; printed = refl }; unasked = refl; within = λ members size h. (let low = h.0 in omega (arith, low)) })
+      (record { after = refl; outcome = λ next. refl; prints = λ next. record { goes = refl; said = refl; close = refl; dump = refl; links = refl; printed = refl }; unasked = refl; within = λ members size h. (let low = h.0 in omega (arith, low)) })
   of_event (Resend p end) e same = same_event (Resend p end) (record { partition = p; event = event.Resend end }) e same
-      (record { after = refl; outcome = λ next. refl; prints = λ next. record { goes = refl; close = refl; dump = refl; links = refl; printed = refl }; unasked = refl; within = λ members size h. (let low = h.0 in omega (arith, low)) })
+      (record { after = refl; outcome = λ next. refl; prints = λ next. record { goes = refl; said = refl; close = refl; dump = refl; links = refl; printed = refl }; unasked = refl; within = λ members size h. (let low = h.0 in omega (arith, low)) })
   of_event (Move p from to) e same = same_event (Move p from to) (record { partition = p; event = event.BeginMove from to }) e same
-      (record { after = refl; outcome = λ next. refl; prints = λ next. record { goes = refl; close = refl; dump = refl; links = refl; printed = refl }; unasked = refl; within = λ members size h. (let low = h.0 in omega (arith, low)) })
+      (record { after = refl; outcome = λ next. refl; prints = λ next. record { goes = refl; said = refl; close = refl; dump = refl; links = refl; printed = refl }; unasked = refl; within = λ members size h. (let low = h.0 in omega (arith, low)) })
   of_event (Join p to) e same = same_event (Join p to) (record { partition = p; event = event.BeginJoin to }) e same
-      (record { after = refl; outcome = λ next. refl; prints = λ next. record { goes = refl; close = refl; dump = refl; links = refl; printed = refl }; unasked = refl; within = λ members size h. (let low = h.0 in omega (arith, low)) })
+      (record { after = refl; outcome = λ next. refl; prints = λ next. record { goes = refl; said = refl; close = refl; dump = refl; links = refl; printed = refl }; unasked = refl; within = λ members size h. (let low = h.0 in omega (arith, low)) })
   of_event (Handover p from to) e same = same_event (Handover p from to) (record { partition = p; event = event.BeginHandover from to }) e same
-      (record { after = refl; outcome = λ next. refl; prints = λ next. record { goes = refl; close = refl; dump = refl; links = refl; printed = refl }; unasked = refl; within = λ members size h. (let low = h.0 in omega (arith, low)) })
+      (record { after = refl; outcome = λ next. refl; prints = λ next. record { goes = refl; said = refl; close = refl; dump = refl; links = refl; printed = refl }; unasked = refl; within = λ members size h. (let low = h.0 in omega (arith, low)) })
   of_event (Advance p) e same = same_event (Advance p) (record { partition = p; event = event.Advance }) e same
-      (record { after = refl; outcome = λ next. refl; prints = λ next. record { goes = refl; close = refl; dump = refl; links = refl; printed = refl }; unasked = refl; within = λ members size h. omega (arith, h) })
+      (record { after = refl; outcome = λ next. refl; prints = λ next. record { goes = refl; said = refl; close = refl; dump = refl; links = refl; printed = refl }; unasked = refl; within = λ members size h. omega (arith, h) })
   of_event (Reopen p) e same = same_event (Reopen p) (record { partition = p; event = event.Reopen }) e same
-      (record { after = refl; outcome = λ next. refl; prints = λ next. record { goes = refl; close = refl; dump = refl; links = refl; printed = refl }; unasked = refl; within = λ members size h. omega (arith, h) })
+      (record { after = refl; outcome = λ next. refl; prints = λ next. record { goes = refl; said = refl; close = refl; dump = refl; links = refl; printed = refl }; unasked = refl; within = λ members size h. omega (arith, h) })
   of_event (Begin members backups capacity) e same = absurd cc
   of_event (OpenConn c member) e same = absurd cc
   of_event (Arrive c bytes) e same = absurd cc
@@ -129,6 +132,7 @@ module _ (settings : Settings) (r : Run) where
   of_event (FlowAll most) e same = absurd cc
   of_event (Crash member) e same = absurd cc
   of_event (Detect member) e same = absurd cc
+  of_event (Rebalance most) e same = absurd cc
   of_event (Dump p member) e same = absurd cc
   of_event (Links p) e same = absurd cc
   of_event (Trail p) e same = absurd cc
@@ -141,10 +145,10 @@ module _ (settings : Settings) (r : Run) where
   -- flows
 
   pub flow_prints : (next : Run) (p most : ℕ) → PrintsMessages settings r next (Flow p most)
-  flow_prints next p most = record { goes = refl; close = refl; dump = refl; links = refl; printed = refl }
+  flow_prints next p most = record { goes = refl; said = refl; close = refl; dump = refl; links = refl; printed = refl }
 
   pub flow_all_prints : (next : Run) (most : ℕ) → PrintsMessages settings r next (FlowAll most)
-  flow_all_prints next most = record { goes = refl; close = refl; dump = refl; links = refl; printed = refl }
+  flow_all_prints next most = record { goes = refl; said = refl; close = refl; dump = refl; links = refl; printed = refl }
 
   -- Each delivery is an event.
   pub flow_outcome : (next : Run) (number deliveries : ℕ) → number ≡ next.lines → length next.events ≡ length r.events + deliveries → flow_text number deliveries ≡ flow_text next.lines (length (new_events r next))
@@ -160,5 +164,5 @@ module _ (settings : Settings) (r : Run) where
     pub prints : (next : Run) → PrintsMessages settings r next (line_of_fate f)
 
   pub of_fate : (f : Fate) → IsOfFate f
-  of_fate (fate.Crash member) = record { after = refl; outcome = λ next. refl; prints = λ next. record { goes = refl; close = refl; dump = refl; links = refl; printed = refl } }
-  of_fate (fate.Detect member) = record { after = refl; outcome = λ next. refl; prints = λ next. record { goes = refl; close = refl; dump = refl; links = refl; printed = refl } }
+  of_fate (fate.Crash member) = record { after = refl; outcome = λ next. refl; prints = λ next. record { goes = refl; said = refl; close = refl; dump = refl; links = refl; printed = refl } }
+  of_fate (fate.Detect member) = record { after = refl; outcome = λ next. refl; prints = λ next. record { goes = refl; said = refl; close = refl; dump = refl; links = refl; printed = refl } }

@@ -15,8 +15,9 @@ use Rattle.replay_run.specs.declared.grid.Grid.{Grid}
 use Rattle.call_engine.specs.Calls.{Settings}
 use Rattle.call_engine.specs.Env.{settings_of}
 use Rattle.call_engine.specs.Objects.{partition_object}
-use Rattle.replay_run.specs.Runs.{Run, Connection, is_connection, connection_of, fault_on, messages_on, with_bytes, took_bytes, opened, next_line, clock_set, can_open, takes_bytes, after_line}
-use Rattle.replay_run.specs.Printing.{ok_text, nothing_text, close_text, outcome_text, does_nothing, line_close, line_dump, line_links, line_text, new_messages}
+use Rattle.replay_run.specs.Runs.{Run, Connection, is_connection, connection_of, fault_on, messages_on, with_bytes, took_bytes, opened, next_line, clock_set, can_open, takes_bytes}
+use Rattle.replay_run.specs.AfterLines.{after_line}
+use Rattle.replay_run.specs.Printing.{ok_text, nothing_text, close_text, outcome_text, does_nothing, line_close, line_dump, line_links, line_text, new_messages, line_messages}
 use Rattle.replay_run.specs.Skips.{AreOfLine}
 use Rattle.replay_run.specs.ScriptRuns.{line_counted, clock_was_set, connection_opened}
 use Rattle.replay_run.specs.Tables.{Table, most_connections, opened_at, with_opened, with_session}
@@ -115,14 +116,14 @@ module _ {V : Type 0} {T : V → Type 0} {form : FormOf V T} {settings : Setting
   }
 
   -- It prints its outcome, and what it dumps, the messages in flight and the entries.
-  pub counted_line : does_nothing (partition_object settings) r line ≡ false → line_close (next_line r) line ≡ []
+  pub counted_line : does_nothing (partition_object settings) r line ≡ false → line_messages settings r line (next_line r) ≡ texts_of (new_messages r (next_line r)) → line_close (next_line r) line ≡ []
       → text ≡ written ++ (outcome_text settings r line (next_line r) ++ line_dump (partition_object settings) (next_line r) line ++ line_links settings (next_line r) line ++ entries_text settings r (next_line r) line)
       → HasRun form settings new r line written text
-  counted_line goes open_still is = record {
+  counted_line goes said open_still is = record {
     skips = [];
     of_line = no_skips settings r line;
     stands = stands_after;
-    added = is ∙ ap (λ xs. written ++ xs) (sym (ap (λ (x : Run). line_text settings r line x) after ∙ text_without settings r (next_line r) line goes refl open_still));
+    added = is ∙ ap (λ xs. written ++ xs) (sym (ap (λ (x : Run). line_text settings r line x) after ∙ text_without settings r (next_line r) line goes said refl open_still));
   }
 
 -- `open`
@@ -162,7 +163,7 @@ opened_line {form = form} {settings = settings} grid new r number c member writt
     its_text : line_text settings r (OpenConn c member) (after_line (partition_object settings) [] r (OpenConn c member)) ≡ ok_text (r.lines + 1)
     its_text =
         ap (λ (x : Run). line_text settings r (OpenConn c member) x) after
-        ∙ text_without settings r (opened r c member) (OpenConn c member) (ap not can) refl refl
+        ∙ text_without settings r (opened r c member) (OpenConn c member) (ap not can) refl refl refl
         ∙ alone (ok_text (r.lines + 1))
 
 -- `clock`
@@ -214,7 +215,7 @@ module _ {V : Type 0} {T : V → Type 0} {form : FormOf V T} {settings : Setting
       reached = s.reached;
     };
     added = is ∙ ap (λ n. written ++ ok_text n) at_line
-        ∙ ap (λ xs. written ++ xs) (sym (text_without settings r clocked (Clock member moment) refl refl refl ∙ alone (ok_text (r.lines + 1))));
+        ∙ ap (λ xs. written ++ xs) (sym (text_without settings r clocked (Clock member moment) refl refl refl refl ∙ alone (ok_text (r.lines + 1))));
   }
 
 -- bytes where none can arrive

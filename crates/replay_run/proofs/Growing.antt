@@ -12,8 +12,12 @@ use Rattle.partition_protocol.proofs.Lists.{on_if}
 use Rattle.session_core.specs.declared.item.Item.{Item}
 use Rattle.session_core.specs.declared.item.Item.TheVariants.{Call as Asks, Reply}
 use Rattle.script_lang.specs.declared.line.Line.{Line}
-use Rattle.script_lang.specs.declared.line.Line.TheVariants.{OpenConn, Arrive, Clock, Flow, FlowAll, Crash, Detect}
-use Rattle.replay_run.specs.Runs.{Run, At, Connection, Arrival, partitions, connection_of, takes_bytes, is_full, world_at, items_by, took_bytes, next_line, clock_set, can_open, opened, bytes_arrived, told, asked, asks, handled, handled_all, given_out, occurred, takes, takes_in, delivery_on, flowed, flowed_in, event_by, after_event, after_line, after_lines}
+use Rattle.script_lang.specs.declared.line.Line.TheVariants.{OpenConn, Arrive, Clock, Flow, FlowAll, Crash, Detect, Rebalance}
+use Rattle.replay_run.specs.Runs.{Run, At, Connection, Arrival, partitions, connection_of, takes_bytes, is_full, world_at, items_by, took_bytes, next_line, clock_set, can_open, opened, bytes_arrived, told, asked, asks, handled, handled_all, given_out, occurred, takes, takes_in, delivery_on, flowed, flowed_in, event_by}
+use Rattle.replay_run.specs.AfterLines.{after_event, after_line, after_lines}
+use Rattle.replay_run.specs.Rebalancing.{stepped, stepped_all, rebalanced}
+use Rattle.rebalance.specs.declared.Step.{Step}
+use Rattle.replay_run.proofs.Rebalanced.{step_keeps, steps_keep, rebalance_keeps}
 use Rattle.replay_run.proofs.EventRuns.{takes_keeps, takes_in_keeps, flowed_keeps, flowed_in_keeps, asks_full, handled_all_full}
 use Rattle.replay_run.proofs.Lines.{HasCome, asks_come, handled_all_come}
 
@@ -63,6 +67,15 @@ module _ {State : Type 0} (o : Object Request State) where
   flowed_in_grows : (r : Run) (most : ℕ) (ps : List ℕ) → Grows r (flowed_in o r most ps)
   flowed_in_grows r most ps = flowed_in_keeps o (Grows r) (λ x p l h. takes_on r x p (delivery_on l) h) r most ps (grows_refl r)
 
+  pub stepped_grows : (r : Run) (step : Step) → Grows r (stepped o r step)
+  stepped_grows r step = step_keeps o (Grows r) step (λ x event quiet h. takes_on r x step.partition event h) r (grows_refl r)
+
+  pub stepped_all_grows : (r : Run) (steps : List Step) → Grows r (stepped_all o r steps)
+  stepped_all_grows r steps = steps_keep o (Grows r) (λ x p event quiet h. takes_on r x p event h) steps r (grows_refl r)
+
+  rebalanced_grows : (r : Run) (most : ℕ) → Grows r (rebalanced o r most)
+  rebalanced_grows r most = rebalance_keeps o (Grows r) (λ x p event quiet h. takes_on r x p event h) r most (grows_refl r)
+
   event_grows : (r : Run) (e : Option At) → Grows r (after_event o r e)
   event_grows r None = grows_refl r
   event_grows r (Some e) = takes_grows r e.partition e.event
@@ -98,6 +111,7 @@ module _ {State : Type 0} (o : Object Request State) where
     line_grows r (FlowAll most) = counted r _ (flowed_in_grows (next_line r) most (numbers_below partitions))
     line_grows r (Crash member) = counted r _ (takes_in_grows (next_line r) (event.Crash member) (numbers_below partitions))
     line_grows r (Detect member) = counted r _ (takes_in_grows (next_line r) (event.Detect member) (numbers_below partitions))
+    line_grows r (Rebalance most) = counted r _ (rebalanced_grows (next_line r) most)
     line_grows r line = counted r _ (event_grows (next_line r) (event_by line))
 
     pub lines_grow : (r : Run) (lines : List Line) → Grows r (after_lines o skips r lines)

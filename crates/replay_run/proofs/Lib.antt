@@ -1,5 +1,6 @@
 pub mod Parts
 pub mod EventRuns
+pub mod Rebalanced
 pub mod Counts
 pub mod Releases
 pub mod Places
@@ -15,6 +16,8 @@ pub mod Refusals
 pub mod Reopenings
 pub mod Occurring
 pub mod RunsOfLines
+pub mod UndetectedRows
+pub mod Planning
 pub mod Lines
 pub mod Locality
 pub mod Linear
@@ -47,4 +50,5 @@ pub mod LinkTexts
 pub mod GridEvents
 pub mod Flowing
 pub mod EventLines
+pub mod RebalanceLine
 pub mod LineCases

@@ -18,6 +18,7 @@ use Rattle.replay_run.specs.ScriptRuns.{IsRun, IsNext}
 use Rattle.grid_base.specs.Limits.{CallFits}
 use Rattle.session_core.specs.declared.item.Item.{Item}
 use Rattle.session_core.specs.declared.item.Item.TheVariants.{Call as Asks, Reply}
+use Rattle.replay_run.specs.Rebalancing.{most_line_events}
 use Rattle.replay_run.specs.Grids.{FormOf, IsCounting, Holds, AreFew}
 use Rattle.replay_run.specs.WorldCalls.{texts_of, HasAsked, HasTold, HasRoom, Brings, HasHandledSome, IsGivenUpMidway}
 use Rattle.replay_run.proofs.Lines.{HasCome, asked_come, told_come}
@@ -102,7 +103,7 @@ pub record MayAskNext {V : Type 0} {T : V → Type 0} (form : FormOf V T) (setti
   pub reached : member < grid.members
   pub run : Run
   pub holds : Holds form settings grid run
-  pub room : length run.arrivals + 1001 * run.lines + 1 < 2 ^ 32 - 1
+  pub room : length run.arrivals + most_line_events * run.lines + 1 < 2 ^ 32 - 1
   pub is : IsRun (partition_object settings) run
   pub next : IsNext run q
   pub few : AreFew run
@@ -119,7 +120,7 @@ module _ {V : Type 0} {T : V → Type 0} {form : FormOf V T} {settings : Setting
   next_placed : q.partition < partitions
   next_placed = next_call.placed.within
 
-  next_room : HasRoom r k bytes → length so_far.now.arrivals + 1001 * so_far.now.lines + 1 < 2 ^ 32 - 1
+  next_room : HasRoom r k bytes → length so_far.now.arrivals + most_line_events * so_far.now.lines + 1 < 2 ^ 32 - 1
   next_room room =
       let come = midway_arrivals r brings.run k brings.there bytes done so_far.skips so_far.now so_far.midway in
       let line = (midway_come r brings.run k brings.there bytes done so_far.skips so_far.now so_far.midway).lines in

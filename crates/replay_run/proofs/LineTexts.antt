@@ -18,7 +18,7 @@ use Rattle.call_engine.specs.Changes.{change_of}
 use Rattle.call_engine.specs.Objects.{partition_object}
 use Rattle.object_store.specs.Partitions.{Partition}
 use Rattle.replay_run.specs.Runs.{Run, Appended, answer_to, connection_of, executed_for, is_open}
-use Rattle.replay_run.specs.Printing.{appended_text, entry_text, nothing_text, outcome_text, printed_by, does_nothing, line_close, line_dump, line_links, line_text, new_messages}
+use Rattle.replay_run.specs.Printing.{appended_text, entry_text, nothing_text, outcome_text, printed_by, does_nothing, line_close, line_dump, line_links, line_text, new_messages, line_messages}
 use Rattle.script_lang.specs.declared.line.Line.{Line}
 use Rattle.replay_run.specs.WorldCalls.{message_of, texts_of, is_own, going_out}
 
@@ -55,16 +55,16 @@ module _ (settings : Settings) (r next : Run) (line : Line) where
   entries_text = flat_map (entry_text next.lines) (printed_by (partition_object settings) next line)
 
   -- another line: its outcome, its messages, the connection that it closed, the objects that it dumps, the messages in flight, and its entries
-  pub text_with : (ms : List Appended) → does_nothing o r line ≡ false → next.appended ≡ r.appended ++ ms
+  pub text_with : (ms : List Appended) → does_nothing o r line ≡ false → line_messages settings r line next ≡ texts_of (new_messages r next) → next.appended ≡ r.appended ++ ms
       → line_text settings r line next ≡ outcome_text settings r line next ++ texts_of ms ++ line_close next line ++ line_dump o next line ++ line_links settings next line ++ entries_text
-  text_with ms goes e =
-      rw goes (ap (λ (xs : List Appended). outcome_text settings r line next ++ texts_of xs ++ line_close next line ++ line_dump o next line ++ line_links settings next line ++ entries_text) (new_with r next ms e))
+  text_with ms goes said e =
+      rw goes (ap (λ xs. outcome_text settings r line next ++ xs ++ line_close next line ++ line_dump o next line ++ line_links settings next line ++ entries_text) (said ∙ ap texts_of (new_with r next ms e)))
 
   -- a line that appends nothing and closes nothing
-  pub text_without : does_nothing o r line ≡ false → next.appended ≡ r.appended → line_close next line ≡ []
+  pub text_without : does_nothing o r line ≡ false → line_messages settings r line next ≡ texts_of (new_messages r next) → next.appended ≡ r.appended → line_close next line ≡ []
       → line_text settings r line next ≡ outcome_text settings r line next ++ line_dump o next line ++ line_links settings next line ++ entries_text
-  text_without goes e none =
-      text_with [] goes (e ∙ sym (append-nil r.appended))
+  text_without goes said e none =
+      text_with [] goes said (e ∙ sym (append-nil r.appended))
       ∙ ap (λ xs. outcome_text settings r line next ++ [] ++ xs ++ line_dump o next line ++ line_links settings next line ++ entries_text) none
       ∙ ap (λ xs. xs ++ line_dump o next line ++ line_links settings next line ++ entries_text) (append-nil (outcome_text settings r line next ++ []) ∙ append-nil (outcome_text settings r line next))
 

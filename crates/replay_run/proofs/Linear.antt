@@ -18,7 +18,8 @@ use Rattle.call_engine.specs.Objects.{one_object, partition_object}
 use Rattle.object_store.specs.Partitions.{Partition, nothing_stored}
 use Rattle.object_store.specs.Records.{nothing_of}
 use Rattle.object_store.proofs.PartitionLaws.{record_at-nothing}
-use Rattle.replay_run.specs.Runs.{Run, begun, Arrival, Appended, reopened_at, world_at, after_lines, partitions}
+use Rattle.replay_run.specs.Runs.{Run, begun, Arrival, Appended, reopened_at, world_at, partitions}
+use Rattle.replay_run.specs.AfterLines.{after_lines}
 use Rattle.replay_run.specs.Printing.{PrintedCall, PrintedReset, Printed, Call, Reset, entries_of, all_entries, printed_from, arrival_of, is_answer_to, answer_of}
 use Rattle.replay_run.specs.Linearizability.{GridObject, is_on, is_of, history_of, Before, IsLegal, reset_lines, IsOf, Fits, IsLinearizable, EveryRunIsLinearizable}
 use Rattle.replay_run.proofs.Parts.{subsequence_part, before_first, before_second, part_filter, before_part, named_apart, in_filter, in_filtered}

@@ -15,9 +15,10 @@ use Rattle.partition_protocol.proofs.Extends.{front_trans, same}
 use Rattle.session_core.specs.declared.item.Item.{Item}
 use Rattle.session_core.specs.declared.item.Item.TheVariants.{Call as Asks, Reply}
 use Rattle.script_lang.specs.declared.line.Line.{Line}
-use Rattle.script_lang.specs.declared.line.Line.TheVariants.{OpenConn, Arrive, Clock, Deliver, Lose, Repeat, Flow, FlowAll, Resend, Crash, Detect, Move, Join, Handover, Advance, Reopen}
+use Rattle.script_lang.specs.declared.line.Line.TheVariants.{OpenConn, Arrive, Clock, Deliver, Lose, Repeat, Flow, FlowAll, Resend, Crash, Detect, Move, Join, Handover, Advance, Reopen, Rebalance}
 use Rattle.object_store.specs.Partitions.{Partition}
-use Rattle.replay_run.specs.Runs.{Run, Connection, Arrival, At, Appended, partitions, is_connection, connection_of, messages_on, world_at, lives, takes_bytes, is_full, with_bytes, took_bytes, moment_of, items_by, own_answer, told, refusal, arrival_at, happening, arrived, is_skipped, given_up, asked, asks, handled_all, opened, next_line, bytes_arrived, event_by, after_event, after_line, after_lines}
+use Rattle.replay_run.specs.Runs.{Run, Connection, Arrival, At, Appended, partitions, is_connection, connection_of, messages_on, world_at, lives, takes_bytes, is_full, with_bytes, took_bytes, moment_of, items_by, own_answer, told, refusal, arrival_at, happening, arrived, is_skipped, given_up, asked, asks, handled_all, opened, next_line, bytes_arrived, event_by}
+use Rattle.replay_run.specs.AfterLines.{after_event, after_line, after_lines}
 use Rattle.replay_run.specs.ScriptRuns.{IsPlaced, MayAsk, IsNext, IsRun, line_counted, clock_was_set, connection_opened, bytes_taken, answer_told, call_arrived, run_given_up, call_asked}
 use Rattle.replay_run.specs.WorldCalls.{arrival_to}
 use Rattle.replay_run.proofs.Items.{AreNumbered, numbered_front, items_room}
@@ -26,6 +27,7 @@ use Rattle.replay_run.proofs.Trails.{find_some}
 use Rattle.replay_run.proofs.RunFacts.{RunOk}
 use Rattle.replay_run.proofs.Arriving.{same_test, in_place, updated_found, its_event}
 use Rattle.replay_run.proofs.RunsOfLines.{run_ok}
+use Rattle.replay_run.proofs.Rebalanced.{rebalanced_run}
 use Rattle.replay_run.proofs.EventRuns.{takes_run, takes_in_run, flowed_run, flowed_in_run}
 
 -- a connection that is found has the number that was looked for
@@ -251,6 +253,7 @@ module _ {o : Object Request Partition} (skips : List CallId) (r : Run) (is : Is
   line_run (FlowAll most) = flowed_in_run (next_line r) most (numbers_below partitions) (line_counted r is)
   line_run (Crash member) = takes_in_run (next_line r) (event.Crash member) (numbers_below partitions) (line_counted r is) refl
   line_run (Detect member) = takes_in_run (next_line r) (event.Detect member) (numbers_below partitions) (line_counted r is) refl
+  line_run (Rebalance most) = rebalanced_run (next_line r) most (line_counted r is)
   line_run line = event_run (event_by line) (events_are_no_calls line)
 
 pub lines_run : {o : Object Request Partition} (skips : List CallId) (r : Run) (lines : List Line) → IsRun o r → IsRun o (after_lines o skips r lines)

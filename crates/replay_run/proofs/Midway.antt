@@ -8,7 +8,8 @@ use Rattle.session_core.specs.declared.item.Item.{Item}
 use Rattle.session_core.specs.declared.item.Item.TheVariants.{Call as Asks, Reply}
 use Rattle.script_lang.specs.declared.line.Line.TheVariants.{Arrive}
 use Rattle.object_store.specs.Partitions.{Partition}
-use Rattle.replay_run.specs.Runs.{Run, Connection, connection_of, world_at, takes_bytes, is_full, messages_on, bytes_of, moment_of, with_bytes, took_bytes, items_by, arrival_at, is_skipped, told, asked, asks, handled_all, next_line, after_line}
+use Rattle.replay_run.specs.Runs.{Run, Connection, connection_of, world_at, takes_bytes, is_full, messages_on, bytes_of, moment_of, with_bytes, took_bytes, items_by, arrival_at, is_skipped, told, asked, asks, handled_all, next_line}
+use Rattle.replay_run.specs.AfterLines.{after_line}
 use Rattle.replay_run.specs.Printing.{does_nothing}
 use Rattle.replay_run.specs.Skips.{AreOfLine, items_at, calls_at}
 use Rattle.replay_run.specs.ScriptRuns.{MayAsk, IsNext, IsRun, IsMidway, answer_told, call_asked, calls_in}

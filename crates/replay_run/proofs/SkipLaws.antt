@@ -11,12 +11,15 @@ use Rattle.partition_protocol.proofs.RowFacts.{false_or_not}
 use Rattle.session_core.specs.declared.item.Item.{Item}
 use Rattle.session_core.specs.declared.item.Item.TheVariants.{Call as Asks, Reply}
 use Rattle.script_lang.specs.declared.line.Line.{Line}
-use Rattle.script_lang.specs.declared.line.Line.TheVariants.{OpenConn, Arrive, Clock, Flow, FlowAll, Crash, Detect}
+use Rattle.script_lang.specs.declared.line.Line.TheVariants.{OpenConn, Arrive, Clock, Flow, FlowAll, Crash, Detect, Rebalance}
 use Rattle.object_store.specs.Partitions.{Partition}
-use Rattle.replay_run.specs.Runs.{Run, At, Connection, Arrival, partitions, connection_of, world_at, takes_bytes, is_full, items_by, moment_of, took_bytes, next_line, clock_set, can_open, event_by, after_event, after_line, bytes_arrived, told, arrived, given_up, asked, asks, takes_in, flowed, flowed_in, handled, handled_all, arrival_at, is_skipped, opened}
+use Rattle.replay_run.specs.Runs.{Run, At, Connection, Arrival, partitions, connection_of, world_at, takes_bytes, is_full, items_by, moment_of, took_bytes, next_line, clock_set, can_open, event_by, bytes_arrived, told, arrived, given_up, asked, asks, takes_in, flowed, flowed_in, handled, handled_all, arrival_at, is_skipped, opened}
+use Rattle.replay_run.specs.AfterLines.{after_event, after_line}
 use Rattle.replay_run.specs.ScriptRuns.{calls_in}
 use Rattle.replay_run.specs.Skips.{items_at, calls_at}
 use Rattle.replay_run.proofs.Places.{same_call}
+use Rattle.replay_run.specs.Rebalancing.{rebalanced}
+use Rattle.replay_run.proofs.Rebalanced.{rebalanced_kept}
 use Rattle.replay_run.proofs.EventRuns.{Kept, kept_refl, takes_kept, takes_in_kept, flowed_kept, flowed_in_kept}
 use Rattle.replay_run.proofs.Lines.{all_arriving, handled_all_come}
 
@@ -131,4 +134,5 @@ line_counts o k r (Flow partition most) = kept_counts r (flowed o (next_line r) 
 line_counts o k r (FlowAll most) = kept_counts r (flowed_in o (next_line r) most (numbers_below partitions)) (flowed_in_kept o (next_line r) most (numbers_below partitions))
 line_counts o k r (Crash member) = kept_counts r (takes_in o (next_line r) (event.Crash member) (numbers_below partitions)) (takes_in_kept o (next_line r) (event.Crash member) (numbers_below partitions))
 line_counts o k r (Detect member) = kept_counts r (takes_in o (next_line r) (event.Detect member) (numbers_below partitions)) (takes_in_kept o (next_line r) (event.Detect member) (numbers_below partitions))
+line_counts o k r (Rebalance most) = kept_counts r (rebalanced o (next_line r) most) (rebalanced_kept o (next_line r) most)
 line_counts o k r line = kept_counts r (after_event o (next_line r) (event_by line)) (event_kept o (next_line r) (event_by line))

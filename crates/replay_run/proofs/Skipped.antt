@@ -13,7 +13,8 @@ use Rattle.session_core.specs.declared.item.Item.TheVariants.{Call as Asks, Repl
 use Rattle.call_engine.specs.Objects.{partition_object}
 use Rattle.script_lang.specs.declared.line.Line.{Line}
 use Rattle.script_lang.specs.declared.line.Line.TheVariants.{Arrive}
-use Rattle.replay_run.specs.Runs.{Run, Connection, Arrival, Appended, begun, connection_of, world_at, takes_bytes, is_full, is_skipped, items_by, took_bytes, next_line, told, refusal, happening, arrived, given_up, asked, asks, arrival_at, handled_all, after_line, after_lines}
+use Rattle.replay_run.specs.Runs.{Run, Connection, Arrival, Appended, begun, connection_of, world_at, takes_bytes, is_full, is_skipped, items_by, took_bytes, next_line, told, refusal, happening, arrived, given_up, asked, asks, arrival_at, handled_all}
+use Rattle.replay_run.specs.AfterLines.{after_line, after_lines}
 use Rattle.replay_run.specs.SkippedCalls.{IsTold, TellsOfSkips, TellsOfNoSkip, EverySkippedCallIsTold, EveryRunThatTellsOfNoSkipHasNone}
 use Rattle.replay_run.proofs.Arriving.{its_event}
 use Rattle.replay_run.proofs.EventRuns.{asks_here}

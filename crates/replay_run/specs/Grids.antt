@@ -21,7 +21,9 @@ use Rattle.call_engine.specs.Env.{settings_of}
 use Rattle.call_engine.specs.Limits.{RequestFits}
 use Rattle.call_engine.specs.Objects.{partition_object}
 use Rattle.partition_world.specs.LinkOrder.{links_of}
-use Rattle.replay_run.specs.Runs.{Run, Connection, Arrival, Appended, partitions, connection_of, messages_on, bytes_of, events_at, after_line}
+use Rattle.replay_run.specs.Runs.{Run, Connection, Arrival, Appended, partitions, connection_of, messages_on, bytes_of, events_at}
+use Rattle.replay_run.specs.AfterLines.{after_line}
+use Rattle.replay_run.specs.Rebalancing.{most_line_events}
 use Rattle.replay_run.specs.Shelves.{grid_meaning}
 use Rattle.replay_run.specs.Printing.{arrival_of, answer_of, line_text}
 use Rattle.replay_run.specs.ScriptRuns.{IsRun}
@@ -109,9 +111,9 @@ pub record Holds {V : Type 0} {T : V → Type 0} (form : FormOf V T) (settings :
 abbrev pub IsSmall : Run → Type 0
 IsSmall r = 2 * bytes_of r ≤ most_line_bytes * r.lines
 
--- No partition has more events than there were calls, and 1,001 for each line.
+-- No partition has more events than there were calls, and 5,014 for each line. Those of 200,000 lines are 1,002,800,000, and the calls of as many lines of 65,536 bytes stay below 300,000,000: four bytes count both.
 abbrev pub AreFew : Run → Type 0
-AreFew r = (p : ℕ) → length (events_at p r.events) ≤ length r.arrivals + 1001 * r.lines
+AreFew r = (p : ℕ) → length (events_at p r.events) ≤ length r.arrivals + most_line_events * r.lines
 
 -- Each connection is to a member of the grid.
 abbrev pub AreReached : Run → Type 0

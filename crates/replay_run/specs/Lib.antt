@@ -1,8 +1,12 @@
+pub mod AfterLines
+pub mod Appending
 pub mod Dumps
 pub mod Grids
 pub mod Linearizability
 pub mod PrintedEntries
 pub mod Printing
+pub mod Rebalancing
+pub mod RebalancingTexts
 pub mod Runs
 pub mod ScriptRuns
 pub mod Shelves

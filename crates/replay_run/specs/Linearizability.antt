@@ -8,7 +8,8 @@ use Rattle.grid_base.specs.declared.calls.Request.{Request}
 use Rattle.call_engine.specs.Calls.{Settings}
 use Rattle.call_engine.specs.Objects.{target_of, one_object, partition_object}
 use Rattle.replay_run.specs.ScriptRuns.{home}
-use Rattle.replay_run.specs.Runs.{Run, Arrival, Appended, partitions, reopened_at, begun, after_lines}
+use Rattle.replay_run.specs.Runs.{Run, Arrival, Appended, partitions, reopened_at, begun}
+use Rattle.replay_run.specs.AfterLines.{after_lines}
 use Rattle.replay_run.specs.Printing.{PrintedCall, PrintedReset, Printed, Call, Reset, printed_by}
 use Rattle.script_lang.specs.declared.line.Line.{Line}
 use Rattle.script_lang.specs.declared.line.Line.TheVariants.{Trail, End}

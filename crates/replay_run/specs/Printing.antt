@@ -26,13 +26,16 @@ use Rattle.object_store.specs.Partitions.{Partition}
 use Rattle.partition_world.specs.ContentsOf.{pair_at, contents_at}
 use Rattle.partition_world.specs.Sending.{flying}
 use Rattle.replay_run.specs.Dumps.{word, number, line_end, hex_word, number_or_dash, object_words, dumped_text}
+pub use Rattle.replay_run.specs.Appending.{appended_text, new_messages}
+use Rattle.replay_run.specs.Rebalancing.{plan_in, steps_in}
+use Rattle.replay_run.specs.RebalancingTexts.{plan_text, ran_texts}
 use Rattle.partition_world.specs.Answers.{id_of}
 use Rattle.partition_world.specs.LinkOrder.{links_of}
-use Rattle.replay_run.specs.Runs.{Run, Connection, Arrival, Appended, At, partitions, reopened_at, world_at, connection_of, fault_on, can_open, takes_bytes, event_by}
+use Rattle.replay_run.specs.Runs.{Run, Connection, Arrival, Appended, At, partitions, reopened_at, world_at, connection_of, fault_on, can_open, takes_bytes, next_line, event_by}
 use Rattle.replay_run.specs.Shelves.{grid_meaning}
 use Rattle.partition_world.specs.declared.Link.{Link}
 use Rattle.script_lang.specs.declared.line.Line.{Line}
-use Rattle.script_lang.specs.declared.line.Line.TheVariants.{Grid, OpenConn, Arrive, Flow, FlowAll, Crash, Detect, Dump, Links, Trail, End}
+use Rattle.script_lang.specs.declared.line.Line.TheVariants.{Grid, OpenConn, Arrive, Flow, FlowAll, Crash, Detect, Rebalance, Dump, Links, Trail, End}
 use Rattle.frame_codec.specs.declared.malformed.Malformed.{Malformed}
 use Rattle.frame_codec.specs.declared.malformed.Why.{Why}
 use Rattle.frame_codec.specs.declared.malformed.Why.TheVariants.{Prefix, TooShort, TooLong, BadFragment, OpenFragments, ManyFrames, LongMessage, ShortStart, Spent}
@@ -106,10 +109,6 @@ all_entries o r = flat_map (entries_of o r) (numbers_below partitions)
 abbrev pub ok_text : ℕ → List ℕ
 ok_text line = number line ++ codes "ok" ++ line_end
 
--- `I to C HEX`
-abbrev pub appended_text : Appended → List ℕ
-appended_text m = number m.line ++ codes "to " ++ number m.conn ++ encode_lower m.bytes ++ line_end
-
 abbrev pub map_call_name : MapCall → List ℕ
 map_call_name (Put name key owner value ttl) = codes "put"
 map_call_name (Set name key owner value ttl) = codes "set"
@@ -148,10 +147,6 @@ entry_text line (Call e) =
     ++ number e.arrived ++ number_or_dash e.answered ++ number e.now
     ++ word (call_name e.request.call) ++ object_words (target_of e.request) ++ hex_word e.reply ++ line_end
 entry_text line (Reset e) = number line ++ codes "entry " ++ number e.partition ++ number e.place ++ codes "- - " ++ number e.line ++ codes "- - reset - - -" ++ line_end
-
--- what was appended at the last line
-abbrev pub new_messages : Run → Run → List Appended
-new_messages before after = drop (length before.appended) after.appended
 
 -- the word of a fault
 abbrev pub fault_word : Why → List ℕ
@@ -309,7 +304,13 @@ outcome_text settings before (Flow p most) after = flow_text after.lines (length
 outcome_text settings before (FlowAll most) after = flow_text after.lines (length (new_events before after))
 outcome_text settings before (Crash member) after = fate_text settings before after.lines (event.Crash member)
 outcome_text settings before (Detect member) after = fate_text settings before after.lines (event.Detect member)
+outcome_text settings before (Rebalance most) after = plan_text after.lines (plan_in (partition_object settings) (next_line before))
 outcome_text settings before line after = event_text settings before after.lines (event_by line)
+
+-- Each message that a line appended follows its outcome; where the line runs steps, each step ends with a line of its own.
+abbrev pub line_messages : Settings → Run → Line → Run → List ℕ
+line_messages settings before (Rebalance most) after = ran_texts (partition_object settings) (next_line before) (steps_in (partition_object settings) (next_line before) most)
+line_messages settings before line after = flat_map appended_text (new_messages before after)
 
 -- the fault of a connection, which closes it
 abbrev pub closing_text : ℕ → ℕ → Option Connection → List ℕ
@@ -326,10 +327,10 @@ abbrev pub line_dump : Object Request Partition → Run → Line → List ℕ
 line_dump o after (Dump p member) = dumped_text after.lines (contents_at o (world_at o after p) member)
 line_dump o after line = []
 
--- The text of a line: its outcome, then each message that it appended, the connection that it closed, the objects that it dumps, the messages in flight and the entries that it prints.
+-- The text of a line: its outcome, then its messages, the connection that it closed, the objects that it dumps, the messages in flight and the entries that it prints.
 abbrev pub line_text : Settings → Run → Line → Run → List ℕ
 line_text settings before line after =
     let o = partition_object settings in
     if does_nothing o before line then nothing_text after.lines
-    else outcome_text settings before line after ++ flat_map appended_text (new_messages before after) ++ line_close after line ++ line_dump o after line
+    else outcome_text settings before line after ++ line_messages settings before line after ++ line_close after line ++ line_dump o after line
     ++ line_links settings after line ++ flat_map (entry_text after.lines) (printed_by o after line)

@@ -12,7 +12,6 @@ use Rattle.grid_base.specs.declared.calls.Request.{Request}
 use Rattle.partition_protocol.specs.Node.{Held}
 use Rattle.partition_protocol.specs.History.{Executed}
 use Rattle.partition_protocol.specs.Execution.{Reached, Executes, PartitionLost, WrongTarget, Migrating}
-use Rattle.partition_protocol.specs.Service.{numbers_below}
 use Rattle.partition_protocol.specs.World.{World, start, is_live}
 use Rattle.partition_protocol.specs.Events.{Event, Call, Outcome, Refused, RowMadeAt, happens, run}
 use Rattle.partition_protocol.specs.Events as event
@@ -24,7 +23,7 @@ use Rattle.session_core.specs.Items.{items_of}
 use Rattle.session_core.specs.declared.item.Item.{Item}
 use Rattle.session_core.specs.declared.item.Item.TheVariants.{Call as Asks, Reply}
 use Rattle.script_lang.specs.declared.line.Line.{Line}
-use Rattle.script_lang.specs.declared.line.Line.TheVariants.{OpenConn, Arrive, Clock, Deliver, Lose, Repeat, Flow, FlowAll, Resend, Crash, Detect, Move, Join, Handover, Advance, Reopen}
+use Rattle.script_lang.specs.declared.line.Line.TheVariants.{Deliver, Lose, Repeat, Resend, Move, Join, Handover, Advance, Reopen}
 use Rattle.partition_world.specs.declared.Link.{Link}
 
 -- a connection: its number, the member that it is to, and all the bytes that arrived on it, however they were cut
@@ -328,22 +327,3 @@ event_by (Handover partition from to) = at partition (event.BeginHandover from t
 event_by (Advance partition) = at partition event.Advance
 event_by (Reopen partition) = at partition event.Reopen
 event_by line = None
-
-abbrev pub after_event : {State : Type 0} → Object Request State → Run → Option At → Run
-after_event o r None = r
-after_event o r (Some e) = takes o r e.partition e.event
-
--- The run after a line. A connection is opened, or bytes arrive where one was. A clock is set. An event happens in a partition, or in each one. The other lines change nothing.
-abbrev pub after_line : {State : Type 0} → Object Request State → List CallId → Run → Line → Run
-after_line o skips r (OpenConn c member) = if can_open o r c member then opened r c member else next_line r
-after_line o skips r (Arrive c bytes) = elim (connection_of r c) [ None ↦ next_line r | Some connection ↦ bytes_arrived o skips r connection bytes ]
-after_line o skips r (Clock member moment) = clock_set r member moment
-after_line o skips r (Flow partition most) = flowed o (next_line r) partition most
-after_line o skips r (FlowAll most) = flowed_in o (next_line r) most (numbers_below partitions)
-after_line o skips r (Crash member) = takes_in o (next_line r) (event.Crash member) (numbers_below partitions)
-after_line o skips r (Detect member) = takes_in o (next_line r) (event.Detect member) (numbers_below partitions)
-after_line o skips r line = after_event o (next_line r) (event_by line)
-
-abbrev pub after_lines : {State : Type 0} → Object Request State → List CallId → Run → List Line → Run
-after_lines o skips r [] = r
-after_lines o skips r (line ∷ lines) = after_lines o skips (after_line o skips r line) lines

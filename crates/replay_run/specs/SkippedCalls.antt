@@ -5,7 +5,8 @@ use Rattle.grid_base.specs.Errors.{want_of_memory}
 use Rattle.grid_base.specs.declared.names.CallId.{CallId}
 use Rattle.call_engine.specs.Calls.{Settings}
 use Rattle.call_engine.specs.Objects.{partition_object}
-use Rattle.replay_run.specs.Runs.{Run, Arrival, Appended, begun, is_skipped, after_lines}
+use Rattle.replay_run.specs.Runs.{Run, Arrival, Appended, begun, is_skipped}
+use Rattle.replay_run.specs.AfterLines.{after_lines}
 use Rattle.script_lang.specs.declared.line.Line.{Line}
 
 -- The message refuses the call that arrived so, with error 10.

@@ -1,5 +1,5 @@
 -- What a call does to its partition's world, and the messages that it makes.
-use Rattle.std.specs.Prelude.{◌≡◌, ◌≢◌, ℕ, ◌+◌, ◌-◌, ◌*◌, ◌<◌, ◌^◌, ◌==◌, Bool, true, false, ◌||◌, if◌then◌else◌, is_none, option_and_then, pos, List, length, filter, [], ◌∷◌, ◌++◌, Option, Some, None, Contains}
+use Rattle.std.specs.Prelude.{◌≡◌, ◌≢◌, ℕ, ◌+◌, ◌-◌, ◌*◌, ◌<◌, ◌≤◌, ◌^◌, ◌==◌, Bool, true, false, ◌||◌, if◌then◌else◌, is_none, option_and_then, pos, List, length, filter, [], ◌∷◌, ◌++◌, Option, Some, None, Contains}
 use Rattle.std.specs.List.{flat_map}
 use Rattle.grid_base.specs.declared.names.CallId.{CallId}
 use Rattle.grid_base.specs.declared.calls.Request.{Request}
@@ -30,6 +30,10 @@ use Rattle.replay_run.specs.Runs.{Run, Connection, Arrival, Appended, partitions
 use Rattle.replay_run.specs.Printing.{appended_text, new_messages, outcome_at}
 use Rattle.replay_run.specs.ScriptRuns.{IsRun, IsMidway, calls_in}
 use Rattle.replay_run.specs.Tables.{Table, with_answer}
+use Rattle.rebalance.specs.declared.Step.{Step}
+use Rattle.rebalance.specs.Plans.{Planned}
+use Rattle.replay_run.specs.Rebalancing.{most_line_events, stepped_all, first_steps}
+use Rattle.replay_run.specs.RebalancingTexts.{ran_texts}
 use Rattle.replay_run.specs.Shelves.{grid_meaning}
 use Rattle.replay_run.specs.Grids.{FormOf, GridWorld, StandsForEvents, IsSettled, IsCounting, Holds}
 use Rattle.partition_protocol.specs.Recorded.{Recorded}
@@ -105,7 +109,7 @@ pub record HasTold {V : Type 0} {T : V → Type 0} (form : FormOf V T) (settings
 
 -- However many of the bytes' items are calls, no partition has more events than four bytes can count.
 abbrev pub HasRoom : Run → Connection → List ℕ → Type 0
-HasRoom r k bytes = length r.arrivals + length (items_by k bytes) + 1001 * (r.lines + 1) + 1 < 2 ^ 32 - 1
+HasRoom r k bytes = length r.arrivals + length (items_by k bytes) + most_line_events * (r.lines + 1) + 1 < 2 ^ 32 - 1
 
 -- the member of a connection, where bytes can arrive on it
 abbrev pub member_if_open : Settings → Run → Connection → Option ℕ
@@ -161,6 +165,7 @@ is_quiet (line.Flow partition most) = false
 is_quiet (line.FlowAll most) = false
 is_quiet (line.Crash member) = false
 is_quiet (line.Detect member) = false
+is_quiet (line.Rebalance most) = false
 is_quiet line = is_none (event_by line)
 
 -- A partition may have so many events more: four bytes count them.
@@ -195,3 +200,19 @@ pub record HasFlowed {V : Type 0} {T : V → Type 0} (form : FormOf V T) (settin
 pub record HasTakenInAll {V : Type 0} {T : V → Type 0} (form : FormOf V T) (settings : Settings) (new : Grid V T) (r : Run) (event : Event Request) (first : Happened) (written text : List ℕ) : Type 0 where
   pub on : HasGoneOn form settings new r (takes_in (partition_object settings) r event (numbers_below partitions)) written text
   pub outcome : happened_of first ≡ outcome_at (partition_object settings) r 0 event
+
+-- steps of a plan
+
+-- Each step is one of a later partition than the one before it, and its partition has room for its events.
+abbrev pub MayStep : Run → ℕ → List Step → Type 0
+MayStep r next [] = Unit {0}
+MayStep r next (step ∷ steps) = (next ≤ step.partition) × (step.partition < partitions) × HasRoomAt r step.partition most_line_events × MayStep r (step.partition + 1) steps
+
+-- There is nothing to run.
+abbrev pub HasNoSteps : Planned → Type 0
+HasNoSteps planned = (most : ℕ) → first_steps most planned ≡ []
+
+-- The steps were run, and what each appended was printed, and how it ended.
+pub record HasStepped {V : Type 0} {T : V → Type 0} (form : FormOf V T) (settings : Settings) (new : Grid V T) (r : Run) (steps : List Step) (written text : List ℕ) : Type 0 where
+  pub amid : IsAmid form settings new (stepped_all (partition_object settings) r steps)
+  pub added : text ≡ written ++ ran_texts (partition_object settings) r steps

@@ -13,6 +13,7 @@ ghost use Rattle.grid_base.specs.Shelves.{meaning};
 ghost use Rattle.partition_world.specs.Worlds.{steps_of, waiting};
 ghost use Rattle.replay_run.specs.Runs.{Run, Connection as RunConnection, partitions, call_of, refused_by, connection_of, is_open, is_full, world_at};
 ghost use Rattle.replay_run.specs.Printing.{appended_text};
+ghost use Rattle.replay_run.specs.Rebalancing.{most_line_events};
 ghost use Rattle.replay_run.specs.Tables.{with_answer};
 ghost use Rattle.replay_run.specs.ScriptRuns.{IsRun, IsNext};
 ghost use Rattle.replay_run.specs.Grids.{boxed, HasConnections, AreFew, Stands, StandsForEvents, Holds, IsCounting, MayRun, HasRun, IsGivenUp};
@@ -269,7 +270,7 @@ impl Grid {
         requires limits { CallFits request.call }
         requires placed { request.partition < partitions }
         requires member { member < self.old.members }
-        requires stands { (settings : Settings) × (r : Run) × Holds (boxed form) settings self.old r × (length r.arrivals + 1001 * r.lines + 1 < 2 ^ 32 - 1) × IsRun (partition_object settings) r × IsNext r request × AreFew r }
+        requires stands { (settings : Settings) × (r : Run) × Holds (boxed form) settings self.old r × (length r.arrivals + most_line_events * r.lines + 1 < 2 ^ 32 - 1) × IsRun (partition_object settings) r × IsNext r request × AreFew r }
         ensures ok { (settings : Settings) (r : Run) → IsRun (partition_object settings) r → Holds (boxed form) settings self.old r → IsNext r request → IsCounting self.old.connections r request.id.conn request.id.number
             → OnOk result (HasAsked (boxed form) settings self.new r member request out.old.items out.new.items) }
         ensures full { (settings : Settings) (r : Run) → Holds (boxed form) settings self.old r → IsErrOf result RunEnds.InFlight → is_full (world_at (partition_object settings) r request.partition) ≡ true }

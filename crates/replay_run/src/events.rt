@@ -152,7 +152,7 @@ fn taker_of(event: &Event<Request>) -> Option<MemberId>
 impl Grid {
     /// Runs an event of a partition that is no call, and appends the answers that it releases, where their connections
     /// are open. A full partition takes no event but a loss. After an error the grid is given up.
-    fn take(
+    pub(crate) fn take(
         &mut self,
         alloc: Global,
         partition: PartitionId,
@@ -230,7 +230,7 @@ impl Grid {
     }
 
     /// Delivers the first message in flight, up to so many times, and tells how often.
-    fn deliver_first(
+    pub(crate) fn deliver_first(
         &mut self,
         alloc: Global,
         partition: PartitionId,

@@ -90,7 +90,8 @@ impl Grid {
     /// length of each of its partition's links only while 65,400 messages or more are in flight on all of them together. A
     /// delivery costs in addition at most the length of its link; `flow` finds each in constant time, and the lines of all
     /// partitions cost a constant for each. The lines `dump` and `links` cost sorting and printing what their member keeps
-    /// of the partition, and printing the messages in flight. The line `trail` costs the entries of its partition's history,
+    /// of the partition, and printing the messages in flight. The line `rebalance` costs a pass over the partitions' rows, and
+    /// then the events of its steps. The line `trail` costs the entries of its partition's history,
     /// and the line `end` those of all.
     pub fn run_line(
         &mut self,
@@ -118,6 +119,7 @@ impl Grid {
             Line::FlowAll { most } => self.flow_all(alloc, number, *most, out),
             Line::Crash { member } => self.run_fate(alloc, number, Fate::Crash(*member), out),
             Line::Detect { member } => self.run_fate(alloc, number, Fate::Detect(*member), out),
+            Line::Rebalance { most } => self.rebalance(alloc, number, *most, out),
             _ => Ok(self.run_quiet_line(alloc, number, line, out)?),
         }
     }

@@ -12,6 +12,7 @@ mod laws;
 mod links;
 mod outcomes;
 mod print;
+mod rebalancing;
 mod reopened;
 mod run_end;
 

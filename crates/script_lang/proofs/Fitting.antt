@@ -6,7 +6,7 @@ use Rattle.script_lang.specs.Lines.{Range, range_of, number_value, hex_value, va
 use Rattle.script_lang.specs.Readings.{IsIn, Fits, Fit}
 use Rattle.script_lang.proofs.Steps.{both_read}
 use Rattle.script_lang.specs.declared.fields.Field.{Field}
-use Rattle.script_lang.specs.declared.fields.Field.TheVariants.{Members, Backups, Capacity, Connection, Member, LinkEnd, Partition, PartitionOrAll, Place, Moment, Deliveries, Entries, Amount, Hex as HexField}
+use Rattle.script_lang.specs.declared.fields.Field.TheVariants.{Members, Backups, Capacity, Connection, Member, LinkEnd, Partition, PartitionOrAll, Place, Moment, Deliveries, Steps, Entries, Amount, Hex as HexField}
 use Rattle.script_lang.specs.declared.reading.Value.{Value}
 use Rattle.script_lang.specs.declared.reading.Value.TheVariants as Values
 use Rattle.script_lang.specs.declared.refusal.LineWhy.{LineWhy}
@@ -79,6 +79,7 @@ Fits-value_of members Partition word value e = Fits-number members Partition wor
 Fits-value_of members Place word value e = Fits-number members Place word value (λ n is. is) e
 Fits-value_of members Moment word value e = Fits-number members Moment word value (λ n is. is) e
 Fits-value_of members Deliveries word value e = Fits-number members Deliveries word value (λ n is. is) e
+Fits-value_of members Steps word value e = Fits-number members Steps word value (λ n is. is) e
 Fits-value_of members Entries word value e = Fits-number members Entries word value (λ n is. is) e
 Fits-value_of members Amount word value e = Fits-number members Amount word value (λ n is. is) e
 

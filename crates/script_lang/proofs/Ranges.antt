@@ -16,7 +16,7 @@ use Rattle.script_lang.specs.declared.fields.Field.TheVariants.{Hex as HexField}
 use Rattle.script_lang.specs.declared.keywords.Keyword.{Keyword}
 use Rattle.script_lang.specs.declared.keywords.Keyword.TheVariants as Keywords
 use Rattle.script_lang.specs.declared.line.Line.{Line}
-use Rattle.script_lang.specs.declared.line.Line.TheVariants.{Grid, OpenConn, Arrive, Clock, Deliver, Lose, Repeat, Flow, FlowAll, Resend, Crash, Detect, Move, Join, Handover, Advance, Reopen, Dump, Links, Trail, End}
+use Rattle.script_lang.specs.declared.line.Line.TheVariants.{Grid, OpenConn, Arrive, Clock, Deliver, Lose, Repeat, Flow, FlowAll, Resend, Crash, Detect, Move, Join, Handover, Advance, Reopen, Rebalance, Dump, Links, Trail, End}
 use Rattle.script_lang.specs.declared.reading.Value.{Value}
 use Rattle.script_lang.specs.declared.reading.Value.TheVariants as Values
 use Rattle.script_lang.specs.declared.refusal.LineWhy.{LineWhy}
@@ -104,6 +104,8 @@ IsWithin-line_with members size Keywords.Advance (Values.Number partition ∷ []
     IsWithin-made members size (Advance partition) line e (fit.0.1)
 IsWithin-line_with members size Keywords.Reopen (Values.Number partition ∷ []) line some fit sized e =
     IsWithin-made members size (Reopen partition) line e (fit.0.1)
+IsWithin-line_with members size Keywords.Rebalance (Values.Number most ∷ []) line some fit sized e =
+    IsWithin-made members size (Rebalance most) line e (fit.0.1)
 IsWithin-line_with members size Keywords.Dump (Values.Number partition ∷ Values.Number member ∷ []) line some fit sized e =
     IsWithin-made members size (Dump partition member) line e (fit.0.1, omega (arith, fit.1.0.1, some refl))
 IsWithin-line_with members size Keywords.Links (Values.Number partition ∷ []) line some fit sized e =

@@ -12,7 +12,7 @@ use Rattle.script_lang.specs.declared.fields.Field.TheVariants.{Connection, Memb
 use Rattle.script_lang.specs.declared.keywords.Keyword.{Keyword}
 use Rattle.script_lang.specs.declared.keywords.Keyword.TheVariants as Keywords
 use Rattle.script_lang.specs.declared.line.Line.{Line}
-use Rattle.script_lang.specs.declared.line.Line.TheVariants.{Grid, OpenConn, Arrive, Clock, Deliver, Lose, Repeat, Flow, FlowAll, Resend, Crash, Detect, Move, Join, Handover, Advance, Reopen, Dump, Links, Trail, Comment, End}
+use Rattle.script_lang.specs.declared.line.Line.TheVariants.{Grid, OpenConn, Arrive, Clock, Deliver, Lose, Repeat, Flow, FlowAll, Resend, Crash, Detect, Move, Join, Handover, Advance, Reopen, Rebalance, Dump, Links, Trail, Comment, End}
 use Rattle.script_lang.specs.declared.reading.Value.{Value}
 use Rattle.script_lang.specs.declared.reading.Value.TheVariants as Values
 use Rattle.script_lang.specs.declared.refusal.LineWhy.{LineWhy}
@@ -137,6 +137,8 @@ read_again members (Advance partition) few brings within =
     numbers_again false members (codes "advance") Keywords.Advance (partition ∷ []) (Advance partition) refl refl (is_partition members partition within, tt) refl refl
 read_again members (Reopen partition) few brings within =
     numbers_again false members (codes "reopen") Keywords.Reopen (partition ∷ []) (Reopen partition) refl refl (is_partition members partition within, tt) refl refl
+read_again members (Rebalance most) few brings within =
+    numbers_again false members (codes "rebalance") Keywords.Rebalance (most ∷ []) (Rebalance most) refl refl ((tt, omega (arith, within), omega arith, within), tt) refl refl
 read_again members (Dump partition member) few brings within =
     numbers_again false members (codes "dump") Keywords.Dump (partition ∷ member ∷ []) (Dump partition member) refl refl (is_partition members partition within.0, (is_member members member few within.1, tt)) refl refl
 read_again members (Links partition) few brings within =

@@ -3,7 +3,7 @@ use Rattle.std.specs.Prelude.{◌≡◌, ℕ, true, false, List, [], ◌∷◌, 
 use Rattle.hex.specs.Hex.{decode_pairs}
 use Rattle.script_lang.specs.Lines.{line_of}
 use Rattle.script_lang.specs.declared.line.Line.{Line}
-use Rattle.script_lang.specs.declared.line.Line.TheVariants.{Grid, OpenConn, Arrive, Clock, Deliver, Lose, Repeat, Flow, FlowAll, Resend, Crash, Detect, Move, Join, Handover, Advance, Reopen, Dump, Links, Trail, Comment, End}
+use Rattle.script_lang.specs.declared.line.Line.TheVariants.{Grid, OpenConn, Arrive, Clock, Deliver, Lose, Repeat, Flow, FlowAll, Resend, Crash, Detect, Move, Join, Handover, Advance, Reopen, Rebalance, Dump, Links, Trail, Comment, End}
 use Rattle.script_lang.specs.declared.refusal.LineWhy.{LineWhy}
 use Rattle.script_lang.specs.declared.refusal.LineWhy.TheVariants.{Word, NoGrid, Count, Number, Hex, NotBuilt}
 
@@ -87,6 +87,12 @@ a_move_goes_on = refl
 a_partition_is_opened_again : line_of_three (codes "reopen 270") ≡ Ok (Reopen 270)
 a_partition_is_opened_again = refl
 
+primaries_are_planned : later_line (codes "rebalance 0") ≡ Ok (Rebalance 0)
+primaries_are_planned = refl
+
+primaries_are_dealt_out : later_line (codes "rebalance 271") ≡ Ok (Rebalance 271)
+primaries_are_dealt_out = refl
+
 a_part_is_printed : later_line (codes "dump 270 0") ≡ Ok (Dump 270 0)
 a_part_is_printed = refl
 
@@ -147,6 +153,9 @@ bytes_want_a_word = refl
 one_space_stands_between_words : later_line (codes "open  0 0") ≡ Err Count
 one_space_stands_between_words = refl
 
+a_plan_wants_its_steps : later_line (codes "rebalance") ≡ Err Count
+a_plan_wants_its_steps = refl
+
 -- then the words from left to right
 
 a_connection_is_below_64 : later_line (codes "open 64 0") ≡ Err Number
@@ -199,6 +208,12 @@ a_flow_makes_1000_deliveries_at_most = refl
 
 only_a_flow_goes_through_all : later_line (codes "trail all") ≡ Err Number
 only_a_flow_goes_through_all = refl
+
+a_plan_has_271_steps_at_most : later_line (codes "rebalance 272") ≡ Err Number
+a_plan_has_271_steps_at_most = refl
+
+steps_are_numbered : later_line (codes "rebalance all") ≡ Err Number
+steps_are_numbered = refl
 
 a_place_has_64_bits : later_line (codes "lose 0 0 1 18446744073709551616") ≡ Err Number
 a_place_has_64_bits = refl

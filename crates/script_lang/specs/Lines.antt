@@ -3,13 +3,13 @@ use Rattle.std.specs.Prelude.{ℕ, ◌-◌, ◌*◌, ◌==◌, ◌&&◌, ◌<◌
 use Rattle.std.specs.List.{find}
 use Rattle.script_lang.specs.Words.{are_same, words_of, number_within, bytes_of}
 use Rattle.script_lang.specs.declared.fields.Field.{Field}
-use Rattle.script_lang.specs.declared.fields.Field.TheVariants.{Members, Backups, Capacity, Connection, Member, LinkEnd, Partition, PartitionOrAll, Place, Moment, Deliveries, Entries, Amount, Hex as HexField}
+use Rattle.script_lang.specs.declared.fields.Field.TheVariants.{Members, Backups, Capacity, Connection, Member, LinkEnd, Partition, PartitionOrAll, Place, Moment, Deliveries, Steps, Entries, Amount, Hex as HexField}
 use Rattle.script_lang.specs.declared.keywords.Keyword.{Keyword}
 use Rattle.script_lang.specs.declared.keywords.Keyword.TheVariants as Keywords
 use Rattle.script_lang.specs.declared.reading.Value.{Value}
 use Rattle.script_lang.specs.declared.reading.Value.TheVariants as Values
 use Rattle.script_lang.specs.declared.line.Line.{Line}
-use Rattle.script_lang.specs.declared.line.Line.TheVariants.{Grid, OpenConn, Arrive, Clock, Deliver, Lose, Repeat, Flow, FlowAll, Resend, Crash, Detect, Move, Join, Handover, Advance, Reopen, Dump, Links, Trail, Comment, End}
+use Rattle.script_lang.specs.declared.line.Line.TheVariants.{Grid, OpenConn, Arrive, Clock, Deliver, Lose, Repeat, Flow, FlowAll, Resend, Crash, Detect, Move, Join, Handover, Advance, Reopen, Rebalance, Dump, Links, Trail, Comment, End}
 use Rattle.script_lang.specs.declared.refusal.LineWhy.{LineWhy}
 use Rattle.script_lang.specs.declared.refusal.LineWhy.TheVariants.{Word, NoGrid, Count, Number, Hex, NotBuilt, NoEnd}
 
@@ -35,8 +35,8 @@ keywords =
     ∷ named (codes "repeat") Keywords.Repeat ∷ named (codes "flow") Keywords.Flow ∷ named (codes "resend") Keywords.Resend
     ∷ named (codes "crash") Keywords.Crash ∷ named (codes "detect") Keywords.Detect ∷ named (codes "move") Keywords.Move
     ∷ named (codes "join") Keywords.Join ∷ named (codes "handover") Keywords.Handover ∷ named (codes "advance") Keywords.Advance
-    ∷ named (codes "reopen") Keywords.Reopen ∷ named (codes "dump") Keywords.Dump ∷ named (codes "links") Keywords.Links
-    ∷ named (codes "trail") Keywords.Trail ∷ named (codes "near") Keywords.Near ∷ named (codes "nearget") Keywords.NearGet
+    ∷ named (codes "reopen") Keywords.Reopen ∷ named (codes "rebalance") Keywords.Rebalance ∷ named (codes "dump") Keywords.Dump
+    ∷ named (codes "links") Keywords.Links ∷ named (codes "trail") Keywords.Trail ∷ named (codes "near") Keywords.Near ∷ named (codes "nearget") Keywords.NearGet
     ∷ named (codes "nearfeed") Keywords.NearFeed ∷ named (codes "end") Keywords.End ∷ []
 
 abbrev pub keyword_of : List ℕ → Option Keyword
@@ -60,6 +60,7 @@ fields_of Keywords.Join = Partition ∷ Member ∷ []
 fields_of Keywords.Handover = Partition ∷ Member ∷ Member ∷ []
 fields_of Keywords.Advance = Partition ∷ []
 fields_of Keywords.Reopen = Partition ∷ []
+fields_of Keywords.Rebalance = Steps ∷ []
 fields_of Keywords.Dump = Partition ∷ Member ∷ []
 fields_of Keywords.Links = Partition ∷ []
 fields_of Keywords.Trail = Partition ∷ []
@@ -89,6 +90,7 @@ range_of members PartitionOrAll = from_to 0 270
 range_of members Place = from_to 0 18446744073709551615
 range_of members Moment = from_to 0 18446744073709551615
 range_of members Deliveries = from_to 1 1000
+range_of members Steps = from_to 0 271
 range_of members Entries = from_to 1 100000
 range_of members Amount = from_to 1 1000000
 range_of members HexField = from_to 0 0
@@ -134,6 +136,7 @@ line_with Keywords.Join (Values.Number partition ∷ Values.Number to ∷ []) = 
 line_with Keywords.Handover (Values.Number partition ∷ Values.Number from ∷ Values.Number to ∷ []) = Ok (Handover partition from to)
 line_with Keywords.Advance (Values.Number partition ∷ []) = Ok (Advance partition)
 line_with Keywords.Reopen (Values.Number partition ∷ []) = Ok (Reopen partition)
+line_with Keywords.Rebalance (Values.Number most ∷ []) = Ok (Rebalance most)
 line_with Keywords.Dump (Values.Number partition ∷ Values.Number member ∷ []) = Ok (Dump partition member)
 line_with Keywords.Links (Values.Number partition ∷ []) = Ok (Links partition)
 line_with Keywords.Trail (Values.Number partition ∷ []) = Ok (Trail partition)
@@ -196,6 +199,7 @@ IsWithin members size (Join partition to) = (partition ≤ 270) × (to < members
 IsWithin members size (Handover partition from to) = (partition ≤ 270) × (from < members) × (to < members)
 IsWithin members size (Advance partition) = partition ≤ 270
 IsWithin members size (Reopen partition) = partition ≤ 270
+IsWithin members size (Rebalance most) = most ≤ 271
 IsWithin members size (Dump partition member) = (partition ≤ 270) × (member < members)
 IsWithin members size (Links partition) = partition ≤ 270
 IsWithin members size (Trail partition) = partition ≤ 270

@@ -5,7 +5,7 @@ use Rattle.hex.specs.Hex.{encode_lower, IsBytes}
 use Rattle.script_lang.specs.Words.{space}
 use Rattle.script_lang.specs.Lines.{IsWithin, line_of}
 use Rattle.script_lang.specs.declared.line.Line.{Line}
-use Rattle.script_lang.specs.declared.line.Line.TheVariants.{Grid, OpenConn, Arrive, Clock, Deliver, Lose, Repeat, Flow, FlowAll, Resend, Crash, Detect, Move, Join, Handover, Advance, Reopen, Dump, Links, Trail, Comment, End}
+use Rattle.script_lang.specs.declared.line.Line.TheVariants.{Grid, OpenConn, Arrive, Clock, Deliver, Lose, Repeat, Flow, FlowAll, Resend, Crash, Detect, Move, Join, Handover, Advance, Reopen, Rebalance, Dump, Links, Trail, Comment, End}
 
 abbrev pub spelled_words : Line → List (List ℕ)
 spelled_words (Grid members backups capacity) = codes "grid" ∷ decimal members ∷ decimal backups ∷ decimal capacity ∷ []
@@ -25,6 +25,7 @@ spelled_words (Join partition to) = codes "join" ∷ decimal partition ∷ decim
 spelled_words (Handover partition from to) = codes "handover" ∷ decimal partition ∷ decimal from ∷ decimal to ∷ []
 spelled_words (Advance partition) = codes "advance" ∷ decimal partition ∷ []
 spelled_words (Reopen partition) = codes "reopen" ∷ decimal partition ∷ []
+spelled_words (Rebalance most) = codes "rebalance" ∷ decimal most ∷ []
 spelled_words (Dump partition member) = codes "dump" ∷ decimal partition ∷ decimal member ∷ []
 spelled_words (Links partition) = codes "links" ∷ decimal partition ∷ []
 spelled_words (Trail partition) = codes "trail" ∷ decimal partition ∷ []

@@ -33,6 +33,8 @@ pub(crate) enum Field {
     Moment,
     /// How many deliveries are made at most.
     Deliveries,
+    /// How many steps of a plan are run at most.
+    Steps,
     /// How many entries a near cache may have.
     Entries,
     /// How many bytes are taken at most.
@@ -57,6 +59,7 @@ impl Field {
             Field::Partition | Field::PartitionOrAll => 0..=270,
             Field::Place | Field::Moment => 0..=u64::MAX,
             Field::Deliveries => 1..=1000,
+            Field::Steps => 0..=271,
             Field::Entries => 1..=100_000,
             Field::Amount => 1..=1_000_000,
             Field::Hex => 0..=0,

@@ -22,6 +22,7 @@ pub(crate) enum Keyword {
     Handover,
     Advance,
     Reopen,
+    Rebalance,
     Dump,
     Links,
     Trail,
@@ -32,7 +33,7 @@ pub(crate) enum Keyword {
 }
 
 /// How each line begins.
-const KEYWORDS: [(&str, Keyword); 23] = [
+const KEYWORDS: [(&str, Keyword); 24] = [
     ("grid", Keyword::Grid),
     ("open", Keyword::Open),
     ("bytes", Keyword::Bytes),
@@ -49,6 +50,7 @@ const KEYWORDS: [(&str, Keyword); 23] = [
     ("handover", Keyword::Handover),
     ("advance", Keyword::Advance),
     ("reopen", Keyword::Reopen),
+    ("rebalance", Keyword::Rebalance),
     ("dump", Keyword::Dump),
     ("links", Keyword::Links),
     ("trail", Keyword::Trail),
@@ -94,6 +96,7 @@ impl Keyword {
             Keyword::Advance | Keyword::Reopen | Keyword::Links | Keyword::Trail => {
                 &[Field::Partition]
             }
+            Keyword::Rebalance => &[Field::Steps],
             Keyword::Near => &[Field::Connection, Field::Hex, Field::Entries],
             Keyword::NearFeed => &[Field::Connection, Field::Amount],
             Keyword::End => &[],

@@ -95,6 +95,10 @@ pub enum Line {
     Reopen {
         partition: PartitionId,
     },
+    /// Plans how the primaries are dealt out evenly, and runs up to so many of the plan's steps.
+    Rebalance {
+        most: u32,
+    },
     /// Prints what a member has of a partition.
     Dump {
         partition: PartitionId,

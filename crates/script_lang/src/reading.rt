@@ -70,6 +70,7 @@ fn line_with_one(keyword: Keyword, number: u64) -> Result<Line, LineWhy>
         (Keyword::Reopen, partition) => Ok(Line::Reopen {
             partition: partition as PartitionId,
         }),
+        (Keyword::Rebalance, most) => Ok(Line::Rebalance { most: most as u32 }),
         (Keyword::Links, partition) => Ok(Line::Links {
             partition: partition as PartitionId,
         }),

@@ -1,10 +1,14 @@
-use Rattle.std.proofs.Common.{◌≡◌, ℕ, ◌<◌, length, List, slice_index, subst, ◌∙◌, arith}
+use Rattle.std.proofs.Common.{◌≡◌, ℕ, ◌<◌, length, List, slice_index, ap, sym, subst, ◌∙◌, arith}
 use Rattle.rebalance.specs.Rows.{primaries}
 use Rattle.rebalance.specs.Members.{is_undetected, undetected_count, load_of}
 use Rattle.rebalance.specs.Targets.{target_of, excess_of}
 use Rattle.rebalance.proofs.Planned.{loads_fit, sums_same, targets_by_rows, targets_read, excess_by_rows, read_excess, fewest, choice_by_rule}
 use Rattle.rebalance.specs.Steps.{FollowsRule}
 use Rattle.rebalance.proofs.Exact.{right_kinds}
+use Rattle.rebalance.specs.declared.steps.Plan.{Plan}
+use Rattle.rebalance.specs.Plans.{targets_of, steps_from}
+use Rattle.rebalance.proofs.Planned.{same_loads}
+use Rattle.rebalance.proofs.Pure.{listed, plan_made}
 use Rattle.rebalance.proofs.plan.Goals as goal
 
 pub loads_of-requires-clause-sound : goal.loads_of-requires-clause-sound
@@ -43,3 +47,25 @@ returns-clause-fewest c = λ choice is_choice balanced.
     excess_by_rows (is_undetected c.args.detected.now) c.args.members c.in_ok-loads.loads.items c.in_ok-targets.targets.items (primaries c.args.rows.now) c.in_ok-loads.ensures.loads (targets_read (is_undetected c.args.detected.now) c.args.members c.in_ok-loads.loads.items c.deref.result.now c.in_ok-targets.targets.items c.deref.ensures.value c.in_ok-targets.ensures.targets) in
     let is : c.excess_between-excess.result ≡ excess_of (slice_index c.in_ok-loads.loads.items) (slice_index c.in_ok-targets.targets.items) c.args.members = c.excess_between-excess.ensures ∙ read_excess c.deref-2.result.now c.in_ok-loads.loads.items c.deref-3.result.now c.in_ok-targets.targets.items c.args.members c.deref-2.ensures.value c.deref-3.ensures.value c.in_ok-loads.ensures.count in
     rw (is, by_rows) (fewest c.args.detected.now c.args.members (primaries c.args.rows.now) c.requires.sound some choice is_choice balanced)
+
+pub returns-clause-plan : goal.returns-clause-plan
+returns-clause-plan c =
+    let rows = c.args.rows.now in
+    let detected = c.args.detected.now in
+    let n = c.args.members in
+    let ps = primaries rows in
+    let loads = c.in_ok-loads.loads.items in
+    let found = c.in_ok-targets.targets.items in
+    let plan : Plan = record { steps = c.from_vec.result; targets = c.from_vec-2.result; excess = c.excess_between-excess.result } in
+    let some : 0 < undetected_count detected n = omega arith in
+    let are : found ≡ targets_of detected n ps =
+    listed found (target_of (is_undetected detected) (load_of ps) n) n c.in_ok-targets.ensures.count
+    (targets_by_rows (is_undetected detected) n loads found ps c.in_ok-loads.ensures.loads (targets_read (is_undetected detected) n loads c.deref.result.now found c.deref.ensures.value c.in_ok-targets.ensures.targets)) in
+    let steps : c.from_vec.result ≡ steps_from (slice_index (targets_of detected n ps)) n ps 0 rows =
+    c.from_vec.ensures ∙ c.in_ok-steps.ensures.steps ∙ ap (λ (xs : List ℕ). steps_from (slice_index xs) n ps 0 rows) (c.deref-4.ensures.value ∙ are) in
+    let excess : c.excess_between-excess.result ≡ excess_of (load_of ps) (slice_index (targets_of detected n ps)) n =
+    c.excess_between-excess.ensures ∙ read_excess c.deref-2.result.now loads c.deref-3.result.now found n c.deref-2.ensures.value c.deref-3.ensures.value c.in_ok-loads.ensures.count
+    ∙ ap (λ (f : ℕ → ℕ). excess_of f (slice_index found) n) (same_loads loads ps c.in_ok-loads.ensures.loads)
+    ∙ ap (λ (xs : List ℕ). excess_of (load_of ps) (slice_index xs) n) are in
+    plan_made rows c.args.moving.now detected n plan some (sym c.first_unsettled.ensures.first ∙ c.in_default.is)
+    (λ i. record { steps = steps i; targets = (c.from_vec-2.ensures ∙ are) i; excess = excess i })

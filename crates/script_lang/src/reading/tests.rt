@@ -180,6 +180,8 @@ fn reads_each_line_of_members(rt: HostRuntime) -> Result<(), Fail> {
     assert!(rt; matches!(advance, Line::Advance { partition: 270 }));
     let reopen = read_of_three(alloc, "reopen 0")?;
     assert!(rt; matches!(reopen, Line::Reopen { partition: 0 }));
+    let rebalance = read_of_three(alloc, "rebalance 271")?;
+    assert!(rt; matches!(rebalance, Line::Rebalance { most: 271 }));
     Ok(())
 }
 
@@ -212,6 +214,10 @@ fn says_the_first_cause(rt: HostRuntime) {
         ("handover 0 0", "count"),
         ("reopen 271", "number"),
         ("reopen all", "number"),
+        ("rebalance", "count"),
+        ("rebalance 0 1", "count"),
+        ("rebalance 272", "number"),
+        ("rebalance 00", "number"),
         ("near 0 6d 0", "number"),
         ("near 0 6d 10", "notbuilt"),
         ("nearget 0 6d", "notbuilt"),

@@ -52,7 +52,7 @@ returns g c = λ settings r s.
     let outcome = dump_text (r.lines + 1) (pair_at (world_at o (next_line r) p) member) in
     let dumped = dumped_text (r.lines + 1) (contents_at o (world_at o (next_line r) p) member) in
     on_ok_weaker c.push_dumped.result
-    (λ e. counted_line grid (counted grid number) r number (Dump p member) s at_line refl refl c.args.out.now.items c.push_dumped.new.out.items refl refl
+    (λ e. counted_line grid (counted grid number) r number (Dump p member) s at_line refl refl c.args.out.now.items c.push_dumped.new.out.items refl refl refl
     (both_texts c.args.out.now.items outcome dumped c.push_dump.new.out.items c.push_dumped.new.out.items
     (c.in_ok-push_dump.ensures ∙ (λ i. c.args.out.now.items ++ dump_text (at_line i) (pair i)))
     (e ∙ (λ i. c.push_dump.new.out.items ++ dumped_text (at_line i) (shown i)))

@@ -18,7 +18,7 @@ pub deliver_first-requires-clause-stands : goal.deliver_first-requires-clause-st
 deliver_first-requires-clause-stands g c =
     let may = c.requires in
     let s = may.stands in
-    (may.settings, next_line may.run, counted_amid c.args.self.now may.run c.args.number s may.next, stands_room c.args.self.now may.run s (few_lines c.args.self.now c.args.number (Flow c.args.partition c.args.most) may may.run s) c.args.partition c.args.most may.read.2)
+    (may.settings, next_line may.run, counted_amid c.args.self.now may.run c.args.number s may.next, stands_room c.args.self.now may.run s (few_lines c.args.self.now c.args.number (Flow c.args.partition c.args.most) may may.run s) c.args.partition c.args.most (let most = may.read.2 in omega (arith, most)))
 
 pub returns-in_err-deliveries-clause-full : goal.returns-in_err-deliveries-clause-full
 returns-in_err-deliveries-clause-full g c = λ settings r s was.

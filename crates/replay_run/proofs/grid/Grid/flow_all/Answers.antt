@@ -1,4 +1,4 @@
-use Rattle.std.proofs.Common.{◌∙◌, ◌++◌, Err, sym, ap, refl}
+use Rattle.std.proofs.Common.{◌∙◌, ◌++◌, Err, sym, ap, refl, arith}
 use Rattle.script_lang.specs.declared.line.Line.TheVariants.{FlowAll}
 use Rattle.partition_protocol.specs.Service.{numbers_below}
 use Rattle.call_engine.specs.Objects.{partition_object}
@@ -19,7 +19,7 @@ pub deliver_in_all-requires-clause-stands : goal.deliver_in_all-requires-clause-
 deliver_in_all-requires-clause-stands g c =
     let may = c.requires in
     let s = may.stands in
-    (may.settings, next_line may.run, counted_amid c.args.self.now may.run c.args.number s may.next, λ p. stands_room c.args.self.now may.run s (few_lines c.args.self.now c.args.number (FlowAll c.args.most) may may.run s) p c.args.most may.read.1)
+    (may.settings, next_line may.run, counted_amid c.args.self.now may.run c.args.number s may.next, λ p. stands_room c.args.self.now may.run s (few_lines c.args.self.now c.args.number (FlowAll c.args.most) may may.run s) p c.args.most (let most = may.read.1 in omega (arith, most)))
 
 pub returns-in_err-deliveries-clause-full : goal.returns-in_err-deliveries-clause-full
 returns-in_err-deliveries-clause-full g c = λ settings r s was.

@@ -43,3 +43,9 @@ returns-in-Detect-clause-ok g c = λ settings r s. on_ok_weaker c.run_fate-in-De
 
 pub returns-in-Detect-clause-full : goal.returns-in-Detect-clause-full
 returns-in-Detect-clause-full g c = λ settings r s full. subst (IsGivenUp settings r) (sym c.in-Detect.is) (c.run_fate-in-Detect.ensures.full settings r s full)
+
+pub rebalance-requires : goal.rebalance-requires
+rebalance-requires g c = may_run_as c.in-Rebalance.is c.requires
+
+pub returns-in-Rebalance-clause-ok : goal.returns-in-Rebalance-clause-ok
+returns-in-Rebalance-clause-ok g c = λ settings r s. on_ok_weaker c.rebalance.result (has_run_as c.in-Rebalance.is) (c.rebalance.ensures.ok settings r s)

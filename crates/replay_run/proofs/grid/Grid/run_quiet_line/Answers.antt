@@ -11,7 +11,7 @@ returns-in-Comment g c = λ settings r s.
     let at_line = next_number c.args.self.now c.args.number c.args.line.now c.requires.may r s in
     on_ok_weaker c.count.result
     (λ e. has_run_as c.in-Comment.is
-    (counted_line c.args.self.now c.count.new.self r c.args.number Comment s at_line refl c.count.ensures.grid c.args.out.now.items c.count.new.out.items refl refl
+    (counted_line c.args.self.now c.count.new.self r c.args.number Comment s at_line refl c.count.ensures.grid c.args.out.now.items c.count.new.out.items refl refl refl
     (e ∙ ap (λ n. c.args.out.now.items ++ ok_text n) at_line ∙ ap (λ xs. c.args.out.now.items ++ xs) (sym (append-nil (ok_text (r.lines + 1) ++ [] ++ []) ∙ append-nil (ok_text (r.lines + 1) ++ []) ∙ append-nil (ok_text (r.lines + 1)))))))
     c.count.ensures.text
 

@@ -1,0 +1,4 @@
+pub mod Kinds
+pub mod Said
+pub mod Spelling
+pub mod Reading

@@ -1,0 +1,411 @@
+//! The line that deals the primaries out evenly: the plan for the grid's rows, and the events of its steps.
+
+ghost use Rattle.std.specs.Prelude.{◌≡◌, ◌<◌, ◌∷◌, ◌++◌, [], true, Err, take, IfOk, OnOk, IsErrOf};
+ghost use Rattle.std.specs.List.{flat_map};
+ghost use Rattle.partition_world.specs.Events.{event_of};
+ghost use Rattle.rebalance.specs.declared.StepKind.TheVariants.{Handover};
+ghost use Rattle.rebalance.specs.Plans.{Planned, Gives, NoMember, Unsettled};
+ghost use Rattle.call_engine.specs.Calls.{Settings};
+ghost use Rattle.call_engine.specs.Objects.{partition_object};
+ghost use Rattle.script_lang.specs.declared.line.Line.TheVariants as ScriptLines;
+ghost use Rattle.replay_run.specs.Runs.{Run, partitions};
+ghost use Rattle.replay_run.specs.Rebalancing.{is_moving_at, rows_in, marks_in, is_detected_in, detected_in, plan_in, event_begun, first_resends, turned, turned_on, joined, rejoined, stepped, stepped_all, most_line_events};
+ghost use Rattle.replay_run.specs.RebalancingTexts.{kind_word, step_text, steps_text, plan_text, end_word, end_text};
+ghost use Rattle.replay_run.specs.Grids.{boxed, Stands, MayRun, HasRun, IsGivenUp};
+ghost use Rattle.replay_run.specs.WorldCalls.{HasRoomAt, IsAmid, HasGoneOn, MayStep, HasStepped, HasNoSteps};
+ghost use Rattle.replay_run.specs.declared.run_end.RunEnd.TheVariants as RunEnds;
+
+use crate::grid::Grid;
+use crate::print::{push_number, push_text};
+use crate::run_end::RunEnd;
+use grid_base::{MemberId, Memory, PARTITIONS, PartitionId, Request};
+use itoa::Buffer;
+use partition_table::Row;
+use partition_world::Event;
+use rebalance::{Plan, PlanRefused, Step, StepKind, plan};
+use std::alloc::{AllocError, Global};
+
+/// How many messages are delivered at once.
+const MOST_DELIVERIES: u32 = 1000;
+
+/// How many turns a step has.
+const MOST_TURNS: u8 = 4;
+
+/// The event with which a step begins.
+fn event_begun(step: Step) -> Event<Request>
+    ensures { event_of result ≡ event_begun step.kind step.from step.to }
+{
+    let Step { from, to, kind, .. } = step;
+    match kind {
+        StepKind::Move => Event::BeginMove { from, to },
+        StepKind::Handover => Event::BeginHandover { from, to },
+    }
+}
+
+/// Up to so many of the first steps.
+fn first_steps(steps: &[Step], most: u32) -> &[Step]
+    ensures { result.now ≡ take most steps.now }
+{
+    &steps[..(most as usize).min(steps.len())]
+}
+
+fn kind_word(kind: StepKind) -> &'static str
+    ensures { result.now ≡ kind_word kind }
+{
+    match kind {
+        StepKind::Move => "move",
+        StepKind::Handover => "handover",
+    }
+}
+
+/// Appends a step of a plan.
+fn push_step(out: &mut Vec<u8>, line: u32, step: Step) -> Result<(), Memory>
+    ensures { OnOk result (out.new.items ≡ out.old.items ++ step_text line step) }
+{
+    push_number(out, u64::from(line))?;
+    push_text(out, b"step ")?;
+    push_number(out, u64::from(step.partition))?;
+    push_number(out, u64::from(step.from))?;
+    push_number(out, u64::from(step.to))?;
+    push_text(out, kind_word(step.kind).as_bytes())?;
+    push_text(out, b"\n")
+}
+
+/// Appends the steps of a plan.
+fn push_steps(out: &mut Vec<u8>, line: u32, steps: &[Step]) -> Result<(), Memory>
+    ensures { OnOk result (out.new.items ≡ out.old.items ++ flat_map (step_text line) steps.now) }
+{
+    for step in steps {
+        push_step(out, line, *step)?;
+    }
+    Ok(())
+}
+
+/// Appends a plan: how many steps it has, and each of them.
+fn push_plan(out: &mut Vec<u8>, line: u32, steps: &[Step]) -> Result<(), Memory>
+    ensures { OnOk result (out.new.items ≡ out.old.items ++ steps_text line steps.now) }
+{
+    push_number(out, u64::from(line))?;
+    push_text(out, b"plan ")?;
+    push_text(out, Buffer::new().format(steps.len() as u64).as_bytes())?;
+    push_text(out, b"\n")?;
+    push_steps(out, line, steps)
+}
+
+/// Appends that there is no plan, as every member is detected.
+fn push_no_member(out: &mut Vec<u8>, line: u32) -> Result<(), Memory>
+    ensures { OnOk result (out.new.items ≡ out.old.items ++ plan_text line NoMember) }
+{
+    push_number(out, u64::from(line))?;
+    push_text(out, b"refused nomember")?;
+    push_text(out, b"\n")
+}
+
+/// Appends that there is no plan, as that partition isn't settled.
+fn push_unsettled(out: &mut Vec<u8>, line: u32, partition: PartitionId) -> Result<(), Memory>
+    ensures { OnOk result (out.new.items ≡ out.old.items ++ plan_text line (Unsettled partition)) }
+{
+    push_number(out, u64::from(line))?;
+    push_text(out, b"refused unsettled ")?;
+    push_text(out, Buffer::new().format(partition).as_bytes())?;
+    push_text(out, b"\n")
+}
+
+/// Appends why there is no plan; want of memory is handed on.
+fn push_no_plan(out: &mut Vec<u8>, line: u32, why: PlanRefused) -> Result<(), Memory>
+    ensures { OnOk result ((planned : Planned) → Gives (Err why) planned → HasNoSteps planned × (out.new.items ≡ out.old.items ++ plan_text line planned)) }
+{
+    match why {
+        PlanRefused::NoMember => push_no_member(out, line),
+        PlanRefused::Unsettled { partition } => push_unsettled(out, line, partition),
+        PlanRefused::Memory => Err(AllocError),
+    }
+}
+
+/// The word for a step that was run, by whether a move is still under way.
+fn end_word(moving: bool) -> &'static str
+    ensures { result.now ≡ end_word moving }
+{
+    if moving { "open " } else { "done " }
+}
+
+/// Appends how a step ended: its move is done, or still under way.
+fn push_end(
+    out: &mut Vec<u8>,
+    line: u32,
+    partition: PartitionId,
+    moving: bool,
+) -> Result<(), Memory>
+    ensures { OnOk result (out.new.items ≡ out.old.items ++ end_text line partition moving) }
+{
+    push_number(out, u64::from(line))?;
+    push_text(out, end_word(moving).as_bytes())?;
+    push_text(out, Buffer::new().format(partition).as_bytes())?;
+    push_text(out, b"\n")
+}
+
+impl Grid {
+    /// Whether a move of the partition is under way.
+    fn is_moving(&self, partition: PartitionId) -> bool
+        requires placed { partition < partitions }
+        requires stands { (settings : Settings) × (r : Run) × IsAmid (boxed form) settings self.now r }
+        ensures { (settings : Settings) (r : Run) → IsAmid (boxed form) settings self.now r → result ≡ is_moving_at (partition_object settings) r partition }
+    {
+        self.worlds[usize::from(partition)].moving()
+    }
+
+    /// Copies of the newest rows, in order of partition.
+    fn rows(&self, alloc: Global) -> Result<Vec<Row>, Memory>
+        requires { (settings : Settings) × (r : Run) × IsAmid (boxed form) settings self.now r }
+        ensures { (settings : Settings) (r : Run) → IsAmid (boxed form) settings self.now r → IfOk result (λ rows. rows.items ≡ rows_in (partition_object settings) r) }
+    {
+        let mut rows = Vec::with_capacity(alloc, usize::from(PARTITIONS))?;
+        for partition in 0..PARTITIONS {
+            rows.push(self.worlds[usize::from(partition)].row().copied(alloc)?)?;
+        }
+        Ok(rows)
+    }
+
+    /// Which partitions are moving, in order of partition.
+    fn marks(&self, alloc: Global) -> Result<Vec<bool>, Memory>
+        requires { (settings : Settings) × (r : Run) × IsAmid (boxed form) settings self.now r }
+        ensures { (settings : Settings) (r : Run) → IsAmid (boxed form) settings self.now r → IfOk result (λ marks. marks.items ≡ marks_in (partition_object settings) r) }
+    {
+        let mut marks = Vec::with_capacity(alloc, usize::from(PARTITIONS))?;
+        for partition in 0..PARTITIONS {
+            marks.push(self.is_moving(partition))?;
+        }
+        Ok(marks)
+    }
+
+    /// Whether every partition's table service was told that the member has crashed.
+    fn is_detected(&self, member: MemberId) -> bool
+        requires { (settings : Settings) × (r : Run) × IsAmid (boxed form) settings self.now r }
+        ensures { (settings : Settings) (r : Run) → IsAmid (boxed form) settings self.now r → result ≡ is_detected_in (partition_object settings) r member }
+    {
+        for partition in 0..PARTITIONS {
+            if !self.worlds[usize::from(partition)].is_detected(member) {
+                return false;
+            }
+        }
+        true
+    }
+
+    /// The detected members, in order.
+    fn detected(&self, alloc: Global) -> Result<Vec<MemberId>, Memory>
+        requires { (settings : Settings) × (r : Run) × IsAmid (boxed form) settings self.now r }
+        ensures { (settings : Settings) (r : Run) → IsAmid (boxed form) settings self.now r → IfOk result (λ detected. detected.items ≡ detected_in (partition_object settings) r) }
+    {
+        let mut detected = Vec::new(alloc);
+        for member in 0..self.members {
+            if self.is_detected(member) {
+                detected.push(member)?;
+            }
+        }
+        Ok(detected)
+    }
+
+    /// The plan for the rows as they stand.
+    fn plan(&self, alloc: Global) -> Result<Plan, PlanRefused>
+        requires { (settings : Settings) × (r : Run) × IsAmid (boxed form) settings self.now r }
+        ensures { (settings : Settings) (r : Run) → IsAmid (boxed form) settings self.now r → Gives result (plan_in (partition_object settings) r) }
+    {
+        let rows = self.rows(alloc)?;
+        let marks = self.marks(alloc)?;
+        let detected = self.detected(alloc)?;
+        plan(alloc, &rows, &marks, &detected, self.members)
+    }
+
+    /// The first member of the partition's row sends again, if the row has one.
+    fn resend_first(
+        &mut self,
+        alloc: Global,
+        partition: PartitionId,
+        out: &mut Vec<u8>,
+    ) -> Result<(), RunEnd>
+        requires placed { partition < partitions }
+        requires stands { (settings : Settings) × (r : Run) × IsAmid (boxed form) settings self.old r × HasRoomAt r partition 1 }
+        ensures ok { (settings : Settings) (r : Run) → IsAmid (boxed form) settings self.old r
+            → OnOk result (HasGoneOn (boxed form) settings self.new r (first_resends (partition_object settings) r partition) out.old.items out.new.items) }
+        ensures full { (settings : Settings) (r : Run) → IsAmid (boxed form) settings self.old r → IsErrOf result RunEnds.InFlight → (first_resends (partition_object settings) r partition).full ≡ true }
+    {
+        let first = self.worlds[usize::from(partition)].row().primary();
+        let Some(end) = first else {
+            return Ok(());
+        };
+        self.take(alloc, partition, Event::Resend { end }, out)?;
+        Ok(())
+    }
+
+    /// One turn of a step: what may have been lost is sent again, messages are delivered, and the move takes its next
+    /// step.
+    fn turn(
+        &mut self,
+        alloc: Global,
+        partition: PartitionId,
+        out: &mut Vec<u8>,
+    ) -> Result<(), RunEnd>
+        requires placed { partition < partitions }
+        requires stands { (settings : Settings) × (r : Run) × IsAmid (boxed form) settings self.old r × HasRoomAt r partition 1003 }
+        ensures ok { (settings : Settings) (r : Run) → IsAmid (boxed form) settings self.old r
+            → OnOk result (HasGoneOn (boxed form) settings self.new r (turned (partition_object settings) r partition) out.old.items out.new.items) }
+        ensures full { (settings : Settings) (r : Run) → IsAmid (boxed form) settings self.old r → IsErrOf result RunEnds.InFlight → (turned (partition_object settings) r partition).full ≡ true }
+    {
+        let service = self.members;
+        self.take(alloc, partition, Event::Resend { end: service }, out)?;
+        self.resend_first(alloc, partition, out)?;
+        self.deliver_first(alloc, partition, MOST_DELIVERIES, out)?;
+        self.take(alloc, partition, Event::Advance, out)?;
+        Ok(())
+    }
+
+    /// The turns of a step, while its move is under way.
+    fn turn_on(
+        &mut self,
+        alloc: Global,
+        partition: PartitionId,
+        out: &mut Vec<u8>,
+    ) -> Result<(), RunEnd>
+        requires placed { partition < partitions }
+        requires stands { (settings : Settings) × (r : Run) × IsAmid (boxed form) settings self.old r × HasRoomAt r partition 4012 }
+        ensures ok { (settings : Settings) (r : Run) → IsAmid (boxed form) settings self.old r
+            → OnOk result (HasGoneOn (boxed form) settings self.new r (turned_on (partition_object settings) r partition MOST_TURNS) out.old.items out.new.items) }
+        ensures full { (settings : Settings) (r : Run) → IsAmid (boxed form) settings self.old r → IsErrOf result RunEnds.InFlight → (turned_on (partition_object settings) r partition MOST_TURNS).full ≡ true }
+    {
+        let mut turns = 0;
+        'turns: while turns < MOST_TURNS {
+            if !self.is_moving(partition) {
+                return Ok(());
+            }
+            self.turn(alloc, partition, out)?;
+            turns += 1;
+        }
+        Ok(())
+    }
+
+    /// A member joins the partition's row, and messages are delivered.
+    fn join(
+        &mut self,
+        alloc: Global,
+        partition: PartitionId,
+        member: MemberId,
+        out: &mut Vec<u8>,
+    ) -> Result<(), RunEnd>
+        requires placed { partition < partitions }
+        requires stands { (settings : Settings) × (r : Run) × IsAmid (boxed form) settings self.old r × HasRoomAt r partition 1001 }
+        ensures ok { (settings : Settings) (r : Run) → IsAmid (boxed form) settings self.old r
+            → OnOk result (HasGoneOn (boxed form) settings self.new r (joined (partition_object settings) r partition member) out.old.items out.new.items) }
+        ensures full { (settings : Settings) (r : Run) → IsAmid (boxed form) settings self.old r → IsErrOf result RunEnds.InFlight → (joined (partition_object settings) r partition member).full ≡ true }
+    {
+        self.take(alloc, partition, Event::BeginJoin { to: member }, out)?;
+        self.deliver_first(alloc, partition, MOST_DELIVERIES, out)?;
+        Ok(())
+    }
+
+    /// After a handover, if it has ended, the member that led joins the row again.
+    fn join_again(
+        &mut self,
+        alloc: Global,
+        partition: PartitionId,
+        from: MemberId,
+        out: &mut Vec<u8>,
+    ) -> Result<(), RunEnd>
+        requires placed { partition < partitions }
+        requires stands { (settings : Settings) × (r : Run) × IsAmid (boxed form) settings self.old r × HasRoomAt r partition 1001 }
+        ensures ok { (settings : Settings) (r : Run) → IsAmid (boxed form) settings self.old r
+            → OnOk result (HasGoneOn (boxed form) settings self.new r (rejoined (partition_object settings) r partition from Handover) out.old.items out.new.items) }
+        ensures full { (settings : Settings) (r : Run) → IsAmid (boxed form) settings self.old r → IsErrOf result RunEnds.InFlight → (rejoined (partition_object settings) r partition from Handover).full ≡ true }
+    {
+        if self.is_moving(partition) {
+            return Ok(());
+        }
+        self.join(alloc, partition, from, out)
+    }
+
+    /// After a handover that has ended the member that led joins the row again, from which it was taken.
+    fn rejoin(
+        &mut self,
+        alloc: Global,
+        partition: PartitionId,
+        from: MemberId,
+        kind: StepKind,
+        out: &mut Vec<u8>,
+    ) -> Result<(), RunEnd>
+        requires placed { partition < partitions }
+        requires stands { (settings : Settings) × (r : Run) × IsAmid (boxed form) settings self.old r × HasRoomAt r partition 1001 }
+        ensures ok { (settings : Settings) (r : Run) → IsAmid (boxed form) settings self.old r
+            → OnOk result (HasGoneOn (boxed form) settings self.new r (rejoined (partition_object settings) r partition from kind) out.old.items out.new.items) }
+        ensures full { (settings : Settings) (r : Run) → IsAmid (boxed form) settings self.old r → IsErrOf result RunEnds.InFlight → (rejoined (partition_object settings) r partition from kind).full ≡ true }
+    {
+        match kind {
+            StepKind::Move => Ok(()),
+            StepKind::Handover => self.join_again(alloc, partition, from, out),
+        }
+    }
+
+    /// Runs a step: it begins, and goes on for some turns, until no move is under way.
+    fn run_step(&mut self, alloc: Global, step: Step, out: &mut Vec<u8>) -> Result<(), RunEnd>
+        requires placed { step.partition < partitions }
+        requires stands { (settings : Settings) × (r : Run) × IsAmid (boxed form) settings self.old r × HasRoomAt r step.partition most_line_events }
+        ensures ok { (settings : Settings) (r : Run) → IsAmid (boxed form) settings self.old r
+            → OnOk result (HasGoneOn (boxed form) settings self.new r (stepped (partition_object settings) r step) out.old.items out.new.items) }
+        ensures full { (settings : Settings) (r : Run) → IsAmid (boxed form) settings self.old r → IsErrOf result RunEnds.InFlight → (stepped (partition_object settings) r step).full ≡ true }
+    {
+        let Step {
+            partition,
+            from,
+            kind,
+            ..
+        } = step;
+        self.take(alloc, partition, event_begun(step), out)?;
+        self.turn_on(alloc, partition, out)?;
+        self.rejoin(alloc, partition, from, kind, out)
+    }
+
+    /// Runs a step, and tells how it ended.
+    fn run_told(&mut self, alloc: Global, step: Step, out: &mut Vec<u8>) -> Result<(), RunEnd>
+        requires placed { step.partition < partitions }
+        requires stands { (settings : Settings) × (r : Run) × IsAmid (boxed form) settings self.old r × HasRoomAt r step.partition most_line_events }
+        ensures ok { (settings : Settings) (r : Run) → IsAmid (boxed form) settings self.old r → OnOk result (HasStepped (boxed form) settings self.new r (step ∷ []) out.old.items out.new.items) }
+        ensures full { (settings : Settings) (r : Run) → IsAmid (boxed form) settings self.old r → IsErrOf result RunEnds.InFlight → (stepped (partition_object settings) r step).full ≡ true }
+    {
+        self.run_step(alloc, step, out)?;
+        let moving = self.is_moving(step.partition);
+        Ok(push_end(out, self.lines, step.partition, moving)?)
+    }
+
+    /// Runs steps, and tells after each how it ended.
+    fn run_steps(&mut self, alloc: Global, steps: &[Step], out: &mut Vec<u8>) -> Result<(), RunEnd>
+        requires { (settings : Settings) × (r : Run) × IsAmid (boxed form) settings self.old r × MayStep r 0 steps.now }
+        ensures ok { (settings : Settings) (r : Run) → IsAmid (boxed form) settings self.old r → OnOk result (HasStepped (boxed form) settings self.new r steps.now out.old.items out.new.items) }
+        ensures full { (settings : Settings) (r : Run) → IsAmid (boxed form) settings self.old r → IsErrOf result RunEnds.InFlight → (stepped_all (partition_object settings) r steps.now).full ≡ true }
+    {
+        for place in 0..steps.len() {
+            self.run_told(alloc, steps[place], out)?;
+        }
+        Ok(())
+    }
+
+    /// `rebalance K`: the plan for the rows, and then up to so many of its steps.
+    pub(crate) fn rebalance(
+        &mut self,
+        alloc: Global,
+        number: u32,
+        most: u32,
+        out: &mut Vec<u8>,
+    ) -> Result<(), RunEnd>
+        requires { MayRun (boxed form) self.old number (ScriptLines.Rebalance most) }
+        ensures ok { (settings : Settings) (r : Run) → Stands (boxed form) settings self.old r → OnOk result (HasRun (boxed form) settings self.new r (ScriptLines.Rebalance most) out.old.items out.new.items) }
+        ensures full { (settings : Settings) (r : Run) → Stands (boxed form) settings self.old r → IsErrOf result RunEnds.InFlight → IsGivenUp settings r (ScriptLines.Rebalance most) }
+    {
+        self.lines = number;
+        match self.plan(alloc) {
+            Ok(plan) => {
+                let steps = plan.steps.as_slice();
+                push_plan(out, number, steps)?;
+                self.run_steps(alloc, first_steps(steps, most), out)
+            }
+            Err(why) => Ok(push_no_plan(out, number, why)?),
+        }
+    }
+}

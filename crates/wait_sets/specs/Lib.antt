@@ -1,0 +1,4 @@
+pub mod Boxes
+pub mod WaitSets
+pub mod Runs
+pub mod Laws
