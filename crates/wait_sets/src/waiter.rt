@@ -1,4 +1,6 @@
-ghost use Rattle.std.specs.Prelude.{◌≡◌, true};
+ghost use Rattle.std.specs.Prelude.{◌≡◌, ℕ, List, true};
+ghost use Rattle.grid_base.specs.declared.calls.GridCall.TheVariants.{Queue};
+ghost use Rattle.grid_base.specs.declared.calls.QueueCall.TheVariants.{Offer, Poll};
 ghost use Rattle.call_engine.specs.Env.{settings_of};
 ghost use Rattle.wait_sets.specs.Boxes.{boxed};
 ghost use Rattle.call_engine.specs.Readiness.{wish_of};
@@ -35,7 +37,9 @@ impl Waiter {
 
 /// Whether both offer to one queue, or both poll one: then one is ready exactly where the other is.
 pub(crate) fn wish_the_same(one: &GridCall, other: &GridCall) -> bool
-    ensures { result ≡ true → wish_of one.now ≡ wish_of other.now }
+    ensures alike { result ≡ true → wish_of one.now ≡ wish_of other.now }
+    ensures offers { (name value another : List ℕ) → one.now ≡ Queue (Offer name value) → other.now ≡ Queue (Offer name another) → result ≡ true }
+    ensures polls { (name : List ℕ) → one.now ≡ Queue (Poll name) → other.now ≡ Queue (Poll name) → result ≡ true }
 {
     match (one, other) {
         (
