@@ -89,6 +89,35 @@ ended 'a script without an end' 2 $'1 ok\nrefused 1 noend' ''
 run replay <"$room/long"
 ended 'a long line' 5 $'1 ok\nlimit 2 line' ''
 
+# Prints the script of a message too long: behind a first frame of 22 bytes come two of 1,048,576, none of them final. Its bytes
+# are four megabytes, so it is made here and is no scenario.
+long_message() {
+    echo 'grid 1 0 10'
+    echo 'open 0 0'
+    {
+        printf '4350321600000000c000000000000000000000000000000000'
+        for _ in 1 2; do
+            printf '000010000000'
+            head -c 2097140 /dev/zero | tr '\0' '0'
+        done
+        echo
+    } | fold -w 64000 | sed 's/^/bytes 0 /'
+    echo 'bytes 0 00'
+    echo 'end'
+}
+
+# Prints what comes of it: the connection closes at the line of the last byte, and nothing comes of a byte behind that.
+long_message_closes() {
+    seq 1 68 | sed 's/$/ ok/'
+    echo '68 close 0 1048601 longmessage'
+    echo '69 nothing'
+    echo '70 ok'
+}
+
+long_message >"$room/message"
+run replay <"$room/message"
+ended 'a message too long' 0 "$(long_message_closes)" ''
+
 # Words that are composed: they are those of scenarios. And words that nobody says.
 data=crates/compose_script/data
 for words in "$data"/*/*.words; do

@@ -15,7 +15,7 @@ from serving.server import TOP, Server
 DATA = TOP / "crates/grid_scenarios/data"
 
 # Those whose answers don't hang on a clock, but for one with a lease of five milliseconds.
-FOLDERS = ("sessions", "streams", "outside_bytes", "object_calls", "queues", "processors")
+FOLDERS = ("sessions", "streams", "bad_bytes", "outside_bytes", "object_calls", "queues", "processors")
 CLOCKED = "object_calls/calls_of_one_line"
 
 # What a server's clients can do, and what prints without an effect on them.
@@ -99,7 +99,7 @@ def scenarios_are_answered_as_their_transcripts_say(checks: Checks) -> None:
         with Server(members=members, backups=backups, capacity=capacity) as server, ExitStack() as stack:
             Player(checks, server, scenario, stack).play()
         played += 1
-    checks.at_least("scenarios", 60, played)
+    checks.at_least("scenarios", 74, played)
 
 
 TESTS = (scenarios_are_answered_as_their_transcripts_say,)

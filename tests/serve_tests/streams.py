@@ -15,9 +15,9 @@ KEY = Key(5, "k")
 PRIMARY = 2
 
 
-def chain_of_a_put(number: int, chain: int) -> bytes:
+def chain_of_a_put(number: int, chain: int, at: Key = KEY) -> bytes:
     """A put of eight bytes as two fragments of a chain."""
-    whole = wire.put(number, KEY, bytes(8))
+    whole = wire.put(number, at, bytes(8))
     first, name, key, value = (payload or b"" for payload in wire.payloads_of(whole))
     begins = wire.fragment(chain, wire.frame(first) + wire.frame(name, Flag.FINAL), begins=True)
     ends = wire.fragment(chain, wire.frame(key) + wire.frame(value, Flag.FINAL), ends=True)

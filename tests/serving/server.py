@@ -225,10 +225,18 @@ class Server:
     def proc(self, name: str) -> str:
         return (Path("/proc") / str(self.process.pid) / name).read_text()
 
+    def status_kb(self, name: str) -> int:
+        """What the process's status says under this name, in kB."""
+        (line,) = (line for line in self.proc("status").splitlines() if line.startswith(f"{name}:"))
+        return int(line.split()[1])
+
     def resident_kb(self) -> int:
         """The resident memory of the process."""
-        (line,) = (line for line in self.proc("status").splitlines() if line.startswith("VmRSS:"))
-        return int(line.split()[1])
+        return self.status_kb("VmRSS")
+
+    def peak_kb(self) -> int:
+        """The most resident memory that the process has had."""
+        return self.status_kb("VmHWM")
 
     def descriptors(self) -> int:
         return len(os.listdir(f"/proc/{self.process.pid}/fd"))

@@ -45,6 +45,7 @@ class Refusal(IntEnum):
     LOST = 7
     NOT_PRIMARY = 8
     FROZEN = 9
+    NO_MEMORY = 10
 
 
 @dataclass(frozen=True)

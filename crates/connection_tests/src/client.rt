@@ -18,6 +18,52 @@ const GET: &[u8] =
 pub(crate) const ANSWERS: &[u8] =
     b"\x29\0\0\0\0\xe0\x01\x01\0\0\0\0\0\0\0\0\0\0\0\0\0\0\0\0\0\0\0\0\0\x03\0\0\0\0\0\0\0\x0f\x01\0\0\x13\0\0\0\0\xc0\x01\x01\x01\0\x01\0\0\0\0\0\0\0\0\x06\0\0\0\0\x24\x13\0\0\0\0\xc0\x01\x02\x01\0\x02\0\0\0\0\0\0\0\0\x0f\0\0\0\0\x20\0\0\0\0\xff\xff\xff\xf5v";
 
+/// The most bytes that a call of the source gives, and that one of the sink takes.
+pub(crate) const MOST_SAID: usize = 7;
+
+pub(crate) const MOST_HEARD: usize = 5;
+
+/// Where each answer ends in `ANSWERS`.
+const ENDS: [usize; 3] = [41, 66, 100];
+
+/// The answers up to there.
+fn answers_up_to(end: usize) -> &'static [u8] {
+    ANSWERS.get(..end).unwrap_or(ANSWERS)
+}
+
+/// What is answered once so many calls of the source gave what the client says: the answers to the messages that are whole in it.
+pub(crate) fn answers_to(calls: usize) -> &'static [u8] {
+    let read = calls.saturating_mul(MOST_SAID);
+    let mut said = 0usize;
+    let mut answered = 0usize;
+    for (message, end) in [HELLO, PUT, GET].into_iter().zip(ENDS) {
+        said = said.saturating_add(message.len());
+        if said <= read {
+            answered = end;
+        }
+    }
+    answers_up_to(answered)
+}
+
+/// Where the answer ends of which the next byte behind so many is.
+fn end_behind(taken: usize) -> usize {
+    for end in ENDS {
+        if taken < end {
+            return end;
+        }
+    }
+    taken
+}
+
+/// What so many calls of the sink have taken: none goes past the end of an answer.
+pub(crate) fn answers_in(calls: usize) -> &'static [u8] {
+    let mut taken = 0usize;
+    for _ in 0..calls {
+        taken = end_behind(taken).min(taken.saturating_add(MOST_HEARD));
+    }
+    answers_up_to(taken)
+}
+
 /// A client that makes itself known, puts and gets, and then sends no more.
 pub(crate) fn put_and_get(alloc: Global) -> Result<Vec<u8>, Memory> {
     let mut said = HELLO.to_vec(alloc)?;

@@ -8,7 +8,9 @@ ghost use Rattle.live_session.specs.Connections.{IsFresh, ServesCalls};
 ghost use Rattle.partition_threads.specs.Workplaces.{IsTokenAt};
 ghost use Rattle.connection_tests.specs.Sessions.{none_seen};
 
-use crate::client::{ANSWERS, every_other, put_and_get};
+use crate::client::{
+    ANSWERS, MOST_HEARD, MOST_SAID, answers_in, answers_to, every_other, put_and_get,
+};
 use crate::live::{Live, WORKER, environment};
 use grid_base::Memory;
 use grid_edge::{FixedClock, MemoryReady, MemorySink, MemorySource};
@@ -24,13 +26,26 @@ use std::thread::{Threads, join};
 
 type Unready = (MemoryReady<MemorySource>, MemoryReady<MemorySink>);
 
+/// More than the calls of the source, and of the sink, that serve the client.
+const CALLS: usize = 32;
+
 /// What the client says, over streams that are unready at every other call and move few bytes at a time.
 fn unready_streams(alloc: Global) -> Result<Unready, Memory> {
-    let said = MemorySource::in_pieces(put_and_get(alloc)?, Vec::new(alloc), 7);
-    let heard = MemorySink::in_pieces(Vec::new(alloc), 5);
+    let said = MemorySource::in_pieces(put_and_get(alloc)?, Vec::new(alloc), MOST_SAID);
+    let heard = MemorySink::in_pieces(Vec::new(alloc), MOST_HEARD);
     Ok((
         MemoryReady::new(said, Vec::new(alloc), every_other(alloc)?),
         MemoryReady::new(heard, Vec::new(alloc), every_other(alloc)?),
+    ))
+}
+
+/// The same over streams that are always ready, of which these calls fail.
+fn failing_streams(alloc: Global, reads: Vec<u64>, writes: Vec<u64>) -> Result<Unready, Memory> {
+    let said = MemorySource::in_pieces(put_and_get(alloc)?, Vec::new(alloc), MOST_SAID);
+    let heard = MemorySink::in_pieces(Vec::new(alloc), MOST_HEARD);
+    Ok((
+        MemoryReady::new(said, reads, Vec::new(alloc)),
+        MemoryReady::new(heard, writes, Vec::new(alloc)),
     ))
 }
 
@@ -90,13 +105,13 @@ fn work<R: Wait>(rt: &R, alloc: Global, grid: &LiveGrid, tokens: WorkerTokens<Li
 fn by_turns<R: Threads + Wait + Sync>(
     rt: &R,
     alloc: Global,
+    streams: Unready,
 ) -> Result<(ConnectionEnd, Unready), Memory> {
     let Live {
         grid,
         session,
         tokens,
     } = Live::open(alloc)?;
-    let streams = unready_streams(alloc)?;
     let (served, ()) = join(
         rt,
         || serve_by_turns(rt, alloc, &grid, session, streams),
@@ -109,9 +124,49 @@ fn by_turns<R: Threads + Wait + Sync>(
 
 #[test]
 fn a_put_and_a_get_over_streams_that_are_often_unready(rt: HostRuntime) -> Result<(), Fail> {
-    let (end, (_, to)) = by_turns(&rt, rt.alloc())?;
+    let (end, (_, to)) = by_turns(&rt, rt.alloc(), unready_streams(rt.alloc())?)?;
     assert!(rt; matches!(end, ConnectionEnd::Ended));
     assert_eq!(rt; to.stream().bytes(), ANSWERS);
+    Ok(())
+}
+
+/// Serves the client by turns with each call of the source failing in turn, up to the last: does each connection end for that,
+/// with exactly the answers to what was read before it? And does the client have all of them behind these, where no call fails?
+fn each_read_fails<R: Threads + Wait + Sync>(rt: &R, alloc: Global) -> Result<bool, Memory> {
+    let mut held = true;
+    for call in 0..CALLS {
+        let reads = vec![in alloc; call as u64]?;
+        let streams = failing_streams(alloc, reads, Vec::new(alloc))?;
+        let (end, (_, to)) = by_turns(rt, alloc, streams)?;
+        if !matches!(end, ConnectionEnd::ReadFault) {
+            let whole = matches!(end, ConnectionEnd::Ended) && to.stream().bytes() == ANSWERS;
+            return Ok(held && whole && 0 < call);
+        }
+        held &= to.stream().bytes() == answers_to(call);
+    }
+    Ok(false)
+}
+
+/// The same with each call of the sink failing in turn, where exactly what the calls before it took is written.
+fn each_write_fails<R: Threads + Wait + Sync>(rt: &R, alloc: Global) -> Result<bool, Memory> {
+    let mut held = true;
+    for call in 0..CALLS {
+        let writes = vec![in alloc; call as u64]?;
+        let streams = failing_streams(alloc, Vec::new(alloc), writes)?;
+        let (end, (_, to)) = by_turns(rt, alloc, streams)?;
+        if !matches!(end, ConnectionEnd::WriteFault) {
+            let whole = matches!(end, ConnectionEnd::Ended) && to.stream().bytes() == ANSWERS;
+            return Ok(held && whole && 0 < call);
+        }
+        held &= to.stream().bytes() == answers_in(call);
+    }
+    Ok(false)
+}
+
+#[test]
+fn a_connection_ends_at_each_call_that_fails(rt: HostRuntime) -> Result<(), Fail> {
+    assert!(rt; each_read_fails(&rt, rt.alloc())?);
+    assert!(rt; each_write_fails(&rt, rt.alloc())?);
     Ok(())
 }
 
@@ -127,7 +182,7 @@ fn serve<R: Wait>(
     requires serves { ServesCalls RequestFits (place_of grid.now) }
 {
     let mut from = Blocking::new(said);
-    let mut to = Blocking::new(MemorySink::in_pieces(Vec::new(alloc), 5));
+    let mut to = Blocking::new(MemorySink::in_pieces(Vec::new(alloc), MOST_HEARD));
     let place = grid.workplace();
     let clock = FixedClock::new(7);
     let (end, _) = serve_connection(rt, alloc, place, session, &mut from, &mut to, &clock);
@@ -145,7 +200,7 @@ fn serve_waiting<R: Threads + Wait + Sync>(
         session,
         tokens,
     } = Live::open(alloc)?;
-    let said = MemorySource::in_pieces(put_and_get(alloc)?, Vec::new(alloc), 7);
+    let said = MemorySource::in_pieces(put_and_get(alloc)?, Vec::new(alloc), MOST_SAID);
     let (served, ()) = join(
         rt,
         || serve(rt, alloc, &grid, session, said),

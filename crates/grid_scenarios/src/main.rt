@@ -33,14 +33,21 @@ const OTHER_WORDS: [&[&str]; 6] = [
     &["sample", "0"],
 ];
 
-/// The scenario that is run with other words, with calls that fail, and with memory for all.
+/// The scenario that is run with other words.
 const SHORT_SCENARIO: &str = "sessions/put_then_get";
+
+/// The scenarios that are run with calls that fail, and with memory for all.
+const FAULTY_SCENARIOS: [&str; 3] = [
+    SHORT_SCENARIO,
+    "crashes_in_a_held_put/example",
+    "moves/a_move_with_a_held_put",
+];
 
 /// The exit status of a script with a line that is refused.
 const REFUSED: u8 = 2;
 
-/// The numbers of the calls that are made to fail lie below this; the last is past the last call.
-const CALLS: usize = 64;
+/// More than the calls of the source, and of the sink, of each of these.
+const CALLS: usize = 128;
 
 /// The limit of the processor that adds up to a limit.
 const MOST_COUNTED: i64 = 1000;
@@ -197,6 +204,12 @@ fn tell(rt: &HostRuntime, name: &str, held: bool) -> io::Result<bool> {
     Ok(held)
 }
 
+/// Prints whether a check of a scenario held.
+fn tell_of(rt: &HostRuntime, name: &str, check: &str, held: bool) -> io::Result<bool> {
+    let name = format!(in rt.alloc(); "{name} {check}")?;
+    tell(rt, name.as_str(), held)
+}
+
 /// Which calls are made to fail.
 #[derive(Clone, Copy, Debug, PartialEq, Eq)]
 enum Failing {
@@ -238,28 +251,25 @@ impl Failing {
     }
 }
 
-/// Let each source call, or each sink call, of the scenario fail in turn: does each run end with that fault, up to the
-/// last call, with exactly what is written before that call, and is the transcript whole where no call fails?
+/// Let each source call, or each sink call, of the scenario fail in turn, up to the last: does each run end with that fault,
+/// with exactly what is written before that call? And does the run behind these, in which none fails, print the whole
+/// transcript?
 fn each_call_fails(rt: &HostRuntime, name: &str, failing: Failing) -> io::Result<bool> {
     let alloc = rt.alloc();
     let script = read_text(rt, name, "script")?;
     let transcript = read_text(rt, name, "transcript")?;
     let (script, transcript) = (script.as_str(), transcript.as_str());
     let mut held = true;
-    let mut faults = 0usize;
     for call in 0..CALLS {
         let bytes = script.as_bytes().to_vec(alloc)?;
         let (status, text) = replayed(alloc, bytes, failing.at(alloc, call)?, Pieces::Small)?;
-        if status == failing.status() {
-            // No call before this one was past the last.
-            held &= faults == call;
-            held &= text.as_slice() == failing.written_before(call, script, transcript);
-            faults = faults.saturating_add(1);
-        } else {
-            held &= status == Status::Done && text.as_slice() == transcript.as_bytes();
+        if status != failing.status() {
+            let whole = status == Status::Done && text.as_slice() == transcript.as_bytes();
+            return Ok(held && whole && 0 < call);
         }
+        held &= text.as_slice() == failing.written_before(call, script, transcript);
     }
-    Ok(held && 0 < faults && faults < CALLS)
+    Ok(false)
 }
 
 /// With memory for all, does the scenario end as done?
@@ -307,7 +317,9 @@ fn run_scenarios(rt: &HostRuntime) -> io::Result<ExitCode> {
     }
     let refused = other_words_are_no_command(rt, SHORT_SCENARIO)?;
     held &= tell(rt, "other_words", refused)?;
-    held &= faults_and_memory(rt, SHORT_SCENARIO)?;
+    for name in FAULTY_SCENARIOS {
+        held &= faults_and_memory(rt, name)?;
+    }
     Ok(ExitCode::from(if held { 0 } else { 1 }))
 }
 
@@ -381,10 +393,10 @@ fn other_words_are_no_command(rt: &HostRuntime, name: &str) -> io::Result<bool> 
 fn faults_and_memory(rt: &HostRuntime, name: &str) -> io::Result<bool> {
     let mut held = true;
     let told = each_call_fails(rt, name, Failing::Reads)?;
-    held &= tell(rt, "each_source_call_fails", told)?;
+    held &= tell_of(rt, name, "each_source_call_fails", told)?;
     let told = each_call_fails(rt, name, Failing::Writes)?;
-    held &= tell(rt, "each_sink_call_fails", told)?;
+    held &= tell_of(rt, name, "each_sink_call_fails", told)?;
     let done = memory_suffices(rt, name)?;
-    held &= tell(rt, "ample_memory", done)?;
+    held &= tell_of(rt, name, "ample_memory", done)?;
     Ok(held)
 }

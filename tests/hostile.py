@@ -1,0 +1,40 @@
+#!/usr/bin/env -S python3 -B
+"""Has members crash before the steps of scripts, and clients do to `grid serve` what no good client does, over real sockets.
+Run it from anywhere, after `rt ci` or `rt run` in crates/grid has built the program: tests/hostile.py. GRID names another.
+
+    tests/hostile.py [--times] [WORD..]
+
+Runs the tests in whose names a WORD stands, or all. `--times` also tells each test, with its time. A line for each failure
+says what was wanted and what came; the last line is 'N passed, M failed', and the exit status is 0 where none failed."""
+
+from __future__ import annotations
+
+import os
+import sys
+
+from hostile_tests import clients, closes, consoles, crashes
+from serving.checks import Test, run_tests
+from serving.server import end_when_told, program, raise_descriptor_limit
+
+MODULES = (crashes, closes, clients, consoles)
+
+TESTS: list[Test] = [test for module in MODULES for test in module.TESTS]
+
+
+def chosen(words: list[str]) -> list[Test]:
+    return [test for test in TESTS if not words or any(word in test.__name__ for word in words)]
+
+
+def main(words: list[str]) -> int:
+    if not os.access(program(), os.X_OK):
+        print(f"no program at {program()}: build it with 'rt ci', or set GRID")
+        print("0 passed, 1 failed")
+        return 1
+    end_when_told()
+    raise_descriptor_limit()
+    told = "--times" in words
+    return 0 if run_tests(chosen([word for word in words if word != "--times"]), told=told, suite="hostile") else 1
+
+
+if __name__ == "__main__":
+    sys.exit(main(sys.argv[1:]))
