@@ -1,0 +1,1 @@
+//! What holds of every script that is made from a number. Nothing runs here.
