@@ -1,3 +1,4 @@
 pub mod Draws
 pub mod Calls
 pub mod Script
+pub mod Laws
