@@ -1,6 +1,9 @@
+mod Copied
 mod Crashed
+mod FirstMember
 mod Gone
 mod Kept
+mod Looks
 mod Missed
 mod Once
 mod Popped

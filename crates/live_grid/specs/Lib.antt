@@ -5,3 +5,4 @@ pub mod Lives
 pub mod Grids
 pub mod Control
 pub mod Fates
+pub mod Stored

@@ -8,15 +8,18 @@
 mod answers;
 mod control;
 mod control_turns;
+mod copies;
 mod grid;
 mod handing;
 pub mod laws;
+mod looking;
 mod opening;
 mod pass_places;
 mod plan;
 mod settling;
 mod world;
 
+pub use copies::Record;
 pub use grid::{GridPass, LiveGrid};
 pub use plan::GridPlan;
 pub use world::LiveWorld;

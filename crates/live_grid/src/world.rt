@@ -1,16 +1,19 @@
 //! The value of a partition's cell.
 ghost use Rattle.std.specs.Prelude.{◌≡◌, ◌≢◌, ◌++◌, ◌∷◌, [], ℕ, List, IfOk, IfSome, IfNone};
+ghost use Rattle.std.specs.Option.{option_map};
 ghost use Rattle.grid_base.specs.declared.calls.Request.{Request as RequestOf};
 ghost use Rattle.partition_world.specs.declared.event.Event.{Event as EventOf};
 ghost use Rattle.live_grid.specs.declared.plan.GridPlan.{GridPlan as PlanOf};
 ghost use Rattle.live_grid.specs.Lives.{LiveStands, IsThere, HasNoAnswer};
+ghost use Rattle.live_grid.specs.Stored.{record_of, stored_in};
 ghost use Rattle.primary_hold.specs.declared.answer.CallAnswer.{CallAnswer as AnswerOf};
 
 use crate::answers::take_answer;
+use crate::copies::{Record, record_kept};
 use crate::plan::GridPlan;
 use crate::settling::settled_as;
 use call_engine::GridShelf;
-use grid_base::{Bytes, CallId, Executes, MemberId, Memory, Moment, Request};
+use grid_base::{Bytes, CallId, Executes, MemberId, Memory, Moment, ObjectKey, Request};
 use hand_cell::{LiveOutcome, Runs, Served, Stands};
 use partition_world::{Event, Happened, StandingRow, World};
 use primary_hold::CallAnswer;
@@ -169,5 +172,18 @@ impl LiveWorld {
             to: link.to,
             place: 0,
         })
+    }
+
+    /// A copy of what the first member of the newest row has of an object, if it has something of it. A lost row has no
+    /// members. Costs the bytes of the copy.
+    pub(crate) fn stored(&self, alloc: Global, key: &ObjectKey) -> Result<Option<Record>, Memory>
+        requires { (plan : PlanOf) × (history : List (EventOf RequestOf)) × LiveStands self.now plan history }
+        ensures { (plan : PlanOf) (history : List (EventOf RequestOf)) → LiveStands self.now plan history
+            → IfOk result (λ copy. option_map record_of copy ≡ stored_in plan history key.now) }
+    {
+        match self.world.row().primary() {
+            Some(first) => record_kept(alloc, self.world.contents(first).shelf.store(), key),
+            None => Ok(None),
+        }
     }
 }

@@ -1,4 +1,6 @@
 mod Arrivals
+mod Begun
+mod Calm
 mod Elements
 mod Fits
 mod Locality
@@ -6,3 +8,6 @@ mod NewNames
 mod Refused
 mod Released
 mod Resets
+mod Stored
+mod Uncontrolled
+mod Unreopened

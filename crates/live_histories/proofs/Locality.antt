@@ -11,7 +11,7 @@ use Rattle.object_store.proofs.PartitionLaws.{same_name, is_same_self, record_at
 use Rattle.call_engine.specs.Calls.{Settings, after}
 use Rattle.call_engine.specs.Objects.{target_of, reply_to, one_object, partition_object}
 use Rattle.partition_protocol.specs.Claims.{is_reset}
-use Rattle.partition_protocol.specs.History.{Entry, Called, Reset, IsLegal}
+use Rattle.partition_protocol.specs.History.{Entry, Called, Reset, IsLegal, state_after}
 use Rattle.partition_protocol.proofs.Lists.{cases}
 use Rattle.partition_protocol.proofs.RowFacts.{false_or_not}
 use Rattle.live_histories.specs.Entries.{asks_of, is_of}
@@ -64,6 +64,28 @@ module _ (settings : Settings) (name : ObjectKey) where
 
       there : asks_of name x.call ≡ false → Legal kept rest → Legal kept (filter (is_of name) (Called x ∷ es))
       there other legal = subst (λ b. Legal kept (cond b (Called x ∷ rest) rest)) (sym other) legal
+
+  -- and what it leaves of each is what is left by what it has of it
+  pub left_of_object : (s : Partition) (kept : Record) (es : List (Entry Request)) → record_at s name ≡ kept → record_at (state_after (partition_object settings) s es) name ≡ state_after (one_object settings name) kept (filter (is_of name) es)
+  left_of_object s kept [] is = is
+  left_of_object s kept (Reset version ∷ es) is = left_of_object nothing_stored (nothing_of name) es (record_at-nothing name)
+  left_of_object s kept (Called x ∷ es) is =
+      ⊎_elim (λ on. here on (left_of_object (next settings s x.call x.now) (after settings kept x.call.call x.now) es (left_on settings s x.call x.now name kept on is)))
+      (λ other. there other (left_of_object (next settings s x.call x.now) kept es (left_off settings s x.call x.now name kept other is)))
+      (cases (asks_of name x.call))
+    where
+      rest : List (Entry Request)
+      rest = filter (is_of name) es
+
+      Left : Bool → Type 0
+      Left b = record_at (state_after (partition_object settings) (next settings s x.call x.now) es) name ≡ state_after (one_object settings name) kept (cond b (Called x ∷ rest) rest)
+
+      here : asks_of name x.call ≡ true → record_at (state_after (partition_object settings) (next settings s x.call x.now) es) name ≡ state_after (one_object settings name) (after settings kept x.call.call x.now) rest
+          → Left (asks_of name x.call)
+      here on same = subst Left (sym on) same
+
+      there : asks_of name x.call ≡ false → record_at (state_after (partition_object settings) (next settings s x.call x.now) es) name ≡ state_after (one_object settings name) kept rest → Left (asks_of name x.call)
+      there other same = subst Left (sym other) same
 
   -- each has all resets
   pub resets_on : (es : List (Entry Request)) → filter is_reset (filter (is_of name) es) ≡ filter is_reset es

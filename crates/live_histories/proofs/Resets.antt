@@ -63,7 +63,7 @@ resets_of_front es fs xs ys first second e =
 
 -- an event
 
-abbrev is_reopening : EventThere Request → Bool
+abbrev pub is_reopening : EventThere Request → Bool
 is_reopening Reopen = true
 is_reopening e = false
 
