@@ -31,9 +31,9 @@ abbrev pub registration_head : ℕ → ℤ → List ℕ
 registration_head kind correlation = request_head kind correlation (negsuc 0)
 
 -- the client makes itself known to the cluster `dev`, with the serialization's version 1
-abbrev pub authentication_frames : ℕ → List Frame
-authentication_frames client =
-    (authentication_message authentication_correlation (negsuc 0) 1 (record { client = Some client; name = codes "dev" }) [] []).frames
+abbrev pub authentication_frames : ℤ → ℕ → List Frame
+authentication_frames correlation client =
+    (authentication_message correlation (negsuc 0) 1 (record { client = Some client; name = codes "dev" }) [] []).frames
 
 -- it listens to the invalidations of its near map, where it has one
 abbrev pub listener_frames : Option (List ℕ) → List Frame
@@ -47,4 +47,4 @@ abbrev pub view_frames : List Frame
 view_frames = record { flags = single; payload = registration_head cluster_view_kind rows_correlation } ∷ []
 
 abbrev pub opening : ℕ → Option (List ℕ) → List ℕ
-opening client map = prefix_of true ++ spelled (authentication_frames client ++ listener_frames map ++ view_frames)
+opening client map = prefix_of true ++ spelled (authentication_frames authentication_correlation client ++ listener_frames map ++ view_frames)

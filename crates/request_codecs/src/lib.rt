@@ -8,7 +8,9 @@ mod parts;
 mod readdressing;
 mod requests;
 
-pub use opening::{AUTHENTICATION_CORRELATION, FIRST_CORRELATION, write_opening};
+pub use opening::{
+    AUTHENTICATION_CORRELATION, FIRST_CORRELATION, write_authentication, write_opening,
+};
 pub use readdressing::readdressed;
 pub use requests::{kind_of, write_request};
 

@@ -42,11 +42,16 @@ pub const FIRST_CORRELATION: i64 = 4;
 /// What stands for the partition where a request is in none.
 const NO_PARTITION: i32 = -1;
 
-fn write_authentication(alloc: Global, client: u128, out: &mut Vec<u8>) -> Result<(), Memory>
-    ensures { OnOk result (out.new.items ≡ out.old.items ++ spelled (authentication_frames client)) }
+/// Appends the message by which a client makes itself known to the cluster `dev`, with no prefix before it.
+pub fn write_authentication(
+    alloc: Global,
+    correlation: i64,
+    client: u128,
+    out: &mut Vec<u8>,
+) -> Result<(), Memory>
+    ensures { OnOk result (out.new.items ≡ out.old.items ++ spelled (authentication_frames correlation client)) }
 {
-    let kind = AUTHENTICATION_KIND;
-    let mut first = begun(alloc, kind, AUTHENTICATION_CORRELATION, NO_PARTITION)?;
+    let mut first = begun(alloc, AUTHENTICATION_KIND, correlation, NO_PARTITION)?;
     write_uuid(Some(client), &mut first)?;
     first.push(SERIALIZATION)?;
     write_part(UNFRAGMENTED, first.as_slice(), out)?;
@@ -79,7 +84,7 @@ pub fn write_opening(alloc: Global, client: u128, near_map: Option<&Bytes>) -> R
     ensures { IfOk result (λ bytes. bytes ≡ opening client (option_copied near_map.entry)) }
 {
     let mut bytes = Vec::from_slice(alloc, PREFIX)?;
-    write_authentication(alloc, client, &mut bytes)?;
+    write_authentication(alloc, AUTHENTICATION_CORRELATION, client, &mut bytes)?;
     write_listener(alloc, near_map, &mut bytes)?;
     write_cluster_view(alloc, &mut bytes)?;
     Ok(Bytes::from_vec(bytes))

@@ -1,4 +1,4 @@
-use Rattle.std.proofs.Common.{◌≡◌, ◌∷◌, ◌++◌, [], Some, pos, negsuc, rules, refl}
+use Rattle.std.proofs.Common.{◌≡◌, ◌∷◌, ◌++◌, [], Some, negsuc, rules, refl}
 use Rattle.std.proofs.lemmas.Result.{on_ok_weaker}
 use Rattle.fixed_fields.specs.Fields.{uuid_bytes}
 use Rattle.fixed_fields.specs.Responses.{unfragmented, final}
@@ -9,7 +9,7 @@ use Rattle.request_codecs.proofs.opening.write_authentication.Goals as goal
 
 pub returns : goal.returns
 returns c =
-    let its = request_head authentication_kind (pos 1) (negsuc 0) ++ uuid_bytes (Some c.args.client) ++ 1 ∷ [] in
+    let its = request_head authentication_kind c.args.correlation (negsuc 0) ++ uuid_bytes (Some c.args.client) ++ 1 ∷ [] in
     let payload : c.as_slice.result.now ≡ its = search rules in
     let name = 100 ∷ 101 ∷ 118 ∷ [] in
     on_ok_weaker c.write_part-2.result

@@ -1,0 +1,4 @@
+pub mod Appending
+pub mod ByteLists
+pub mod SampleLines
+pub mod ReadBack

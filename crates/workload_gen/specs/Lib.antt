@@ -1,0 +1,4 @@
+pub mod Draws
+pub mod Calls
+pub mod Script
+pub mod Laws
