@@ -1,4 +1,4 @@
-ghost use Rattle.std.specs.Prelude.{◌≡◌, ◌<◌, List, Some, map, not, slice_get, IfOk};
+ghost use Rattle.std.specs.Prelude.{◌≡◌, ◌<◌, List, Some, map, length, not, slice_get, IfOk};
 ghost use Rattle.partition_table.specs.Rows.{is_among};
 ghost use Rattle.partition_protocol.specs.Node.{Node as ProtocolNode};
 ghost use Rattle.partition_protocol.specs.Service.{is_idle};
@@ -142,5 +142,13 @@ where
             StandsFor k KeepsAll S.model.within_limits self.now events → IfOk result (λ entries. map entry_of entries ≡ trail (run_of k self.now events)) }
     {
         self.recorder.trail(alloc, self.leading_pair())
+    }
+
+    /// How many entries that history has. Costs what `trail` does, but takes no memory.
+    pub fn trail_len(&self) -> u128
+        ensures { (plan : S.Plan) (events : List (ProtocolEvent S.Call)) → let k = meaning S.model plan in
+            StandsFor k KeepsAll S.model.within_limits self.now events → result ≡ length (trail (run_of k self.now events)) }
+    {
+        self.recorder.trail_len(self.leading_pair())
     }
 }

@@ -1,4 +1,4 @@
-ghost use Rattle.std.specs.Prelude.{◌≡◌, ℕ, ◌+◌, ◌++◌, ◌∷◌, [], length, map, reverse, if◌then◌else◌, IfSome, IfOk, OnOk};
+ghost use Rattle.std.specs.Prelude.{◌≡◌, ℕ, ◌+◌, ◌^◌, ◌<◌, ◌++◌, ◌∷◌, [], length, map, reverse, if◌then◌else◌, IfSome, IfOk, OnOk};
 ghost use Rattle.std.specs.List.{find};
 ghost use Rattle.std.specs.Option.{option_copied};
 ghost use Rattle.partition_protocol.specs.History.{Reset as HasReset, entries_in, opening_at, history};
@@ -124,6 +124,62 @@ impl<C> Recorder<C> {
             log: self.log.as_slice(),
             places,
         })
+    }
+
+    /// How many entries the trail has. Costs what finding it does, and takes no memory.
+    pub(crate) fn trail_len(&self, leader: Option<Pair>) -> u128
+        ensures { (r : Recorded C) → KeepsAll self.now r → result ≡ length (trail_by r leader) }
+    {
+        match leader {
+            None => 0,
+            Some(pair) if pair.version < self.standing.reset => {
+                self.opening_len(self.standing.reset)
+            },
+            Some(pair) => self.history_len(pair),
+        }
+    }
+
+    /// How many entries the history at the reopening with that reset has.
+    fn opening_len(&self, reset: u32) -> u128
+        ensures len { result ≡ length (opening_at reset (openings_of self.now)) }
+        ensures most { result < 2 ^ 64 }
+    {
+        match self.opening(reset) {
+            None => 0,
+            Some(opening) => opening.places.len() as u128,
+        }
+    }
+
+    /// How many entries the history that the pair names has, in a pass over the bases.
+    fn history_len(&self, leader: Pair) -> u128
+        ensures { result ≡ length (history (openings_of self.now) (log_of self.now) (bases_of self.now) leader) }
+    {
+        let mut entries = 0;
+        let mut from = leader;
+        for older in (0..self.bases.len()).rev() {
+            let base = self.bases[older];
+            if base.version == from.version {
+                entries += self.entries_in(from) as u128;
+                if base.begins_anew() {
+                    return entries + self.opening_len(base.reset);
+                }
+                from = base.pair();
+            }
+        }
+        entries
+    }
+
+    /// How many entries of the log the pair counts, in a pass over the log.
+    fn entries_in(&self, pair: Pair) -> usize
+        ensures { result ≡ length (entries_in pair (log_of self.now)) }
+    {
+        let mut entries = 0;
+        for entry in &self.log {
+            if entry.is_in(pair) {
+                entries += 1;
+            }
+        }
+        entries
     }
 
     /// Where the entries of the trail stand in the log, and the reset of a reopening that comes next.
