@@ -1,11 +1,11 @@
 -- What is spelled in messages are bytes, and in lines no newline.
-use Rattle.std.proofs.Common.{◌≡◌, ℕ, zero, suc, ◌+◌, ◌-◌, ◌*◌, ◌<◌, ◌≤◌, ◌^◌, ◌==◌, Bool, true, false, not, nat_lt, List, [], ◌∷◌, ◌++◌, length, get_or, map, decimal, fold, All, flat_map, refl, ap, sym, subst, ◌∙◌, arith, rules, lit<, ⊎_elim}
+use Rattle.std.proofs.Common.{◌≡◌, ℕ, zero, suc, ◌+◌, ◌-◌, ◌*◌, ◌<◌, ◌≤◌, ◌^◌, ◌==◌, Bool, true, false, not, nat_lt, List, [], ◌∷◌, ◌++◌, length, get_or, map, decimal, fold, All, flat_map, refl, ap, sym, subst, ◌∙◌, arith, rules, lit<, length-append}
 use Rattle.std.specs.Prelude.{codes}
-use Rattle.std.specs.Int.{Width, byte_at, bytes_low_first, bytes_high_first}
+use Rattle.std.specs.Int.{byte_at, bytes_low_first, bytes_high_first}
 use Rattle.std.specs.Char.{is_ascii_digit}
 use Rattle.std.specs.List.{list_all, AllPass, join_with_byte}
 use Rattle.std.proofs.lemmas.Bool.Decides.{nat_tests}
-use Rattle.std.proofs.lemmas.Fmt.{digits_decimal}
+use Rattle.std.proofs.lemmas.Fmt.{digits_decimal, length-decimal-le}
 use Rattle.std.proofs.lemmas.List.Elements.{All-nil, All-cons, All-append, All-get_or}
 use Rattle.std.proofs.lemmas.List.Sums.{AllPass-from_list_all}
 use Rattle.std.proofs.lemmas.Str.Parse.{IsNumeralModel, numerals_by_fold}
@@ -110,3 +110,20 @@ pub arrival_has_none : (conn : ℕ) (bytes : List ℕ) → conn < 2 ^ 64 → IsB
 arrival_has_none conn bytes small are =
     then_none (codes "bytes") (space ∷ (decimal conn ++ space ∷ encode_lower bytes)) (literal_has_none (codes "bytes") refl)
     (behind_space (decimal conn ++ space ∷ encode_lower bytes) (then_none (decimal conn) (space ∷ encode_lower bytes) (number_has_none conn small) (behind_space (encode_lower bytes) (hex_has_none bytes are))))
+
+-- ---- how long a line is
+
+numbers_are_short : (ns : List ℕ) → AreSmall ns → length (flat_map (λ number. space ∷ decimal number) ns) ≤ 21 * length ns
+numbers_are_short [] small = omega arith
+numbers_are_short (n ∷ ns) small =
+    let digits : length (decimal n) ≤ 20 = length-decimal-le 20 n (omega arith) (omega (arith, small.0)) small.0 in
+    let others = numbers_are_short ns small.1 in
+    let all = length-append (space ∷ decimal n) (flat_map (λ number. space ∷ decimal number) ns) in
+    omega (arith, digits, others, all)
+
+-- a keyword and up to five numbers
+pub words_are_short : (keyword ns : List ℕ) → AreSmall ns → length keyword + 21 * length ns ≤ 154 → length (join_with_byte space (keyword ∷ map decimal ns)) ≤ 154
+words_are_short keyword ns small few =
+    let all = length-append keyword (flat_map (λ number. space ∷ decimal number) ns) in
+    let numbers = numbers_are_short ns small in
+    subst (λ (text : List ℕ). length text ≤ 154) (sym (joined keyword ns)) (omega (arith, all, numbers, few))

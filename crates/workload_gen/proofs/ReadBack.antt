@@ -1,5 +1,5 @@
 -- A script is read back line by line.
-use Rattle.std.proofs.Common.{◌≡◌, ℕ, ◌==◌, false, List, [], ◌∷◌, ◌++◌, map, Ok, All, refl, ap, sym, ◌∙◌, append_assoc, arith}
+use Rattle.std.proofs.Common.{◌≡◌, ℕ, ◌==◌, false, List, [], ◌∷◌, ◌++◌, map, All, refl, ap, sym, ◌∙◌, append_assoc, arith}
 use Rattle.std.proofs.lemmas.List.Elements.{All-head, All-tail, All-weaker}
 use Rattle.std.proofs.lemmas.List.Splits.{slice_split_at}
 use Rattle.script_lang.specs.Spelling.{spelled}
@@ -8,7 +8,7 @@ use Rattle.script_lang.specs.declared.line.Line.{Line}
 use Rattle.script_lang.proofs.Pieces.{pieces_at-slice_split}
 use Rattle.script_lang.proofs.ReadAgain.{read_again}
 use Rattle.workload_gen.specs.Laws.{IsReadAsItself, EveryScriptIsReadBack}
-use Rattle.workload_gen.specs.Script.{text_of, sample_lines, sample_script}
+use Rattle.workload_gen.specs.Script.{text_of, sample_lines}
 use Rattle.workload_gen.proofs.SampleLines.{IsReadable, all_are}
 
 -- a line, and what is behind its newline

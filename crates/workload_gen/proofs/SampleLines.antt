@@ -1,9 +1,10 @@
 -- What the lines of a script keep to.
-use Rattle.std.proofs.Common.{◌≡◌, ℕ, zero, suc, ◌+◌, ◌*◌, ◌/◌, ◌%◌, ◌<◌, ◌≤◌, ◌^◌, ◌==◌, Bool, true, false, cond, nat_lt, ℤ, pos, negsuc, flat_map, List, [], ◌∷◌, ◌++◌, length, decimal, Ok, Some, All, refl, ap, subst, sym, arith, lit<, lit≤, length-append}
+use Rattle.std.proofs.Common.{◌≡◌, ℕ, zero, suc, ◌+◌, ◌*◌, ◌/◌, ◌%◌, ◌<◌, ◌≤◌, ◌^◌, ◌==◌, Bool, true, false, nat_lt, ℤ, pos, negsuc, flat_map, List, [], ◌∷◌, ◌++◌, length, decimal, map, not, Some, All, refl, subst, sym, arith, lit<, lit≤, length-append}
 use Rattle.std.specs.Prelude.{codes, if◌then◌else◌}
+use Rattle.std.specs.List.{join_with_byte, list_all}
 use Rattle.std.specs.Int.{w32, w64, to_le_bytes, to_be_bytes, cast_unsigned}
 use Rattle.std.proofs.lemmas.List.Elements.{All-nil, All-cons, All-append}
-use Rattle.std.proofs.lemmas.Bool.Decides.{nat_tests}
+use Rattle.std.proofs.lemmas.Fmt.{length-decimal-le}
 use Rattle.hex.specs.Hex.{encode_lower, lower_digits}
 use Rattle.hex.proofs.HexLemmas.{length-encode_with}
 use Rattle.frame_codec.specs.Laws.{spelled as spelled_frames, IsBytes as AreBytes}
@@ -19,7 +20,7 @@ use Rattle.request_codecs.specs.Openings.{authentication_frames}
 use Rattle.request_codecs.specs.Requests.{request_bytes}
 use Rattle.script_lang.specs.Lines.{IsWithin}
 use Rattle.script_lang.specs.Spelling.{spelled, BringsBytes}
-use Rattle.script_lang.specs.Words.{space}
+use Rattle.script_lang.specs.Words.{space, newline}
 use Rattle.script_lang.specs.declared.line.Line.{Line}
 use Rattle.script_lang.specs.declared.line.Line.TheVariants as Lines
 use Rattle.workload_gen.specs.Calls.{client_on, conn_of, owner_of, stated_hash, key_of, put, get}
@@ -28,24 +29,36 @@ use Rattle.workload_gen.specs.Script.{each_below, connection_lines, step_line, c
 use Rattle.workload_gen.specs.declared.steps.Step.{Step}
 use Rattle.workload_gen.specs.declared.steps.Step.TheVariants.{Put, Get, Flow, Move, Advance, Resend}
 use Rattle.workload_gen.specs.declared.steps.Draws.{Draws}
-use Rattle.workload_gen.proofs.ByteLists.{low_first_are, high_first_are, both_are, literal_are, HaveBytes, frames_are, by_index, HasNoNewline, literal_has_none, words_have_none, arrival_has_none}
+use Rattle.workload_gen.proofs.ByteLists.{low_first_are, high_first_are, both_are, literal_are, HaveBytes, frames_are, by_index, HasNoNewline, literal_has_none, words_have_none, words_are_short, AreSmall, arrival_has_none}
 
 -- a line that can be read again
 pub record IsReadable (line : Line) : Type 0 where
   pub brings : BringsBytes line
   pub within : IsWithin 4 (length (spelled line)) line
   pub whole : HasNoNewline (spelled line)
+  pub short : length (spelled line) ≤ 154
 
 -- ---- one line
 
-arrival_is : (conn : ℕ) (bytes : List ℕ) → conn < 4 → 1 ≤ length bytes → AreBytes bytes → IsReadable (Lines.Arrive conn bytes)
-arrival_is conn bytes few some are =
+numbers_line : (line : Line) (keyword ns : List ℕ) → spelled line ≡ join_with_byte space (keyword ∷ map decimal ns) → list_all (λ x. not (x == newline)) keyword ≡ true
+    → AreSmall ns → length keyword + 21 * length ns ≤ 154 → BringsBytes line → IsWithin 4 (length (spelled line)) line → IsReadable line
+numbers_line line keyword ns words passes small few brings within = record {
+  brings = brings;
+  within = within;
+  whole = subst HasNoNewline (sym words) (words_have_none keyword ns passes small);
+  short = subst (λ (text : List ℕ). length text ≤ 154) (sym words) (words_are_short keyword ns small few);
+}
+
+arrival_is : (conn : ℕ) (bytes : List ℕ) → conn < 4 → 1 ≤ length bytes → length bytes ≤ 73 → AreBytes bytes → IsReadable (Lines.Arrive conn bytes)
+arrival_is conn bytes few some short are =
     let size = length-encode_with lower_digits bytes in
     let line = length-append (decimal conn) (space ∷ encode_lower bytes) in
+    let digit : length (decimal conn) ≤ 1 = length-decimal-le 1 conn (omega arith) (omega arith) (omega arith) in
     record {
       brings = by_index bytes are;
       within = (omega arith, some, omega (arith, size, line));
       whole = arrival_has_none conn bytes (omega arith) (by_index bytes are);
+      short = omega (arith, size, line, digit);
     }
 
 -- ---- what arrives
@@ -95,8 +108,8 @@ connection_is : (conn : ℕ) → conn < 4 → All IsReadable (connection_lines c
 connection_is conn few =
     let connect = Lines.OpenConn conn conn in
     let bytes = prefix_of true ++ spelled_frames (authentication_frames (pos 0) (client_on conn)) in
-    let connected : IsReadable connect = record { brings = tt; within = (omega arith, few); whole = words_have_none (codes "open") (conn ∷ conn ∷ []) refl (omega arith, (omega arith, tt)) } in
-    All-cons IsReadable connect (Lines.Arrive conn bytes ∷ []) connected (All-cons IsReadable (Lines.Arrive conn bytes) [] (arrival_is conn bytes few (omega arith) (opening_is conn)) (All-nil IsReadable))
+    let connected : IsReadable connect = numbers_line connect (codes "open") (conn ∷ conn ∷ []) refl refl (omega arith, (omega arith, tt)) (omega arith) tt (omega arith, few) in
+    All-cons IsReadable connect (Lines.Arrive conn bytes ∷ []) connected (All-cons IsReadable (Lines.Arrive conn bytes) [] (arrival_is conn bytes few (omega arith) (omega arith) (opening_is conn)) (All-nil IsReadable))
 
 on_if : {X : Type 0} (P : X → Type 0) (b : Bool) (x y : X) → P x → P y → P (if b then x else y)
 on_if P true x y p q = p
@@ -116,12 +129,12 @@ step_is round draws p first second =
     let flows = if draws.kind == 12 then Flow else moves in
     let gets = if nat_lt draws.kind 12 then Get partition else flows in
     let P : Step → Type 0 = λ step. IsReadable (step_line round step) in
-    let put_is_so : P (Put partition) = arrival_is (conn_of partition) (request_bytes (pos round) partition (put round partition)) (below_four partition) (omega arith) (put_is round partition) in
-    let get_is_so : P (Get partition) = arrival_is (conn_of partition) (request_bytes (pos round) partition (get partition)) (below_four partition) (omega arith) (get_is round partition) in
-    let flow_is_so : P Flow = record { brings = tt; within = (lit≤ tt, lit≤ tt); whole = words_have_none (codes "flow all") (50 ∷ []) refl (lit< tt, tt) } in
-    let move_is_so : P move = record { brings = tt; within = (p, first, second); whole = words_have_none (codes "move") (partition ∷ draws.first ∷ draws.second ∷ []) refl (omega arith, (omega arith, (omega arith, tt))) } in
-    let advance_is_so : P advance = record { brings = tt; within = p; whole = words_have_none (codes "advance") (partition ∷ []) refl (omega arith, tt) } in
-    let resend_is_so : P resend = record { brings = tt; within = (p, omega arith); whole = words_have_none (codes "resend") (partition ∷ draws.first ∷ []) refl (omega arith, (omega arith, tt)) } in
+    let put_is_so : P (Put partition) = arrival_is (conn_of partition) (request_bytes (pos round) partition (put round partition)) (below_four partition) (omega arith) (omega arith) (put_is round partition) in
+    let get_is_so : P (Get partition) = arrival_is (conn_of partition) (request_bytes (pos round) partition (get partition)) (below_four partition) (omega arith) (omega arith) (get_is round partition) in
+    let flow_is_so : P Flow = numbers_line (Lines.FlowAll 50) (codes "flow all") (50 ∷ []) refl refl (lit< tt, tt) (omega arith) tt (lit≤ tt, lit≤ tt) in
+    let move_is_so : P move = numbers_line (Lines.Move partition draws.first draws.second) (codes "move") (partition ∷ draws.first ∷ draws.second ∷ []) refl refl (omega arith, (omega arith, (omega arith, tt))) (omega arith) tt (p, first, second) in
+    let advance_is_so : P advance = numbers_line (Lines.Advance partition) (codes "advance") (partition ∷ []) refl refl (omega arith, tt) (omega arith) tt p in
+    let resend_is_so : P resend = numbers_line (Lines.Resend partition draws.first) (codes "resend") (partition ∷ draws.first ∷ []) refl refl (omega arith, (omega arith, tt)) (omega arith) tt (p, omega arith) in
     on_if P (nat_lt draws.kind 8) (Put partition) gets put_is_so
     (on_if P (nat_lt draws.kind 12) (Get partition) flows get_is_so
     (on_if P (draws.kind == 12) Flow moves flow_is_so
@@ -130,8 +143,8 @@ step_is round draws p first second =
 
 crash_is : (round : ℕ) → All IsReadable (crash_lines round)
 crash_is round =
-    let crash : IsReadable (Lines.Crash 3) = record { brings = tt; within = lit< tt; whole = words_have_none (codes "crash") (3 ∷ []) refl (lit< tt, tt) } in
-    let detect : IsReadable (Lines.Detect 3) = record { brings = tt; within = lit< tt; whole = words_have_none (codes "detect") (3 ∷ []) refl (lit< tt, tt) } in
+    let crash : IsReadable (Lines.Crash 3) = numbers_line (Lines.Crash 3) (codes "crash") (3 ∷ []) refl refl (lit< tt, tt) (omega arith) tt (lit< tt) in
+    let detect : IsReadable (Lines.Detect 3) = numbers_line (Lines.Detect 3) (codes "detect") (3 ∷ []) refl refl (lit< tt, tt) (omega arith) tt (lit< tt) in
     on_if (All IsReadable) (round == 1000) (Lines.Crash 3 ∷ Lines.Detect 3 ∷ []) [] (All-cons IsReadable (Lines.Crash 3) (Lines.Detect 3 ∷ []) crash (All-cons IsReadable (Lines.Detect 3) [] detect (All-nil IsReadable))) (All-nil IsReadable)
 
 below_partitions : (n : ℕ) → n % 271 ≤ 270
@@ -150,9 +163,9 @@ each_is (suc n) f each = All-append IsReadable (each_below n f) (f n) (each_is n
 
 pub all_are : (number : ℕ) → All IsReadable (sample_lines number)
 all_are number =
-    let grid : IsReadable (Lines.Grid 4 1 100) = record { brings = tt; within = (lit≤ tt, lit≤ tt, lit≤ tt, lit≤ tt); whole = words_have_none (codes "grid") (4 ∷ 1 ∷ 100 ∷ []) refl (lit< tt, (lit< tt, (lit< tt, tt))) } in
-    let flow : IsReadable (Lines.FlowAll 1000) = record { brings = tt; within = (lit≤ tt, lit≤ tt); whole = words_have_none (codes "flow all") (1000 ∷ []) refl (lit< tt, tt) } in
-    let last : IsReadable Lines.End = record { brings = tt; within = tt; whole = literal_has_none (codes "end") refl } in
+    let grid : IsReadable (Lines.Grid 4 1 100) = numbers_line (Lines.Grid 4 1 100) (codes "grid") (4 ∷ 1 ∷ 100 ∷ []) refl refl (lit< tt, (lit< tt, (lit< tt, tt))) (omega arith) tt (lit≤ tt, lit≤ tt, lit≤ tt, lit≤ tt) in
+    let flow : IsReadable (Lines.FlowAll 1000) = numbers_line (Lines.FlowAll 1000) (codes "flow all") (1000 ∷ []) refl refl (lit< tt, tt) (omega arith) tt (lit≤ tt, lit≤ tt) in
+    let last : IsReadable Lines.End = record { brings = tt; within = tt; whole = literal_has_none (codes "end") refl; short = omega arith } in
     let connections = each_below 4 connection_lines in
     let rounds = each_below 2000 (round_lines number) in
     All-append IsReadable (Lines.Grid 4 1 100 ∷ connections ++ rounds) (Lines.FlowAll 1000 ∷ Lines.End ∷ [])

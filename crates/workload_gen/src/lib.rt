@@ -2,8 +2,8 @@
 //! `docs/SAMPLE.md` says in words what it has.
 #![tactic(auto)]
 
-pub mod laws;
 mod calls;
+pub mod laws;
 mod lines;
 mod script;
 mod steps;

@@ -23,8 +23,8 @@ const CRASH_ROUND: u32 = 1_000;
 /// The member that crashes.
 const CRASHED: u32 = 3;
 
-/// How many bytes a script has at most: those of its rounds, and of the lines before and behind them.
-const MOST_BYTES: usize = 2_000 * 155 + 600;
+/// How many bytes a script has at most: 2,013 lines of 155 bytes, the longest.
+const MOST_BYTES: usize = 2_013 * 155;
 
 /// Appends the lines by which a client connects to a member and makes itself known.
 fn write_connection(alloc: Global, conn: u32, out: &mut Vec<u8>) -> Result<(), Memory>
@@ -114,8 +114,11 @@ fn write_rounds(alloc: Global, number: u32, out: &mut Vec<u8>) -> Result<(), Mem
     Ok(())
 }
 
-/// The text of the script that is made from a number, of about 220,000 bytes. It depends on the number alone. Takes time
-/// and memory of its length; its memory is taken at once, but for what each line is made of.
+/// The text of the script that is made from a number, and from nothing else: 2,013 lines, of about 220,000 bytes. What
+/// its lines are is told in `docs/SAMPLE.md`, and what holds of them by `laws`.
+///
+/// Takes time in proportion to the text. Room for all of it is taken first, and nothing is copied as it grows; besides, a
+/// call's request is made apart and copied once, as hexadecimal. Fails for want of memory alone.
 pub fn make(alloc: Global, number: u32) -> Result<Vec<u8>, Memory>
     ensures { IfOk result (λ script. script.items ≡ sample_script number) }
 {

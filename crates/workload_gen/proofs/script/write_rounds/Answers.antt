@@ -25,6 +25,6 @@ loop-rounds-preserved c =
     both before c.write_step.new.out.items after (line_text (step_line (rounds + 1) (step_at number rounds))) (text_of (crash_lines (rounds + 1))) stepped c.in_ok-write_crash.ensures in
     record {
       lines = more_lines out before after (each_below rounds (round_lines number)) (round_lines number rounds) c.loop-rounds.invariant.lines round
-      ∙ ap (λ (lines : List Line). out ++ text_of lines) (sym (each_below-more rounds (round_lines number)));
+          ∙ ap (λ (lines : List Line). out ++ text_of lines) (sym (each_below-more rounds (round_lines number)));
       generator = c.next_step.ensures.behind ∙ ap behind_round c.loop-rounds.invariant.generator ∙ sym (generator_at-more number rounds);
     }

@@ -1,4 +1,4 @@
-use Rattle.std.proofs.Common.{◌≡◌, ◌%◌, ℕ, ap}
+use Rattle.std.proofs.Common.{◌%◌, ℕ, ap}
 use Rattle.rand_pcg.specs.Lcg.{Lcg}
 use Rattle.workload_gen.specs.Draws.{word_of, behind}
 use Rattle.workload_gen.proofs.steps.Workload.draw.Goals as goal

@@ -1,4 +1,4 @@
-use Rattle.std.proofs.Common.{◌≡◌, ℕ, ap, ◌∙◌}
+use Rattle.std.proofs.Common.{ℕ, ap, ◌∙◌}
 use Rattle.rand_pcg.specs.Lcg.{started, increment_of}
 use Rattle.rand_pcg.specs.Pcg.{multiplier_64}
 use Rattle.workload_gen.specs.Draws.{generator_of}
