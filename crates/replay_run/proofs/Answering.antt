@@ -24,7 +24,7 @@ use Rattle.replay_run.specs.Runs.{Run, Arrival, Appended, Reopened, At, is_at, w
 use Rattle.grid_base.specs.Errors.{partition_lost, wrong_target, migrating}
 use Rattle.replay_run.specs.Printing.{is_answer_to}
 use Rattle.replay_run.proofs.Parts.{in_map, in_mapped, in_drop}
-use Rattle.replay_run.proofs.Counts.{count, count-append, count_none, count_in, count_part, count_cases}
+use Rattle.replay_run.proofs.Counting.{count, count-append, count_none, count_in, count_part, count_cases}
 use Rattle.replay_run.proofs.Releases.{one, times_in, answers, answers-append, released_once}
 use Rattle.replay_run.proofs.Trails.{executed, executed_name, newest_executed}
 use Rattle.replay_run.proofs.RunFacts.{id_name, arrival_name, ArrivalsOk, AnswersOk, IsGiven, IsGivenIn, given_executed, RunOk, named, origin, one_partition}

@@ -14,7 +14,7 @@ use Rattle.replay_run.specs.Runs.{Run, Arrival, Appended, world_at}
 use Rattle.replay_run.specs.Printing.{is_named, is_answer_to, answer_of}
 use Rattle.replay_run.specs.Linearizability.{Before}
 use Rattle.replay_run.proofs.Parts.{subsequence_part, named_same, named_append, before_append}
-use Rattle.replay_run.proofs.Counts.{find_only}
+use Rattle.replay_run.proofs.Counting.{find_only}
 use Rattle.replay_run.proofs.Places.{same_call, same_call_refl, same_number}
 use Rattle.replay_run.proofs.Trails.{executed, executed_name, in_executed, part_executed, find_some}
 use Rattle.replay_run.proofs.RunFacts.{id_name, RunOk, IsGivenIn, log_since, given_executed, arrival_name, safe, log_once, origin, partition_of_call}

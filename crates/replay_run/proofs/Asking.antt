@@ -25,7 +25,8 @@ use Rattle.replay_run.specs.Rebalancing.{most_line_events}
 use Rattle.replay_run.specs.Shelves.{grid_meaning}
 use Rattle.replay_run.specs.Grids.{FormOf, GridWorld, StandsForEvents, IsWorld, Holds, Stands, AreFew}
 use Rattle.replay_run.specs.ScriptRuns.{IsRun, IsNext, call_asked}
-use Rattle.replay_run.specs.WorldCalls.{IsCalled, IsSkipped, arrival_to}
+use Rattle.replay_run.specs.WorldCalls.{IsCalledSo, IsSkippedSo, arrival_to}
+use Rattle.replay_run.specs.declared.tally.Reception.{Reception}
 use Rattle.replay_run.proofs.Arriving.{its_event, maybe_one, events_of_more}
 use Rattle.replay_run.proofs.RunFacts.{is_of, named}
 use Rattle.replay_run.proofs.RunsOfLines.{run_ok}
@@ -38,13 +39,13 @@ pub handed_on : {T E : Type 0} (r : Result T E) (e why : E) → IsErrAnd r (λ y
 handed_on r e why ensured is = sym (subst (λ x. IsErrAnd x (λ y. y ≡ e)) is ensured)
 
 -- what a call did, in an environment that makes these settings
-abbrev pub Did : Settings → GridWorld → GridWorld → List (Event Request) → Arrival → List ℕ → List ℕ → Type 0
-Did settings old new events a before after = (text : List ℕ) × (after ≡ before ++ text) × (IsCalled settings old new events a text ⊎ IsSkipped settings old new events a text)
+abbrev pub Did : Settings → GridWorld → GridWorld → List (Event Request) → Arrival → List ℕ → List ℕ → Reception → Type 0
+Did settings old new events a before after reception = (text : List ℕ) × (after ≡ before ++ text) × (IsCalledSo settings old new events a text reception ⊎ IsSkippedSo settings old new events a text reception)
 
-pub did_by : {V : Type 0} {T : V → Type 0} (form : FormOf V T) (env : GridEnv V T) (settings : Settings) → settings_of form env ≡ settings → (old new : GridWorld) (events : List (Event Request)) (a : Arrival) (before after : List ℕ)
-    → (StandsForEvents (settings_of form env) old events → NamedOnce (map name (arrivals (events ++ call_of a ∷ []))) → Did (settings_of form env) old new events a before after)
-    → StandsForEvents settings old events → NamedOnce (map name (arrivals (events ++ call_of a ∷ []))) → Did settings old new events a before after
-did_by form env settings goes_by old new events a before after = subst (λ s. StandsForEvents s old events → NamedOnce (map name (arrivals (events ++ call_of a ∷ []))) → Did s old new events a before after) goes_by
+pub did_by : {V : Type 0} {T : V → Type 0} (form : FormOf V T) (env : GridEnv V T) (settings : Settings) → settings_of form env ≡ settings → (old new : GridWorld) (events : List (Event Request)) (a : Arrival) (before after : List ℕ) (reception : Reception)
+    → (StandsForEvents (settings_of form env) old events → NamedOnce (map name (arrivals (events ++ call_of a ∷ []))) → Did (settings_of form env) old new events a before after reception)
+    → StandsForEvents settings old events → NamedOnce (map name (arrivals (events ++ call_of a ∷ []))) → Did settings old new events a before after reception
+did_by form env settings goes_by old new events a before after reception = subst (λ s. StandsForEvents s old events → NamedOnce (map name (arrivals (events ++ call_of a ∷ []))) → Did s old new events a before after reception) goes_by
 
 pub stands_by : {V : Type 0} {T : V → Type 0} (form : FormOf V T) (env : GridEnv V T) (settings : Settings) → settings_of form env ≡ settings → (world : GridWorld) (events : List (Event Request))
     → StandsForEvents settings world events → StandsForEvents (settings_of form env) world events

@@ -25,7 +25,7 @@ use Rattle.replay_run.specs.ScriptRuns.{IsRun}
 use Rattle.replay_run.specs.Rebalancing.{most_line_events, rebalanced}
 use Rattle.replay_run.specs.Grids.{IsSmall, AreFew}
 use Rattle.replay_run.specs.WorldCalls.{HasRoom}
-use Rattle.replay_run.proofs.Counts.{count}
+use Rattle.replay_run.proofs.Counting.{count}
 use Rattle.replay_run.proofs.Hearing.{header, messages_sized}
 use Rattle.replay_run.proofs.Items.{items_room}
 use Rattle.replay_run.proofs.Places.{same_number}

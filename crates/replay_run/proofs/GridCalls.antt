@@ -21,12 +21,16 @@ use Rattle.replay_run.specs.Runs.{Run, Arrival, Appended, connection_of, events_
 use Rattle.replay_run.specs.Printing.{new_messages}
 use Rattle.replay_run.specs.ScriptRuns.{IsRun, IsNext}
 use Rattle.replay_run.specs.Tables.{Table, Opened, opened_at, with_arrival}
-use Rattle.replay_run.specs.Grids.{FormOf, GridWorld, IsConnection, HasTable, IsCounting, HasWorld, Holds}
-use Rattle.replay_run.specs.WorldCalls.{arrival_to, message_of, with_answers, going_out, texts_of, IsCalled, IsSkipped, HasAsked}
+use Rattle.replay_run.specs.Tallies.{tallied, received}
+use Rattle.replay_run.specs.declared.tally.Reception.{Reception}
+use Rattle.replay_run.specs.Grids.{FormOf, GridWorld, IsConnection, HasTable, IsCounting, IsTally, HasWorld, Holds}
+use Rattle.replay_run.specs.WorldCalls.{arrival_to, message_of, with_answers, going_out, texts_of, IsCalled, IsSkipped, IsCalledSo, IsSkippedSo, HasAsked}
 use Rattle.replay_run.proofs.Arriving.{its_event}
 use Rattle.replay_run.proofs.GivingOut.{HasGivenOut}
 use Rattle.replay_run.proofs.Answering.{refusals_answer_none}
+use Rattle.replay_run.proofs.Parts.{in_mapped}
 use Rattle.replay_run.proofs.Places.{same_call_refl}
+use Rattle.replay_run.proofs.Tallies.{called_tally, skipped_tally}
 use Rattle.replay_run.proofs.RunsOfLines.{unheard_unanswered}
 use Rattle.replay_run.proofs.LineTexts.{new_with, texts-append, answers_given}
 use Rattle.replay_run.proofs.TableRuns.{found_opened, arrived_table, refusals_table, answers_table}
@@ -38,19 +42,20 @@ abbrev pub call_text : List ℕ → ℕ → List ℕ → List CallAnswer → Lis
 call_text written line added answers = (written ++ added) ++ texts_of (map (message_of line) answers)
 
 -- The table and the worlds of the code after a call.
-pub record IsAfter {V : Type 0} {T : V → Type 0} (grid new : Grid V T) (line partition conn : ℕ) (world : GridWorld) (answers : List CallAnswer) : Type 0 where
+pub record IsAfter {V : Type 0} {T : V → Type 0} (grid new : Grid V T) (line partition conn : ℕ) (world : GridWorld) (answers : List CallAnswer) (reception : Reception) : Type 0 where
   pub env : new.env ≡ grid.env
   pub lines : new.lines ≡ line
   pub members : new.members ≡ grid.members
   pub links : new.links.items ≡ grid.links.items
   pub moments : new.moments.items ≡ grid.moments.items
   pub table : new.connections ≡ with_answers (with_arrival grid.connections conn line) line answers
+  pub tally : new.tally ≡ tallied reception grid.tally
   pub reopened : new.reopened.items ≡ grid.reopened.items
   pub worlds : new.worlds.items ≡ slice_set grid.worlds.items partition world
 
 module _ {V : Type 0} {T : V → Type 0} {form : FormOf V T} {settings : Settings} (grid : Grid V T) (r : Run) (run : IsRun (partition_object settings) r) (h : Holds form settings grid r) (member : ℕ) (request : Request) (next : IsNext r request) (count : IsCounting grid.connections r request.id.conn request.id.number) (low : request.partition < partitions)
-    (new : Grid V T) (called world : GridWorld) (added written text : List ℕ)
-    (after : IsAfter grid new r.lines request.partition request.id.conn world (going_out r (Some request.id.conn) (waiting called member)))
+    (new : Grid V T) (called world : GridWorld) (reception : Reception) (added written text : List ℕ)
+    (after : IsAfter grid new r.lines request.partition request.id.conn world (going_out r (Some request.id.conn) (waiting called member)) reception)
     (out : HasGivenOut settings called world member)
     (wrote : text ≡ call_text written r.lines added (going_out r (Some request.id.conn) (waiting called member)))
     (goes : is_full (world_at (partition_object settings) r request.partition) ≡ false) where
@@ -90,7 +95,10 @@ module _ {V : Type 0} {T : V → Type 0} {form : FormOf V T} {settings : Setting
       (counting_called grid.connections r request.id.conn request.id.number r.lines count))
 
   -- the call was run
-  module _ (did : IsCalled settings (h.worlds request.partition low).world called (events_at request.partition r.events) (arrival_at r member request) added) where
+  module _ (did_so : IsCalledSo settings (h.worlds request.partition low).world called (events_at request.partition r.events) (arrival_at r member request) added reception) where
+    abbrev did : IsCalled settings (h.worlds request.partition low).world called (events_at request.partition r.events) (arrival_at r member request) added
+    did = did_so.called
+
     abbrev then_world : World Request
     then_world = (happens (partition_object settings) before (call_of a)).world
 
@@ -121,6 +129,10 @@ module _ {V : Type 0} {T : V → Type 0} {form : FormOf V T} {settings : Setting
         let whole = subst (λ (ms : List Appended). HasTable (with_answers called_one r.lines outgoing) (record counted { appended = ms })) same all in
         subst (λ t. HasTable t called_run) (sym after.table) (record { size = whole.size; connections = whole.connections; calls = whole.calls })
 
+    -- answers refuse no call
+    given_refuse_none : (m : Appended) → In m given → m.refuses ≡ None
+    given_refuse_none m i = let made = in_mapped (answer_to r.lines) _ m i in ap (λ (n : Appended). n.refuses) (sym made.2)
+
     called_holds : Holds form settings new called_run
     called_holds = record {
       goes_by = ap (settings_of form) after.env ∙ h.goes_by;
@@ -131,6 +143,9 @@ module _ {V : Type 0} {T : V → Type 0} {form : FormOf V T} {settings : Setting
       moments = after.moments ∙ h.moments;
       clocks = h.clocks;
       table = called_table;
+      tally = subst (λ t. IsTally t called_run) (sym after.tally)
+          (called_tally r run member request next grid.tally h.tally reception (its_event a ∷ []) (happens (partition_object settings) before (call_of a)).outcome given given_refuse_none
+          (did_so.so ∙ ap (λ w. received (refused_by r.lines request (happens (partition_object settings) w (call_of a)).outcome)) (run_is old.world r request.partition old.is)));
       reopened = after.reopened ∙ h.reopened;
       worlds = λ q below. subst (λ ws. HasWorld settings ws called_run q) (sym after.worlds) (called_worlds grid.worlds.items r a world called_run old refl refl called added did out refl q (h.worlds q below));
     }
@@ -155,7 +170,10 @@ module _ {V : Type 0} {T : V → Type 0} {form : FormOf V T} {settings : Setting
     }
 
   -- the call found no memory
-  module _ (did : IsSkipped settings (h.worlds request.partition low).world called (events_at request.partition r.events) (arrival_at r member request) added) where
+  module _ (missed_so : IsSkippedSo settings (h.worlds request.partition low).world called (events_at request.partition r.events) (arrival_at r member request) added reception) where
+    abbrev missed : IsSkipped settings (h.worlds request.partition low).world called (events_at request.partition r.events) (arrival_at r member request) added
+    missed = missed_so.skipped
+
     abbrev excuse : List Appended
     excuse = refusal r.lines request (pos want_of_memory) 0 ∷ []
 
@@ -169,7 +187,7 @@ module _ {V : Type 0} {T : V → Type 0} {form : FormOf V T} {settings : Setting
     asked_is = ap (λ b. cond b skipped_run (arrived r a (its_event a ∷ []) (happening (partition_object settings) r a))) skip_it
 
     none_go : outgoing ≡ []
-    none_go = ap (going_out r (Some request.id.conn)) (nothing_waits grid.worlds.items r a world skipped_run old refl refl called added did out (append-nil r.events) member)
+    none_go = ap (going_out r (Some request.id.conn)) (nothing_waits grid.worlds.items r a world skipped_run old refl refl called added missed out (append-nil r.events) member)
 
     excuse_answers_none : (m : Appended) → In m excuse → m.answers ≡ None
     excuse_answers_none m (inl e) = ap (λ (n : Appended). n.answers) (sym e)
@@ -191,14 +209,15 @@ module _ {V : Type 0} {T : V → Type 0} {form : FormOf V T} {settings : Setting
       moments = after.moments ∙ h.moments;
       clocks = h.clocks;
       table = skipped_table;
+      tally = subst (λ t. IsTally t skipped_run) (sym after.tally) (skipped_tally r run member request next grid.tally h.tally reception missed_so.so);
       reopened = after.reopened ∙ h.reopened;
       worlds = λ q below. subst (λ ws. HasWorld settings ws skipped_run q) (sym after.worlds)
-          (skipped_worlds grid.worlds.items r a world skipped_run old refl refl called added did out (append-nil r.events) q (h.worlds q below));
+          (skipped_worlds grid.worlds.items r a world skipped_run old refl refl called added missed out (append-nil r.events) q (h.worlds q below));
     }
 
     skipped_text : text ≡ written ++ texts_of (new_messages r skipped_run)
     skipped_text =
-        wrote ∙ (λ i. (written ++ did.text i) ++ texts_of (map (message_of r.lines) (none_go i)))
+        wrote ∙ (λ i. (written ++ missed.text i) ++ texts_of (map (message_of r.lines) (none_go i)))
         ∙ append-nil (written ++ texts_of excuse)
         ∙ ap (λ ms. written ++ texts_of ms) (sym (new_with r skipped_run excuse refl))
 
@@ -220,33 +239,33 @@ module _ {V : Type 0} {T : V → Type 0} {form : FormOf V T} {settings : Setting
 
 -- A call that reached its world, which then gave out all that waited.
 pub asked_grid : {V : Type 0} {T : V → Type 0} {form : FormOf V T} {settings : Settings} (grid : Grid V T) (r : Run) (run : IsRun (partition_object settings) r) (h : Holds form settings grid r) (member : ℕ) (request : Request) → IsNext r request → IsCounting grid.connections r request.id.conn request.id.number → (low : request.partition < partitions)
-    → (new : Grid V T) (old called world : GridWorld) (line now : ℕ) (added written text : List ℕ) → slice_get grid.worlds.items request.partition ≡ Some old → line ≡ r.lines → now ≡ moment_of r member
-    → IsAfter grid new line request.partition request.id.conn world (going_out r (Some request.id.conn) (waiting called member)) → HasGivenOut settings called world member
-    → IsCalled settings old called (events_at request.partition r.events) (arrival_to line member now request) added ⊎ IsSkipped settings old called (events_at request.partition r.events) (arrival_to line member now request) added
+    → (new : Grid V T) (old called world : GridWorld) (line now : ℕ) (reception : Reception) (added written text : List ℕ) → slice_get grid.worlds.items request.partition ≡ Some old → line ≡ r.lines → now ≡ moment_of r member
+    → IsAfter grid new line request.partition request.id.conn world (going_out r (Some request.id.conn) (waiting called member)) reception → HasGivenOut settings called world member
+    → IsCalledSo settings old called (events_at request.partition r.events) (arrival_to line member now request) added reception ⊎ IsSkippedSo settings old called (events_at request.partition r.events) (arrival_to line member now request) added reception
     → text ≡ call_text written line added (going_out r (Some request.id.conn) (waiting called member)) → is_full (world_at (partition_object settings) r request.partition) ≡ false → HasAsked form settings new r member request written text
-asked_grid {form = form} {settings = settings} grid r run h member request next count low new old called world line now added written text there at_line at_moment after out did wrote goes = ⊎_elim ran skipped did
+asked_grid {form = form} {settings = settings} grid r run h member request next count low new old called world line now reception added written text there at_line at_moment after out did wrote goes = ⊎_elim ran skipped did
   where
     same_world : old ≡ (h.worlds request.partition low).world
     same_world =
         let both : Some old ≡ Some (h.worlds request.partition low).world = sym there ∙ (h.worlds request.partition low).there in
         cc
 
-    after_it : IsAfter grid new r.lines request.partition request.id.conn world (going_out r (Some request.id.conn) (waiting called member))
-    after_it = subst (λ l. IsAfter grid new l request.partition request.id.conn world (going_out r (Some request.id.conn) (waiting called member))) at_line after
+    after_it : IsAfter grid new r.lines request.partition request.id.conn world (going_out r (Some request.id.conn) (waiting called member)) reception
+    after_it = subst (λ l. IsAfter grid new l request.partition request.id.conn world (going_out r (Some request.id.conn) (waiting called member)) reception) at_line after
 
     wrote_it : text ≡ call_text written r.lines added (going_out r (Some request.id.conn) (waiting called member))
     wrote_it = wrote ∙ (λ i. call_text written (at_line i) added (going_out r (Some request.id.conn) (waiting called member)))
 
-    ran : IsCalled settings old called (events_at request.partition r.events) (arrival_to line member now request) added → HasAsked form settings new r member request written text
+    ran : IsCalledSo settings old called (events_at request.partition r.events) (arrival_to line member now request) added reception → HasAsked form settings new r member request written text
     ran d =
-        call_ran grid r run h member request next count low new called world added written text after_it out wrote_it goes
-        (subst (λ w. IsCalled settings w called (events_at request.partition r.events) (arrival_at r member request) added) same_world
-        (subst (λ m. IsCalled settings old called (events_at request.partition r.events) (arrival_to r.lines member m request) added) at_moment
-        (subst (λ l. IsCalled settings old called (events_at request.partition r.events) (arrival_to l member now request) added) at_line d)))
+        call_ran grid r run h member request next count low new called world reception added written text after_it out wrote_it goes
+        (subst (λ w. IsCalledSo settings w called (events_at request.partition r.events) (arrival_at r member request) added reception) same_world
+        (subst (λ m. IsCalledSo settings old called (events_at request.partition r.events) (arrival_to r.lines member m request) added reception) at_moment
+        (subst (λ l. IsCalledSo settings old called (events_at request.partition r.events) (arrival_to l member now request) added reception) at_line d)))
 
-    skipped : IsSkipped settings old called (events_at request.partition r.events) (arrival_to line member now request) added → HasAsked form settings new r member request written text
+    skipped : IsSkippedSo settings old called (events_at request.partition r.events) (arrival_to line member now request) added reception → HasAsked form settings new r member request written text
     skipped d =
-        call_skipped grid r run h member request next count low new called world added written text after_it out wrote_it goes
-        (subst (λ w. IsSkipped settings w called (events_at request.partition r.events) (arrival_at r member request) added) same_world
-        (subst (λ m. IsSkipped settings old called (events_at request.partition r.events) (arrival_to r.lines member m request) added) at_moment
-        (subst (λ l. IsSkipped settings old called (events_at request.partition r.events) (arrival_to l member now request) added) at_line d)))
+        call_skipped grid r run h member request next count low new called world reception added written text after_it out wrote_it goes
+        (subst (λ w. IsSkippedSo settings w called (events_at request.partition r.events) (arrival_at r member request) added reception) same_world
+        (subst (λ m. IsSkippedSo settings old called (events_at request.partition r.events) (arrival_to r.lines member m request) added reception) at_moment
+        (subst (λ l. IsSkippedSo settings old called (events_at request.partition r.events) (arrival_to l member now request) added reception) at_line d)))

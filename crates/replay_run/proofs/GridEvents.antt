@@ -10,7 +10,7 @@ use Rattle.partition_protocol.specs.Node.{Held}
 use Rattle.partition_protocol.specs.World.{World}
 use Rattle.partition_protocol.specs.Events.{Event, Call, Deliver, Lose, Repeat, Resend, Crash, Detect, BeginMove, BeginJoin, BeginHandover, Advance, Reopen, Outcome, happens}
 use Rattle.partition_protocol.specs.Arrivals.{asked_by, arrivals, name, NamedOnce}
-use Rattle.partition_protocol.proofs.Lists.{set_get_same, set_get_other}
+use Rattle.partition_protocol.proofs.Lists.{In, set_get_same, set_get_other}
 use Rattle.primary_hold.specs.declared.answer.CallAnswer.{CallAnswer}
 use Rattle.partition_world.specs.Answers.{released_at, released_by as answers_by}
 use Rattle.partition_world.specs.Events.{EventWithin, event_of, happened_of}
@@ -30,14 +30,16 @@ use Rattle.replay_run.specs.Runs.{Run, Appended, Reopened, partitions, messages_
 use Rattle.replay_run.specs.ScriptRuns.{event_occurred}
 use Rattle.replay_run.specs.Shelves.{grid_meaning}
 use Rattle.replay_run.specs.Tables.{Table}
-use Rattle.replay_run.specs.Grids.{FormOf, GridWorld, StandsForEvents, IsWorld, HasTable, IsSettled, HasWorld, Holds}
+use Rattle.replay_run.specs.Grids.{FormOf, GridWorld, StandsForEvents, IsWorld, HasTable, IsSettled, IsTally, HasWorld, Holds}
 use Rattle.replay_run.specs.WorldCalls.{message_of, texts_of, with_answers, going_out, taker_of, HasRoomAt, IsAmid, HasTaken}
 use Rattle.replay_run.proofs.Arriving.{arrivals-append, events_with_one, maybe_one}
 use Rattle.replay_run.proofs.Asking.{world_there, world_is, stands_by}
 use Rattle.replay_run.proofs.GivingOut.{HasGivenOut}
 use Rattle.replay_run.proofs.LineTexts.{answers_given}
 use Rattle.replay_run.proofs.Occurring.{keeps_released}
+use Rattle.replay_run.proofs.Parts.{in_mapped}
 use Rattle.replay_run.proofs.TableRuns.{answers_table}
+use Rattle.replay_run.proofs.Tallies.{quiet_tally}
 use Rattle.replay_run.proofs.TableCounts.{counting_answers}
 use Rattle.replay_run.proofs.WorldRuns.{same_events, run_is}
 use Rattle.partition_world.specs.Recorders.{KeepsAll}
@@ -145,6 +147,7 @@ pub record IsAfterEvent {V : Type 0} {T : V → Type 0} (grid new : Grid V T) (p
   pub links : new.links.items ≡ grid.links.items
   pub moments : new.moments.items ≡ grid.moments.items
   pub table : new.connections ≡ with_answers grid.connections grid.lines answers
+  pub tally : new.tally ≡ grid.tally
   pub reopened : new.reopened.items ≡ grid.reopened.items ++ more
   pub worlds : new.worlds.items ≡ slice_set grid.worlds.items partition world
 
@@ -253,6 +256,10 @@ module _ {V : Type 0} {T : V → Type 0} {form : FormOf V T} {settings : Setting
   settled_now : IsSettled new.connections next
   settled_now = subst (λ t. IsSettled t next) (sym table_is) (settled_answers r.lines answers grid.connections r amid.settled)
 
+  -- answers refuse no call
+  refuses_none : (m : Appended) → In m (given_out o r p event) → m.refuses ≡ None
+  refuses_none m i = let made = in_mapped (answer_to r.lines) _ m i in ap (λ (n : Appended). n.refuses) (sym made.2)
+
   holds_now : Holds form settings new next
   holds_now = record {
     goes_by = ap (settings_of form) after.env ∙ amid.holds.goes_by;
@@ -263,6 +270,7 @@ module _ {V : Type 0} {T : V → Type 0} {form : FormOf V T} {settings : Setting
     moments = after.moments ∙ amid.holds.moments;
     clocks = amid.holds.clocks;
     table = table_now;
+    tally = subst (λ t. IsTally t next) (sym after.tally) (quiet_tally grid.tally r next (given_out o r p event) refl refl refuses_none amid.holds.tally);
     reopened = after.reopened ∙ (λ i. amid.holds.reopened i ++ reopening_by p (amid.holds.lines i) event (its_outcome i));
     worlds = λ q below. subst (λ ws. HasWorld settings ws next q) (sym after.worlds) (worlds_now q (amid.holds.worlds q below));
   }
@@ -313,6 +321,7 @@ with_table grid p world given table worlds answered placed = record {
   links = refl;
   moments = refl;
   table = answered;
+  tally = refl;
   reopened = sym (append-nil grid.reopened.items);
   worlds = placed;
 }
@@ -362,6 +371,7 @@ module _ {V : Type 0} {T : V → Type 0} {form : FormOf V T} {settings : Setting
         links = ap (λ (g : Grid V T). g.links.items) rest ∙ gave.after.links;
         moments = ap (λ (g : Grid V T). g.moments.items) rest ∙ gave.after.moments;
         table = ap (λ (g : Grid V T). g.connections) rest ∙ gave.after.table;
+        tally = ap (λ (g : Grid V T). g.tally) rest ∙ gave.after.tally;
         reopened = reopened ∙ (λ j. (gave.after.reopened ∙ append-nil grid.reopened.items) j ++ is j);
         worlds = ap (λ (g : Grid V T). g.worlds.items) rest ∙ gave.after.worlds;
       })

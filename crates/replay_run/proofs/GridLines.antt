@@ -21,7 +21,7 @@ use Rattle.replay_run.specs.Printing.{ok_text, nothing_text, close_text, outcome
 use Rattle.replay_run.specs.Skips.{AreOfLine}
 use Rattle.replay_run.specs.ScriptRuns.{line_counted, clock_was_set, connection_opened}
 use Rattle.replay_run.specs.Tables.{Table, most_connections, opened_at, with_opened, with_session}
-use Rattle.replay_run.specs.Grids.{FormOf, GridWorld, HasTable, IsSettled, IsCounting, Holds, IsSmall, AreFew, AreReached, Stands, MayRun, HasRun}
+use Rattle.replay_run.specs.Grids.{FormOf, GridWorld, HasTable, IsSettled, IsCounting, IsTally, Holds, IsSmall, AreFew, AreReached, Stands, MayRun, HasRun}
 use Rattle.replay_run.specs.WorldCalls.{texts_of, member_if_open, open_member_in, Brings, HasHandledSome}
 use Rattle.replay_run.proofs.Bounds.{stays_small}
 use Rattle.replay_run.proofs.Items.{items_room}
@@ -51,6 +51,7 @@ counted_holds grid r number t ks h at_line table = record {
   moments = h.moments;
   clocks = h.clocks;
   table = table;
+  tally = record { arrived = h.tally.arrived; refused = h.tally.refused; memory = h.tally.memory };
   reopened = h.reopened;
   worlds = λ p low. let w = h.worlds p low in record { world = w.world; there = w.there; is = record { stands = w.is.stands; setup = w.is.setup }; given = w.given };
 }
@@ -176,6 +177,7 @@ pub record HasClock {V : Type 0} {T : V → Type 0} (grid new : Grid V T) (numbe
   pub links : new.links.items ≡ grid.links.items
   pub moments : new.moments.items ≡ slice_set grid.moments.items member moment
   pub connections : new.connections ≡ grid.connections
+  pub tally : new.tally ≡ grid.tally
   pub reopened : new.reopened.items ≡ grid.reopened.items
   pub worlds : new.worlds.items ≡ grid.worlds.items
 
@@ -196,6 +198,7 @@ module _ {V : Type 0} {T : V → Type 0} {form : FormOf V T} {settings : Setting
     moments = set.moments ∙ ap (λ ms. slice_set ms member moment) s.holds.moments;
     clocks = length-set r.moments member moment ∙ s.holds.clocks;
     table = subst (λ t. HasTable t clocked) (sym set.connections) clocked_table;
+    tally = subst (λ t. IsTally t clocked) (sym set.tally) (record { arrived = s.holds.tally.arrived; refused = s.holds.tally.refused; memory = s.holds.tally.memory });
     reopened = set.reopened ∙ s.holds.reopened;
     worlds = λ p low.
         let w = s.holds.worlds p low in

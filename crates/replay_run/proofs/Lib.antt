@@ -1,7 +1,7 @@
 pub mod Parts
 pub mod EventRuns
 pub mod Rebalanced
-pub mod Counts
+pub mod Counting
 pub mod Releases
 pub mod Places
 pub mod Hearing
@@ -52,3 +52,7 @@ pub mod Flowing
 pub mod EventLines
 pub mod RebalanceLine
 pub mod LineCases
+pub mod Tallies
+pub mod AnswerMarks
+pub mod EntryCounts
+pub mod CallKinds

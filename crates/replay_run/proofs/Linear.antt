@@ -31,7 +31,7 @@ use Rattle.replay_run.proofs.RunFacts.{RunOk, asked_of, arrival_name, id_name, s
 use Rattle.replay_run.proofs.RunsOfLines.{run_ok}
 use Rattle.replay_run.proofs.Lines.{lines_run}
 use Rattle.replay_run.proofs.Locality.{on_partition, legal_on, history_elsewhere, history_at}
-use Rattle.replay_run.proofs.Counts.{count_before, count_filter}
+use Rattle.replay_run.proofs.Counting.{count_before, count_filter}
 use Rattle.replay_run.proofs.Answers.{trail_part, answer_named, given_at, printed_answer, answer_stands, answer_found, arrived_before}
 
 pub answered_once : {State : Type 0} (o : Object Request State) (r : Run) → RunOk o r → (m n : Appended) (id : CallId) → Before r.appended m n → m.answers ≡ Some id → n.answers ≢ Some id

@@ -21,7 +21,7 @@ use Rattle.replay_run.specs.ScriptRuns.{IsPlaced}
 use Rattle.replay_run.specs.Printing.{arrival_of, is_answer_to}
 use Rattle.replay_run.specs.Linearizability.{Before}
 use Rattle.replay_run.proofs.Parts.{in_map, before_map, subsequence_part, part_filter, part_trans, before_part, before_mapped, in_mapped, in_filtered, named_same}
-use Rattle.replay_run.proofs.Counts.{count}
+use Rattle.replay_run.proofs.Counting.{count}
 use Rattle.replay_run.proofs.Places.{same_call, same_call_refl, same_number}
 use Rattle.replay_run.proofs.Trails.{executed, executed-append, asked, executed_name, calls_executed, names_executed}
 use Rattle.replay_run.proofs.Stamps.{AreStamped}

@@ -13,7 +13,7 @@ use Rattle.replay_run.specs.Printing.{arrival_of, answer_of, is_answer_to}
 use Rattle.replay_run.specs.ScriptRuns.{IsNext, IsRun, grid_begun, line_counted, clock_was_set, connection_opened, bytes_taken, answer_told, event_occurred, call_arrived, run_given_up, call_asked}
 use Rattle.replay_run.proofs.Hearing.{no_fewer}
 use Rattle.replay_run.proofs.Parts.{part_filter}
-use Rattle.replay_run.proofs.Counts.{count-append}
+use Rattle.replay_run.proofs.Counting.{count-append}
 use Rattle.replay_run.proofs.Trails.{find_some}
 use Rattle.replay_run.proofs.RunFacts.{RefusalsOk, RunOk, arrival_found}
 use Rattle.replay_run.proofs.Arriving.{apart_opened, apart_updated, opened_grows, updated_grows, quiet, arrivals_stay, arrivals_with, its_event}

@@ -10,7 +10,7 @@ use Rattle.partition_world.specs.Answers.{id_of}
 use Rattle.replay_run.specs.Runs.{Run, Arrival}
 use Rattle.replay_run.specs.Printing.{Printed, Call, Reset as Reopening, printed, first_line, printed_from, arrival_of}
 use Rattle.replay_run.specs.Linearizability.{GridObject, is_on, history_of, Before, reset_lines}
-use Rattle.replay_run.proofs.Counts.{count, count_part}
+use Rattle.replay_run.proofs.Counting.{count, count_part}
 
 -- The entries were logged from one line to another: each call as it arrived, and the resets at these lines.
 abbrev pub AreStamped : List Arrival → ℕ → ℕ → List ℕ → List (Entry Request) → Type 0

@@ -1,8 +1,9 @@
 -- The grid after a session's own answer was appended to its connection.
-use Rattle.std.proofs.Common.{◌≡◌, ℕ, ◌+◌, List, [], ◌∷◌, ◌++◌, refl, ap, sym, ◌∙◌, subst, append-nil}
+use Rattle.std.proofs.Common.{◌≡◌, ℕ, ◌+◌, List, [], ◌∷◌, ◌++◌, None, refl, ap, sym, ◌∙◌, subst, inl, inr, append-nil}
 use Rattle.replay_run.specs.declared.grid.Grid.{Grid}
 use Rattle.call_engine.specs.Calls.{Settings}
-use Rattle.replay_run.specs.Runs.{Run, own_answer, told}
+use Rattle.partition_protocol.proofs.Lists.{In}
+use Rattle.replay_run.specs.Runs.{Run, Appended, own_answer, told}
 use Rattle.replay_run.specs.Printing.{appended_text}
 use Rattle.replay_run.specs.Tables.{with_reply}
 use Rattle.replay_run.specs.Grids.{FormOf, IsCounting, Holds}
@@ -10,10 +11,16 @@ use Rattle.replay_run.specs.WorldCalls.{texts_of, HasTold}
 use Rattle.replay_run.proofs.LineTexts.{new_with}
 use Rattle.replay_run.proofs.TableRuns.{told_table}
 use Rattle.replay_run.proofs.TableCounts.{counting_told}
+use Rattle.replay_run.proofs.Tallies.{quiet_tally}
 
 module _ {V : Type 0} {T : V → Type 0} {form : FormOf V T} {settings : Settings} (grid : Grid V T) (r : Run) (conn number : ℕ) (answer : List ℕ) (h : Holds form settings grid r) (count : IsCounting grid.connections r conn number) where
   abbrev replied_grid : Grid V T
   replied_grid = record grid { connections = with_reply grid.connections conn }
+
+  -- it refuses no call
+  refuses_none : (m : Appended) → In m (own_answer r.lines conn answer ∷ []) → m.refuses ≡ None
+  refuses_none m (inl e) = ap (λ (n : Appended). n.refuses) (sym e)
+  refuses_none m (inr i) = absurd i
 
   told_holds : Holds form settings replied_grid (told r conn answer)
   told_holds = record {
@@ -25,6 +32,7 @@ module _ {V : Type 0} {T : V → Type 0} {form : FormOf V T} {settings : Setting
     moments = h.moments;
     clocks = h.clocks;
     table = told_table grid.connections r conn answer h.table;
+    tally = quiet_tally grid.tally r (told r conn answer) (own_answer r.lines conn answer ∷ []) refl refl refuses_none h.tally;
     reopened = h.reopened;
     worlds = λ p low. let w = h.worlds p low in record { world = w.world; there = w.there; is = record { stands = w.is.stands; setup = w.is.setup }; given = w.given };
   }

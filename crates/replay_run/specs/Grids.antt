@@ -1,5 +1,5 @@
 -- The grid of the code stands for a run: its worlds for the events of their partitions, its table for the connections and the calls.
-use Rattle.std.specs.Prelude.{◌≡◌, ◌≢◌, ℕ, ◌+◌, ◌*◌, ◌<◌, ◌≤◌, true, false, List, [], ◌++◌, length, Option, Some, None, option_map, slice_get}
+use Rattle.std.specs.Prelude.{◌≡◌, ◌≢◌, ℕ, ◌+◌, ◌*◌, ◌<◌, ◌≤◌, true, false, List, [], ◌++◌, length, count_by, Option, Some, None, option_map, slice_get}
 use Rattle.std.specs.declared.alloc.Global.{Global}
 use Rattle.std.specs.declared.dyn_box.DynBox.{DynBox}
 use Rattle.entry_processors.specs.Processors.{ProcessorForm}
@@ -10,6 +10,7 @@ use Rattle.partition_world.specs.declared.world.World.{World}
 use Rattle.partition_world.specs.Worlds.{StandsFor, setup_of, waiting}
 use Rattle.replay_run.specs.declared.connections.CallLines.{CallLines}
 use Rattle.replay_run.specs.declared.grid.Grid.{Grid}
+use Rattle.replay_run.specs.declared.tally.Tally.{Tally}
 use Rattle.script_lang.specs.declared.line.Line.{Line}
 use Rattle.script_lang.specs.Limits.{most_lines, most_line_bytes}
 use Rattle.script_lang.specs.Lines.{IsWithin}
@@ -23,6 +24,7 @@ use Rattle.call_engine.specs.Objects.{partition_object}
 use Rattle.partition_world.specs.LinkOrder.{links_of}
 use Rattle.replay_run.specs.Runs.{Run, Connection, Arrival, Appended, partitions, connection_of, messages_on, bytes_of, events_at}
 use Rattle.replay_run.specs.AfterLines.{after_line}
+use Rattle.replay_run.specs.Counts.{is_refused, is_out_of_memory}
 use Rattle.replay_run.specs.Rebalancing.{most_line_events}
 use Rattle.replay_run.specs.Shelves.{grid_meaning}
 use Rattle.replay_run.specs.Printing.{arrival_of, answer_of, line_text}
@@ -93,6 +95,12 @@ FormOf V T = DynBox V Global T → ProcessorForm
 abbrev pub boxed : {V : Type 0} {T : V → Type 0} → ((v : V) × T v → ProcessorForm) → FormOf V T
 boxed form b = form (b.vtable, b.value)
 
+-- The calls that arrived were counted, and those that were refused.
+pub record IsTally (tally : Tally) (r : Run) : Type 0 where
+  pub arrived : tally.arrived ≡ length r.arrivals
+  pub refused : tally.refused ≡ count_by (is_refused r) r.arrivals
+  pub memory : tally.memory ≡ count_by (is_out_of_memory r) r.arrivals
+
 -- The grid has what the run has, and goes by the settings.
 pub record Holds {V : Type 0} {T : V → Type 0} (form : FormOf V T) (settings : Settings) (grid : Grid V T) (r : Run) : Type 0 where
   pub goes_by : settings_of form grid.env ≡ settings
@@ -104,6 +112,7 @@ pub record Holds {V : Type 0} {T : V → Type 0} (form : FormOf V T) (settings :
   pub moments : grid.moments.items ≡ r.moments
   pub clocks : length r.moments ≡ r.members
   pub table : HasTable grid.connections r
+  pub tally : IsTally grid.tally r
   pub reopened : grid.reopened.items ≡ r.reopened
   pub worlds : (p : ℕ) → p < partitions → HasWorld settings grid.worlds.items r p
 

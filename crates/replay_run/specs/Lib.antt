@@ -1,5 +1,6 @@
 pub mod AfterLines
 pub mod Appending
+pub mod Counts
 pub mod Dumps
 pub mod Grids
 pub mod Linearizability
@@ -13,4 +14,5 @@ pub mod Shelves
 pub mod SkippedCalls
 pub mod Skips
 pub mod Tables
+pub mod Tallies
 pub mod WorldCalls

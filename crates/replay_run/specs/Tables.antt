@@ -1,5 +1,5 @@
 -- The table of connections: the session of each, and at which lines each of its calls arrived and was answered.
-use Rattle.std.specs.Prelude.{◌≡◌, ℕ, zero, suc, true, List, [], ◌∷◌, ◌++◌, Option, Some, None, map, option_map, option_and_then, slice_get, slice_set, replicate}
+use Rattle.std.specs.Prelude.{◌≡◌, ℕ, zero, suc, Bool, true, false, List, [], ◌∷◌, ◌++◌, Option, Some, None, is_some, map, option_map, option_and_then, slice_get, slice_set, replicate, count_by, sum_by}
 use Rattle.message_frames.specs.Messages.{messages_of, fault_of}
 use Rattle.session_core.specs.Items.{items_of}
 use Rattle.session_core.specs.Sessions.{SessionState, session_after}
@@ -45,6 +45,19 @@ opened_at table c = present (slice_get table c)
 
 abbrev pub lines_of : Table → CallId → Option CallLines
 lines_of table id = option_and_then (λ (opened : Opened). present (slice_get opened.calls id.number)) (opened_at table id.conn)
+
+-- a call that was answered
+abbrev pub is_marked : Option CallLines → Bool
+is_marked None = false
+is_marked (Some lines) = is_some lines.answered
+
+abbrev pub marked_in : Option Opened → ℕ
+marked_in None = 0
+marked_in (Some opened) = count_by is_marked opened.calls
+
+-- how many calls were answered
+abbrev pub answered_count : Table → ℕ
+answered_count table = sum_by marked_in table
 
 -- changes
 

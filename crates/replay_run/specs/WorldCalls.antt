@@ -14,6 +14,8 @@ use Rattle.grid_base.specs.Shelves.{Meaning}
 use Rattle.partition_world.specs.Answers.{released_at}
 use Rattle.partition_world.specs.Worlds.{StandsFor, run_of, setup_of, waiting}
 use Rattle.replay_run.specs.declared.calls.Refusal.{Refusal}
+use Rattle.replay_run.specs.declared.tally.Reception.{Reception}
+use Rattle.replay_run.specs.declared.tally.Reception.TheVariants.{OutOfMemory}
 use Rattle.script_lang.specs.declared.line.Line.{Line}
 use Rattle.script_lang.specs.declared.line.Line.TheVariants as line
 use Rattle.replay_run.specs.declared.events.Fate.{Fate}
@@ -30,6 +32,7 @@ use Rattle.replay_run.specs.Runs.{Run, Connection, Arrival, Appended, partitions
 use Rattle.replay_run.specs.Printing.{appended_text, new_messages, outcome_at}
 use Rattle.replay_run.specs.ScriptRuns.{IsRun, IsMidway, calls_in}
 use Rattle.replay_run.specs.Tables.{Table, with_answer}
+use Rattle.replay_run.specs.Tallies.{received}
 use Rattle.rebalance.specs.declared.Step.{Step}
 use Rattle.rebalance.specs.Plans.{Planned}
 use Rattle.replay_run.specs.Rebalancing.{most_line_events, stepped_all, first_steps}
@@ -63,6 +66,16 @@ pub record IsSkipped (settings : Settings) (old new : GridWorld) (events : List 
   pub setup : setup_of new ≡ setup_of old
   pub waiting : (member : ℕ) → waiting new member ≡ waiting old member
   pub text : added ≡ texts_of (refusal a.line a.request (pos want_of_memory) 0 ∷ [])
+
+-- and so it was told
+
+pub record IsCalledSo (settings : Settings) (old new : GridWorld) (events : List (Event Request)) (a : Arrival) (added : List ℕ) (reception : Reception) : Type 0 where
+  pub called : IsCalled settings old new events a added
+  pub so : reception ≡ received (refused_by a.line a.request (happens (partition_object settings) (run_of (grid_meaning settings) old events) (call_of a)).outcome)
+
+pub record IsSkippedSo (settings : Settings) (old new : GridWorld) (events : List (Event Request)) (a : Arrival) (added : List ℕ) (reception : Reception) : Type 0 where
+  pub skipped : IsSkipped settings old new events a added
+  pub so : reception ≡ OutOfMemory
 
 -- an answer that was given out at a line, as a message
 abbrev pub message_of : ℕ → CallAnswer → Appended

@@ -1,6 +1,6 @@
 //! Calls on their way through a grid: bytes that arrive, calls that reach their partitions, and answers that go out.
 
-ghost use Rattle.std.specs.Prelude.{◌≡◌, ℕ, true, ◌+◌, ◌-◌, ◌*◌, ◌<◌, ◌^◌, List, [], ◌∷◌, ◌++◌, ◌⊎◌, Some, map, OnOk, IsErrOf, ◌||◌, length};
+ghost use Rattle.std.specs.Prelude.{◌≡◌, ℕ, true, ◌+◌, ◌-◌, ◌*◌, ◌<◌, ◌^◌, List, [], ◌∷◌, ◌++◌, ◌⊎◌, Some, map, IfOk, OnOk, IsErrOf, ◌||◌, length};
 ghost use Rattle.grid_base.specs.declared.calls.Request.{Request as Call};
 ghost use Rattle.partition_protocol.specs.Events.{Event as ProtocolEvent};
 ghost use Rattle.partition_protocol.specs.Arrivals.{NamedOnce, arrivals, name};
@@ -15,9 +15,10 @@ ghost use Rattle.replay_run.specs.Runs.{Run, Connection as RunConnection, partit
 ghost use Rattle.replay_run.specs.Printing.{appended_text};
 ghost use Rattle.replay_run.specs.Rebalancing.{most_line_events};
 ghost use Rattle.replay_run.specs.Tables.{with_answer};
+ghost use Rattle.replay_run.specs.Tallies.{received};
 ghost use Rattle.replay_run.specs.ScriptRuns.{IsRun, IsNext};
 ghost use Rattle.replay_run.specs.Grids.{boxed, HasConnections, AreFew, Stands, StandsForEvents, Holds, IsCounting, MayRun, HasRun, IsGivenUp};
-ghost use Rattle.replay_run.specs.WorldCalls.{arrival_to, refusals, texts_of, message_of, with_answers, IsCalled, IsSkipped, is_own, going_out, GivesOut, HasAsked, HasTold, HasRoom, open_member_in, Brings, HasHandledSome, IsGivenUpMidway};
+ghost use Rattle.replay_run.specs.WorldCalls.{arrival_to, refusals, texts_of, message_of, with_answers, IsCalledSo, IsSkippedSo, is_own, going_out, GivesOut, HasAsked, HasTold, HasRoom, open_member_in, Brings, HasHandledSome, IsGivenUpMidway};
 ghost use Rattle.replay_run.specs.declared.run_end.RunEnd.TheVariants as RunEnds;
 
 use crate::connections::Connections;
@@ -25,6 +26,7 @@ use crate::grid::Grid;
 use crate::links::MOST_IN_FLIGHT;
 use crate::print::{push_appended, push_close};
 use crate::run_end::RunEnd;
+use crate::tally::Reception;
 use call_engine::{GridEnv, GridShelf};
 use client_codecs::write_error;
 use grid_base::errors::WANT_OF_MEMORY;
@@ -62,6 +64,16 @@ fn refusal_of(happened: Happened) -> Option<Refusal>
     }
 }
 
+/// What became of a call that reached its partition, by how it is refused.
+fn reception_of(refusal: Option<Refusal>) -> Reception
+    ensures { (line : ℕ) (request : Call) → result ≡ received (refusals line request refusal) }
+{
+    match refusal {
+        Some(_) => Reception::Refused,
+        None => Reception::Taken,
+    }
+}
+
 /// What an error that answers a call carries of it.
 #[derive(Clone, Copy)]
 struct Caller {
@@ -95,7 +107,8 @@ struct Arriving {
     now: Moment,
 }
 
-/// A call reaches a member at a line. It is answered at once where it is refused or finds no memory.
+/// A call reaches a member at a line. It is answered at once where it is refused or finds no memory, and what became of
+/// it is told.
 fn call(
     alloc: Global,
     world: &mut World<GridShelf, Recorder<Request>>,
@@ -103,15 +116,15 @@ fn call(
     at: Arriving,
     request: Request,
     out: &mut Vec<u8>,
-) -> Result<(), Memory>
+) -> Result<Reception, Memory>
     requires limits { CallFits request.call }
     requires room { steps_of world.old + 1 < 2 ^ 32 - 1 }
     requires stands { (events : List (ProtocolEvent Call)) × StandsForEvents (settings_of (boxed form) env.now) world.old events
         × NamedOnce (map name (arrivals (events ++ call_of (arrival_to at.line at.member at.now request) ∷ []))) }
     ensures { (events : List (ProtocolEvent Call)) → StandsForEvents (settings_of (boxed form) env.now) world.old events
         → NamedOnce (map name (arrivals (events ++ call_of (arrival_to at.line at.member at.now request) ∷ [])))
-        → OnOk result ((text : List ℕ) × (out.new.items ≡ out.old.items ++ text)
-        × (IsCalled (settings_of (boxed form) env.now) world.old world.new events (arrival_to at.line at.member at.now request) text ⊎ IsSkipped (settings_of (boxed form) env.now) world.old world.new events (arrival_to at.line at.member at.now request) text)) }
+        → IfOk result (λ reception. (text : List ℕ) × (out.new.items ≡ out.old.items ++ text)
+        × (IsCalledSo (settings_of (boxed form) env.now) world.old world.new events (arrival_to at.line at.member at.now request) text reception ⊎ IsSkippedSo (settings_of (boxed form) env.now) world.old world.new events (arrival_to at.line at.member at.now request) text reception)) }
 {
     request.call.numbers_fit();
     let id = request.id;
@@ -127,8 +140,15 @@ fn call(
         now: at.now,
     };
     match world.step(alloc, env, event) {
-        Ok(happened) => push_refusal(alloc, out, to, refusal_of(happened)),
-        Err(_) => push_refusal(alloc, out, to, Some(NO_MEMORY)),
+        Ok(happened) => {
+            let refusal = refusal_of(happened);
+            push_refusal(alloc, out, to, refusal)?;
+            Ok(reception_of(refusal))
+        }
+        Err(_) => {
+            push_refusal(alloc, out, to, Some(NO_MEMORY))?;
+            Ok(Reception::OutOfMemory)
+        }
     }
 }
 
@@ -286,7 +306,8 @@ impl Grid {
             member,
             now: self.moments[usize::from(member)],
         };
-        call(alloc, world, &self.env, at, request, out)?;
+        let reception = call(alloc, world, &self.env, at, request, out)?;
+        self.tally.count(reception);
         give_out(
             alloc,
             world,

@@ -1,8 +1,8 @@
 ghost use Rattle.session_core.specs.Sessions.{StandsFor, session_after};
-ghost use Rattle.std.specs.Prelude.{◌≡◌, ◌<◌, ◌++◌, ℕ, List, None, Some, IfOk, OnOk, OnErr, option_map, option_copied};
+ghost use Rattle.std.specs.Prelude.{◌≡◌, ◌<◌, ◌++◌, ℕ, List, count_by, None, Some, IfOk, OnOk, OnErr, option_map, option_copied};
 ghost use Rattle.replay_run.specs.Runs.{Run, connection_of, is_open};
 ghost use Rattle.replay_run.specs.Grids.{HasConnections};
-ghost use Rattle.replay_run.specs.Tables.{Opened, Gives, most_connections, no_connections, opened_as, opened_at, lines_of, changed_at, lines_answered, heard, replied, called, answered, with_opened, with_session, with_reply, with_arrival, with_answer};
+ghost use Rattle.replay_run.specs.Tables.{Opened, Gives, most_connections, no_connections, opened_as, opened_at, lines_of, is_marked, marked_in, answered_count, changed_at, lines_answered, heard, replied, called, answered, with_opened, with_session, with_reply, with_arrival, with_answer};
 
 use grid_base::{CallId, MemberId, Memory};
 use session_core::{FedSession, Session};
@@ -98,6 +98,39 @@ fn answer_at(slot: &mut Option<Connection>, number: u32, line: u32)
     }
 }
 
+/// Whether a message is a call that was answered.
+fn is_marked(call: &Option<CallLines>) -> bool
+    ensures { result ≡ is_marked call.now }
+{
+    match call {
+        Some(lines) => lines.answered.is_some(),
+        None => false,
+    }
+}
+
+/// How many messages are calls that were answered.
+fn marked_among(calls: &[Option<CallLines>]) -> usize
+    ensures { result ≡ count_by is_marked calls.now }
+{
+    let mut marked = 0;
+    for call in calls {
+        if is_marked(call) {
+            marked += 1;
+        }
+    }
+    marked
+}
+
+/// How many calls of a connection were answered, if the slot is one's.
+fn marked_in(slot: &Option<Connection>) -> usize
+    ensures { result ≡ marked_in (option_map opened_as slot.now) }
+{
+    match slot {
+        Some(connection) => marked_among(connection.calls.as_slice()),
+        None => 0,
+    }
+}
+
 /// The connections by their numbers, each found in constant time.
 #[derive(Debug, Drop)]
 pub(crate) struct Connections {
@@ -149,6 +182,17 @@ impl Connections {
         ensures { result ≡ lines_of self.now id }
     {
         *self.get(id.conn)?.calls.get(id.number as usize)?
+    }
+
+    /// How many calls were answered, in a pass over the calls of all connections. Takes no memory.
+    pub(crate) fn answered(&self) -> u128
+        ensures { result ≡ answered_count self.now }
+    {
+        let mut answered = 0;
+        for slot in &self.slots {
+            answered += marked_in(slot) as u128;
+        }
+        answered
     }
 
     /// Opens a connection to a member. Takes no memory.

@@ -13,6 +13,7 @@ use crate::links::links_of;
 use crate::print::{push_nothing, push_ok};
 use crate::reopened::Reopened;
 use crate::run_end::RunEnd;
+use crate::tally::Tally;
 use call_engine::{GridEnv, GridShelf};
 use entry_processors::{Processor, Registry};
 use grid_base::{MemberId, Memory, Moment, PARTITIONS, Request};
@@ -28,6 +29,8 @@ pub struct Grid {
     pub(crate) lines: u32,
     pub(crate) moments: Vec<Moment>,
     pub(crate) connections: Connections,
+    /// Of the calls that arrived.
+    pub(crate) tally: Tally,
     /// In order.
     pub(crate) reopened: Vec<Reopened>,
     /// Those of each partition.
@@ -62,6 +65,7 @@ impl Grid {
             lines: 1,
             moments: vec![in alloc; 0; usize::from(members)]?,
             connections: Connections::new(alloc)?,
+            tally: Tally::new(),
             reopened: Vec::new(alloc),
             links: links_of(alloc, members)?,
             worlds,

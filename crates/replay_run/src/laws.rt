@@ -1,5 +1,6 @@
 //! What holds of every run of a script's lines.
 
+ghost use Rattle.replay_run.specs.Counts.{EveryCallCountsOnce};
 ghost use Rattle.replay_run.specs.Linearizability.{EveryRunIsLinearizable};
 ghost use Rattle.replay_run.specs.SkippedCalls.{EverySkippedCallIsTold, EveryRunThatTellsOfNoSkipHasNone};
 
@@ -18,4 +19,10 @@ pub fn every_skipped_call_is_told()
 /// Where no message is an error 10, the run is the one in which every call found memory.
 pub fn every_run_that_tells_of_no_skip_has_none()
     ensures { EveryRunThatTellsOfNoSkipHasNone }
+{}
+
+/// Each call that arrived was answered, or refused by a row, or refused for want of memory, or none of these, and so is
+/// counted once.
+pub fn every_call_counts_once()
+    ensures { EveryCallCountsOnce }
 {}

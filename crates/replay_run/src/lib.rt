@@ -3,6 +3,7 @@
 
 mod calls;
 mod connections;
+mod counts;
 mod dumps;
 mod entries;
 mod events;
@@ -15,10 +16,13 @@ mod print;
 mod rebalancing;
 mod reopened;
 mod run_end;
+mod tally;
 
+pub use counts::Counts;
 pub use grid::Grid;
 pub use laws::{
-    every_run_is_linearizable, every_run_that_tells_of_no_skip_has_none, every_skipped_call_is_told,
+    every_call_counts_once, every_run_is_linearizable, every_run_that_tells_of_no_skip_has_none,
+    every_skipped_call_is_told,
 };
 pub use outcomes::{done_word, push_fate, push_happened};
 pub use print::{push_number, push_ok, push_text};

@@ -9,6 +9,7 @@ use Rattle.replay_run.proofs.Asking.{world_within, world_there, world_is, world_
 use Rattle.replay_run.proofs.GivingOut.{has_given_out}
 use Rattle.replay_run.proofs.TableRuns.{connections_called}
 use Rattle.replay_run.proofs.GridCalls.{asked_grid}
+use Rattle.replay_run.proofs.Tallies.{tally_room}
 use Rattle.replay_run.proofs.grid.Grid.ask.Goals as goal
 use Rattle.call_engine.specs.Env.{settings_of}
 
@@ -35,6 +36,15 @@ index-requires g c =
     let within = moment_within c.args.self.now c.requires.stands.1 c.requires.stands.2 c.args.member c.from-2.result c.requires.member c.from-2.ensures in
     omega (arith, within, c.args.self.now.moments.ok.0)
 
+pub count-requires-clause-room : goal.count-requires-clause-room
+count-requires-clause-room g c = let arrived = c.requires.stands.2.tally.arrived in omega (arith, arrived, c.requires.stands.3)
+
+pub count-requires-clause-refused : goal.count-requires-clause-refused
+count-requires-clause-refused g c = (tally_room c.args.self.now.tally c.requires.stands.1 c.requires.stands.2.tally).0
+
+pub count-requires-clause-memory : goal.count-requires-clause-memory
+count-requires-clause-memory g c = (tally_room c.args.self.now.tally c.requires.stands.1 c.requires.stands.2.tally).1
+
 -- The partition is full.
 pub returns-then-has_crowded_link-clause-full : goal.returns-then-has_crowded_link-clause-full
 returns-then-has_crowded_link-clause-full g c = λ settings r h fails.
@@ -54,11 +64,11 @@ returns-clause-ok g c = λ settings r run h next count.
     let events = events_at partition r.events in
     let goes : is_full (world_at (partition_object settings) r partition) ≡ false =
     sym (told_of _ grid r h partition c.from.result c.requires.placed c.from.ensures old read is_full c.has_crowded_link.result (c.has_crowded_link.ensures (settings_of _ grid.env))) ∙ c.if-has_crowded_link.false in
-    let did = did_by _ grid.env settings h.goes_by old c.call.new.world events (arrival_to line c.args.member now c.args.request) c.args.out.now.items c.call.new.out.items (c.in_ok-call.ensures events)
+    let did = did_by _ grid.env settings h.goes_by old c.call.new.world events (arrival_to line c.args.member now c.args.request) c.args.out.now.items c.call.new.out.items c.in_ok-reception.reception (c.in_ok-reception.ensures events)
     (world_is grid r h partition c.from.result c.requires.placed c.from.ensures old read).stands
     (named_next settings r run c.args.member line now c.args.request next h.lines (moment_there grid r h c.args.member c.from-2.result c.requires.member c.from-2.ensures now c.index.ensures)) in
     let has : HasConnections c.arrive.new.self r = subst (λ (t : Table). HasConnections t r) (sym c.in_ok-arrive.ensures.ok) (connections_called grid.connections r conn line h.table.connections) in
-    asked_grid grid r run h c.args.member c.args.request next count c.requires.placed _ old c.call.new.world c.give_out.new.world line now did.0 c.args.out.now.items c.give_out.new.out.items
+    asked_grid grid r run h c.args.member c.args.request next count c.requires.placed _ old c.call.new.world c.give_out.new.world line now c.in_ok-reception.reception did.0 c.args.out.now.items c.give_out.new.out.items
     (world_there grid r h partition c.from.result c.requires.placed c.from.ensures old read)
     h.lines
     (moment_there grid r h c.args.member c.from-2.result c.requires.member c.from-2.ensures now c.index.ensures)
@@ -69,6 +79,7 @@ returns-clause-ok g c = λ settings r run h next count.
       links = refl;
       moments = refl;
       table = c.in_ok-give_out.ensures.table r has ∙ ap (λ (t : Table). with_answers t line answers) c.in_ok-arrive.ensures.ok;
+      tally = c.count.ensures;
       reopened = refl;
       worlds = λ i. set grid.worlds.items (c.from.ensures i) c.give_out.new.world;
     })

@@ -1,0 +1,14 @@
+use Rattle.std.proofs.Common.{◌≡◌, ◌<◌, ◌^◌}
+use Rattle.std.specs.List.{sum_by}
+use Rattle.call_engine.specs.Calls.{Settings}
+use Rattle.call_engine.specs.Objects.{partition_object}
+use Rattle.partition_protocol.specs.Service.{numbers_below}
+use Rattle.replay_run.specs.Runs.{Run}
+use Rattle.replay_run.specs.Grids.{boxed, Stands}
+use Rattle.replay_run.proofs.EntryCounts.{entries_at}
+use Rattle.replay_run.proofs.grid.Grid.entries.Given as goal
+
+-- the entries of the partitions so far
+abbrev pub invariant-loop-partition : goal.invariant-loop-partition
+invariant-loop-partition g l = (settings : Settings) (r : Run) → Stands (boxed (λ z. (goal.Processor-dyn g z).form z.1)) settings l.self r
+    → sum_by (entries_at (partition_object settings) r) (numbers_below l.partition) < 2 ^ 128 → l.entries ≡ sum_by (entries_at (partition_object settings) r) (numbers_below l.partition)
