@@ -1,5 +1,5 @@
 -- A round's calls are heard as they are.
-use Rattle.std.proofs.Common.{◌≡◌, ℕ, zero, suc, ◌%◌, ◌<◌, ◌^◌, ◌==◌, false, pos, List, [], ◌∷◌, drop, All, refl, ap, sym, subst, ◌∙◌, arith, lit<, lit≤}
+use Rattle.std.proofs.Common.{◌≡◌, ℕ, zero, suc, ◌%◌, ◌<◌, ◌^◌, ◌==◌, false, pos, List, [], ◌∷◌, drop, All, refl, ap, sym, subst, ◌∙◌, arith, lit<, lit≤, negsuc, Some, None, Result, Ok}
 use Rattle.std.specs.Prelude.{codes, slice_index, if◌then◌else◌}
 use Rattle.std.specs.Int.{w32, w64, to_be_bytes, from_be_bytes, cast_signed}
 use Rattle.std.specs.Int.RustNames.{FitsSigned}
@@ -13,11 +13,18 @@ use Rattle.murmur_partition.specs.Keys.{partition_of_hash}
 use Rattle.murmur_partition.specs.Murmur.{murmur3_of}
 use Rattle.frame_codec.specs.Laws.{IsWithinLimits}
 use Rattle.frame_codec.specs.declared.frames.Frame.{Frame}
+use Rattle.message_frames.specs.declared.message.Message.{Message}
+use Rattle.client_codecs.specs.Authentications.{authentication_kind, authentication_of}
+use Rattle.client_codecs.specs.declared.authentications.Authentication.{Authentication}
+use Rattle.client_codecs.proofs.Spelling.{sent_again}
+use Rattle.grid_base.specs.declared.refusal.CallRefused.{CallRefused}
+use Rattle.request_codecs.specs.Openings.{authentication_frames}
+use Rattle.session_core.specs.Items.{kind_of, identity_by}
 use Rattle.session_core.specs.Places.{partition_of_key}
 use Rattle.request_codecs.specs.Requests.{MayBeAsked, request}
 use Rattle.request_codecs.proofs.Sessions.{every_request_is_read}
 use Rattle.workload_gen.specs.Calls.{client_on, conn_of, stated_hash, key_of, put, get}
-use Rattle.workload_gen.specs.Laws.{EveryCallIsHeard}
+use Rattle.workload_gen.specs.Laws.{EveryClientIsKnown, EveryCallIsHeard}
 
 -- ---- where a key is
 
@@ -41,6 +48,23 @@ placed (suc partition) below =
     let other : (n == 0) ≡ false = grind (arith, nat_tests) in
     let found : own n ≡ partition_of_hash (cast_signed w32 n) = rw other refl in
     sym (ap own (read ∙ stated_is partition) ∙ found ∙ ap partition_of_hash (cast n below) ∙ same n below)
+
+-- ---- who the client is
+
+is_dev : (i : ℕ) → slice_index (codes "dev") i < 128
+is_dev zero = lit< tt
+is_dev (suc zero) = lit< tt
+is_dev (suc (suc zero)) = lit< tt
+is_dev (suc (suc (suc i))) = lit< tt
+
+pub known : EveryClientIsKnown
+known conn few =
+    let a : Authentication = record { client = Some (client_on conn); name = codes "dev" } in
+    let message : Message = record { frames = authentication_frames (pos 0) (client_on conn) } in
+    let kind : kind_of message ≡ authentication_kind = refl in
+    let read : authentication_of message ≡ Ok a = sent_again (pos 0) (negsuc 0) 1 a [] [] (record { fits = omega arith; text = IsUtf8-from_ascii (codes "dev") is_dev }) in
+    ap (λ (k : ℕ). if k == authentication_kind then identity_by conn None (authentication_of message) else None) kind
+    ∙ ap (λ (found : Result Authentication CallRefused). identity_by conn None found) read
 
 -- ---- what may be asked
 

@@ -1,10 +1,11 @@
 -- What holds of every script: what a reader makes of its lines, what a session makes of its calls, and its size.
-use Rattle.std.specs.Prelude.{◌≡◌, ℕ, ◌*◌, ◌^◌, ◌<◌, ◌≤◌, pos, [], length, map, Some, Ok, All}
+use Rattle.std.specs.Prelude.{◌≡◌, ℕ, ◌*◌, ◌^◌, ◌<◌, ◌≤◌, pos, [], length, map, Some, None, Ok, All}
 use Rattle.grid_base.specs.declared.names.CallId.{CallId}
 use Rattle.grid_base.specs.declared.names.ClientKey.TheVariants.{Known}
 use Rattle.grid_base.specs.declared.calls.GridCall.{GridCall}
-use Rattle.session_core.specs.Items.{item_of}
+use Rattle.session_core.specs.Items.{item_of, identity_after}
 use Rattle.session_core.specs.declared.item.Item.TheVariants.{Call}
+use Rattle.request_codecs.specs.Openings.{authentication_frames}
 use Rattle.request_codecs.specs.Requests.{kind_of_call, request}
 use Rattle.script_lang.specs.Lines.{line_of}
 use Rattle.script_lang.specs.Spelling.{spelled, is_first}
@@ -34,6 +35,11 @@ pub record IsShort (number : ℕ) : Type 0 where
 
 abbrev pub EveryScriptIsShort : Type 0
 EveryScriptIsShort = (number : ℕ) → IsShort number
+
+-- What the client of a connection sends first makes it known by its number.
+abbrev pub EveryClientIsKnown : Type 0
+EveryClientIsKnown =
+    (conn : ℕ) → conn < 4 → identity_after conn None (record { frames = authentication_frames (pos 0) (client_on conn) }) ≡ Some (Known (client_on conn))
 
 -- A member's session makes of a round's request exactly that call: by the client of the connection that it comes on, in that partition, under the round's number.
 abbrev pub IsHeard : ℕ → ℕ → GridCall → Type 0

@@ -3,16 +3,16 @@
 ghost use Rattle.std.specs.Prelude.{◌≡◌, IfOk};
 ghost use Rattle.workload_gen.specs.Calls.{client_on, conn_of, owner_of, stated_hash, key_of, put, get};
 
-use grid_base::{Bytes, ClientKey, GridCall, MapCall, Memory, Owner, PartitionId};
+use grid_base::{Bytes, ClientKey, GridCall, MapCall, Memory, Owner, PARTITIONS, PartitionId};
 use std::alloc::Global;
 
 /// The name of the map.
 const MAP: &[u8] = b"m";
 
-/// How many connections there are, one to each member.
-pub(crate) const CONNECTIONS: u16 = 4;
+/// How many members there are. A client is connected to each.
+pub(crate) const MEMBERS: u32 = 4;
 
-/// The number of the client on connection 0. Those on the others follow.
+/// The number of the client that is connected to member 0. The others' follow.
 const FIRST_CLIENT: u128 = 100;
 
 /// How many bytes a key has, all of them before a content that is empty.
@@ -20,9 +20,6 @@ const KEY_LENGTH: usize = 8;
 
 /// What stands behind the hash in a key: that a text follows.
 const TEXT_TYPE: [u8; 4] = [0xff, 0xff, 0xff, 0xf5];
-
-/// How many partitions there are.
-const PARTITIONS: u32 = 271;
 
 /// The client on a connection.
 pub(crate) fn client_on(conn: u32) -> u128
@@ -35,7 +32,7 @@ pub(crate) fn client_on(conn: u32) -> u128
 pub(crate) fn conn_of(partition: PartitionId) -> u32
     ensures { result ≡ conn_of partition }
 {
-    u32::from(partition % CONNECTIONS)
+    u32::from(partition) % MEMBERS
 }
 
 /// Who calls a partition.
@@ -53,7 +50,7 @@ fn stated_hash(partition: PartitionId) -> u32
     ensures { result ≡ stated_hash partition }
 {
     if partition == 0 {
-        PARTITIONS
+        u32::from(PARTITIONS)
     } else {
         u32::from(partition)
     }

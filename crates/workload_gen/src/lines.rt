@@ -10,7 +10,7 @@ use grid_base::Memory;
 use itoa::Buffer;
 use std::alloc::Global;
 
-/// Appends words, each with a space before it: numbers in decimal digits.
+/// Appends numbers in decimal digits, each with a space before it.
 fn write_numbers(numbers: &[u32], out: &mut Vec<u8>) -> Result<(), Memory>
     ensures { OnOk result (out.new.items ≡ out.old.items ++ flat_map (λ number. space ∷ decimal number) numbers.now) }
 {

@@ -4,7 +4,7 @@ ghost use Rattle.std.specs.Prelude.{◌≡◌, ◌++◌, ◌∷◌, [], IfOk, On
 ghost use Rattle.script_lang.specs.declared.line.Line.TheVariants as line;
 ghost use Rattle.workload_gen.specs.Script.{each_below, connection_lines, call_line, step_line, crash_lines, round_lines, line_text, text_of, sample_script};
 
-use crate::calls::{CONNECTIONS, client_on, conn_of, get, put};
+use crate::calls::{MEMBERS, client_on, conn_of, get, put};
 use crate::lines::{write_arrival, write_line};
 use crate::steps::{Step, Workload};
 use grid_base::{GridCall, Memory, PartitionId};
@@ -14,8 +14,20 @@ use std::alloc::Global;
 /// With what each connection begins.
 const PREFIX: &[u8] = b"CP2";
 
+/// How many backups each partition has.
+const BACKUPS: u32 = 1;
+
+/// How many values a queue may have.
+const CAPACITY: u32 = 100;
+
 /// How many rounds a script has.
 const ROUNDS: u32 = 2_000;
+
+/// How many messages of each partition a round delivers at most.
+const FLOW: u32 = 50;
+
+/// How many are delivered at most behind the last round.
+const LAST_FLOW: u32 = 1_000;
 
 /// The round behind which a member crashes.
 const CRASH_ROUND: u32 = 1_000;
@@ -40,7 +52,7 @@ fn write_connection(alloc: Global, conn: u32, out: &mut Vec<u8>) -> Result<(), M
 fn write_connections(alloc: Global, out: &mut Vec<u8>) -> Result<(), Memory>
     ensures { OnOk result (out.new.items ≡ out.old.items ++ text_of (each_below 4 connection_lines)) }
 {
-    for conn in 0..u32::from(CONNECTIONS) {
+    for conn in 0..MEMBERS {
         write_connection(alloc, conn, out)?;
     }
     Ok(())
@@ -73,7 +85,7 @@ fn write_step(alloc: Global, round: u32, step: Step, out: &mut Vec<u8>) -> Resul
             let call = get(alloc, partition)?;
             write_call(alloc, round, partition, &call, out)
         }
-        Step::Flow => write_line(b"flow all", &[50], out),
+        Step::Flow => write_line(b"flow all", &[FLOW], out),
         Step::Move {
             partition,
             from,
@@ -123,10 +135,10 @@ pub fn make(alloc: Global, number: u32) -> Result<Vec<u8>, Memory>
     ensures { IfOk result (λ script. script.items ≡ sample_script number) }
 {
     let mut script = Vec::with_capacity(alloc, MOST_BYTES)?;
-    write_line(b"grid", &[4, 1, 100], &mut script)?;
+    write_line(b"grid", &[MEMBERS, BACKUPS, CAPACITY], &mut script)?;
     write_connections(alloc, &mut script)?;
     write_rounds(alloc, number, &mut script)?;
-    write_line(b"flow all", &[1000], &mut script)?;
+    write_line(b"flow all", &[LAST_FLOW], &mut script)?;
     write_line(b"end", &[], &mut script)?;
     Ok(script)
 }

@@ -3,12 +3,16 @@
 ghost use Rattle.std.specs.Prelude.{◌≡◌, ◌<◌, ◌%◌};
 ghost use Rattle.workload_gen.specs.Draws.{generator_of, word_of, behind, draws_of, behind_round, step_of};
 
-use grid_base::{MemberId, PartitionId};
+use crate::calls::MEMBERS;
+use grid_base::{MemberId, PARTITIONS, PartitionId};
 use rand_core::utils::NextWord;
 use rand_pcg::Lcg64Xsh32;
 
 /// The stream of the generator.
 const STREAM: u64 = 1;
+
+/// How many kinds of rounds are drawn alike.
+const KINDS: u32 = 16;
 
 /// What a round does.
 #[derive(Clone, Copy, Debug, PartialEq, Eq)]
@@ -40,13 +44,10 @@ pub(crate) enum Step {
 /// What a round draws, in this order.
 #[derive(Clone, Copy, Debug, PartialEq, Eq)]
 pub(crate) struct Draws {
-    /// Below 16: which kind of step it is.
+    /// Below `KINDS`: which kind of step it is.
     kind: u32,
-    /// Below 271.
     partition: PartitionId,
-    /// Below 4.
     first: MemberId,
-    /// Below 4.
     second: MemberId,
 }
 
@@ -107,10 +108,10 @@ impl Workload {
         ensures draws { result ≡ draws_of self.old.generator }
         ensures behind { self.new.generator ≡ behind_round self.old.generator }
     {
-        let kind = self.draw(16);
-        let partition = self.draw(271) as PartitionId;
-        let first = self.draw(4) as MemberId;
-        let second = self.draw(4) as MemberId;
+        let kind = self.draw(KINDS);
+        let partition = self.draw(u32::from(PARTITIONS)) as PartitionId;
+        let first = self.draw(MEMBERS) as MemberId;
+        let second = self.draw(MEMBERS) as MemberId;
         Draws {
             kind,
             partition,

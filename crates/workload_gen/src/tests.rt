@@ -16,9 +16,23 @@ bytes 2 1e00000000c00002010002000000000000000a0100000000000000000000070000000000
 move 12 0 1
 ";
 
+/// The last lines of the script of 1.
+const LAST_LINES: &str =
+    "bytes 0 2600000000c000010100d007000000000000fc000000000000000000000000000000000000000700000000006d0e0000000000000000fcfffffff50e000000002000000000000007d0
+flow all 1000
+end
+";
+
 #[test]
 fn a_script_begins_so(rt: HostRuntime) -> Result<(), Fail> {
     let script = make(rt.alloc(), 0)?;
     assert!(rt; script.starts_with(FIRST_LINES.as_bytes()));
+    Ok(())
+}
+
+#[test]
+fn another_ends_so(rt: HostRuntime) -> Result<(), Fail> {
+    let script = make(rt.alloc(), 1)?;
+    assert!(rt; script.ends_with(LAST_LINES.as_bytes()));
     Ok(())
 }
