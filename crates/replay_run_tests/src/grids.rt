@@ -7,7 +7,7 @@ ghost use Rattle.replay_run.specs.Grids.{boxed, Stands};
 
 use entry_processors::{Add, Processor};
 use grid_base::{Bytes, PartitionId};
-use replay_run::Grid;
+use replay_run::{Counts, Grid};
 use script_lang::Line;
 use std::alloc::Global;
 use std::test::Fail;
@@ -335,5 +335,45 @@ fn goes_on_with_a_backup(rt: HostRuntime) -> Result<(), Fail> {
     go_on_without_it(alloc, &mut grid, &mut out)?;
     run(alloc, 3, &mut grid, &Line::End, &mut out)?;
     assert_eq!(rt; out.as_slice(), A_BACKUP_TAKES_OVER.as_bytes());
+    Ok(())
+}
+
+// Three gets find nothing and are answered. An offer comes to a member that isn't its partition's. The answers of a put and of
+// a get behind it wait for a backup.
+fn call_six_times(alloc: Global, grid: &mut Grid, out: &mut Vec<u8>) -> Result<(), Fail>
+    requires { (settings : Settings) × (r : Run) × Stands (boxed form) settings grid.old r }
+    ensures { OnOk result ((settings : Settings) × (r : Run) × Stands (boxed form) settings grid.new r) }
+{
+    let open = Line::OpenConn { conn: 0, member: 2 };
+    run(alloc, 3, grid, &open, out)?;
+    let begun = format!(in alloc; "{PREFIX}{AUTH}{GET}{GET}")?;
+    arrive(alloc, 3, grid, 0, begun.as_str(), out)?;
+    let astray = format!(in alloc; "{GET}{OFFER}")?;
+    arrive(alloc, 3, grid, 0, astray.as_str(), out)?;
+    let later = format!(in alloc; "{PUT}{GET}")?;
+    arrive(alloc, 3, grid, 0, later.as_str(), out)
+}
+
+// The two members crash that alone have every third partition, the first one among them.
+#[test]
+fn counts_what_became_of_calls(rt: HostRuntime) -> Result<(), Fail> {
+    let alloc = rt.alloc();
+    let mut grid = Grid::new(alloc, 3, 1, 10, Vec::new(alloc))?;
+    let mut out = Vec::new(alloc);
+    call_six_times(alloc, &mut grid, &mut out)?;
+    run(alloc, 3, &mut grid, &Line::Crash { member: 0 }, &mut out)?;
+    run(alloc, 3, &mut grid, &Line::Crash { member: 1 }, &mut out)?;
+    run(alloc, 3, &mut grid, &Line::Detect { member: 0 }, &mut out)?;
+    run(alloc, 3, &mut grid, &Line::Detect { member: 1 }, &mut out)?;
+    let counts = Counts {
+        arrived: 6,
+        answered: 3,
+        refused: 1,
+        memory: 0,
+        waiting: 2,
+        entries: 5,
+        lost: 91,
+    };
+    assert_eq!(rt; grid.counts(), counts);
     Ok(())
 }
