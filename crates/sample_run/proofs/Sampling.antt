@@ -15,7 +15,7 @@ use Rattle.script_lang.specs.declared.line.Line.{Line}
 use Rattle.replay_run.specs.declared.grid.Grid.{Grid}
 use Rattle.replay_run.specs.Runs.{Run, begun}
 use Rattle.replay_run.specs.Grids.{FormOf, Stands, MayRun, HasRun, IsGivenUp}
-use Rattle.sample_run.specs.SampleRuns.{sample_settings, run_of, StopsAt, IsLater, IsTextOf, StandsAfter, IsNext}
+use Rattle.sample_run.specs.SampleRuns.{sample_settings, run_of, StopsAt, StopsBehind, IsLater, IsTextOf, StandsAfter, IsNext}
 use Rattle.sample_run.proofs.SkippedRuns.{line_more, arrived_more}
 use Rattle.sample_run.proofs.RunCounts.{lines_members, lines_counted}
 use Rattle.sample_run.proofs.TextLines.{line_first, no_line, longer}
@@ -71,7 +71,7 @@ module _ {V : Type 0} {T : V → Type 0} {form : FormOf V T} (grid : Grid V T) (
         stands = subst (Stands form sample_settings new) (sym (line_more o (begun 4 1) next.stands.skips next.done next.stands.arrived next.stands.stands.run next.line has.skips has.of_line)) has.stands;
       }
 
-  pub given_up : (line : Line) → line ≡ next.line → IsGivenUp sample_settings r line → (behind : List Line) → StopsAt (next.done ++ next.line ∷ behind) number
+  pub given_up : (line : Line) → line ≡ next.line → IsGivenUp sample_settings r line → StopsBehind next.done next.line number
   given_up line same is behind = record {
     before = next.done;
     line = next.line;
@@ -105,10 +105,13 @@ pub record HasFirst (rest : List ℕ) (k : ℕ) (left : List Line) : Type 0 wher
   pub later : IsLater line
   pub text : IsTextOf (drop (k + 1) rest) behind
 
-pub has_first : (rest : List ℕ) (k : ℕ) (left : List Line) → NoneBefore (Passes (is_byte newline) rest) 0 (length rest) k → Passes (is_byte newline) rest k → IsTextOf rest left → HasFirst rest k left
-has_first rest k [] before here is = absurd (let clash : take k rest ∷ whole_lines (drop (k + 1) rest) ≡ [] = sym (line_first rest k before here) ∙ is.cut in cc)
-has_first rest k (line ∷ behind) before here is =
-    let both : take k rest ∷ whole_lines (drop (k + 1) rest) ≡ spelled line ∷ map spelled behind = sym (line_first rest k before here) ∙ is.cut in
+abbrev pub IsFirstNewline : List ℕ → ℕ → Type 0
+IsFirstNewline rest k = NoneBefore (Passes (is_byte newline) rest) 0 (length rest) k × Passes (is_byte newline) rest k
+
+pub has_first : (rest : List ℕ) (k : ℕ) (left : List Line) → IsFirstNewline rest k → IsTextOf rest left → HasFirst rest k left
+has_first rest k [] at is = absurd (let clash : take k rest ∷ whole_lines (drop (k + 1) rest) ≡ [] = sym (line_first rest k at.0 at.1) ∙ is.cut in cc)
+has_first rest k (line ∷ behind) at is =
+    let both : take k rest ∷ whole_lines (drop (k + 1) rest) ≡ spelled line ∷ map spelled behind = sym (line_first rest k at.0 at.1) ∙ is.cut in
     record {
       line = line;
       behind = behind;
@@ -118,9 +121,9 @@ has_first rest k (line ∷ behind) before here is =
       text = record { cut = cc; later = All-tail IsLater line behind is.later };
     }
 
-module _ {V : Type 0} {T : V → Type 0} {form : FormOf V T} (grid : Grid V T) (lines : List Line) (rest : List ℕ) (have : HaveRun form grid lines rest) (k : ℕ) (before : NoneBefore (Passes (is_byte newline) rest) 0 (length rest) k) (here : Passes (is_byte newline) rest k) where
+module _ {V : Type 0} {T : V → Type 0} {form : FormOf V T} (grid : Grid V T) (lines : List Line) (rest : List ℕ) (have : HaveRun form grid lines rest) (k : ℕ) (at : IsFirstNewline rest k) where
   pub first : HasFirst rest k have.left
-  first = has_first rest k have.left before here have.text
+  first = has_first rest k have.left at have.text
 
   -- its number, where so many lines were run
   module _ (ran : ℕ) (counted : (r : Run) → Stands form sample_settings grid r → ran ≡ r.lines) where
@@ -161,8 +164,8 @@ module _ {V : Type 0} {T : V → Type 0} {form : FormOf V T} (grid : Grid V T) (
     text = subst (λ text. IsTextOf text first.behind) (sym same) first.text;
   }
 
-  pub stops : (number : ℕ) → ((behind : List Line) → StopsAt (have.done ++ first.line ∷ behind) number) → StopsAt lines number
-  stops number at = subst (λ ls. StopsAt ls number) as_cut (at first.behind)
+  pub stops : (number : ℕ) → StopsBehind have.done first.line number → StopsAt lines number
+  stops number so = subst (λ ls. StopsAt ls number) as_cut (so first.behind)
 
 none_left : (left : List Line) → map spelled left ≡ [] → left ≡ []
 none_left [] e = refl

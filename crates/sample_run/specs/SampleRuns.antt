@@ -40,6 +40,10 @@ pub record StopsAt (lines : List Line) (number : ℕ) : Type 0 where
   pub arrived : HaveArrived skips (run_of skips before)
   pub given_up : IsGivenUp sample_settings (run_of skips before) line
 
+-- whichever lines are left behind that one
+abbrev pub StopsBehind : List Line → Line → ℕ → Type 0
+StopsBehind before line number = (behind : List Line) → StopsAt (before ++ line ∷ behind) number
+
 -- what the code reads
 
 -- A line behind the first is read as itself, and within the limit of a line.

@@ -7,7 +7,7 @@ ghost use Rattle.script_lang.specs.Words.{whole_lines};
 ghost use Rattle.script_lang.specs.declared.line.Line.{Line};
 ghost use Rattle.replay_run.specs.declared.run_end.RunEnd.TheVariants as RunEnds;
 ghost use Rattle.replay_run.specs.Grids.{boxed};
-ghost use Rattle.sample_run.specs.SampleRuns.{StopsAt, IsTextOf, StandsAfter, IsNext, EndsAs};
+ghost use Rattle.sample_run.specs.SampleRuns.{StopsBehind, IsTextOf, StandsAfter, IsNext, EndsAs};
 
 use entry_processors::Processor;
 use grid_base::Memory;
@@ -59,7 +59,7 @@ fn run_line(
 ) -> Result<(), RunEnd>
     requires { IsNext (boxed form) grid.old number text.now }
     ensures ok { (next : IsNext (boxed form) grid.old number text.now) → OnOk result (StandsAfter (boxed form) grid.new (next.done ++ next.line ∷ [])) }
-    ensures full { (next : IsNext (boxed form) grid.old number text.now) (behind : List Line) → IsErrOf result RunEnds.InFlight → StopsAt (next.done ++ next.line ∷ behind) number }
+    ensures full { (next : IsNext (boxed form) grid.old number text.now) → IsErrOf result RunEnds.InFlight → StopsBehind next.done next.line number }
 {
     let line = read(alloc, text, grid.members())?;
     out.clear();

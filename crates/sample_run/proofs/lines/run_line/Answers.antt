@@ -23,8 +23,8 @@ returns-clause-ok g c = λ next.
     on_ok_weaker c.run_line.result (ran c.args.grid.now c.args.number c.args.text.now next c.run_line.new.self c.in_ok-line.line same) (c.run_line.ensures.ok sample_settings r next.stands.stands)
 
 pub returns-clause-full : goal.returns-clause-full
-returns-clause-full g c = λ next behind is.
+returns-clause-full g c = λ next is.
     let r = run_of next.stands.skips next.done in
     let members = c.members.ensures sample_settings r next.stands.stands in
     let same = same_line c.args.grid.now c.args.number c.args.text.now next c.members.result members c.in_ok-line.line c.in_ok-line.ensures.line in
-    given_up c.args.grid.now c.args.number c.args.text.now next c.in_ok-line.line same (c.run_line.ensures.full sample_settings r next.stands.stands is) behind
+    given_up c.args.grid.now c.args.number c.args.text.now next c.in_ok-line.line same (c.run_line.ensures.full sample_settings r next.stands.stands is)
