@@ -1,0 +1,2 @@
+pub mod SampleRuns
+pub mod Summaries
