@@ -3,9 +3,7 @@ ghost use Rattle.std.specs.Prelude.{◌≡◌, IfOk};
 ghost use Rattle.grid_base.specs.Limits.{CallFits};
 ghost use Rattle.call_engine.specs.Limits.{RequestFits};
 
-use grid_base::{
-    Bytes, CallId, ClientKey, GridCall, MapCall, Memory, ObjectKey, Owner, Request,
-};
+use grid_base::{Bytes, CallId, ClientKey, GridCall, MapCall, Memory, ObjectKey, Owner, Request};
 use std::alloc::Global;
 
 /// The one connection.
