@@ -17,11 +17,12 @@ use Rattle.partition_protocol.specs.Events.{Event, Call, Outcome, Refused, RowMa
 use Rattle.partition_protocol.specs.Events as event
 use Rattle.partition_world.specs.Answers.{id_of, newest_call}
 use Rattle.partition_world.specs.LinkOrder.{next_link, has_crowded_link}
-use Rattle.grid_base.specs.Errors.{partition_lost, wrong_target, migrating, want_of_memory}
+use Rattle.grid_base.specs.Errors.{unknown_type, partition_lost, wrong_target, migrating, want_of_memory}
 use Rattle.fixed_fields.specs.Responses.{error_bytes}
+use Rattle.event_codecs.specs.SpelledRegistrations.{correlation_of}
 use Rattle.session_core.specs.Items.{items_of}
 use Rattle.session_core.specs.declared.item.Item.{Item}
-use Rattle.session_core.specs.declared.item.Item.TheVariants.{Call as Asks, Reply}
+use Rattle.session_core.specs.declared.item.Item.TheVariants.{Call as Asks, Wait, Register, Reply}
 use Rattle.script_lang.specs.declared.line.Line.{Line}
 use Rattle.script_lang.specs.declared.line.Line.TheVariants.{Deliver, Lose, Repeat, Resend, Move, Join, Handover, Advance, Reopen}
 use Rattle.partition_world.specs.declared.Link.{Link}
@@ -269,11 +270,17 @@ flowed_in o r most (p ∷ ps) = flowed_in o (flowed o r p most) most ps
 abbrev pub reopened_at : ℕ → List Reopened → List ℕ
 reopened_at p reopened = map (λ (x : Reopened). x.line) (filter (λ (x : Reopened). x.partition == p) reopened)
 
+-- Registrations and calls that wait aren't served yet: they are refused as messages of an unknown type.
+abbrev pub unserved : ℤ → List ℕ
+unserved correlation = error_bytes correlation (pos unknown_type) (pos 0) (pos 0)
+
 -- an item of a connection, and several in a row
 
 abbrev pub handled : {State : Type 0} → Object Request State → List CallId → Run → Connection → Item → Run
 handled o skips r connection (Reply bytes) = told r connection.conn bytes
 handled o skips r connection (Asks request) = asks o skips r (arrival_at r connection.member request)
+handled o skips r connection (Wait request timeout) = told r connection.conn (unserved request.correlation)
+handled o skips r connection (Register registration) = told r connection.conn (unserved (correlation_of registration))
 
 abbrev pub handled_all : {State : Type 0} → Object Request State → List CallId → Run → Connection → List Item → Run
 handled_all o skips r connection [] = r
