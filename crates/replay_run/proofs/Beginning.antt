@@ -12,7 +12,7 @@ use Rattle.partition_world.specs.LinkOrder.{links_of}
 use Rattle.replay_run.specs.Runs.{Run, begun, partitions}
 use Rattle.replay_run.specs.Tables.{most_connections, unopened, no_connections, opened_at}
 use Rattle.replay_run.specs.ScriptRuns.{grid_begun}
-use Rattle.replay_run.specs.Grids.{FormOf, GridWorld, IsWorld, Matches, HasTable, IsSettled, HasWorld, Stands}
+use Rattle.replay_run.specs.Grids.{FormOf, GridWorld, IsWorld, Matches, HasTable, IsSettled, AreListening, HasWorld, Stands}
 use Rattle.replay_run.proofs.TableChanges.{got_last, got_before, line_at}
 
 -- one world more
@@ -49,9 +49,9 @@ begun_settled : (members backups : ℕ) → IsSettled no_connections (begun memb
 begun_settled members backups c o k at there = absurd cc
 
 pub begun_stands : {V : Type 0} {T : V → Type 0} {form : FormOf V T} (grid : Grid V T) (env : GridEnv V T) (members backups : ℕ) → 1 ≤ members → grid.env ≡ env → grid.lines ≡ 1 → grid.members ≡ members → grid.links.items ≡ links_of members → grid.moments.items ≡ replicate members 0
-    → grid.connections ≡ no_connections → grid.reopened.items ≡ [] → ((p : ℕ) → p < partitions → HasWorld (settings_of form env) grid.worlds.items (begun members backups) p)
+    → grid.connections ≡ no_connections → AreListening grid.listeners.items (begun members backups) None → grid.reopened.items ≡ [] → ((p : ℕ) → p < partitions → HasWorld (settings_of form env) grid.worlds.items (begun members backups) p)
     → Stands form (settings_of form env) grid (begun members backups)
-begun_stands {form = form} grid env members backups some same lines own links moments table none worlds = record {
+begun_stands {form = form} grid env members backups some same lines own links moments table nobody none worlds = record {
   run = grid_begun members backups some;
   small = omega arith;
   few = λ p. omega arith;
@@ -67,6 +67,7 @@ begun_stands {form = form} grid env members backups some same lines own links mo
     reopened = none;
     worlds = worlds;
   };
+  listeners = nobody;
   settled = subst (λ t. IsSettled t (begun members backups)) (sym table) (begun_settled members backups);
   reached = λ c k there. absurd cc;
 }

@@ -281,7 +281,7 @@ module _ (o : Object Request Partition) (skips : List CallId) where
 
 -- what lines of events add: 5,014 events of a partition at most
 
-module _ {State : Type 0} (o : Object Request State) (r : Run) (few : AreFew r) where
+module _ (o : Object Request Partition) (r : Run) (few : AreFew r) where
   kept_few : (next : Run) (most : ℕ) → most ≤ most_line_events → Kept (next_line r) next → ((p : ℕ) → length (events_at p next.events) ≤ length (events_at p r.events) + most) → AreFew next
   kept_few next most size kept more p =
       let f = few p in

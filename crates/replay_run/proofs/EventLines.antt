@@ -30,7 +30,7 @@ use Rattle.replay_run.proofs.LineTexts.{text_with}
 
 -- the run of the next line, before its events
 pub counted_amid : {V : Type 0} {T : V → Type 0} {form : FormOf V T} {settings : Settings} (grid : Grid V T) (r : Run) (number : ℕ) → Stands form settings grid r → number ≡ r.lines + 1 → IsAmid form settings (counted grid number) (next_line r)
-counted_amid grid r number s at_line = let stands = counted_stands grid r number s at_line in record { run = stands.run; holds = stands.holds; settled = stands.settled }
+counted_amid grid r number s at_line = let stands = counted_stands grid r number s at_line in record { run = stands.run; holds = stands.holds; listeners = stands.listeners; settled = stands.settled }
 
 -- Each partition has room for the events of one line.
 line_room : (settings : Settings) (r : Run) → IsRun (partition_object settings) r → IsSmall r → AreFew r → r.lines + 1 ≤ most_lines → (p most : ℕ) → most ≤ most_line_events → HasRoomAt (next_line r) p most
@@ -68,6 +68,7 @@ module _ {V : Type 0} {T : V → Type 0} {form : FormOf V T} {settings : Setting
     small = kept_small r next kept s.small;
     few = few;
     holds = on.amid.holds;
+    listeners = on.amid.listeners;
     settled = on.amid.settled;
     reached = λ c k found. subst (λ m. k.member < m) (sym kept.members) (s.reached c k (ap (find (is_connection c)) (sym kept.connections) ∙ found));
   }

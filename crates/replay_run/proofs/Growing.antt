@@ -3,6 +3,7 @@ use Rattle.std.proofs.Common.{◌≡◌, ℕ, Bool, true, false, cond, List, [],
 use Rattle.grid_base.specs.Objects.{Object}
 use Rattle.grid_base.specs.declared.names.CallId.{CallId}
 use Rattle.grid_base.specs.declared.calls.Request.{Request}
+use Rattle.object_store.specs.Partitions.{Partition}
 use Rattle.partition_protocol.specs.Events.{Event}
 use Rattle.partition_protocol.specs.Events as event
 use Rattle.partition_protocol.specs.Sequences.{IsFrontOf}
@@ -47,7 +48,7 @@ since r mid next arrivals appended full grows = record {
   full = λ e. grows.full (full ∙ e);
 }
 
-module _ {State : Type 0} (o : Object Request State) where
+module _ (o : Object Request Partition) where
   -- events
 
   pub takes_grows : (r : Run) (p : ℕ) (event : Event Request) → Grows r (takes o r p event)

@@ -11,10 +11,13 @@ pub mod Stamps
 pub mod RunFacts
 pub mod Arriving
 pub mod Answers
+pub mod Bare
 pub mod Answering
 pub mod Refusals
 pub mod Reopenings
 pub mod Occurring
+pub mod Speaking
+pub mod Releasing
 pub mod RunsOfLines
 pub mod UndetectedRows
 pub mod Planning
@@ -31,6 +34,7 @@ pub mod Slots
 pub mod TableChanges
 pub mod TableRuns
 pub mod TableCounts
+pub mod Listening
 pub mod LineTexts
 pub mod WorldRuns
 pub mod HistoryTexts

@@ -19,7 +19,7 @@ use Rattle.grid_base.specs.Limits.{CallFits}
 use Rattle.session_core.specs.declared.item.Item.{Item}
 use Rattle.session_core.specs.declared.item.Item.TheVariants.{Call as Asks, Reply}
 use Rattle.replay_run.specs.Rebalancing.{most_line_events}
-use Rattle.replay_run.specs.Grids.{FormOf, IsCounting, Holds, AreFew}
+use Rattle.replay_run.specs.Grids.{FormOf, IsCounting, AreListening, Holds, AreFew}
 use Rattle.replay_run.specs.WorldCalls.{texts_of, HasAsked, HasTold, HasRoom, Brings, HasHandledSome, IsGivenUpMidway}
 use Rattle.replay_run.proofs.Lines.{HasCome, asked_come, told_come}
 use Rattle.replay_run.proofs.LineTexts.{new_with, texts_more}
@@ -92,6 +92,7 @@ told_one_more grid r k bytes done answer rest brings written mid so_far new text
   now = told so_far.now k.conn answer;
   midway = told_midway r brings.run k brings.there bytes done answer rest brings.come so_far.skips so_far.now so_far.midway;
   holds = did.holds;
+  listeners = did.listeners;
   counting = subst (λ n. IsCounting new.connections (told so_far.now k.conn answer) k.conn n) (number_more grid r k bytes done (Reply answer) rest brings written mid so_far) did.counting;
   added = text_more grid r k bytes done (Reply answer) rest brings written mid so_far (told so_far.now k.conn answer) [] text (told_come so_far.now k.conn answer) did.added;
 }
@@ -101,6 +102,7 @@ pub record MayAskNext {V : Type 0} {T : V → Type 0} (form : FormOf V T) (setti
   pub fits : CallFits q.call
   pub placed : q.partition < partitions
   pub reached : member < grid.members
+  pub heard : length grid.listeners.items ≡ grid.members
   pub run : Run
   pub holds : Holds form settings grid run
   pub room : length run.arrivals + most_line_events * run.lines + 1 < 2 ^ 32 - 1
@@ -135,10 +137,13 @@ module _ {V : Type 0} {T : V → Type 0} {form : FormOf V T} {settings : Setting
 
   -- what the next call wants
   pub may_ask : HasRoom r k bytes → AreFew r → MayAskNext form settings grid k.member q
-  may_ask room few = record { fits = next_fits; placed = next_placed; reached = next_reached; run = so_far.now; holds = so_far.holds; room = next_room room; is = so_far.midway.run; next = next_call; few = midway_few r brings.run k brings.there bytes done so_far.skips so_far.now so_far.midway few }
+  may_ask room few = record { fits = next_fits; placed = next_placed; reached = next_reached; heard = so_far.listeners.size ∙ sym so_far.holds.members; run = so_far.now; holds = so_far.holds; room = next_room room; is = so_far.midway.run; next = next_call; few = midway_few r brings.run k brings.there bytes done so_far.skips so_far.now so_far.midway few }
 
   name : q.id ≡ record { conn = k.conn; number = length (messages_on k) + length done }
   name = its_name r brings.run k brings.there bytes done q rest brings.come so_far.skips so_far.now so_far.midway
+
+  pub next_heard : AreListening grid.listeners.items so_far.now (Some q.id.conn)
+  next_heard = subst (λ (id : CallId). AreListening grid.listeners.items so_far.now (Some id.conn)) (sym name) so_far.listeners
 
   pub next_count : IsCounting grid.connections so_far.now q.id.conn q.id.number
   next_count = subst (λ (id : CallId). IsCounting grid.connections so_far.now id.conn id.number) (sym name) so_far.counting
@@ -160,12 +165,16 @@ module _ {V : Type 0} {T : V → Type 0} {form : FormOf V T} {settings : Setting
         subst (λ n. IsCounting new.connections now k.conn n) (number_more grid r k bytes done (Asks q) rest brings written mid so_far)
         (subst (λ (id : CallId). IsCounting new.connections now id.conn (id.number + 1)) name did.counting)
 
+    asked_listening : AreListening new.listeners.items now (Some k.conn)
+    asked_listening = subst (λ (id : CallId). AreListening new.listeners.items now (Some id.conn)) name did.listeners
+
     pub asked_one_more : HasHandledSome form settings new r k bytes (done ++ Asks q ∷ []) written text
     asked_one_more = record {
       skips = did.skips ++ so_far.skips;
       now = now;
       midway = asked_midway r brings.run k brings.there bytes done q rest brings.come so_far.skips so_far.now so_far.midway did.skips did.its_own did.goes;
       holds = did.holds;
+      listeners = asked_listening;
       counting = count_more;
       added = text_more grid r k bytes done (Asks q) rest brings written mid so_far now (arrival_at so_far.now k.member q ∷ []) text
           (asked_come (partition_object settings) did.skips so_far.now (arrival_at so_far.now k.member q)) did.added;

@@ -57,7 +57,7 @@ come_both r mid next first then a b = record {
   appended = front_trans r.appended mid.appended next.appended a.appended b.appended;
 }
 
-pub asked_come : {State : Type 0} (o : Object Request State) (skips : List CallId) (r : Run) (a : Arrival) → HasCome r (a ∷ []) (asked o skips r a)
+pub asked_come : (o : Object Request Partition) (skips : List CallId) (r : Run) (a : Arrival) → HasCome r (a ∷ []) (asked o skips r a)
 asked_come o skips r a = go (is_skipped skips a.request.id)
   where
     is : (events : List At) (appended : List Appended) → HasCome r (a ∷ []) (arrived r a events appended)
@@ -68,7 +68,7 @@ asked_come o skips r a = go (is_skipped skips a.request.id)
     go false = is (its_event a ∷ []) (happening o r a)
 
 -- also where the run is given up
-pub asks_come : {State : Type 0} (o : Object Request State) (skips : List CallId) (r : Run) (a : Arrival) → HasCome r (a ∷ []) (asks o skips r a)
+pub asks_come : (o : Object Request Partition) (skips : List CallId) (r : Run) (a : Arrival) → HasCome r (a ∷ []) (asks o skips r a)
 asks_come o skips r a =
     on_if (HasCome r (a ∷ [])) (is_full (world_at o r a.request.partition)) (given_up (arrived r a [] [])) (asked o skips r a)
     (record { members = refl; backups = refl; lines = refl; moments = refl; connections = refl; arrivals = refl; appended = ([], refl) }) (asked_come o skips r a)
@@ -84,7 +84,7 @@ arriving line member now (Reply bytes) = None
 abbrev pub all_arriving : ℕ → ℕ → ℕ → List Item → List Arrival
 all_arriving line member now items = filter_map (arriving line member now) items
 
-pub handled_all_come : {State : Type 0} (o : Object Request State) (skips : List CallId) (r : Run) (k : Connection) (items : List Item)
+pub handled_all_come : (o : Object Request Partition) (skips : List CallId) (r : Run) (k : Connection) (items : List Item)
     → HasCome r (all_arriving r.lines k.member (moment_of r k.member) items) (handled_all o skips r k items)
 handled_all_come o skips r k [] = record { members = refl; backups = refl; lines = refl; moments = refl; connections = refl; arrivals = sym (append-nil r.arrivals); appended = same r.appended }
 handled_all_come o skips r k (Reply bytes ∷ items) =
@@ -122,7 +122,7 @@ may_ask_come r next k number member request may named come = record {
     last_conn b (inl e) = ap (λ (c : Arrival). c.request.id.conn) (sym e) ∙ ap (λ (c : CallId). c.conn) named
     last_conn b (inr i) = absurd i
 
-module _ {State : Type 0} (o : Object Request State) (skips : List CallId) (r : Run) (k : Connection) (number member : ℕ) (request : Request) where
+module _ (o : Object Request Partition) (skips : List CallId) (r : Run) (k : Connection) (number member : ℕ) (request : Request) where
   pub may_ask_more : MayAsk r k number → request.id ≡ record { conn = k.conn; number = number } → MayAsk (asked o skips r (arrival_at r member request)) k (number + 1)
   may_ask_more may named = may_ask_come r (asked o skips r (arrival_at r member request)) k number member request may named (asked_come o skips r (arrival_at r member request))
 

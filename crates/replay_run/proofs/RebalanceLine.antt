@@ -295,6 +295,7 @@ module _ {V : Type 0} {T : V → Type 0} {form : FormOf V T} {settings : Setting
         small = kept_small r (rebalanced (partition_object settings) (next_line r) most) kept s.small;
         few = rebalance_few (partition_object settings) r s.few most;
         holds = on.holds;
+        listeners = on.listeners;
         settled = on.settled;
         reached = λ c k found. subst (λ m. k.member < m) (sym kept.members) (s.reached c k (ap (find (is_connection c)) (sym kept.connections) ∙ found));
       }

@@ -21,7 +21,7 @@ begun_unasked Move from to = refl
 begun_unasked Handover from to = refl
 
 -- What holds after each event of a partition that is no call holds after a step of it.
-module _ {State : Type 0} (o : Object Request State) (P : Run → Type 0) (p : ℕ) (each : (r : Run) (event : Event Request) → asked_by event ≡ [] → P r → P (takes o r p event)) where
+module _ (o : Object Request Partition) (P : Run → Type 0) (p : ℕ) (each : (r : Run) (event : Event Request) → asked_by event ≡ [] → P r → P (takes o r p event)) where
   flow_keeps : (r : Run) (most : ℕ) → P r → P (flowed o r p most)
   flow_keeps r most h = flowed_keeps o P p (λ x l k. each x (delivery_on l) refl k) r most h
 
@@ -49,7 +49,7 @@ module _ {State : Type 0} (o : Object Request State) (P : Run → Type 0) (p : �
   rejoin_keeps r from Move h = h
   rejoin_keeps r from Handover h = on_if P (is_moving_at o r p) r (joined o r p from) h (join_keeps r from h)
 
-module _ {State : Type 0} (o : Object Request State) (P : Run → Type 0) where
+module _ (o : Object Request Partition) (P : Run → Type 0) where
   pub step_keeps : (step : Step) → ((r : Run) (event : Event Request) → asked_by event ≡ [] → P r → P (takes o r step.partition event)) → (r : Run) → P r → P (stepped o r step)
   step_keeps step each r h =
       let p = step.partition in
@@ -65,7 +65,7 @@ module _ {State : Type 0} (o : Object Request State) (P : Run → Type 0) where
     pub rebalance_keeps : (r : Run) (most : ℕ) → P r → P (rebalanced o r most)
     rebalance_keeps r most h = steps_keep (steps_in o r most) r h
 
-module _ {State : Type 0} (o : Object Request State) where
+module _ (o : Object Request Partition) where
   pub turned_kept : (r : Run) (p : ℕ) → Kept r (turned o r p)
   turned_kept r p = turn_keeps o (Kept r) p (λ x event quiet h. kept_trans h (takes_kept o x p event)) r (kept_refl r)
 
@@ -98,7 +98,7 @@ rebalanced_run {o} r most is = rebalance_keeps o (IsRun o) (λ x p event quiet h
 
 -- the events of a partition
 
-module _ {State : Type 0} (o : Object Request State) where
+module _ (o : Object Request Partition) where
   pub stepped_elsewhere : (r : Run) (step : Step) (q : ℕ) → q ≢ step.partition → events_at q (stepped o r step).events ≡ events_at q r.events
   stepped_elsewhere r step q other = step_keeps o (HasEvents q (events_at q r.events)) step (λ x event quiet h. takes_elsewhere o x step.partition event q other ∙ h) r refl
 
@@ -153,7 +153,7 @@ abbrev pub AreRising : ℕ → ℕ → List Step → Type 0
 AreRising end next [] = Unit {0}
 AreRising end next (step ∷ steps) = (next ≤ step.partition) × (step.partition < end) × AreRising end (step.partition + 1) steps
 
-module _ {State : Type 0} (o : Object Request State) (end : ℕ) where
+module _ (o : Object Request Partition) (end : ℕ) where
   pub steps_elsewhere : (r : Run) (next : ℕ) (steps : List Step) (q : ℕ) → AreRising end next steps → q < next → events_at q (stepped_all o r steps).events ≡ events_at q r.events
   steps_elsewhere r next [] q rising low = refl
   steps_elsewhere r next (step ∷ steps) q rising low =

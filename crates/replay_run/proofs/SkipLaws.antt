@@ -45,16 +45,16 @@ names_arriving line member now [] = refl
 names_arriving line member now (Reply bytes ∷ items) = names_arriving line member now items
 names_arriving line member now (Asks request ∷ items) = ap (λ ids. request.id ∷ ids) (names_arriving line member now items)
 
-pub asked_alike : {State : Type 0} (o : Object Request State) (s k : List CallId) (r : Run) (a : Arrival) → is_skipped s a.request.id ≡ is_skipped k a.request.id → asked o s r a ≡ asked o k r a
+pub asked_alike : (o : Object Request Partition) (s k : List CallId) (r : Run) (a : Arrival) → is_skipped s a.request.id ≡ is_skipped k a.request.id → asked o s r a ≡ asked o k r a
 asked_alike o s k r a e = same_choice (is_skipped s a.request.id) (is_skipped k a.request.id) _ _ e
   where
     same_choice : (b d : Bool) (x y : Run) → b ≡ d → cond b x y ≡ cond d x y
     same_choice b d x y h = ap (λ t. cond t x y) h
 
-pub asks_alike : {State : Type 0} (o : Object Request State) (s k : List CallId) (r : Run) (a : Arrival) → is_skipped s a.request.id ≡ is_skipped k a.request.id → asks o s r a ≡ asks o k r a
+pub asks_alike : (o : Object Request Partition) (s k : List CallId) (r : Run) (a : Arrival) → is_skipped s a.request.id ≡ is_skipped k a.request.id → asks o s r a ≡ asks o k r a
 asks_alike o s k r a e = ap (λ next. cond (is_full (world_at o r a.request.partition)) (given_up (arrived r a [] [])) next) (asked_alike o s k r a e)
 
-pub handled_all_alike : {State : Type 0} (o : Object Request State) (s k : List CallId) (r : Run) (c : Connection) (items : List Item) → Alike s k (calls_in items)
+pub handled_all_alike : (o : Object Request Partition) (s k : List CallId) (r : Run) (c : Connection) (items : List Item) → Alike s k (calls_in items)
     → handled_all o s r c items ≡ handled_all o k r c items
 handled_all_alike o s k r c [] h = refl
 handled_all_alike o s k r c (Reply bytes ∷ items) h = handled_all_alike o s k (told r c.conn bytes) c items h
@@ -63,7 +63,7 @@ handled_all_alike o s k r c (Asks request ∷ items) h =
     ∙ handled_all_alike o s k (asks o k r (arrival_at r c.member request)) c items (λ id i. h id (inr i))
 
 -- the items of a front, and then the others
-pub handled_all-append : {State : Type 0} (o : Object Request State) (skips : List CallId) (r : Run) (c : Connection) (first then : List Item)
+pub handled_all-append : (o : Object Request Partition) (skips : List CallId) (r : Run) (c : Connection) (first then : List Item)
     → handled_all o skips r c (first ++ then) ≡ handled_all o skips (handled_all o skips r c first) c then
 handled_all-append o skips r c [] then = refl
 handled_all-append o skips r c (item ∷ items) then = handled_all-append o skips (handled o skips r c item) c items then
@@ -122,7 +122,7 @@ opened_counts r c member true = quiet r (opened r c member) refl refl
 opened_counts r c member false = quiet r (next_line r) refl refl
 
 -- an event, if the line is one
-pub event_kept : {State : Type 0} (o : Object Request State) (r : Run) (e : Option At) → Kept r (after_event o r e)
+pub event_kept : (o : Object Request Partition) (r : Run) (e : Option At) → Kept r (after_event o r e)
 event_kept o r None = kept_refl r
 event_kept o r (Some e) = takes_kept o r e.partition e.event
 

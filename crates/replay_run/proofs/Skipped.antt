@@ -33,7 +33,7 @@ pub none_before : (r next : Run) → Grows r next → TellsOfNoSkip next → Tel
 none_before r next grows none a there is = none a (contains_in a next.arrivals (in_front a r.arrivals next.arrivals grows.arrivals (in_contains a r.arrivals there))) (told_still r next a grows is)
 
 -- a call that is skipped is told of
-skipped_is_told : {State : Type 0} (o : Object Request State) (skips : List CallId) (r : Run) (member : ℕ) (request : Request) → is_skipped skips request.id ≡ true
+skipped_is_told : (o : Object Request Partition) (skips : List CallId) (r : Run) (member : ℕ) (request : Request) → is_skipped skips request.id ≡ true
     → let a = arrival_at r member request in IsTold (asked o skips r a) a
 skipped_is_told o skips r member request skipped =
     let a : Arrival = arrival_at r member request in
@@ -45,7 +45,7 @@ skipped_is_told o skips r member request skipped =
     )
 
 -- unless it gives the run up
-asks_tells : {State : Type 0} (o : Object Request State) (skips : List CallId) (r : Run) (member : ℕ) (request : Request) → is_skipped skips request.id ≡ true
+asks_tells : (o : Object Request Partition) (skips : List CallId) (r : Run) (member : ℕ) (request : Request) → is_skipped skips request.id ≡ true
     → let a = arrival_at r member request in (asks o skips r a).full ≡ false → IsTold (asks o skips r a) a
 asks_tells o skips r member request skipped =
     let a = arrival_at r member request in
@@ -76,7 +76,7 @@ module _ (skips : List CallId) (r next : Run) (grows : Grows r next) (tells : Te
       last (inl e) = subst (IsTold next) e (its (subst (λ (c : Arrival). is_skipped skips c.request.id ≡ true) (sym e) skipped) lasts)
       last (inr i) = absurd i
 
-module _ {State : Type 0} (o : Object Request State) (skips : List CallId) where
+module _ (o : Object Request Partition) (skips : List CallId) where
   items_tell : (r : Run) (c : Connection) (items : List Item) → Tells skips r → Tells skips (handled_all o skips r c items)
   items_tell r c [] tells = tells
   items_tell r c (Reply bytes ∷ items) tells =
@@ -114,7 +114,7 @@ every_skipped_call_is_told settings members backups skips lines = lines_tell (pa
 
 -- runs that tell of no skip
 
-module _ {State : Type 0} (o : Object Request State) (skips : List CallId) where
+module _ (o : Object Request Partition) (skips : List CallId) where
   asks_none : (r : Run) (member : ℕ) (request : Request) → let a = arrival_at r member request in TellsOfNoSkip (asks o skips r a) → asks o skips r a ≡ asks o [] r a
   asks_none r member request none = ⊎_elim in_full in_free (cases (is_full (world_at o r request.partition)))
     where

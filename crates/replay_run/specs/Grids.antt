@@ -10,6 +10,8 @@ use Rattle.partition_world.specs.declared.world.World.{World}
 use Rattle.partition_world.specs.Worlds.{StandsFor, setup_of, waiting}
 use Rattle.replay_run.specs.declared.connections.CallLines.{CallLines}
 use Rattle.replay_run.specs.declared.grid.Grid.{Grid}
+use Rattle.listeners.specs.StandsFor.{StandFor}
+use Rattle.listeners.specs.declared.listeners.Listeners.{Listeners}
 use Rattle.script_lang.specs.declared.line.Line.{Line}
 use Rattle.script_lang.specs.Limits.{most_lines, most_line_bytes}
 use Rattle.script_lang.specs.Lines.{IsWithin}
@@ -21,7 +23,7 @@ use Rattle.call_engine.specs.Env.{settings_of}
 use Rattle.call_engine.specs.Limits.{RequestFits}
 use Rattle.call_engine.specs.Objects.{partition_object}
 use Rattle.partition_world.specs.LinkOrder.{links_of}
-use Rattle.replay_run.specs.Runs.{Run, Connection, Arrival, Appended, partitions, connection_of, messages_on, bytes_of, events_at}
+use Rattle.replay_run.specs.Runs.{Run, Connection, Arrival, Appended, partitions, connection_of, messages_on, bytes_of, events_at, listening}
 use Rattle.replay_run.specs.AfterLines.{after_line}
 use Rattle.replay_run.specs.Rebalancing.{most_line_events}
 use Rattle.replay_run.specs.Shelves.{grid_meaning}
@@ -107,6 +109,11 @@ pub record Holds {V : Type 0} {T : V → Type 0} (form : FormOf V T) (settings :
   pub reopened : grid.reopened.items ≡ r.reopened
   pub worlds : (p : ℕ) → p < partitions → HasWorld settings grid.worlds.items r p
 
+-- Each member has its listeners, which stand for those who listen there, on a connection of its own too.
+pub record AreListening (all : List Listeners) (r : Run) (own : Option ℕ) : Type 0 where
+  pub size : length all ≡ r.members
+  pub each : (member : ℕ) (here : Listeners) → slice_get all member ≡ Some here → StandFor here (listening r own member)
+
 -- The lines brought no more bytes than so many lines can: each byte has two digits in its line.
 abbrev pub IsSmall : Run → Type 0
 IsSmall r = 2 * bytes_of r ≤ most_line_bytes * r.lines
@@ -125,6 +132,7 @@ pub record Stands {V : Type 0} {T : V → Type 0} (form : FormOf V T) (settings 
   pub small : IsSmall r
   pub few : AreFew r
   pub holds : Holds form settings grid r
+  pub listeners : AreListening grid.listeners.items r None
   pub settled : IsSettled grid.connections r
   pub reached : AreReached r
 

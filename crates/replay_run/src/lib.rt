@@ -11,6 +11,7 @@ mod histories;
 mod laws;
 mod links;
 mod outcomes;
+mod outgoing;
 mod print;
 mod rebalancing;
 mod reopened;

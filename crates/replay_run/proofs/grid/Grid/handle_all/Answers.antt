@@ -1,12 +1,12 @@
-use Rattle.std.proofs.Common.{◌+◌, ◌<◌, ◌∙◌, [], ◌∷◌, ◌++◌, Err, ap, sym, subst, length, drop}
+use Rattle.std.proofs.Common.{◌+◌, ◌<◌, ◌∙◌, [], ◌∷◌, ◌++◌, Err, Some, ap, sym, subst, length, drop}
 use Rattle.session_core.specs.declared.item.Item.{Item}
 use Rattle.session_core.specs.declared.item.Item.TheVariants.{Call as Asks, Reply}
 use Rattle.replay_run.specs.Runs.{messages_on}
-use Rattle.replay_run.specs.Grids.{IsCounting}
+use Rattle.replay_run.specs.Grids.{IsCounting, AreListening}
 use Rattle.replay_run.specs.WorldCalls.{Brings}
 use Rattle.replay_run.specs.declared.run_end.RunEnd.TheVariants.{InFlight}
 use Rattle.replay_run.proofs.Asking.{handed_on}
-use Rattle.replay_run.proofs.LineCalls.{at_next_as, at_end, may_ask, next_call, next_count, handled_as, given_up_as, told_on, asked_at, told_one_more, asked_one_more, asked_full}
+use Rattle.replay_run.proofs.LineCalls.{at_next_as, at_end, may_ask, next_call, next_heard, next_count, handled_as, given_up_as, told_on, asked_at, told_one_more, asked_one_more, asked_full}
 use Rattle.replay_run.proofs.grid.Grid.handle_all.Goals as goal
 
 pub ask-requires : goal.ask-requires
@@ -15,7 +15,7 @@ ask-requires g c =
     let split = at_next_as c.into_iter-item-iterator.result c.args.items.items gives.0 (gives.1 ∙ c.args.items.ok.0) c.loop-item.yielded c.loop-item.item-iterator c.loop-item.yielded_by c.next.result c.next.new.self c.next.ensures.steps c.in-Some.item (Asks c.in-Call.request) c.in-Some.is c.in-Call.is in
     let so_far = c.loop-item.invariant c.requires.0 c.requires.1 c.requires.2 c.requires.3 c.requires.4 c.requires.6 c.requires.7 c.requires.5 in
     let may = may_ask c.loop-item.self c.requires.1 c.requires.2 c.requires.3 c.loop-item.yielded c.in-Call.request (drop (length c.loop-item.yielded + 1) c.args.items.items) (subst (Brings c.requires.0 c.requires.1 c.requires.2 c.requires.3) split c.requires.4) c.args.out.now.items c.loop-item.out.items so_far c.requires.8 c.requires.9 in
-    record { limits = may.fits; placed = may.placed; member = subst (λ m. m < c.loop-item.self.members) c.requires.7 may.reached; stands = (c.requires.0, may.run, may.holds, may.room, may.is, may.next, may.few) }
+    record { limits = may.fits; placed = may.placed; member = subst (λ m. m < c.loop-item.self.members) c.requires.7 may.reached; heard = sym c.loop-item.self.listeners.ok.0 ∙ may.heard; stands = (c.requires.0, may.run, may.holds, may.room, may.is, may.next, may.few) }
 
 -- The session answered the item itself.
 pub loop-item-preserved-in-Continue-1 : goal.loop-item-preserved-in-Continue-1
@@ -29,7 +29,7 @@ loop-item-preserved-in-Continue-1 g c = λ settings r k bytes all_brings of_conn
     handled_as (ap (λ (x : Item). done ++ x ∷ []) c.in-Reply.is)
     (told_one_more c.loop-item.self r k bytes done answer (drop (length c.loop-item.yielded + 1) c.args.items.items) (subst (Brings settings r k bytes) split all_brings) c.args.out.now.items c.loop-item.out.items so_far c.tell.new.self c.tell.new.out.items
     (told_on of_conn
-    (c.in_ok-tell-in-Reply.ensures settings so_far.now number so_far.midway.run so_far.holds (subst (λ n. IsCounting c.loop-item.self.connections so_far.now n number) of_conn so_far.counting))))
+    (c.in_ok-tell-in-Reply.ensures settings so_far.now number so_far.holds (subst (λ n. AreListening c.loop-item.self.listeners.items so_far.now (Some n)) of_conn so_far.listeners) (subst (λ n. IsCounting c.loop-item.self.connections so_far.now n number) of_conn so_far.counting))))
 
 -- The item is a call.
 pub loop-item-preserved : goal.loop-item-preserved
@@ -47,7 +47,7 @@ loop-item-preserved g c = λ settings r k bytes all_brings of_conn of_member beg
     handled_as (ap (λ (x : Item). done ++ x ∷ []) c.in-Call.is)
     (asked_one_more grid r k bytes done q rest brings written mid so_far c.ask.new.self c.ask.new.out.items
     (asked_at of_member
-    (c.in_ok-ask-in-Call.ensures.ok settings so_far.now so_far.midway.run so_far.holds (next_call grid r k bytes done q rest brings written mid so_far) (next_count grid r k bytes done q rest brings written mid so_far))))
+    (c.in_ok-ask-in-Call.ensures.ok settings so_far.now so_far.midway.run so_far.holds (next_call grid r k bytes done q rest brings written mid so_far) (next_heard grid r k bytes done q rest brings written mid so_far) (next_count grid r k bytes done q rest brings written mid so_far))))
 
 -- The call meets a full partition.
 pub returns-in_err-ask-in-Call-clause-full : goal.returns-in_err-ask-in-Call-clause-full

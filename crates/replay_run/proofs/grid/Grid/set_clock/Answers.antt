@@ -26,6 +26,7 @@ returns g c = λ settings r s.
       links = ap (λ (x : Grid _ _). x.links.items) made;
       moments = ap (λ (x : Grid _ _). x.moments.items) made ∙ (λ i. set grid.moments.items (c.from.ensures i) c.args.moment);
       connections = ap (λ (x : Grid _ _). x.connections) made;
+      listeners = ap (λ (x : Grid _ _). x.listeners.items) made;
       reopened = ap (λ (x : Grid _ _). x.reopened.items) made;
       worlds = ap (λ (x : Grid _ _). x.worlds.items) made;
     })
