@@ -103,6 +103,10 @@ messages_in k world events at r all = messages_at r at.own at.partition all (ado
 abbrev pub IsAppended : {S R Plan C State : Type 0} → Meaning S C State → (R → Recorded C → Type 0) → (C → Type 0) → World S R Plan C → List (Event C) → Reaching → Run → List Listener → List ℕ → List ℕ → Type 0
 IsAppended k records limits world events at r all written text = StandsFor k records limits world events → text ≡ written ++ texts_of (messages_in k world events at r all)
 
+-- Of the answers those are marked as answered that go out.
+abbrev pub MarksGoing : Run → Reaching → List CallAnswer → Table → Table → Type 0
+MarksGoing r at answers old new = new ≡ with_answers old at.line (going_out r at.own answers)
+
 -- where a message reaches a member, at an event of a partition
 abbrev pub reaching_of : Settings → Run → ℕ → ℕ → Reaching
 reaching_of settings r p member = record { line = r.lines; partition = p; member = member; known = version_known (world_at (partition_object settings) r p) member; own = None }
@@ -124,6 +128,10 @@ pub record HasTold {V : Type 0} {T : V → Type 0} (form : FormOf V T) (settings
   pub listeners : AreListening new.listeners.items (told r conn answer) (Some conn)
   pub counting : IsCounting new.connections (told r conn answer) conn (number + 1)
   pub added : text ≡ written ++ texts_of (new_messages r (told r conn answer))
+
+-- Each partition may have one event more: four bytes count them.
+abbrev pub HasCallRoom : Run → Type 0
+HasCallRoom r = length r.arrivals + most_line_events * r.lines + 1 < 2 ^ 32 - 1
 
 -- However many of the bytes' items are calls, no partition has more events than four bytes can count.
 abbrev pub HasRoom : Run → Connection → List ℕ → Type 0

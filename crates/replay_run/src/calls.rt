@@ -17,7 +17,7 @@ ghost use Rattle.replay_run.specs.Rebalancing.{most_line_events};
 ghost use Rattle.replay_run.specs.Tables.{with_answer};
 ghost use Rattle.replay_run.specs.ScriptRuns.{IsRun, IsNext};
 ghost use Rattle.replay_run.specs.Grids.{boxed, AreFew, AreListening, Stands, StandsForEvents, Holds, IsCounting, MayRun, HasRun, IsGivenUp};
-ghost use Rattle.replay_run.specs.WorldCalls.{arrival_to, refusals, texts_of, IsCalled, IsSkipped, HasAsked, HasTold, HasRoom, open_member_in, Brings, HasHandledSome, IsGivenUpMidway};
+ghost use Rattle.replay_run.specs.WorldCalls.{arrival_to, refusals, texts_of, IsCalled, IsSkipped, HasAsked, HasTold, HasCallRoom, HasRoom, open_member_in, Brings, HasHandledSome, IsGivenUpMidway};
 ghost use Rattle.replay_run.specs.declared.run_end.RunEnd.TheVariants as RunEnds;
 
 use crate::grid::Grid;
@@ -244,7 +244,8 @@ impl Grid {
         requires placed { request.partition < partitions }
         requires member { member < self.old.members }
         requires heard { vec_len self.old.listeners ≡ self.old.members }
-        requires stands { (settings : Settings) × (r : Run) × Holds (boxed form) settings self.old r × (length r.arrivals + most_line_events * r.lines + 1 < 2 ^ 32 - 1) × IsRun (partition_object settings) r × IsNext r request × AreFew r }
+        requires stands { (settings : Settings) × (r : Run) × Holds (boxed form) settings self.old r × HasCallRoom r × IsRun (partition_object settings) r
+            × IsNext r request × AreFew r }
         ensures ok { (settings : Settings) (r : Run) → IsRun (partition_object settings) r → Holds (boxed form) settings self.old r → IsNext r request
             → AreListening self.old.listeners.items r (Some request.id.conn) → IsCounting self.old.connections r request.id.conn request.id.number
             → OnOk result (HasAsked (boxed form) settings self.new r member request out.old.items out.new.items) }

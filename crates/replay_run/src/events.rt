@@ -154,7 +154,8 @@ impl Grid {
     fn reaching(&self, partition: PartitionId, event: &Event<Request>) -> Option<Reaching>
         requires placed { partition < partitions }
         requires stands { (settings : Settings) × (r : Run) × IsAmid (boxed form) settings self.now r }
-        ensures { (settings : Settings) (r : Run) → IsAmid (boxed form) settings self.now r → result ≡ option_map (reaching_of settings r partition) (taker_of (event_of event.now)) }
+        ensures { (settings : Settings) (r : Run) → IsAmid (boxed form) settings self.now r
+            → result ≡ option_map (reaching_of settings r partition) (taker_of (event_of event.now)) }
     {
         let member = taker_of(event)?;
         let world = &self.worlds[usize::from(partition)];

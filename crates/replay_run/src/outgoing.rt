@@ -12,7 +12,7 @@ ghost use Rattle.replay_run.specs.Runs.{Run, hears, message_of, events_to, versi
 ghost use Rattle.replay_run.specs.Printing.{appended_text};
 ghost use Rattle.replay_run.specs.Tables.{with_answer};
 ghost use Rattle.replay_run.specs.Grids.{HasConnections};
-ghost use Rattle.replay_run.specs.WorldCalls.{texts_of, with_answers, going_out, GivesOut, AreOfRun, IsAppended};
+ghost use Rattle.replay_run.specs.WorldCalls.{texts_of, GivesOut, AreOfRun, IsAppended, MarksGoing};
 
 use crate::connections::Connections;
 use crate::print::push_appended;
@@ -120,7 +120,7 @@ fn release(
 ) -> Result<(), Memory>
     ensures text { (r : Run) (all : List ListenerOf) → r.lines ≡ at.line → HasConnections connections.old r → StandFor listeners.now all
         → OnOk result (out.new.items ≡ out.old.items ++ texts_of (release_messages r at.own at.partition all answer)) }
-    ensures table { (r : Run) → HasConnections connections.old r → OnOk result (connections.new ≡ with_answers connections.old at.line (going_out r at.own (answer ∷ []))) }
+    ensures table { (r : Run) → HasConnections connections.old r → OnOk result (MarksGoing r at (answer ∷ []) connections.old connections.new) }
 {
     let events = listeners.events_of(at.partition, &answer)?;
     push_events(alloc, at.line, events.as_slice(), out)?;
@@ -141,7 +141,7 @@ fn give_out<S: Shelf, R: Records<S::Call>>(
 ) -> Result<(), Memory>
     ensures text { (r : Run) (all : List ListenerOf) → r.lines ≡ at.line → HasConnections connections.old r → StandFor listeners.now all
         → OnOk result (out.new.items ≡ out.old.items ++ texts_of (flat_map (release_messages r at.own at.partition all) (waiting world.old at.member))) }
-    ensures table { (r : Run) → HasConnections connections.old r → OnOk result (connections.new ≡ with_answers connections.old at.line (going_out r at.own (waiting world.old at.member))) }
+    ensures table { (r : Run) → HasConnections connections.old r → OnOk result (MarksGoing r at (waiting world.old at.member) connections.old connections.new) }
     ensures world { OnOk result (GivesOut (meaning S.model) R.records S.model.within_limits world.old world.new at.member) }
 {
     while let Some(answer) = world.pop_released(at.member) {
@@ -165,7 +165,7 @@ pub(crate) fn append_reached<S: Shelf, R: Records<S::Call>>(
     requires { length listeners.now ≡ node_count world.old }
     ensures text { (plan : S.Plan) (events : List (ProtocolEvent S.Call)) (r : Run) (all : List ListenerOf) → AreOfRun connections.old listeners.now at r all
         → OnOk result (IsAppended (meaning S.model plan) R.records S.model.within_limits world.old events at r all out.old.items out.new.items) }
-    ensures table { (r : Run) → HasConnections connections.old r → OnOk result (connections.new ≡ with_answers connections.old at.line (going_out r at.own (waiting world.old at.member))) }
+    ensures table { (r : Run) → HasConnections connections.old r → OnOk result (MarksGoing r at (waiting world.old at.member) connections.old connections.new) }
     ensures world { OnOk result (GivesOut (meaning S.model) R.records S.model.within_limits world.old world.new at.member) }
 {
     let Some(here) = listeners.get(usize::from(at.member)) else {
