@@ -22,7 +22,7 @@ use Rattle.client_codecs.specs.declared.authentications.Authentication.{Authenti
 use Rattle.client_codecs.proofs.Spelling.{sent_again}
 use Rattle.map_codecs.specs.SpelledCalls as maps
 use Rattle.queue_codecs.specs.SpelledCalls as queues
-use Rattle.session_core.specs.Items.{kind_of as kind_of_message, correlation_of, stated_partition, is_accepted, identity_by, identity_after, error_to, authentication_item, call_of, call_item, served, item_of}
+use Rattle.session_core.specs.Items.{kind_of as kind_of_message, correlation_of, stated_partition, is_accepted, identity_by, identity_after, error_to, authentication_item, call_of, call_item, unless_unknown, wait_or_registration, asked, served, item_of}
 use Rattle.session_core.specs.Places.{partition_of_key}
 use Rattle.session_core.specs.declared.item.Item.{Item}
 use Rattle.session_core.specs.declared.item.Item.TheVariants.{Call, Reply}
@@ -67,9 +67,9 @@ module _ (member : ℕ) (id : CallId) (message : Message) where
   -- a call of a known client
   served_call : (client : ClientKey) (kind : ℕ) (call : GridCall) → kind_of_message message ≡ kind → (kind == ping_kind) ≡ false → call_of client message ≡ Ok call → served id client message ≡ call_item id message (Ok call)
   served_call client kind call e apart read =
-      ap (λ k. cond (k == ping_kind) (Reply (void_bytes ping_kind (correlation_of message))) (call_item id message (call_of client message))) e
-      ∙ ap (λ b. cond b (Reply (void_bytes ping_kind (correlation_of message))) (call_item id message (call_of client message))) apart
-      ∙ ap (λ (found : Result GridCall CallRefused). call_item id message found) read
+      ap (λ k. cond (k == ping_kind) (Reply (void_bytes ping_kind (correlation_of message))) (asked id client message)) e
+      ∙ ap (λ b. cond b (Reply (void_bytes ping_kind (correlation_of message))) (asked id client message)) apart
+      ∙ ap (λ (found : Result GridCall CallRefused). unless_unknown found (call_item id message) (wait_or_registration id client message)) read
 
   -- a call on an entry that states its key's partition
   map_item : (kind : ℕ) (correlation : ℤ) (partition : ℕ) (call : MapCall) → kind_of_message message ≡ kind → correlation_of message ≡ correlation → stated_partition message ≡ pos partition → partition_of_key (key_of call) ≡ partition
@@ -105,7 +105,7 @@ module _ (member : ℕ) (id : CallId) (correlation : ℤ) where
   ping_said None head = refused_item member id (message_of correlation Ping) correlation head.correlation_is
   ping_said (Some client) head =
       let message = message_of correlation Ping in
-      ap (λ k. cond (k == ping_kind) (Reply (void_bytes ping_kind (correlation_of message))) (call_item id message (call_of client message))) head.kind
+      ap (λ k. cond (k == ping_kind) (Reply (void_bytes ping_kind (correlation_of message))) (asked id client message)) head.kind
       ∙ ap (λ c. Reply (void_bytes ping_kind c)) head.correlation_is
 
   map_said : (identity : Option ClientKey) (call : MapCall) → IsSayable call → HasHead correlation (OnMap call) → by_client member id (message_of correlation (OnMap call)) identity ≡ item_after id identity correlation (OnMap call)
