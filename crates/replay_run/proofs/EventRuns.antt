@@ -12,7 +12,7 @@ use Rattle.partition_protocol.specs.Service.{numbers_below}
 use Rattle.partition_protocol.proofs.Lists.{on_if}
 use Rattle.partition_protocol.proofs.RowFacts.{number_other, number_cases}
 use Rattle.session_core.specs.declared.item.Item.{Item}
-use Rattle.session_core.specs.declared.item.Item.TheVariants.{Call as Asks, Reply}
+use Rattle.session_core.specs.declared.item.Item.TheVariants.{Call as Asks, Wait, Register, Reply}
 use Rattle.partition_world.specs.declared.Link.{Link}
 use Rattle.partition_world.specs.LinkOrder.{next_link}
 use Rattle.replay_run.specs.Runs.{Run, At, Connection, Arrival, is_at, events_at, world_at, is_full, is_skipped, arrived, asked, given_up, asks, arrival_at, occurred, meets_full, takes, takes_in, delivery_on, flowed, flowed_in, handled, handled_all}
@@ -125,6 +125,8 @@ module _ (o : Object Request Partition) where
 
     pub handled_full : (r : Run) (k : Connection) (item : Item) → r.full ≡ true → (handled o skips r k item).full ≡ true
     handled_full r k (Reply bytes) full = full
+    handled_full r k (Wait request timeout) full = full
+    handled_full r k (Register registration) full = full
     handled_full r k (Asks request) full = asks_full r (arrival_at r k.member request) full
 
     pub handled_all_full : (r : Run) (k : Connection) (items : List Item) → r.full ≡ true → (handled_all o skips r k items).full ≡ true

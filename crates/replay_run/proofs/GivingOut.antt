@@ -20,7 +20,7 @@ use Rattle.call_engine.specs.Calls.{Settings}
 use Rattle.call_engine.specs.Limits.{RequestFits}
 use Rattle.replay_run.specs.Printing.{appended_text}
 use Rattle.listeners.specs.Telling.{Sent, events_of}
-use Rattle.listeners.specs.declared.registration.Listener.{Listener}
+use Rattle.listeners.specs.declared.listener.Listener.{Listener}
 use Rattle.replay_run.specs.Runs.{Run, Appended, message_of, event_to, events_to, goes_out, if_newer, adopted_since, row_messages, answer_messages, release_messages, messages_at}
 use Rattle.replay_run.specs.Tables.{Table, with_answer}
 use Rattle.replay_run.specs.Shelves.{grid_meaning}

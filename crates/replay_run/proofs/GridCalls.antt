@@ -12,7 +12,7 @@ use Rattle.primary_hold.specs.declared.answer.CallAnswer.{CallAnswer}
 use Rattle.partition_world.specs.Answers.{released_by as answers_by}
 use Rattle.partition_world.specs.Worlds.{run_of, waiting}
 use Rattle.partition_world.specs.Recorders.{KeepsAll}
-use Rattle.listeners.specs.declared.registration.Listener.{Listener}
+use Rattle.listeners.specs.declared.listener.Listener.{Listener}
 use Rattle.replay_run.specs.declared.outgoing.Reaching.{Reaching}
 use Rattle.replay_run.specs.Shelves.{grid_meaning}
 use Rattle.call_engine.specs.Limits.{RequestFits}

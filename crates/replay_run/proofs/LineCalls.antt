@@ -17,13 +17,13 @@ use Rattle.replay_run.specs.Printing.{new_messages}
 use Rattle.replay_run.specs.ScriptRuns.{IsRun, IsNext}
 use Rattle.grid_base.specs.Limits.{CallFits}
 use Rattle.session_core.specs.declared.item.Item.{Item}
-use Rattle.session_core.specs.declared.item.Item.TheVariants.{Call as Asks, Reply}
+use Rattle.session_core.specs.declared.item.Item.TheVariants.{Call as Asks}
 use Rattle.replay_run.specs.Rebalancing.{most_line_events}
 use Rattle.replay_run.specs.Grids.{FormOf, IsCounting, AreListening, Holds, AreFew}
 use Rattle.replay_run.specs.WorldCalls.{texts_of, HasAsked, HasTold, HasRoom, Brings, HasHandledSome, IsGivenUpMidway}
 use Rattle.replay_run.proofs.Lines.{HasCome, asked_come, told_come}
 use Rattle.replay_run.proofs.LineTexts.{new_with, texts_more}
-use Rattle.replay_run.proofs.Midway.{midway_come, midway_arrivals, midway_few, its_name, next_midway, asked_midway, full_midway, own_midway, told_midway}
+use Rattle.replay_run.proofs.Midway.{midway_come, midway_arrivals, midway_few, its_name, next_midway, asked_midway, full_midway, own_midway, answer_of, told_midway}
 
 map_same : {X : Type 0} (xs : List X) → map (λ (x : X). x) xs ≡ xs
 map_same [] = refl
@@ -83,18 +83,18 @@ pub asked_at : {V : Type 0} {T : V → Type 0} {form : FormOf V T} {settings : S
     → HasAsked form settings new r other q written text → HasAsked form settings new r member q written text
 asked_at {form = form} {settings = settings} {new = new} {r = r} {q = q} {written = written} {text = text} same = subst (λ m. HasAsked form settings new r m q written text) (sym same)
 
--- an answer of the session itself
-pub told_one_more : {V : Type 0} {T : V → Type 0} {form : FormOf V T} {settings : Settings} (grid : Grid V T) (r : Run) (k : Connection) (bytes : List ℕ) (done : List Item) (answer : List ℕ) (rest : List Item) → Brings settings r k bytes (done ++ Reply answer ∷ rest)
+-- an answer for which no member is asked
+pub told_one_more : {V : Type 0} {T : V → Type 0} {form : FormOf V T} {settings : Settings} (grid : Grid V T) (r : Run) (k : Connection) (bytes : List ℕ) (done : List Item) (item : Item) (answer : List ℕ) → answer_of item ≡ Some answer → (rest : List Item) → Brings settings r k bytes (done ++ item ∷ rest)
     → (written mid : List ℕ) (so_far : HasHandledSome form settings grid r k bytes done written mid) (new : Grid V T) (text : List ℕ)
-    → HasTold form settings new so_far.now k.conn (length (messages_on k) + length done) answer mid text → HasHandledSome form settings new r k bytes (done ++ Reply answer ∷ []) written text
-told_one_more grid r k bytes done answer rest brings written mid so_far new text did = record {
+    → HasTold form settings new so_far.now k.conn (length (messages_on k) + length done) answer mid text → HasHandledSome form settings new r k bytes (done ++ item ∷ []) written text
+told_one_more grid r k bytes done item answer its rest brings written mid so_far new text did = record {
   skips = so_far.skips;
   now = told so_far.now k.conn answer;
-  midway = told_midway r brings.run k brings.there bytes done answer rest brings.come so_far.skips so_far.now so_far.midway;
+  midway = told_midway r brings.run k brings.there bytes done item answer its rest brings.come so_far.skips so_far.now so_far.midway;
   holds = did.holds;
   listeners = did.listeners;
-  counting = subst (λ n. IsCounting new.connections (told so_far.now k.conn answer) k.conn n) (number_more grid r k bytes done (Reply answer) rest brings written mid so_far) did.counting;
-  added = text_more grid r k bytes done (Reply answer) rest brings written mid so_far (told so_far.now k.conn answer) [] text (told_come so_far.now k.conn answer) did.added;
+  counting = subst (λ n. IsCounting new.connections (told so_far.now k.conn answer) k.conn n) (number_more grid r k bytes done item rest brings written mid so_far) did.counting;
+  added = text_more grid r k bytes done item rest brings written mid so_far (told so_far.now k.conn answer) [] text (told_come so_far.now k.conn answer) did.added;
 }
 
 -- A call may be asked: its parts fit, its partition and its member are there, and there is room for its event.

@@ -12,12 +12,13 @@ use Rattle.partition_protocol.specs.Events as event
 use Rattle.partition_protocol.specs.Service.{numbers_below}
 use Rattle.partition_protocol.proofs.Lists.{In, in_cases, in_contains, contains_in, on_if}
 use Rattle.partition_protocol.proofs.Extends.{front_trans, same}
+use Rattle.event_codecs.specs.SpelledRegistrations.{correlation_of}
 use Rattle.session_core.specs.declared.item.Item.{Item}
-use Rattle.session_core.specs.declared.item.Item.TheVariants.{Call as Asks, Reply}
+use Rattle.session_core.specs.declared.item.Item.TheVariants.{Call as Asks, Wait, Register, Reply}
 use Rattle.script_lang.specs.declared.line.Line.{Line}
 use Rattle.script_lang.specs.declared.line.Line.TheVariants.{OpenConn, Arrive, Clock, Deliver, Lose, Repeat, Flow, FlowAll, Resend, Crash, Detect, Move, Join, Handover, Advance, Reopen, Rebalance}
 use Rattle.object_store.specs.Partitions.{Partition}
-use Rattle.replay_run.specs.Runs.{Run, Connection, Arrival, At, Appended, partitions, is_connection, connection_of, messages_on, world_at, lives, takes_bytes, is_full, with_bytes, took_bytes, moment_of, items_by, own_answer, told, refusal, arrival_at, happening, arrived, is_skipped, given_up, asked, asks, handled_all, opened, next_line, bytes_arrived, event_by}
+use Rattle.replay_run.specs.Runs.{Run, Connection, Arrival, At, Appended, partitions, is_connection, connection_of, messages_on, world_at, lives, takes_bytes, is_full, with_bytes, took_bytes, moment_of, items_by, own_answer, told, refusal, arrival_at, happening, arrived, is_skipped, given_up, asked, asks, handled_all, opened, next_line, bytes_arrived, event_by, unserved}
 use Rattle.replay_run.specs.AfterLines.{after_event, after_line, after_lines}
 use Rattle.replay_run.specs.ScriptRuns.{IsPlaced, MayAsk, IsNext, IsRun, line_counted, clock_was_set, connection_opened, bytes_taken, answer_told, call_arrived, run_given_up, call_asked}
 use Rattle.replay_run.specs.WorldCalls.{arrival_to}
@@ -80,6 +81,8 @@ told_come r c bytes = record { members = refl; backups = refl; lines = refl; mom
 abbrev pub arriving : ℕ → ℕ → ℕ → Item → Option Arrival
 arriving line member now (Asks request) = Some (arrival_to line member now request)
 arriving line member now (Reply bytes) = None
+arriving line member now (Wait request timeout) = None
+arriving line member now (Register registration) = None
 
 abbrev pub all_arriving : ℕ → ℕ → ℕ → List Item → List Arrival
 all_arriving line member now items = filter_map (arriving line member now) items
@@ -90,6 +93,12 @@ handled_all_come o skips r k [] = record { members = refl; backups = refl; lines
 handled_all_come o skips r k (Reply bytes ∷ items) =
     let mid = told r k.conn bytes in
     come_both r mid (handled_all o skips mid k items) [] (all_arriving r.lines k.member (moment_of r k.member) items) (told_come r k.conn bytes) (handled_all_come o skips mid k items)
+handled_all_come o skips r k (Wait request timeout ∷ items) =
+    let mid = told r k.conn (unserved request.correlation) in
+    come_both r mid (handled_all o skips mid k items) [] (all_arriving r.lines k.member (moment_of r k.member) items) (told_come r k.conn (unserved request.correlation)) (handled_all_come o skips mid k items)
+handled_all_come o skips r k (Register registration ∷ items) =
+    let mid = told r k.conn (unserved (correlation_of registration)) in
+    come_both r mid (handled_all o skips mid k items) [] (all_arriving r.lines k.member (moment_of r k.member) items) (told_come r k.conn (unserved (correlation_of registration))) (handled_all_come o skips mid k items)
 handled_all_come o skips r k (Asks request ∷ items) =
     let a = arrival_at r k.member request in
     let one = asks_come o skips r a in
@@ -161,6 +170,16 @@ handled_all_run skips r k bytes number (Reply answer ∷ items) is may numbered 
     handled_all_run skips (told r k.conn answer) k bytes (number + 1) items
     (answer_told r k.conn answer is)
     (may_ask_after r (with_bytes k bytes) number k.conn answer may)
+    numbered.1 (omega (arith, room))
+handled_all_run skips r k bytes number (Wait request timeout ∷ items) is may numbered room =
+    handled_all_run skips (told r k.conn (unserved request.correlation)) k bytes (number + 1) items
+    (answer_told r k.conn (unserved request.correlation) is)
+    (may_ask_after r (with_bytes k bytes) number k.conn (unserved request.correlation) may)
+    numbered.1 (omega (arith, room))
+handled_all_run skips r k bytes number (Register registration ∷ items) is may numbered room =
+    handled_all_run skips (told r k.conn (unserved (correlation_of registration))) k bytes (number + 1) items
+    (answer_told r k.conn (unserved (correlation_of registration)) is)
+    (may_ask_after r (with_bytes k bytes) number k.conn (unserved (correlation_of registration)) may)
     numbered.1 (omega (arith, room))
 handled_all_run {o} skips r k bytes number (Asks request ∷ items) is may numbered room =
     let next = is_next r (with_bytes k bytes) number request may (omega (arith, room)) numbered.0.0 numbered.0.1 in

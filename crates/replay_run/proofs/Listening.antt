@@ -13,7 +13,7 @@ use Rattle.listeners.specs.Standing.{placed, without}
 use Rattle.listeners.specs.StandsFor.{StandFor}
 use Rattle.listeners.specs.Tables.{AreInOrder}
 use Rattle.listeners.specs.declared.listeners.Listeners.{Listeners}
-use Rattle.listeners.specs.declared.registration.Listener.{Listener}
+use Rattle.listeners.specs.declared.listener.Listener.{Listener}
 use Rattle.listeners.proofs.Placing.{order-placed, filter-placed, filter-placed_other}
 use Rattle.replay_run.specs.Runs.{Run, Connection, begun, is_connection, connection_of, fault_on, is_open, is_own, hears, is_to, listens_at, placed_in, listening, opened, with_bytes, took_bytes, is_skipped}
 use Rattle.replay_run.specs.ScriptRuns.{IsRun, grid_begun, line_counted, clock_was_set, connection_opened, bytes_taken, listener_was_registered, answer_told, event_occurred, call_arrived, run_given_up, call_asked}

@@ -22,7 +22,7 @@ use Rattle.call_engine.specs.Calls.{Settings, after}
 use Rattle.call_engine.specs.Changes.{change_of, change_on}
 use Rattle.call_engine.specs.Objects.{partition_object}
 use Rattle.listeners.specs.Telling.{Sent, events_of, rows_of}
-use Rattle.listeners.specs.declared.registration.Listener.{Listener}
+use Rattle.listeners.specs.declared.listener.Listener.{Listener}
 use Rattle.replay_run.specs.Changes.{entry_change, change_between, change_by}
 use Rattle.replay_run.specs.Runs.{Run, Appended, connection_of, is_open, is_own, event_to, events_to, message_of, goes_out, if_newer, version_known, adopted_since, row_messages, answer_messages, release_messages}
 use Rattle.replay_run.specs.WorldCalls.{going_out}

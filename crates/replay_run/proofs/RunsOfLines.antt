@@ -11,7 +11,7 @@ use Rattle.partition_protocol.specs.Events.{Event, happens}
 use Rattle.partition_protocol.specs.Node.{Held}
 use Rattle.partition_protocol.specs.World.{World}
 use Rattle.partition_world.specs.Answers.{released_by}
-use Rattle.listeners.specs.declared.registration.Listener.{Listener}
+use Rattle.listeners.specs.declared.listener.Listener.{Listener}
 use Rattle.replay_run.specs.Changes.{change_by}
 use Rattle.partition_protocol.proofs.Lists.{In, in_left, in_cases}
 use Rattle.grid_base.specs.Errors.{want_of_memory}

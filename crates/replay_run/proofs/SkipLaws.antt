@@ -8,12 +8,13 @@ use Rattle.partition_protocol.specs.Events as event
 use Rattle.partition_protocol.specs.Service.{numbers_below}
 use Rattle.partition_protocol.proofs.Lists.{In}
 use Rattle.partition_protocol.proofs.RowFacts.{false_or_not}
+use Rattle.event_codecs.specs.SpelledRegistrations.{correlation_of}
 use Rattle.session_core.specs.declared.item.Item.{Item}
-use Rattle.session_core.specs.declared.item.Item.TheVariants.{Call as Asks, Reply}
+use Rattle.session_core.specs.declared.item.Item.TheVariants.{Call as Asks, Wait, Register, Reply}
 use Rattle.script_lang.specs.declared.line.Line.{Line}
 use Rattle.script_lang.specs.declared.line.Line.TheVariants.{OpenConn, Arrive, Clock, Flow, FlowAll, Crash, Detect, Rebalance}
 use Rattle.object_store.specs.Partitions.{Partition}
-use Rattle.replay_run.specs.Runs.{Run, At, Connection, Arrival, partitions, connection_of, world_at, takes_bytes, is_full, items_by, moment_of, took_bytes, next_line, clock_set, can_open, event_by, bytes_arrived, told, arrived, given_up, asked, asks, takes_in, flowed, flowed_in, handled, handled_all, arrival_at, is_skipped, opened}
+use Rattle.replay_run.specs.Runs.{Run, At, Connection, Arrival, partitions, connection_of, world_at, takes_bytes, is_full, items_by, moment_of, took_bytes, next_line, clock_set, can_open, event_by, bytes_arrived, told, arrived, given_up, asked, asks, takes_in, flowed, flowed_in, handled, handled_all, arrival_at, is_skipped, opened, unserved}
 use Rattle.replay_run.specs.AfterLines.{after_event, after_line}
 use Rattle.replay_run.specs.ScriptRuns.{calls_in}
 use Rattle.replay_run.specs.Skips.{items_at, calls_at}
@@ -43,6 +44,8 @@ Alike s k calls = (id : CallId) → In id calls → is_skipped s id ≡ is_skipp
 pub names_arriving : (line member now : ℕ) (items : List Item) → map (λ (a : Arrival). a.request.id) (all_arriving line member now items) ≡ calls_in items
 names_arriving line member now [] = refl
 names_arriving line member now (Reply bytes ∷ items) = names_arriving line member now items
+names_arriving line member now (Wait request timeout ∷ items) = names_arriving line member now items
+names_arriving line member now (Register registration ∷ items) = names_arriving line member now items
 names_arriving line member now (Asks request ∷ items) = ap (λ ids. request.id ∷ ids) (names_arriving line member now items)
 
 pub asked_alike : (o : Object Request Partition) (s k : List CallId) (r : Run) (a : Arrival) → is_skipped s a.request.id ≡ is_skipped k a.request.id → asked o s r a ≡ asked o k r a
@@ -58,6 +61,8 @@ pub handled_all_alike : (o : Object Request Partition) (s k : List CallId) (r : 
     → handled_all o s r c items ≡ handled_all o k r c items
 handled_all_alike o s k r c [] h = refl
 handled_all_alike o s k r c (Reply bytes ∷ items) h = handled_all_alike o s k (told r c.conn bytes) c items h
+handled_all_alike o s k r c (Wait request timeout ∷ items) h = handled_all_alike o s k (told r c.conn (unserved request.correlation)) c items h
+handled_all_alike o s k r c (Register registration ∷ items) h = handled_all_alike o s k (told r c.conn (unserved (correlation_of registration))) c items h
 handled_all_alike o s k r c (Asks request ∷ items) h =
     ap (λ next. handled_all o s next c items) (asks_alike o s k r (arrival_at r c.member request) (h request.id (inl refl)))
     ∙ handled_all_alike o s k (asks o k r (arrival_at r c.member request)) c items (λ id i. h id (inr i))

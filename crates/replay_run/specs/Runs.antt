@@ -21,12 +21,13 @@ use Rattle.primary_hold.specs.declared.answer.CallAnswer.{CallAnswer}
 use Rattle.object_store.specs.Partitions.{Partition}
 use Rattle.listeners.specs.Standing.{placed}
 use Rattle.listeners.specs.Telling.{Sent, events_of, rows_of}
-use Rattle.listeners.specs.declared.registration.Listener.{Listener}
-use Rattle.grid_base.specs.Errors.{partition_lost, wrong_target, migrating, want_of_memory}
+use Rattle.listeners.specs.declared.listener.Listener.{Listener}
+use Rattle.grid_base.specs.Errors.{unknown_type, partition_lost, wrong_target, migrating, want_of_memory}
 use Rattle.fixed_fields.specs.Responses.{error_bytes}
+use Rattle.event_codecs.specs.SpelledRegistrations.{correlation_of}
 use Rattle.session_core.specs.Items.{items_of}
 use Rattle.session_core.specs.declared.item.Item.{Item}
-use Rattle.session_core.specs.declared.item.Item.TheVariants.{Call as Asks, Reply}
+use Rattle.session_core.specs.declared.item.Item.TheVariants.{Call as Asks, Wait, Register, Reply}
 use Rattle.script_lang.specs.declared.line.Line.{Line}
 use Rattle.script_lang.specs.declared.line.Line.TheVariants.{Deliver, Lose, Repeat, Resend, Move, Join, Handover, Advance, Reopen}
 use Rattle.partition_world.specs.declared.Link.{Link}
@@ -340,11 +341,17 @@ flowed_in o r most (p ∷ ps) = flowed_in o (flowed o r p most) most ps
 abbrev pub reopened_at : ℕ → List Reopened → List ℕ
 reopened_at p reopened = map (λ (x : Reopened). x.line) (filter (λ (x : Reopened). x.partition == p) reopened)
 
+-- Registrations and calls that wait aren't served yet: they are refused as messages of an unknown type.
+abbrev pub unserved : ℤ → List ℕ
+unserved correlation = error_bytes correlation (pos unknown_type) (pos 0) (pos 0)
+
 -- an item of a connection, and several in a row
 
 abbrev pub handled : Object Request Partition → List CallId → Run → Connection → Item → Run
 handled o skips r connection (Reply bytes) = told r connection.conn bytes
 handled o skips r connection (Asks request) = asks o skips r (arrival_at r connection.member request)
+handled o skips r connection (Wait request timeout) = told r connection.conn (unserved request.correlation)
+handled o skips r connection (Register registration) = told r connection.conn (unserved (correlation_of registration))
 
 abbrev pub handled_all : Object Request Partition → List CallId → Run → Connection → List Item → Run
 handled_all o skips r connection [] = r

@@ -18,7 +18,7 @@ use Rattle.script_lang.specs.declared.line.Line.{Line}
 use Rattle.script_lang.specs.declared.line.Line.TheVariants as line
 use Rattle.listeners.specs.StandsFor.{StandFor}
 use Rattle.listeners.specs.declared.listeners.Listeners.{Listeners}
-use Rattle.listeners.specs.declared.registration.Listener.{Listener}
+use Rattle.listeners.specs.declared.listener.Listener.{Listener}
 use Rattle.replay_run.specs.declared.outgoing.Reaching.{Reaching}
 use Rattle.replay_run.specs.declared.events.Fate.{Fate}
 use Rattle.replay_run.specs.declared.events.Fate.TheVariants.{Crash, Detect}

@@ -11,7 +11,7 @@ ghost use Rattle.call_engine.specs.Objects.{partition_object};
 ghost use Rattle.partition_world.specs.Events.{happened_of};
 ghost use Rattle.grid_base.specs.Shelves.{meaning};
 ghost use Rattle.partition_world.specs.Worlds.{steps_of, waiting};
-ghost use Rattle.replay_run.specs.Runs.{Run, Connection as RunConnection, partitions, call_of, refused_by, connection_of, fault_on, is_full, world_at};
+ghost use Rattle.replay_run.specs.Runs.{Run, Connection as RunConnection, partitions, call_of, refused_by, connection_of, fault_on, is_full, world_at, unserved};
 ghost use Rattle.replay_run.specs.Printing.{appended_text};
 ghost use Rattle.replay_run.specs.Rebalancing.{most_line_events};
 ghost use Rattle.replay_run.specs.Tables.{with_answer};
@@ -28,7 +28,7 @@ use crate::run_end::RunEnd;
 use call_engine::{GridEnv, GridShelf};
 use client_codecs::write_error;
 use frame_codec::Malformed;
-use grid_base::errors::WANT_OF_MEMORY;
+use grid_base::errors::{UNKNOWN_TYPE, WANT_OF_MEMORY};
 use grid_base::{Bytes, MemberId, Memory, Moment, Request};
 use listeners::Listeners;
 use partition_world::{CallOutcome, Event, Happened, Recorder, World};
@@ -211,6 +211,16 @@ impl Grid {
             match item {
                 Item::Reply(answer) => self.tell(alloc, conn, answer, out)?,
                 Item::Call(request) => self.ask(alloc, member, request, out)?,
+                Item::Wait { request, .. } => {
+                    let correlation = request.correlation;
+                    drop(request);
+                    self.refuse(alloc, conn, correlation, out)?
+                }
+                Item::Register(registration) => {
+                    let correlation = registration.correlation();
+                    drop(registration);
+                    self.refuse(alloc, conn, correlation, out)?
+                }
             }
         }
         Ok(())
@@ -230,6 +240,22 @@ impl Grid {
     {
         self.connections.reply(conn)?;
         push_appended(alloc, out, self.lines, conn, answer.as_slice())
+    }
+
+    /// What isn't served yet, a registration or a call that waits, is answered on its connection as a message of an unknown
+    /// type.
+    fn refuse(
+        &mut self,
+        alloc: Global,
+        conn: u32,
+        correlation: i64,
+        out: &mut Vec<u8>,
+    ) -> Result<(), Memory>
+        ensures { (settings : Settings) (r : Run) (number : ℕ) → IsRun (partition_object settings) r → Holds (boxed form) settings self.old r → IsCounting self.old.connections r conn number
+            → OnOk result (HasTold (boxed form) settings self.new r conn number (unserved correlation) out.old.items out.new.items) }
+    {
+        let error = write_error(alloc, correlation, UNKNOWN_TYPE, 0, 0)?;
+        self.tell(alloc, conn, error, out)
     }
 
     /// A call arrives at its connection's member. A full partition takes none.

@@ -5,7 +5,7 @@ ghost use Rattle.std.specs.Prelude.{◌≡◌, ◌++◌, ◌∷◌, [], List, On
 ghost use Rattle.std.specs.List.{flat_map};
 ghost use Rattle.grid_base.specs.Shelves.{meaning};
 ghost use Rattle.listeners.specs.StandsFor.{StandFor};
-ghost use Rattle.listeners.specs.declared.registration.Listener.{Listener as ListenerOf};
+ghost use Rattle.listeners.specs.declared.listener.Listener.{Listener as ListenerOf};
 ghost use Rattle.partition_protocol.specs.Events.{Event as ProtocolEvent};
 ghost use Rattle.partition_world.specs.Worlds.{StandsFor, run_of, node_count, waiting};
 ghost use Rattle.replay_run.specs.Runs.{Run, hears, message_of, events_to, version_known, if_newer, row_messages, release_messages};

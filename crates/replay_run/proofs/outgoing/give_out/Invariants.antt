@@ -2,7 +2,7 @@ use Rattle.std.proofs.Common.{◌≡◌, ◌++◌, List, length}
 use Rattle.grid_base.specs.Shelves.{meaning}
 use Rattle.partition_world.specs.Worlds.{waiting}
 use Rattle.listeners.specs.StandsFor.{StandFor}
-use Rattle.listeners.specs.declared.registration.Listener.{Listener}
+use Rattle.listeners.specs.declared.listener.Listener.{Listener}
 use Rattle.replay_run.specs.Runs.{Run}
 use Rattle.replay_run.specs.Grids.{HasConnections}
 use Rattle.replay_run.proofs.GivingOut.{GaveOut, text_out, table_out}
