@@ -12,14 +12,13 @@ use Rattle.partition_protocol.specs.Events as event
 use Rattle.partition_protocol.specs.Service.{numbers_below}
 use Rattle.partition_protocol.proofs.Lists.{In, contains_in, cases, on_if}
 use Rattle.partition_protocol.proofs.RowFacts.{false_or_not}
-use Rattle.event_codecs.specs.SpelledRegistrations.{correlation_of}
 use Rattle.session_core.specs.declared.item.Item.{Item}
 use Rattle.session_core.specs.declared.item.Item.TheVariants.{Call as Asks, Wait, Register, Reply}
 use Rattle.script_lang.specs.Limits.{most_lines, most_line_bytes}
 use Rattle.script_lang.specs.Lines.{IsWithin}
 use Rattle.script_lang.specs.declared.line.Line.{Line}
 use Rattle.script_lang.specs.declared.line.Line.TheVariants.{OpenConn, Arrive, Clock, Flow, FlowAll, Crash, Detect, Rebalance}
-use Rattle.replay_run.specs.Runs.{Run, At, Connection, Arrival, partitions, events_at, world_at, clock_set, is_connection, connection_of, messages_on, bytes_of, updated, takes_bytes, can_open, is_full, with_bytes, took_bytes, opened, next_line, items_by, told, refusal, arrival_at, happening, arrived, is_skipped, given_up, asked, asks, takes, takes_in, flowed, flowed_in, bytes_arrived, event_by, handled_all, unserved}
+use Rattle.replay_run.specs.Runs.{Run, At, Connection, Arrival, partitions, events_at, world_at, clock_set, is_connection, connection_of, messages_on, bytes_of, updated, takes_bytes, can_open, is_full, with_bytes, took_bytes, opened, next_line, items_by, told, refusal, arrival_at, happening, arrived, is_skipped, given_up, asked, asks, takes, takes_in, flowed, flowed_in, bytes_arrived, event_by, handled_all, unserved, registers}
 use Rattle.replay_run.specs.AfterLines.{after_event, after_line}
 use Rattle.replay_run.specs.Linearizability.{Before}
 use Rattle.replay_run.specs.ScriptRuns.{IsRun}
@@ -247,7 +246,7 @@ module _ (o : Object Request Partition) (skips : List CallId) where
   handled_few r k [] few = few
   handled_few r k (Reply bytes ∷ items) few = handled_few (told r k.conn bytes) k items few
   handled_few r k (Wait request timeout ∷ items) few = handled_few (told r k.conn (unserved request.correlation)) k items few
-  handled_few r k (Register registration ∷ items) few = handled_few (told r k.conn (unserved (correlation_of registration))) k items few
+  handled_few r k (Register registration ∷ items) few = handled_few (registers o r k.conn k.member registration) k items few
   handled_few r k (Asks request ∷ items) few = handled_few (asks o skips r (arrival_at r k.member request)) k items (asks_few r (arrival_at r k.member request) few)
 
   asks_arrivals : (r : Run) (a : Arrival) → length (asks o skips r a).arrivals ≤ length r.arrivals + 1
@@ -257,7 +256,7 @@ module _ (o : Object Request Partition) (skips : List CallId) where
   handled_arrivals r k [] = omega arith
   handled_arrivals r k (Reply bytes ∷ items) = let rest = handled_arrivals (told r k.conn bytes) k items in omega (arith, rest)
   handled_arrivals r k (Wait request timeout ∷ items) = let rest = handled_arrivals (told r k.conn (unserved request.correlation)) k items in omega (arith, rest)
-  handled_arrivals r k (Register registration ∷ items) = let rest = handled_arrivals (told r k.conn (unserved (correlation_of registration))) k items in omega (arith, rest)
+  handled_arrivals r k (Register registration ∷ items) = let rest = handled_arrivals (registers o r k.conn k.member registration) k items in omega (arith, rest)
   handled_arrivals r k (Asks request ∷ items) =
       let one = asks_arrivals r (arrival_at r k.member request) in
       let rest = handled_arrivals (asks o skips r (arrival_at r k.member request)) k items in

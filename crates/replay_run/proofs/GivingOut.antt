@@ -132,7 +132,7 @@ module _ {S R Plan C State : Type 0} {meaning_in : Plan → Meaning S C State} {
 
 module _ {S R Plan C State : Type 0} {k : Meaning S C State} {records : R → Recorded C → Type 0} {limits : C → Type 0} (world : World S R Plan C) (events : List (Event C)) (member : ℕ) where
   -- the node of a member
-  its_node : StandsFor k records limits world events → member < node_count world → (node : ProtocolNode) × (slice_get (run_of k world events).nodes member ≡ Some node)
+  pub its_node : StandsFor k records limits world events → member < node_count world → (node : ProtocolNode) × (slice_get (run_of k world events).nodes member ≡ Some node)
   its_node stands within =
       let here = there_at world.nodes.items member (omega (arith, within, world.nodes.ok.0)) in
       (node_of here.0, ap (λ ns. slice_get ns member) (sym stands.agrees.nodes) ∙ get_map node_of world.nodes.items member here.0 here.1)

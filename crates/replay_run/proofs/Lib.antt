@@ -41,6 +41,7 @@ pub mod HistoryTexts
 pub mod Beginning
 pub mod Asking
 pub mod Telling
+pub mod RegisteringLine
 pub mod Refusing
 pub mod GivingOut
 pub mod GridCalls

@@ -12,18 +12,19 @@ use Rattle.grid_base.specs.declared.calls.Request.{Request}
 use Rattle.replay_run.specs.declared.grid.Grid.{Grid}
 use Rattle.call_engine.specs.Calls.{Settings}
 use Rattle.call_engine.specs.Objects.{partition_object}
-use Rattle.replay_run.specs.Runs.{Run, Connection, Arrival, messages_on, arrival_at, asked, is_full, told, world_at, partitions}
+use Rattle.event_codecs.specs.declared.registration.Registration.{Registration}
+use Rattle.replay_run.specs.Runs.{Run, Connection, Arrival, messages_on, with_bytes, arrival_at, asked, is_full, told, registers, world_at, partitions}
 use Rattle.replay_run.specs.Printing.{new_messages}
 use Rattle.replay_run.specs.ScriptRuns.{IsRun, IsNext}
 use Rattle.grid_base.specs.Limits.{CallFits}
 use Rattle.session_core.specs.declared.item.Item.{Item}
-use Rattle.session_core.specs.declared.item.Item.TheVariants.{Call as Asks}
+use Rattle.session_core.specs.declared.item.Item.TheVariants.{Call as Asks, Register}
 use Rattle.replay_run.specs.Rebalancing.{most_line_events}
 use Rattle.replay_run.specs.Grids.{FormOf, IsCounting, AreListening, Holds, AreFew}
-use Rattle.replay_run.specs.WorldCalls.{texts_of, HasAsked, HasTold, HasRoom, Brings, HasHandledSome, IsGivenUpMidway}
-use Rattle.replay_run.proofs.Lines.{HasCome, asked_come, told_come}
+use Rattle.replay_run.specs.WorldCalls.{texts_of, IsTo, HasAsked, HasRegistered, HasTold, HasRoom, Brings, HasHandledSome, IsGivenUpMidway}
+use Rattle.replay_run.proofs.Lines.{HasCome, asked_come, told_come, registers_come}
 use Rattle.replay_run.proofs.LineTexts.{new_with, texts_more}
-use Rattle.replay_run.proofs.Midway.{midway_come, midway_arrivals, midway_few, its_name, next_midway, asked_midway, full_midway, own_midway, answer_of, told_midway}
+use Rattle.replay_run.proofs.Midway.{midway_come, midway_arrivals, midway_few, its_name, next_midway, asked_midway, full_midway, own_midway, answer_of, told_midway, registered_midway}
 
 map_same : {X : Type 0} (xs : List X) → map (λ (x : X). x) xs ≡ xs
 map_same [] = refl
@@ -56,6 +57,18 @@ module _ {V : Type 0} {T : V → Type 0} {form : FormOf V T} {settings : Setting
     (written mid : List ℕ) (so_far : HasHandledSome form settings grid r k bytes done written mid) where
   number_more : (length (messages_on k) + length done) + 1 ≡ length (messages_on k) + length (done ++ item ∷ [])
   number_more = let parts = length-append done (item ∷ []) in omega (arith, parts)
+
+  -- its member, which is one of the grid's and has its listeners
+  pub reached_now : k.member < grid.members
+  reached_now =
+      let same = (midway_come r brings.run k brings.there bytes done so_far.skips so_far.now so_far.midway).members in
+      subst (λ n. k.member < n) (sym (so_far.holds.members ∙ same)) brings.reached
+
+  pub heard_now : length grid.listeners.items ≡ grid.members
+  heard_now = so_far.listeners.size ∙ sym so_far.holds.members
+
+  pub to_now : IsTo so_far.now k.conn k.member
+  to_now = record { connection = with_bytes k bytes; there = so_far.midway.may.there; to = refl }
 
   text_more : (next : Run) (come : List Arrival) (text : List ℕ) → HasCome so_far.now come next → text ≡ mid ++ texts_of (new_messages so_far.now next) → text ≡ written ++ texts_of (new_messages r next)
   text_more next come text has is =
@@ -96,6 +109,28 @@ told_one_more grid r k bytes done item answer its rest brings written mid so_far
   counting = subst (λ n. IsCounting new.connections (told so_far.now k.conn answer) k.conn n) (number_more grid r k bytes done item rest brings written mid so_far) did.counting;
   added = text_more grid r k bytes done item rest brings written mid so_far (told so_far.now k.conn answer) [] text (told_come so_far.now k.conn answer) did.added;
 }
+
+-- a registration
+pub registered_on : {V : Type 0} {T : V → Type 0} {form : FormOf V T} {settings : Settings} {new : Grid V T} {r : Run} {conn c member m number : ℕ} {registration : Registration} {written text : List ℕ} → conn ≡ c → member ≡ m
+    → HasRegistered form settings new r c m number registration written text → HasRegistered form settings new r conn member number registration written text
+registered_on {form = form} {settings = settings} {new = new} {r = r} {c = c} {member = member} {number = number} {registration = registration} {written = written} {text = text} conns members did =
+    subst (λ n. HasRegistered form settings new r n member number registration written text) (sym conns) (subst (λ n. HasRegistered form settings new r c n number registration written text) (sym members) did)
+
+pub registered_one_more : {V : Type 0} {T : V → Type 0} {form : FormOf V T} {settings : Settings} (grid : Grid V T) (r : Run) (k : Connection) (bytes : List ℕ) (done : List Item) (registration : Registration) (rest : List Item) → Brings settings r k bytes (done ++ Register registration ∷ rest)
+    → (written mid : List ℕ) (so_far : HasHandledSome form settings grid r k bytes done written mid) (new : Grid V T) (text : List ℕ)
+    → HasRegistered form settings new so_far.now k.conn k.member (length (messages_on k) + length done) registration mid text → HasHandledSome form settings new r k bytes (done ++ Register registration ∷ []) written text
+registered_one_more {settings = settings} grid r k bytes done registration rest brings written mid so_far new text did =
+    let o = partition_object settings in
+    let next = registers o so_far.now k.conn k.member registration in
+    record {
+      skips = so_far.skips;
+      now = next;
+      midway = registered_midway r brings.run k brings.there bytes done registration rest brings.come so_far.skips so_far.now so_far.midway;
+      holds = did.holds;
+      listeners = did.listeners;
+      counting = subst (λ n. IsCounting new.connections next k.conn n) (number_more grid r k bytes done (Register registration) rest brings written mid so_far) did.counting;
+      added = text_more grid r k bytes done (Register registration) rest brings written mid so_far next [] text (registers_come o so_far.now k.conn k.member registration) did.added;
+    }
 
 -- A call may be asked: its parts fit, its partition and its member are there, and there is room for its event.
 pub record MayAskNext {V : Type 0} {T : V → Type 0} (form : FormOf V T) (settings : Settings) (grid : Grid V T) (member : ℕ) (q : Request) : Type 0 where

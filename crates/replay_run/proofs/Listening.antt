@@ -1,8 +1,9 @@
 -- Who listens at a member stays the same, or goes with a connection that closes.
-use Rattle.std.proofs.Common.{◌≡◌, ◌≢◌, ℕ, ◌<◌, ◌==◌, Bool, true, false, not, cond, ◌&&◌, ◌||◌, List, [], ◌∷◌, ◌++◌, length, filter, fold, get_or, slice_get, slice_set, Option, Some, None, refl, ap, sym, ◌∙◌, subst, ◌⊎◌, ⊎_elim, inl, inr}
+use Rattle.std.proofs.Common.{◌≡◌, ◌≢◌, ℕ, ◌<◌, ◌==◌, Bool, true, false, not, cond, ◌&&◌, ◌||◌, List, [], ◌∷◌, ◌++◌, length, filter, fold, get_or, slice_get, slice_set, Option, Some, None, refl, ap, sym, ◌∙◌, subst, append-nil, ◌⊎◌, ⊎_elim, inl, inr}
 use Rattle.std.specs.Option.{is_some}
 use Rattle.std.proofs.lemmas.Bool.{cases_eq, eq-eqb, ne_eqb}
 use Rattle.std.proofs.lemmas.List.{length-set}
+use Rattle.std.proofs.lemmas.List.Elements.{filter-append}
 use Rattle.std.proofs.lemmas.Option.{slice_get-get_or}
 use Rattle.grid_base.specs.Objects.{Object}
 use Rattle.grid_base.specs.declared.calls.Request.{Request}
@@ -15,7 +16,7 @@ use Rattle.listeners.specs.Tables.{AreInOrder}
 use Rattle.listeners.specs.declared.listeners.Listeners.{Listeners}
 use Rattle.listeners.specs.declared.listener.Listener.{Listener}
 use Rattle.listeners.proofs.Placing.{order-placed, filter-placed, filter-placed_other}
-use Rattle.replay_run.specs.Runs.{Run, Connection, begun, is_connection, connection_of, fault_on, is_open, is_own, hears, is_to, listens_at, placed_in, listening, opened, with_bytes, took_bytes, is_skipped}
+use Rattle.replay_run.specs.Runs.{Run, Connection, begun, is_connection, connection_of, fault_on, is_open, is_own, hears, is_to, listens_at, placed_in, listening, listener_registered, opened, with_bytes, took_bytes, is_skipped}
 use Rattle.replay_run.specs.ScriptRuns.{IsRun, grid_begun, line_counted, clock_was_set, connection_opened, bytes_taken, listener_was_registered, answer_told, event_occurred, call_arrived, run_given_up, call_asked}
 use Rattle.replay_run.specs.Tables.{Table, most_connections, opened_at}
 use Rattle.replay_run.specs.Grids.{HasTable, AreListening}
@@ -226,6 +227,57 @@ open_without k e = ap (λ (f : Option Malformed). not (is_some f)) e
 
 shut_with : (k : Connection) (fault : Malformed) → fault_on k ≡ Some fault → is_open (Some k) ≡ false
 shut_with k fault e = ap (λ (f : Option Malformed). not (is_some f)) e
+
+-- a listener more, on a connection that is sent what comes
+
+order_more : (all xs : List Listener) (new : Listener) → fold placed_in all (xs ++ new ∷ []) ≡ placed new (fold placed_in all xs)
+order_more all [] new = refl
+order_more all (x ∷ xs) new = order_more (placed x all) xs new
+
+-- at its connection's member, and at others
+listening_more : (r : Run) (own : Option ℕ) (at : ℕ) (new : Listener) (its : Bool) → listens_at r own at new ≡ its
+    → listening (listener_registered r new) own at ≡ cond its (placed new (listening r own at)) (listening r own at)
+listening_more r own at new its e = ap order_in (filter-append (listens_at r own at) r.registered (new ∷ [])) ∙ ap (λ b. order_in (filter (listens_at r own at) r.registered ++ cond b (new ∷ []) [])) e ∙ go its
+  where
+    go : (b : Bool) → order_in (filter (listens_at r own at) r.registered ++ cond b (new ∷ []) []) ≡ cond b (placed new (listening r own at)) (listening r own at)
+    go true = order_more [] (filter (listens_at r own at) r.registered) new
+    go false = ap order_in (append-nil (filter (listens_at r own at) r.registered))
+
+module _ (r : Run) (c : ℕ) (k : Connection) (there : connection_of r c ≡ Some k) (new : Listener) (on : new.conn ≡ c) where
+  listens_as : (at : ℕ) → listens_at r (Some c) at new ≡ (k.member == at)
+  listens_as at =
+      let itself : (c == c) ≡ true = eq-eqb c c refl in
+      ap (λ n. is_to at (connection_of r n) && hears r (Some c) n) on
+      ∙ ap (λ found. is_to at found && ((c == c) || is_open (connection_of r c))) there
+      ∙ ap (λ b. (k.member == at) && (b || is_open (connection_of r c))) itself ∙ and_true (k.member == at)
+    where
+      and_true : (b : Bool) → (b && true) ≡ b
+      and_true true = refl
+      and_true false = refl
+
+  pub more_listening : (all : List Listeners) (before now : Listeners) → slice_get all k.member ≡ Some before → ((xs : List Listener) → StandFor before xs → StandFor now (placed new xs))
+      → AreListening all r (Some c) → AreListening (slice_set all k.member now) (listener_registered r new) (Some c)
+  more_listening all before now at_it added are = record {
+    size = length-set all k.member now ∙ are.size;
+    each = λ member here got. ⊎_elim (same member here got) (λ apart. other member here got apart) (cases_eq member k.member);
+  }
+    where
+      its : StandFor now (listening (listener_registered r new) (Some c) k.member)
+      its =
+          subst (StandFor now) (sym (listening_more r (Some c) k.member new true (listens_as k.member ∙ eq-eqb k.member k.member refl)))
+          (added (listening r (Some c) k.member) (are.each k.member before at_it))
+
+      same : (member : ℕ) (here : Listeners) → slice_get (slice_set all k.member now) member ≡ Some here → member ≡ k.member → StandFor here (listening (listener_registered r new) (Some c) member)
+      same member here got e =
+          let both : Some now ≡ Some here = sym (set_get_same all k.member now before at_it) ∙ ap (slice_get (slice_set all k.member now)) (sym e) ∙ got in
+          let one : now ≡ here = cc in
+          subst (λ m. StandFor here (listening (listener_registered r new) (Some c) m)) (sym e) (subst (λ x. StandFor x (listening (listener_registered r new) (Some c) k.member)) one its)
+
+      other : (member : ℕ) (here : Listeners) → slice_get (slice_set all k.member now) member ≡ Some here → member ≢ k.member → StandFor here (listening (listener_registered r new) (Some c) member)
+      other member here got apart =
+          let elsewhere : (k.member == member) ≡ false = ne_eqb k.member member (λ e. apart (sym e)) in
+          subst (StandFor here) (sym (listening_more r (Some c) member new false (listens_as member ∙ elsewhere)))
+          (are.each member here (sym (set_get_other all k.member member now apart) ∙ got))
 
 -- where the code looks at what the session tells
 

@@ -4,12 +4,12 @@ use Rattle.grid_base.specs.Objects.{Object}
 use Rattle.grid_base.specs.declared.names.CallId.{CallId}
 use Rattle.grid_base.specs.declared.calls.Request.{Request}
 use Rattle.partition_protocol.proofs.Lists.{In, in_cases, in_left, in_right, in_contains, contains_in}
-use Rattle.event_codecs.specs.SpelledRegistrations.{correlation_of}
+use Rattle.event_codecs.specs.declared.registration.Registration.{Registration}
 use Rattle.session_core.specs.declared.item.Item.{Item}
 use Rattle.session_core.specs.declared.item.Item.TheVariants.{Call as Asks, Wait, Register, Reply}
 use Rattle.script_lang.specs.declared.line.Line.TheVariants.{Arrive}
 use Rattle.object_store.specs.Partitions.{Partition}
-use Rattle.replay_run.specs.Runs.{Run, Connection, connection_of, world_at, takes_bytes, is_full, messages_on, bytes_of, moment_of, with_bytes, took_bytes, items_by, arrival_at, is_skipped, told, asked, asks, handled_all, next_line, unserved, handled}
+use Rattle.replay_run.specs.Runs.{Run, Connection, connection_of, world_at, takes_bytes, is_full, messages_on, bytes_of, moment_of, with_bytes, took_bytes, items_by, arrival_at, is_skipped, told, asked, asks, handled_all, next_line, unserved, handled, registers}
 use Rattle.replay_run.specs.AfterLines.{after_line}
 use Rattle.replay_run.specs.Printing.{does_nothing}
 use Rattle.replay_run.specs.Skips.{AreOfLine, items_at, calls_at}
@@ -18,7 +18,7 @@ use Rattle.call_engine.specs.Calls.{Settings}
 use Rattle.call_engine.specs.Objects.{partition_object}
 use Rattle.replay_run.proofs.EventRuns.{handled_all_full, asks_here, asks_nothing}
 use Rattle.replay_run.proofs.Items.{IsNumbered, AreNumbered, numbered_at, items_room}
-use Rattle.replay_run.proofs.Lines.{HasCome, all_arriving, handled_all_come, may_ask_more, may_ask_after, is_next, has_taken}
+use Rattle.replay_run.proofs.Lines.{HasCome, all_arriving, handled_all_come, may_ask_more, may_ask_after, may_ask_registered, registers_run, is_next, has_taken}
 use Rattle.replay_run.proofs.SkipLaws.{Alike, skipped_by_either, not_skipped, unless_same, asks_alike, handled_all_alike, handled_all-append, on_bytes}
 use Rattle.replay_run.specs.Grids.{AreFew, IsGivenUp}
 use Rattle.replay_run.specs.WorldCalls.{IsGivenUpMidway}
@@ -45,19 +45,19 @@ calls_in-append (Asks request ∷ first) then = ap (λ ids. request.id ∷ ids) 
 abbrev pub answer_of : Item → Option (List ℕ)
 answer_of (Reply bytes) = Some bytes
 answer_of (Wait request timeout) = Some (unserved request.correlation)
-answer_of (Register registration) = Some (unserved (correlation_of registration))
+answer_of (Register registration) = None
 answer_of (Asks request) = None
 
 handled_told : (o : Object Request Partition) (skips : List CallId) (r : Run) (k : Connection) (item : Item) (answer : List ℕ) → answer_of item ≡ Some answer → handled o skips r k item ≡ told r k.conn answer
 handled_told o skips r k (Reply bytes) answer its = let same : bytes ≡ answer = cc in ap (told r k.conn) same
 handled_told o skips r k (Wait request timeout) answer its = let same : unserved request.correlation ≡ answer = cc in ap (told r k.conn) same
-handled_told o skips r k (Register registration) answer its = let same : unserved (correlation_of registration) ≡ answer = cc in ap (told r k.conn) same
+handled_told o skips r k (Register registration) answer its = absurd cc
 handled_told o skips r k (Asks request) answer its = absurd cc
 
 no_calls : (item : Item) (answer : List ℕ) → answer_of item ≡ Some answer → calls_in (item ∷ []) ≡ []
 no_calls (Reply bytes) answer its = refl
 no_calls (Wait request timeout) answer its = refl
-no_calls (Register registration) answer its = refl
+no_calls (Register registration) answer its = absurd cc
 no_calls (Asks request) answer its = absurd cc
 
 module _ {o : Object Request Partition} (r : Run) (is : IsRun o r) (k : Connection) (there : connection_of r k.conn ≡ Some k) (bytes : List ℕ) where
@@ -116,6 +116,19 @@ module _ {o : Object Request Partition} (r : Run) (is : IsRun o r) (k : Connecti
       own = λ id c. subst (λ ids. Contains ids id) (sym (calls_in-append done (item ∷ []) ∙ ap (λ ids. calls_in done ++ ids) (no_calls item answer its) ∙ append-nil (calls_in done))) (m.own id c);
       may = subst (λ n. MayAsk (told now k.conn answer) (with_bytes k bytes) n) (one_more done item rest come skips now m)
           (may_ask_after now (with_bytes k bytes) (first_number + length done) k.conn answer m.may);
+    }
+
+  -- One item more, which is a registration.
+  module _ (done : List Item) (registration : Registration) (rest : List Item) (come : items_by k bytes ≡ done ++ Register registration ∷ rest) (skips : List CallId) (now : Run) (m : IsMidway o r k bytes done skips now) where
+    pub registered_midway : IsMidway o r k bytes (done ++ Register registration ∷ []) skips (registers o now k.conn k.member registration)
+    registered_midway = record {
+      run = registers_run now (with_bytes k bytes) k.member registration m.run m.may.there;
+      is =
+          ap (λ (x : Run). registers o x k.conn k.member registration) m.is
+          ∙ sym (handled_all-append o skips (took_bytes r k bytes) k done (Register registration ∷ []));
+      own = λ id c. subst (λ ids. Contains ids id) (sym (calls_in-append done (Register registration ∷ []) ∙ append-nil (calls_in done))) (m.own id c);
+      may = subst (λ n. MayAsk (registers o now k.conn k.member registration) (with_bytes k bytes) n) (one_more done (Register registration) rest come skips now m)
+          (may_ask_registered o now (with_bytes k bytes) (first_number + length done) k.conn k.member registration m.may);
     }
 
   -- One item more, which is a call.

@@ -72,7 +72,7 @@ planned_rise rows moving detected n most = go (undetected_count detected n == 0)
     go true = tt
     go false = settled (first_unsettled rows moving)
 
-module _ {State : Type 0} (o : Object Request State) (r : Run) where
+module _ (o : Object Request Partition) (r : Run) where
   pub all_rows : length (rows_in o r) ≡ partitions
   all_rows = length-map (numbers_below partitions) (λ p. (service_at o r p).row) ∙ length-numbers_below partitions
 

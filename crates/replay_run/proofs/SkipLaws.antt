@@ -8,13 +8,12 @@ use Rattle.partition_protocol.specs.Events as event
 use Rattle.partition_protocol.specs.Service.{numbers_below}
 use Rattle.partition_protocol.proofs.Lists.{In}
 use Rattle.partition_protocol.proofs.RowFacts.{false_or_not}
-use Rattle.event_codecs.specs.SpelledRegistrations.{correlation_of}
 use Rattle.session_core.specs.declared.item.Item.{Item}
 use Rattle.session_core.specs.declared.item.Item.TheVariants.{Call as Asks, Wait, Register, Reply}
 use Rattle.script_lang.specs.declared.line.Line.{Line}
 use Rattle.script_lang.specs.declared.line.Line.TheVariants.{OpenConn, Arrive, Clock, Flow, FlowAll, Crash, Detect, Rebalance}
 use Rattle.object_store.specs.Partitions.{Partition}
-use Rattle.replay_run.specs.Runs.{Run, At, Connection, Arrival, partitions, connection_of, world_at, takes_bytes, is_full, items_by, moment_of, took_bytes, next_line, clock_set, can_open, event_by, bytes_arrived, told, arrived, given_up, asked, asks, takes_in, flowed, flowed_in, handled, handled_all, arrival_at, is_skipped, opened, unserved}
+use Rattle.replay_run.specs.Runs.{Run, At, Connection, Arrival, partitions, connection_of, world_at, takes_bytes, is_full, items_by, moment_of, took_bytes, next_line, clock_set, can_open, event_by, bytes_arrived, told, arrived, given_up, asked, asks, takes_in, flowed, flowed_in, handled, handled_all, arrival_at, is_skipped, opened, unserved, registers}
 use Rattle.replay_run.specs.AfterLines.{after_event, after_line}
 use Rattle.replay_run.specs.ScriptRuns.{calls_in}
 use Rattle.replay_run.specs.Skips.{items_at, calls_at}
@@ -62,7 +61,7 @@ pub handled_all_alike : (o : Object Request Partition) (s k : List CallId) (r : 
 handled_all_alike o s k r c [] h = refl
 handled_all_alike o s k r c (Reply bytes ∷ items) h = handled_all_alike o s k (told r c.conn bytes) c items h
 handled_all_alike o s k r c (Wait request timeout ∷ items) h = handled_all_alike o s k (told r c.conn (unserved request.correlation)) c items h
-handled_all_alike o s k r c (Register registration ∷ items) h = handled_all_alike o s k (told r c.conn (unserved (correlation_of registration))) c items h
+handled_all_alike o s k r c (Register registration ∷ items) h = handled_all_alike o s k (registers o r c.conn c.member registration) c items h
 handled_all_alike o s k r c (Asks request ∷ items) h =
     ap (λ next. handled_all o s next c items) (asks_alike o s k r (arrival_at r c.member request) (h request.id (inl refl)))
     ∙ handled_all_alike o s k (asks o k r (arrival_at r c.member request)) c items (λ id i. h id (inr i))

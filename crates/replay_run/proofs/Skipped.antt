@@ -8,13 +8,12 @@ use Rattle.partition_protocol.specs.Sequences.{IsFrontOf}
 use Rattle.partition_protocol.proofs.Lists.{In, in_left, in_right, in_cases, in_contains, contains_in, cases, on_if}
 use Rattle.partition_protocol.proofs.RowFacts.{false_or_not}
 use Rattle.object_store.specs.Partitions.{Partition}
-use Rattle.event_codecs.specs.SpelledRegistrations.{correlation_of}
 use Rattle.session_core.specs.declared.item.Item.{Item}
 use Rattle.session_core.specs.declared.item.Item.TheVariants.{Call as Asks, Wait, Register, Reply}
 use Rattle.call_engine.specs.Objects.{partition_object}
 use Rattle.script_lang.specs.declared.line.Line.{Line}
 use Rattle.script_lang.specs.declared.line.Line.TheVariants.{Arrive}
-use Rattle.replay_run.specs.Runs.{Run, Connection, Arrival, Appended, begun, connection_of, world_at, takes_bytes, is_full, is_skipped, items_by, took_bytes, next_line, told, refusal, happening, arrived, given_up, asked, asks, arrival_at, handled_all, unserved}
+use Rattle.replay_run.specs.Runs.{Run, Connection, Arrival, Appended, begun, connection_of, world_at, takes_bytes, is_full, is_skipped, items_by, took_bytes, next_line, told, refusal, happening, arrived, given_up, asked, asks, arrival_at, handled_all, unserved, registers}
 use Rattle.replay_run.specs.AfterLines.{after_line, after_lines}
 use Rattle.replay_run.specs.SkippedCalls.{IsTold, TellsOfSkips, TellsOfNoSkip, EverySkippedCallIsTold, EveryRunThatTellsOfNoSkipHasNone}
 use Rattle.replay_run.proofs.Arriving.{its_event}
@@ -87,7 +86,7 @@ module _ (o : Object Request Partition) (skips : List CallId) where
       let next = told r c.conn (unserved request.correlation) in
       items_tell next c items (tells_still skips r next (handled_all_grows o skips r c (Wait request timeout ∷ [])) tells refl)
   items_tell r c (Register registration ∷ items) tells =
-      let next = told r c.conn (unserved (correlation_of registration)) in
+      let next = registers o r c.conn c.member registration in
       items_tell next c items (tells_still skips r next (handled_all_grows o skips r c (Register registration ∷ [])) tells refl)
   items_tell r c (Asks request ∷ items) tells =
       let a = arrival_at r c.member request in
@@ -144,7 +143,7 @@ module _ (o : Object Request Partition) (skips : List CallId) where
   items_none r c [] none = refl
   items_none r c (Reply bytes ∷ items) none = items_none (told r c.conn bytes) c items none
   items_none r c (Wait request timeout ∷ items) none = items_none (told r c.conn (unserved request.correlation)) c items none
-  items_none r c (Register registration ∷ items) none = items_none (told r c.conn (unserved (correlation_of registration))) c items none
+  items_none r c (Register registration ∷ items) none = items_none (registers o r c.conn c.member registration) c items none
   items_none r c (Asks request ∷ items) none =
       let a = arrival_at r c.member request in
       let next = asks o skips r a in

@@ -1,7 +1,7 @@
 -- The run of a script: what its lines so far have made. The worlds of the partitions are not kept: each is the protocol's run of its events.
-use Rattle.std.specs.Prelude.{ℕ, zero, suc, ◌+◌, ◌==◌, Bool, true, false, not, ◌&&◌, ◌||◌, if◌then◌else◌, ℤ, pos, List, [], ◌∷◌, ◌++◌, length, map, filter, fold, drop, sum_by, replicate, slice_get, slice_set, Option, Some, None, is_some, option_and_then, unwrap_or}
+use Rattle.std.specs.Prelude.{ℕ, zero, suc, ◌+◌, ◌==◌, Bool, true, false, not, ◌&&◌, ◌||◌, if◌then◌else◌, ℤ, pos, List, [], ◌∷◌, ◌++◌, length, map, filter, fold, drop, sum_by, replicate, slice_get, slice_set, Option, Some, None, is_some, option_map, option_and_then, unwrap_or}
 use Rattle.std.specs.Int.{w32, cast_signed}
-use Rattle.std.specs.List.{list_any, find, flat_map}
+use Rattle.std.specs.List.{list_any, find, filter_map, flat_map}
 use Rattle.grid_base.specs.Objects.{Object}
 use Rattle.grid_base.specs.Names.{is_same_call}
 use Rattle.frame_codec.specs.declared.malformed.Malformed.{Malformed}
@@ -11,6 +11,7 @@ use Rattle.grid_base.specs.declared.names.CallId.{CallId}
 use Rattle.grid_base.specs.declared.calls.Request.{Request}
 use Rattle.partition_table.specs.declared.Row.{Row}
 use Rattle.partition_protocol.specs.Node.{Node}
+use Rattle.partition_protocol.specs.Service.{numbers_below}
 use Rattle.partition_protocol.specs.Execution.{Reached, Executes, PartitionLost, WrongTarget, Migrating}
 use Rattle.partition_protocol.specs.World.{World, start, is_live, map_or}
 use Rattle.partition_protocol.specs.Events.{Event, Call, Outcome, Refused, RowMadeAt, happens, run}
@@ -23,8 +24,9 @@ use Rattle.listeners.specs.Standing.{placed}
 use Rattle.listeners.specs.Telling.{Sent, events_of, rows_of}
 use Rattle.listeners.specs.declared.listener.Listener.{Listener}
 use Rattle.grid_base.specs.Errors.{unknown_type, partition_lost, wrong_target, migrating, want_of_memory}
-use Rattle.fixed_fields.specs.Responses.{error_bytes}
-use Rattle.event_codecs.specs.SpelledRegistrations.{correlation_of}
+use Rattle.fixed_fields.specs.Responses.{error_bytes, void_bytes}
+use Rattle.event_codecs.specs.SpelledRegistrations.{kind_of_registration, correlation_of}
+use Rattle.event_codecs.specs.declared.registration.Registration.{Registration}
 use Rattle.session_core.specs.Items.{items_of}
 use Rattle.session_core.specs.declared.item.Item.{Item}
 use Rattle.session_core.specs.declared.item.Item.TheVariants.{Call as Asks, Wait, Register, Reply}
@@ -341,7 +343,30 @@ flowed_in o r most (p ∷ ps) = flowed_in o (flowed o r p most) most ps
 abbrev pub reopened_at : ℕ → List Reopened → List ℕ
 reopened_at p reopened = map (λ (x : Reopened). x.line) (filter (λ (x : Reopened). x.partition == p) reopened)
 
--- Registrations and calls that wait aren't served yet: they are refused as messages of an unknown type.
+-- a registration
+
+-- the rows that a member knows, in order of partition
+
+abbrev pub known_at : {State : Type 0} → Object Request State → Run → ℕ → ℕ → Option (ℕ × Row)
+known_at o r member p = option_map (λ (node : Node). (p, node.known)) (slice_get (world_at o r p).nodes member)
+
+abbrev pub rows_known : {State : Type 0} → Object Request State → Run → ℕ → List (ℕ × Row)
+rows_known o r member = filter_map (known_at o r member) (numbers_below partitions)
+
+-- it is answered with nothing
+abbrev pub registered_reply : Registration → List ℕ
+registered_reply registration = void_bytes (kind_of_registration registration) (correlation_of registration)
+
+abbrev pub sends : Run → List Sent → Run
+sends r sent = record r { appended = r.appended ++ events_to r.lines sent }
+
+-- The answer comes first. From then on the connection listens; if to rows, it is sent all those that its member knows, in one event.
+abbrev pub registers : {State : Type 0} → Object Request State → Run → ℕ → ℕ → Registration → Run
+registers o r c member registration =
+    let listener = record { conn = c; registration = registration } in
+    sends (listener_registered (told r c (registered_reply registration)) listener) (rows_of (rows_known o r member) (listener ∷ []))
+
+-- Calls that wait aren't served yet: they are refused as messages of an unknown type.
 abbrev pub unserved : ℤ → List ℕ
 unserved correlation = error_bytes correlation (pos unknown_type) (pos 0) (pos 0)
 
@@ -351,7 +376,7 @@ abbrev pub handled : Object Request Partition → List CallId → Run → Connec
 handled o skips r connection (Reply bytes) = told r connection.conn bytes
 handled o skips r connection (Asks request) = asks o skips r (arrival_at r connection.member request)
 handled o skips r connection (Wait request timeout) = told r connection.conn (unserved request.correlation)
-handled o skips r connection (Register registration) = told r connection.conn (unserved (correlation_of registration))
+handled o skips r connection (Register registration) = registers o r connection.conn connection.member registration
 
 abbrev pub handled_all : Object Request Partition → List CallId → Run → Connection → List Item → Run
 handled_all o skips r connection [] = r

@@ -1,5 +1,5 @@
 -- What a call does to its partition's world, and the messages that it makes.
-use Rattle.std.specs.Prelude.{◌≡◌, ◌≢◌, ℕ, ◌+◌, ◌-◌, ◌*◌, ◌<◌, ◌≤◌, ◌^◌, Bool, true, false, if◌then◌else◌, is_none, option_and_then, pos, List, length, filter, [], ◌∷◌, ◌++◌, Option, Some, None, slice_get, Contains}
+use Rattle.std.specs.Prelude.{◌≡◌, ◌≢◌, ℕ, ◌+◌, ◌-◌, ◌*◌, ◌<◌, ◌≤◌, ◌^◌, Bool, true, false, if◌then◌else◌, is_none, option_and_then, ℤ, pos, List, length, filter, [], ◌∷◌, ◌++◌, Option, Some, None, slice_get, Contains}
 use Rattle.std.specs.List.{flat_map}
 use Rattle.grid_base.specs.declared.names.CallId.{CallId}
 use Rattle.grid_base.specs.declared.calls.Request.{Request}
@@ -16,6 +16,11 @@ use Rattle.partition_world.specs.Worlds.{StandsFor, run_of, setup_of, waiting}
 use Rattle.replay_run.specs.declared.calls.Refusal.{Refusal}
 use Rattle.script_lang.specs.declared.line.Line.{Line}
 use Rattle.script_lang.specs.declared.line.Line.TheVariants as line
+use Rattle.event_codecs.specs.declared.registration.Registration.{Registration}
+use Rattle.event_codecs.specs.declared.registration.Registration.TheVariants.{Rows}
+use Rattle.listeners.specs.Telling.{rows_of}
+use Rattle.grid_base.specs.Objects.{Object}
+use Rattle.object_store.specs.Partitions.{Partition}
 use Rattle.listeners.specs.StandsFor.{StandFor}
 use Rattle.listeners.specs.declared.listeners.Listeners.{Listeners}
 use Rattle.listeners.specs.declared.listener.Listener.{Listener}
@@ -30,7 +35,7 @@ use Rattle.grid_base.specs.Errors.{want_of_memory}
 use Rattle.grid_base.specs.Limits.{CallFits}
 use Rattle.session_core.specs.declared.item.Item.{Item}
 use Rattle.session_core.specs.declared.item.Item.TheVariants.{Call as Asks}
-use Rattle.replay_run.specs.Runs.{Run, Connection, Arrival, Appended, partitions, connection_of, messages_on, takes_bytes, took_bytes, told, refusal, refused_by, call_of, arrival_at, items_by, asked, handled_all, event_by, events_at, world_at, is_full, meets_full, occurred, takes_in, message_of, goes_out, version_known, adopted_since, messages_at}
+use Rattle.replay_run.specs.Runs.{Run, Connection, Arrival, Appended, partitions, connection_of, messages_on, takes_bytes, took_bytes, told, refusal, refused_by, call_of, arrival_at, items_by, asked, handled_all, event_by, events_at, world_at, is_full, meets_full, occurred, takes_in, message_of, goes_out, version_known, adopted_since, messages_at, events_to, rows_known, registers}
 use Rattle.replay_run.specs.Printing.{appended_text, new_messages, outcome_at}
 use Rattle.replay_run.specs.ScriptRuns.{IsRun, IsMidway, calls_in}
 use Rattle.replay_run.specs.Tables.{Table, with_answer}
@@ -132,6 +137,23 @@ pub record HasTold {V : Type 0} {T : V → Type 0} (form : FormOf V T) (settings
 -- Each partition may have one event more: four bytes count them.
 abbrev pub HasCallRoom : Run → Type 0
 HasCallRoom r = length r.arrivals + most_line_events * r.lines + 1 < 2 ^ 32 - 1
+
+-- A registration came on a connection of this number and to this member: it was answered and listens, and what was appended was printed.
+pub record HasRegistered {V : Type 0} {T : V → Type 0} (form : FormOf V T) (settings : Settings) (new : Grid V T) (r : Run) (conn member number : ℕ) (registration : Registration) (written text : List ℕ) : Type 0 where
+  pub holds : Holds form settings new (registers (partition_object settings) r conn member registration)
+  pub listeners : AreListening new.listeners.items (registers (partition_object settings) r conn member registration) (Some conn)
+  pub counting : IsCounting new.connections (registers (partition_object settings) r conn member registration) conn (number + 1)
+  pub added : text ≡ written ++ texts_of (new_messages r (registers (partition_object settings) r conn member registration))
+
+-- the rows that the member knows, to a connection that listens to them
+abbrev pub rows_messages : Object Request Partition → Run → ℕ → ℕ → ℤ → List Appended
+rows_messages o r conn member correlation = events_to r.lines (rows_of (rows_known o r member) (record { conn = conn; registration = Rows correlation } ∷ []))
+
+-- The connection of this number is to this member.
+pub record IsTo (r : Run) (conn member : ℕ) : Type 0 where
+  pub connection : Connection
+  pub there : connection_of r conn ≡ Some connection
+  pub to : connection.member ≡ member
 
 -- However many of the bytes' items are calls, no partition has more events than four bytes can count.
 abbrev pub HasRoom : Run → Connection → List ℕ → Type 0

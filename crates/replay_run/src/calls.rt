@@ -217,9 +217,7 @@ impl Grid {
                     self.refuse(alloc, conn, correlation, out)?
                 }
                 Item::Register(registration) => {
-                    let correlation = registration.correlation();
-                    drop(registration);
-                    self.refuse(alloc, conn, correlation, out)?
+                    self.register(alloc, conn, member, registration, out)?
                 }
             }
         }
@@ -227,7 +225,7 @@ impl Grid {
     }
 
     /// A session's own answer is appended to its connection.
-    fn tell(
+    pub(crate) fn tell(
         &mut self,
         alloc: Global,
         conn: u32,
@@ -242,8 +240,7 @@ impl Grid {
         push_appended(alloc, out, self.lines, conn, answer.as_slice())
     }
 
-    /// What isn't served yet, a registration or a call that waits, is answered on its connection as a message of an unknown
-    /// type.
+    /// What isn't served yet, a call that waits, is answered on its connection as a message of an unknown type.
     fn refuse(
         &mut self,
         alloc: Global,
@@ -251,7 +248,8 @@ impl Grid {
         correlation: i64,
         out: &mut Vec<u8>,
     ) -> Result<(), Memory>
-        ensures { (settings : Settings) (r : Run) (number : ℕ) → IsRun (partition_object settings) r → Holds (boxed form) settings self.old r → IsCounting self.old.connections r conn number
+        ensures { (settings : Settings) (r : Run) (number : ℕ) → Holds (boxed form) settings self.old r
+            → AreListening self.old.listeners.items r (Some conn) → IsCounting self.old.connections r conn number
             → OnOk result (HasTold (boxed form) settings self.new r conn number (unserved correlation) out.old.items out.new.items) }
     {
         let error = write_error(alloc, correlation, UNKNOWN_TYPE, 0, 0)?;

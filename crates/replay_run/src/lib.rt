@@ -14,6 +14,7 @@ mod outcomes;
 mod outgoing;
 mod print;
 mod rebalancing;
+mod registering;
 mod reopened;
 mod run_end;
 
