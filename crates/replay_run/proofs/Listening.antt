@@ -1,5 +1,5 @@
 -- Who listens at a member stays the same, or goes with a connection that closes.
-use Rattle.std.proofs.Common.{◌≡◌, ◌≢◌, ℕ, ◌<◌, ◌==◌, Bool, true, false, not, cond, ◌&&◌, ◌||◌, List, [], ◌∷◌, ◌++◌, length, filter, fold, get_or, slice_get, slice_set, Option, Some, None, refl, ap, sym, ◌∙◌, subst, ◌⊎◌, ⊎_elim, inl, inr}
+use Rattle.std.proofs.Common.{◌≡◌, ◌≢◌, ℕ, ◌<◌, ◌==◌, Bool, true, false, not, cond, ◌&&◌, ◌||◌, List, [], ◌∷◌, ◌++◌, length, filter, fold, get_or, slice_get, slice_set, Option, Some, None, refl, ap, sym, ◌∙◌, subst, ⊎_elim, inl, inr}
 use Rattle.std.specs.Option.{is_some}
 use Rattle.std.proofs.lemmas.Bool.{cases_eq, eq-eqb, ne_eqb}
 use Rattle.std.proofs.lemmas.List.{length-set}
@@ -15,7 +15,7 @@ use Rattle.listeners.specs.Tables.{AreInOrder}
 use Rattle.listeners.specs.declared.listeners.Listeners.{Listeners}
 use Rattle.listeners.specs.declared.registration.Listener.{Listener}
 use Rattle.listeners.proofs.Placing.{order-placed, filter-placed, filter-placed_other}
-use Rattle.replay_run.specs.Runs.{Run, Connection, begun, is_connection, connection_of, fault_on, is_open, is_own, hears, is_to, listens_at, placed_in, listening, opened, with_bytes, took_bytes, is_skipped}
+use Rattle.replay_run.specs.Runs.{Run, Connection, begun, is_connection, connection_of, fault_on, is_open, hears, is_to, listens_at, placed_in, listening, opened, with_bytes, took_bytes, is_skipped}
 use Rattle.replay_run.specs.ScriptRuns.{IsRun, grid_begun, line_counted, clock_was_set, connection_opened, bytes_taken, listener_was_registered, answer_told, event_occurred, call_arrived, run_given_up, call_asked}
 use Rattle.replay_run.specs.Tables.{Table, most_connections, opened_at}
 use Rattle.replay_run.specs.Grids.{HasTable, AreListening}

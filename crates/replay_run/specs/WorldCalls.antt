@@ -30,7 +30,7 @@ use Rattle.grid_base.specs.Errors.{want_of_memory}
 use Rattle.grid_base.specs.Limits.{CallFits}
 use Rattle.session_core.specs.declared.item.Item.{Item}
 use Rattle.session_core.specs.declared.item.Item.TheVariants.{Call as Asks}
-use Rattle.replay_run.specs.Runs.{Run, Connection, Arrival, Appended, partitions, connection_of, messages_on, takes_bytes, took_bytes, told, refusal, refused_by, call_of, arrival_at, items_by, asked, handled_all, event_by, events_at, world_at, is_full, meets_full, occurred, takes_in, message_of, goes_out, version_known, adopted_since, messages_at}
+use Rattle.replay_run.specs.Runs.{Run, Connection, Arrival, Appended, partitions, connection_of, messages_on, takes_bytes, took_bytes, told, refusal, refused_by, call_of, arrival_at, items_by, asked, handled_all, event_by, events_at, world_at, is_full, meets_full, occurred, takes_in, goes_out, version_known, adopted_since, messages_at}
 use Rattle.replay_run.specs.Printing.{appended_text, new_messages, outcome_at}
 use Rattle.replay_run.specs.ScriptRuns.{IsRun, IsMidway, calls_in}
 use Rattle.replay_run.specs.Tables.{Table, with_answer}

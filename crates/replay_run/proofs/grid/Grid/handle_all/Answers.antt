@@ -1,4 +1,4 @@
-use Rattle.std.proofs.Common.{◌+◌, ◌<◌, ◌∙◌, [], ◌∷◌, ◌++◌, Err, Some, ap, sym, subst, length, drop}
+use Rattle.std.proofs.Common.{◌+◌, ◌<◌, ◌∙◌, [], ◌∷◌, ◌++◌, Err, Some, ap, sym, subst, length, drop, arith}
 use Rattle.session_core.specs.declared.item.Item.{Item}
 use Rattle.session_core.specs.declared.item.Item.TheVariants.{Call as Asks, Reply}
 use Rattle.replay_run.specs.Runs.{messages_on}
@@ -15,7 +15,7 @@ ask-requires g c =
     let split = at_next_as c.into_iter-item-iterator.result c.args.items.items gives.0 (gives.1 ∙ c.args.items.ok.0) c.loop-item.yielded c.loop-item.item-iterator c.loop-item.yielded_by c.next.result c.next.new.self c.next.ensures.steps c.in-Some.item (Asks c.in-Call.request) c.in-Some.is c.in-Call.is in
     let so_far = c.loop-item.invariant c.requires.0 c.requires.1 c.requires.2 c.requires.3 c.requires.4 c.requires.6 c.requires.7 c.requires.5 in
     let may = may_ask c.loop-item.self c.requires.1 c.requires.2 c.requires.3 c.loop-item.yielded c.in-Call.request (drop (length c.loop-item.yielded + 1) c.args.items.items) (subst (Brings c.requires.0 c.requires.1 c.requires.2 c.requires.3) split c.requires.4) c.args.out.now.items c.loop-item.out.items so_far c.requires.8 c.requires.9 in
-    record { limits = may.fits; placed = may.placed; member = subst (λ m. m < c.loop-item.self.members) c.requires.7 may.reached; heard = sym c.loop-item.self.listeners.ok.0 ∙ may.heard; stands = (c.requires.0, may.run, may.holds, may.room, may.is, may.next, may.few) }
+    record { limits = may.fits; placed = may.placed; member = subst (λ m. m < c.loop-item.self.members) c.requires.7 may.reached; heard = omega (arith, may.heard, c.loop-item.self.listeners.ok.0); stands = (c.requires.0, may.run, may.holds, may.room, may.is, may.next, may.few) }
 
 -- The session answered the item itself.
 pub loop-item-preserved-in-Continue-1 : goal.loop-item-preserved-in-Continue-1
