@@ -1,9 +1,8 @@
 -- A world that gives out the answers which wait at a member, one after another.
-use Rattle.std.proofs.Common.{◌≡◌, ◌≢◌, ℕ, ◌+◌, ◌<◌, ◌≤◌, length, take, get_or, slice_get, Bool, true, false, cond, Option, Some, None, arith, List, [], ◌∷◌, ◌++◌, refl, ap, sym, ◌∙◌, append_assoc, append-nil}
+use Rattle.std.proofs.Common.{◌≡◌, ◌≢◌, ℕ, ◌+◌, ◌<◌, length, take, get_or, slice_get, Bool, true, false, cond, Option, Some, arith, List, [], ◌∷◌, ◌++◌, refl, ap, sym, ◌∙◌, append_assoc, append-nil}
 use Rattle.std.specs.List.{flat_map}
 use Rattle.std.specs.Option.{option_and_then}
-use Rattle.std.proofs.lemmas.Option.{slice_get_past}
-use Rattle.std.proofs.lemmas.List.{length-map, take_more, map-append}
+use Rattle.std.proofs.lemmas.List.{take_more, map-append}
 use Rattle.grid_base.specs.declared.calls.Request.{Request}
 use Rattle.partition_protocol.specs.Events.{Event}
 use Rattle.primary_hold.specs.declared.answer.CallAnswer.{CallAnswer}
@@ -13,9 +12,7 @@ use Rattle.partition_world.specs.Worlds.{StandsFor, run_of, node_count, setup_of
 use Rattle.partition_world.proofs.Places.{there_at, get_map}
 use Rattle.partition_table.specs.declared.Row.{Row}
 use Rattle.partition_protocol.specs.Node.{Node as ProtocolNode}
-use Rattle.partition_protocol.specs.World.{map_or}
-use Rattle.replica_node.specs.declared.node.Node.{Node}
-use Rattle.replica_node.specs.Nodes.{node_of, waiting as node_waiting}
+use Rattle.replica_node.specs.Nodes.{node_of}
 use Rattle.call_engine.specs.Calls.{Settings}
 use Rattle.call_engine.specs.Limits.{RequestFits}
 use Rattle.replay_run.specs.Printing.{appended_text}

@@ -1,5 +1,5 @@
 -- What arrived and what was appended stays, at each step of a run, and a run that is given up stays so.
-use Rattle.std.proofs.Common.{◌≡◌, ℕ, Bool, true, false, cond, List, [], ◌∷◌, Option, Some, None, refl, sym, ◌∙◌, subst}
+use Rattle.std.proofs.Common.{◌≡◌, ℕ, true, List, [], ◌∷◌, Option, Some, None, refl, sym, ◌∙◌, subst}
 use Rattle.grid_base.specs.Objects.{Object}
 use Rattle.grid_base.specs.declared.names.CallId.{CallId}
 use Rattle.grid_base.specs.declared.calls.Request.{Request}
@@ -11,10 +11,9 @@ use Rattle.partition_protocol.specs.Service.{numbers_below}
 use Rattle.partition_protocol.proofs.Extends.{same, front_trans}
 use Rattle.partition_protocol.proofs.Lists.{on_if}
 use Rattle.session_core.specs.declared.item.Item.{Item}
-use Rattle.session_core.specs.declared.item.Item.TheVariants.{Call as Asks, Reply}
 use Rattle.script_lang.specs.declared.line.Line.{Line}
 use Rattle.script_lang.specs.declared.line.Line.TheVariants.{OpenConn, Arrive, Clock, Flow, FlowAll, Crash, Detect, Rebalance}
-use Rattle.replay_run.specs.Runs.{Run, At, Connection, Arrival, partitions, connection_of, takes_bytes, is_full, world_at, items_by, took_bytes, next_line, clock_set, can_open, opened, bytes_arrived, told, asked, asks, handled, handled_all, given_out, occurred, takes, takes_in, delivery_on, flowed, flowed_in, event_by}
+use Rattle.replay_run.specs.Runs.{Run, At, Connection, Arrival, partitions, connection_of, takes_bytes, items_by, took_bytes, next_line, clock_set, can_open, opened, bytes_arrived, asks, handled_all, given_out, takes, takes_in, delivery_on, flowed, flowed_in, event_by}
 use Rattle.replay_run.specs.AfterLines.{after_event, after_line, after_lines}
 use Rattle.replay_run.specs.Rebalancing.{stepped, stepped_all, rebalanced}
 use Rattle.rebalance.specs.declared.Step.{Step}

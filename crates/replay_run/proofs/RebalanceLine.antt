@@ -1,6 +1,6 @@
 -- The line that runs the steps of a plan: the run goes on from part to part, and the line prints the plan and each step's end.
-use Rattle.std.proofs.Common.{◌≡◌, ℕ, zero, suc, ◌+◌, ◌-◌, ◌*◌, ◌≤◌, ◌<◌, Bool, true, false, not, ◌&&◌, cond, List, [], ◌∷◌, ◌++◌, map, filter, take, drop, fold, length, get_or, Option, Some, None, Result, Ok, Err, refl, ap, sym, ◌∙◌, subst, append-nil, append_assoc, add-one, arith}
-use Rattle.std.specs.List.{list_all, find, flat_map}
+use Rattle.std.proofs.Common.{◌≡◌, ℕ, zero, suc, ◌+◌, ◌-◌, ◌*◌, ◌≤◌, ◌<◌, Bool, true, false, ◌&&◌, cond, List, [], ◌∷◌, ◌++◌, map, filter, take, drop, length, get_or, Option, Some, None, Result, Ok, refl, ap, sym, ◌∙◌, subst, append-nil, append_assoc, add-one, arith}
+use Rattle.std.specs.List.{list_all, find}
 use Rattle.std.proofs.lemmas.List.{map-append, take-append-drop, take_more, drop_more}
 use Rattle.partition_protocol.proofs.Lists.{In}
 use Rattle.partition_protocol.proofs.RowFacts.{false_or_not, not_both}
@@ -13,34 +13,30 @@ use Rattle.grid_base.specs.Objects.{Object}
 use Rattle.grid_base.specs.declared.calls.Request.{Request}
 use Rattle.object_store.specs.Partitions.{Partition}
 use Rattle.partition_table.specs.Rows.{first_of}
-use Rattle.partition_protocol.specs.Events.{Event, Resend, BeginJoin, Advance}
+use Rattle.partition_protocol.specs.Events.{Event, Resend}
 use Rattle.partition_protocol.specs.Service.{numbers_below}
 use Rattle.partition_world.specs.declared.event.Happened.{Happened}
 use Rattle.rebalance.specs.declared.Step.{Step}
-use Rattle.rebalance.specs.declared.StepKind.{StepKind}
-use Rattle.rebalance.specs.declared.StepKind.TheVariants.{Move, Handover}
+use Rattle.rebalance.specs.declared.StepKind.TheVariants.{Handover}
 use Rattle.rebalance.specs.declared.Plan.{Plan}
 use Rattle.rebalance.specs.declared.PlanRefused.{PlanRefused}
-use Rattle.rebalance.specs.declared.PlanRefused.TheVariants as refused
-use Rattle.rebalance.specs.Plans.{Planned, NoMember, Unsettled, Balanced, Gives}
+use Rattle.rebalance.specs.Plans.{Planned, Balanced, Gives}
 use Rattle.call_engine.specs.Calls.{Settings}
 use Rattle.call_engine.specs.Objects.{partition_object}
-use Rattle.script_lang.specs.declared.line.Line.{Line}
 use Rattle.script_lang.specs.declared.line.Line.TheVariants.{Rebalance}
 use Rattle.replay_run.specs.declared.grid.Grid.{Grid}
-use Rattle.replay_run.specs.Runs.{Run, Appended, is_connection, events_at, meets_full, world_at, next_line, takes, flowed, occurred}
-use Rattle.replay_run.specs.AfterLines.{after_line}
-use Rattle.replay_run.specs.Printing.{outcome_text, line_text, new_messages}
-use Rattle.replay_run.specs.Rebalancing.{service_at, is_moving_at, most_deliveries, most_turns, most_line_events, event_begun, first_resends, turned, turned_on, joined, rejoined, stepped, stepped_all, plan_in, first_steps, steps_in, rebalanced}
+use Rattle.replay_run.specs.Runs.{Run, is_connection, events_at, meets_full, world_at, next_line, takes, flowed}
+use Rattle.replay_run.specs.Printing.{new_messages}
+use Rattle.replay_run.specs.Rebalancing.{service_at, is_moving_at, most_deliveries, most_turns, most_line_events, first_resends, turned, turned_on, joined, rejoined, stepped, stepped_all, plan_in, first_steps, steps_in, rebalanced}
 use Rattle.replay_run.specs.RebalancingTexts.{plan_text, end_text, ran_text, ran_texts}
 use Rattle.replay_run.specs.Grids.{FormOf, Stands, HasRun, IsGivenUp}
-use Rattle.replay_run.specs.WorldCalls.{texts_of, HasRoomAt, IsAmid, HasGoneOn, HasTaken, HasFlowed, MayStep, HasStepped, HasNoSteps}
+use Rattle.replay_run.specs.WorldCalls.{texts_of, HasRoomAt, IsAmid, HasGoneOn, HasTaken, MayStep, HasStepped, HasNoSteps}
 use Rattle.replay_run.proofs.Bounds.{kept_small, rebalance_few}
-use Rattle.replay_run.proofs.EventRuns.{Kept, takes_here, takes_nothing, takes_full, takes_few, flowed_full, flowed_few}
+use Rattle.replay_run.proofs.EventRuns.{Kept, takes_here, takes_nothing, takes_few, flowed_few}
 use Rattle.replay_run.proofs.EventLines.{no_calls, line_given_up}
 use Rattle.replay_run.proofs.Flowing.{gone_nowhere, gone_further, gone_as}
 use Rattle.replay_run.proofs.LineTexts.{new_with}
-use Rattle.replay_run.proofs.Rebalanced.{turned_few, turned_on_few, turned_on_full, first_few, stepped_all_full, rebalanced_kept, stepped_elsewhere}
+use Rattle.replay_run.proofs.Rebalanced.{turned_few, turned_on_full, first_few, stepped_all_full, rebalanced_kept, stepped_elsewhere}
 
 module _ {V : Type 0} {T : V → Type 0} {form : FormOf V T} {settings : Settings} where
   -- an event that was taken

@@ -1,5 +1,5 @@
 -- What the steps of a plan do to a run: they are lists of events, few for each partition.
-use Rattle.std.proofs.Common.{◌≡◌, ◌≢◌, ℕ, zero, suc, ◌+◌, ◌*◌, ◌≤◌, ◌<◌, Bool, true, false, cond, List, [], ◌∷◌, length, Option, Some, None, refl, ap, sym, ◌∙◌, ⊎_elim, arith}
+use Rattle.std.proofs.Common.{◌≡◌, ◌≢◌, ℕ, zero, suc, ◌+◌, ◌*◌, ◌≤◌, ◌<◌, true, List, [], ◌∷◌, length, Option, Some, None, refl, ap, ◌∙◌, ⊎_elim, arith}
 use Rattle.grid_base.specs.Objects.{Object}
 use Rattle.grid_base.specs.declared.calls.Request.{Request}
 use Rattle.object_store.specs.Partitions.{Partition}
@@ -14,7 +14,7 @@ use Rattle.rebalance.specs.declared.StepKind.TheVariants.{Move, Handover}
 use Rattle.replay_run.specs.Runs.{Run, events_at, takes, flowed, delivery_on}
 use Rattle.replay_run.specs.Rebalancing.{service_at, is_moving_at, most_deliveries, most_turns, most_line_events, event_begun, first_resends, turned, turned_on, joined, rejoined, stepped, stepped_all, steps_in, rebalanced}
 use Rattle.replay_run.specs.ScriptRuns.{IsRun}
-use Rattle.replay_run.proofs.EventRuns.{HasEvents, HasMost, Kept, kept_refl, kept_trans, flowed_keeps, takes_kept, takes_run, takes_full, takes_few, takes_elsewhere, flowed_few, flowed_full}
+use Rattle.replay_run.proofs.EventRuns.{HasEvents, Kept, kept_refl, kept_trans, flowed_keeps, takes_kept, takes_run, takes_full, takes_few, takes_elsewhere, flowed_few}
 
 pub begun_unasked : (kind : StepKind) (from to : ℕ) → asked_by (event_begun kind from to) ≡ []
 begun_unasked Move from to = refl

@@ -1,5 +1,5 @@
 -- What an event appends where it reaches a member: the events answer no call and refuse none, and the answers are those that the protocol releases.
-use Rattle.std.proofs.Common.{◌≡◌, ℕ, ◌==◌, Bool, true, false, cond, ◌||◌, List, [], ◌∷◌, ◌++◌, map, filter, length, drop, Option, Some, None, slice_get, refl, ap, sym, ◌∙◌}
+use Rattle.std.proofs.Common.{◌≡◌, ℕ, ◌==◌, Bool, true, false, cond, ◌||◌, List, [], ◌∷◌, ◌++◌, map, filter, Option, Some, None, slice_get, refl, ap, sym, ◌∙◌}
 use Rattle.std.specs.List.{filter_map, cons_option, flat_map}
 use Rattle.std.specs.Option.{option_map, option_and_then}
 use Rattle.std.proofs.lemmas.Bool.{eq-eqb}
@@ -24,7 +24,7 @@ use Rattle.call_engine.specs.Objects.{partition_object}
 use Rattle.listeners.specs.Telling.{Sent, events_of, rows_of}
 use Rattle.listeners.specs.declared.listener.Listener.{Listener}
 use Rattle.replay_run.specs.Changes.{entry_change, change_between, change_by}
-use Rattle.replay_run.specs.Runs.{Run, Appended, connection_of, is_open, is_own, event_to, events_to, message_of, goes_out, if_newer, version_known, adopted_since, row_messages, answer_messages, release_messages}
+use Rattle.replay_run.specs.Runs.{Run, Appended, connection_of, is_open, is_own, events_to, message_of, goes_out, if_newer, version_known, adopted_since, row_messages, answer_messages, release_messages}
 use Rattle.replay_run.specs.WorldCalls.{going_out}
 use Rattle.replay_run.proofs.Bare.{executed_for, answer_to}
 use Rattle.replay_run.proofs.Speaking.{spoken, spoken-append}

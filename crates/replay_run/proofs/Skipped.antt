@@ -1,5 +1,5 @@
 -- A call that is skipped is told of, unless its run is given up; so a run that tells of no skip has none.
-use Rattle.std.proofs.Common.{◌≡◌, ℕ, Bool, true, false, cond, List, [], ◌∷◌, ◌++◌, map, Option, Some, None, Contains, pos, refl, ap, sym, ◌∙◌, subst, ◌⊎◌, ⊎_elim, inl, inr, append-nil, true≢false}
+use Rattle.std.proofs.Common.{◌≡◌, ℕ, Bool, true, false, cond, List, [], ◌∷◌, ◌++◌, map, Option, Some, None, pos, refl, ap, sym, ◌∙◌, subst, ⊎_elim, inl, inr, append-nil, true≢false}
 use Rattle.grid_base.specs.Errors.{want_of_memory}
 use Rattle.grid_base.specs.Objects.{Object}
 use Rattle.grid_base.specs.declared.names.CallId.{CallId}
@@ -18,9 +18,9 @@ use Rattle.replay_run.specs.AfterLines.{after_line, after_lines}
 use Rattle.replay_run.specs.SkippedCalls.{IsTold, TellsOfSkips, TellsOfNoSkip, EverySkippedCallIsTold, EveryRunThatTellsOfNoSkipHasNone}
 use Rattle.replay_run.proofs.Arriving.{its_event}
 use Rattle.replay_run.proofs.EventRuns.{asks_here}
-use Rattle.replay_run.proofs.Lines.{HasCome, asks_come, told_come}
+use Rattle.replay_run.proofs.Lines.{HasCome, asks_come}
 use Rattle.replay_run.proofs.SkipLaws.{asked_alike, on_bytes, Counts, line_counts}
-use Rattle.replay_run.proofs.Growing.{Grows, grows_refl, asks_grows, handled_all_grows, line_grows, lines_grow}
+use Rattle.replay_run.proofs.Growing.{Grows, asks_grows, handled_all_grows, line_grows, lines_grow}
 
 in_front : {X : Type 0} (x : X) (xs ys : List X) → IsFrontOf xs ys → In x xs → In x ys
 in_front x xs ys front i = subst (In x) front.1 (in_left x xs front.0 i)

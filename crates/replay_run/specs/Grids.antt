@@ -17,7 +17,6 @@ use Rattle.script_lang.specs.Limits.{most_lines, most_line_bytes}
 use Rattle.script_lang.specs.Lines.{IsWithin}
 use Rattle.session_core.specs.Sessions.{session_after}
 use Rattle.call_engine.specs.declared.shelf.GridShelf.{GridShelf}
-use Rattle.call_engine.specs.declared.env.GridEnv.{GridEnv}
 use Rattle.call_engine.specs.Calls.{Settings}
 use Rattle.call_engine.specs.Env.{settings_of}
 use Rattle.call_engine.specs.Limits.{RequestFits}

@@ -1,5 +1,5 @@
 -- The line `rebalance K`: the plan for the rows of a run, and the run after the first K of its steps, each of which is a list of events.
-use Rattle.std.specs.Prelude.{ℕ, zero, suc, Bool, true, false, not, ◌&&◌, if◌then◌else◌, List, [], map, filter, fold, take, Option, Some, None}
+use Rattle.std.specs.Prelude.{ℕ, zero, suc, Bool, not, if◌then◌else◌, List, [], map, filter, fold, take, Some, None}
 use Rattle.std.specs.List.{list_all}
 use Rattle.grid_base.specs.Objects.{Object}
 use Rattle.grid_base.specs.declared.calls.Request.{Request}

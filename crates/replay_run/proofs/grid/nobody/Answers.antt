@@ -1,4 +1,4 @@
-use Rattle.std.proofs.Common.{◌+◌, ◌∙◌, List, length, Some, slice_get, ap, sym, arith}
+use Rattle.std.proofs.Common.{◌+◌, ◌∙◌, List, length, slice_get, ap, sym, arith}
 use Rattle.std.proofs.lemmas.List.{length_push}
 use Rattle.listeners.specs.declared.listeners.Listeners.{Listeners}
 use Rattle.replay_run.proofs.Listening.{nobody_more, nobody_listening}

@@ -1,4 +1,4 @@
-use Rattle.std.proofs.Common.{◌≡◌, ℕ, List, [], length, Some, slice_get}
+use Rattle.std.proofs.Common.{◌≡◌, ℕ, [], length, Some, slice_get}
 use Rattle.listeners.specs.StandsFor.{StandFor}
 use Rattle.listeners.specs.declared.listeners.Listeners.{Listeners}
 use Rattle.replay_run.proofs.grid.nobody.Given as goal

@@ -1,4 +1,4 @@
-use Rattle.std.proofs.Common.{◌≡◌, ◌∙◌, ap, sym, ◌++◌, List, ℕ, refl, subst, append-nil}
+use Rattle.std.proofs.Common.{◌∙◌, ap, sym, ◌++◌, List, ℕ, refl, subst, append-nil}
 use Rattle.partition_world.specs.Worlds.{waiting}
 use Rattle.primary_hold.specs.declared.answer.CallAnswer.{CallAnswer}
 use Rattle.replay_run.specs.Grids.{HasConnections}
