@@ -20,7 +20,7 @@ use Rattle.replay_run.specs.Runs.{Run, Connection, Appended, own_answer, event_t
 use Rattle.replay_run.specs.Printing.{new_messages}
 use Rattle.replay_run.specs.Tables.{Table}
 use Rattle.replay_run.specs.Grids.{FormOf, HasTable, IsCounting, AreListening, Holds}
-use Rattle.replay_run.specs.WorldCalls.{texts_of, HasTold, HasRegistered, IsTo, rows_messages}
+use Rattle.replay_run.specs.WorldCalls.{texts_of, HasTold, HasRegistered, IsTo, first_events}
 use Rattle.replay_run.proofs.LineTexts.{new_with, texts-append}
 use Rattle.replay_run.proofs.Listening.{more_listening}
 use Rattle.replay_run.proofs.TableRuns.{unanswered_table}
@@ -42,10 +42,6 @@ known_more f n y e =
 abbrev pub listener_on : ℕ → Registration → Listener
 listener_on c registration = record { conn = c; registration = registration }
 
--- what a registration is sent behind its answer
-abbrev pub first_events : Object Request Partition → Run → ℕ → ℕ → Registration → List Appended
-first_events o r c member registration = events_to r.lines (rows_of (rows_known o r member) (listener_on c registration ∷ []))
-
 -- messages that are sent and answer nothing
 sent_table : (t : Table) (r : Run) (sent : List Sent) → HasTable t r → HasTable t (sends r sent)
 sent_table t r [] h = subst (λ (ms : List Appended). HasTable t (record r { appended = ms })) (sym (append-nil r.appended)) h
@@ -56,7 +52,7 @@ sent_table t r (one ∷ sent) h =
 registered_table : (t : Table) (r : Run) (listener : Listener) → HasTable t r → HasTable t (listener_registered r listener)
 registered_table t r listener h = record { size = h.size; connections = h.connections; calls = h.calls }
 
-module _ {V : Type 0} {T : V → Type 0} {form : FormOf V T} {settings : Settings} (r : Run) (conn member number : ℕ) (registration : Registration) (to : IsTo r conn member) where
+module _ (settings : Settings) (r : Run) (conn member number : ℕ) (registration : Registration) (to : IsTo r conn member) where
   abbrev o : Object Request Partition
   o = partition_object settings
 
@@ -67,7 +63,7 @@ module _ {V : Type 0} {T : V → Type 0} {form : FormOf V T} {settings : Setting
   next = registers o r conn member registration
 
   -- the grid once the answer was appended
-  module _ (mid : Grid V T) (written so_far : List ℕ) (did : HasTold form settings mid r conn number (registered_reply registration) written so_far) where
+  module _ {V : Type 0} {T : V → Type 0} {form : FormOf V T} (mid : Grid V T) (written so_far : List ℕ) (did : HasTold form settings mid r conn number (registered_reply registration) written so_far) where
     next_table : HasTable mid.connections next
     next_table =
         let listener = listener_on conn registration in

@@ -363,7 +363,7 @@ sends r sent = record r { appended = r.appended ++ events_to r.lines sent }
 -- The answer comes first. From then on the connection listens; if to rows, it is sent all those that its member knows, in one event.
 abbrev pub registers : {State : Type 0} → Object Request State → Run → ℕ → ℕ → Registration → Run
 registers o r c member registration =
-    let listener = record { conn = c; registration = registration } in
+    let listener : Listener = record { conn = c; registration = registration } in
     sends (listener_registered (told r c (registered_reply registration)) listener) (rows_of (rows_known o r member) (listener ∷ []))
 
 -- Calls that wait aren't served yet: they are refused as messages of an unknown type.

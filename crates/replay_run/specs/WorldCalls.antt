@@ -1,5 +1,5 @@
 -- What a call does to its partition's world, and the messages that it makes.
-use Rattle.std.specs.Prelude.{◌≡◌, ◌≢◌, ℕ, ◌+◌, ◌-◌, ◌*◌, ◌<◌, ◌≤◌, ◌^◌, Bool, true, false, if◌then◌else◌, is_none, option_and_then, ℤ, pos, List, length, filter, [], ◌∷◌, ◌++◌, Option, Some, None, slice_get, Contains}
+use Rattle.std.specs.Prelude.{◌≡◌, ◌≢◌, ℕ, ◌+◌, ◌-◌, ◌*◌, ◌<◌, ◌≤◌, ◌^◌, Bool, true, false, if◌then◌else◌, is_none, option_and_then, pos, List, length, filter, [], ◌∷◌, ◌++◌, Option, Some, None, slice_get, Contains}
 use Rattle.std.specs.List.{flat_map}
 use Rattle.grid_base.specs.declared.names.CallId.{CallId}
 use Rattle.grid_base.specs.declared.calls.Request.{Request}
@@ -17,7 +17,6 @@ use Rattle.replay_run.specs.declared.calls.Refusal.{Refusal}
 use Rattle.script_lang.specs.declared.line.Line.{Line}
 use Rattle.script_lang.specs.declared.line.Line.TheVariants as line
 use Rattle.event_codecs.specs.declared.registration.Registration.{Registration}
-use Rattle.event_codecs.specs.declared.registration.Registration.TheVariants.{Rows}
 use Rattle.listeners.specs.Telling.{rows_of}
 use Rattle.grid_base.specs.Objects.{Object}
 use Rattle.object_store.specs.Partitions.{Partition}
@@ -145,9 +144,9 @@ pub record HasRegistered {V : Type 0} {T : V → Type 0} (form : FormOf V T) (se
   pub counting : IsCounting new.connections (registers (partition_object settings) r conn member registration) conn (number + 1)
   pub added : text ≡ written ++ texts_of (new_messages r (registers (partition_object settings) r conn member registration))
 
--- the rows that the member knows, to a connection that listens to them
-abbrev pub rows_messages : Object Request Partition → Run → ℕ → ℕ → ℤ → List Appended
-rows_messages o r conn member correlation = events_to r.lines (rows_of (rows_known o r member) (record { conn = conn; registration = Rows correlation } ∷ []))
+-- what is sent behind the answer of a registration: to a connection that listens to rows those that its member knows
+abbrev pub first_events : Object Request Partition → Run → ℕ → ℕ → Registration → List Appended
+first_events o r conn member registration = events_to r.lines (rows_of (rows_known o r member) (record { conn = conn; registration = registration } ∷ []))
 
 -- The connection of this number is to this member.
 pub record IsTo (r : Run) (conn member : ℕ) : Type 0 where

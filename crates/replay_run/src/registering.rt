@@ -1,12 +1,12 @@
 //! Registrations: a client asks a member to tell it of a map's entries, of what a near cache is to give up, or of rows.
 
-ghost use Rattle.std.specs.Prelude.{◌≡◌, ◌<◌, ◌++◌, ℕ, Some, IfOk, OnOk, vec_len};
+ghost use Rattle.std.specs.Prelude.{◌≡◌, ◌<◌, ◌++◌, ℕ, Some, IfOk, OnOk};
 ghost use Rattle.event_codecs.specs.SpelledRegistrations.{kind_of_registration};
 ghost use Rattle.call_engine.specs.Calls.{Settings};
 ghost use Rattle.call_engine.specs.Objects.{partition_object};
 ghost use Rattle.replay_run.specs.Runs.{Run, rows_known};
 ghost use Rattle.replay_run.specs.Grids.{boxed, AreListening, Holds, IsCounting};
-ghost use Rattle.replay_run.specs.WorldCalls.{texts_of, IsTo, HasRegistered, rows_messages};
+ghost use Rattle.replay_run.specs.WorldCalls.{texts_of, IsTo, HasRegistered, first_events};
 
 use crate::grid::Grid;
 use crate::print::push_appended;
@@ -41,36 +41,38 @@ impl Grid {
         out: &mut Vec<u8>,
     ) -> Result<(), Memory>
         requires member { member < self.old.members }
-        requires heard { vec_len self.old.listeners ≡ self.old.members }
-        requires holds { (settings : Settings) × (r : Run) × Holds (boxed form) settings self.old r }
+        requires stands { (settings : Settings) × (r : Run) × (number : ℕ) × Holds (boxed form) settings self.old r
+            × AreListening self.old.listeners.items r (Some conn) × IsCounting self.old.connections r conn number }
         ensures { (settings : Settings) (r : Run) (number : ℕ) → Holds (boxed form) settings self.old r → IsTo r conn member
             → AreListening self.old.listeners.items r (Some conn) → IsCounting self.old.connections r conn number
             → OnOk result (HasRegistered (boxed form) settings self.new r conn member number registration out.old.items out.new.items) }
     {
         let reply = write_void(alloc, kind_of(&registration), registration.correlation())?;
         self.tell(alloc, conn, reply, out)?;
-        if let Registration::Rows { correlation } = &registration {
-            self.send_rows(alloc, conn, member, *correlation, out)?;
-        }
-        self.listeners[usize::from(member)].add(conn, registration)
+        self.send_first(alloc, conn, member, &registration, out)?;
+        self.listeners[usize::from(member)].add(conn, registration)?;
+        Ok(())
     }
 
-    /// Sends a connection all rows that a member knows, in one event.
-    fn send_rows(
+    /// Sends a connection that registers for rows all those that its member knows, in one event.
+    fn send_first(
         &self,
         alloc: Global,
         conn: u32,
         member: MemberId,
-        correlation: i64,
+        registration: &Registration,
         out: &mut Vec<u8>,
     ) -> Result<(), Memory>
         requires member { member < self.now.members }
         requires holds { (settings : Settings) × (r : Run) × Holds (boxed form) settings self.now r }
         ensures { (settings : Settings) (r : Run) → Holds (boxed form) settings self.now r
-            → OnOk result (out.new.items ≡ out.old.items ++ texts_of (rows_messages (partition_object settings) r conn member correlation)) }
+            → OnOk result (out.new.items ≡ out.old.items ++ texts_of (first_events (partition_object settings) r conn member registration.now)) }
     {
+        let Registration::Rows { correlation } = registration else {
+            return Ok(());
+        };
         let rows = self.rows_known(alloc, member)?;
-        let event = write_rows(alloc, correlation, rows.as_slice())?;
+        let event = write_rows(alloc, *correlation, rows.as_slice())?;
         push_appended(alloc, out, self.lines, conn, event.as_slice())
     }
 

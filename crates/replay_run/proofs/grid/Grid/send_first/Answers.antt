@@ -1,0 +1,32 @@
+use Rattle.std.proofs.Common.{◌≡◌, ◌∙◌, ◌++◌, List, ℕ, ℤ, None, ap, sym, append-nil}
+use Rattle.std.proofs.lemmas.Result.{on_ok_weaker}
+use Rattle.frame_codec.specs.Laws.{spelled}
+use Rattle.partition_table.specs.declared.Row.{Row}
+use Rattle.event_codecs.specs.Writing.{rows_frames}
+use Rattle.event_codecs.specs.declared.registration.Registration.{Registration}
+use Rattle.event_codecs.specs.declared.registration.Registration.TheVariants.{Rows}
+use Rattle.call_engine.specs.Objects.{partition_object}
+use Rattle.replay_run.specs.Runs.{own_answer, rows_known}
+use Rattle.replay_run.specs.Printing.{appended_text}
+use Rattle.replay_run.specs.WorldCalls.{texts_of, first_events}
+use Rattle.replay_run.proofs.RegisteringLine.{none_first}
+use Rattle.replay_run.proofs.grid.Grid.send_first.Goals as goal
+
+pub returns-in_default : goal.returns-in_default
+returns-in_default g c = λ settings r h.
+    sym (ap (λ ms. c.args.out.now.items ++ texts_of ms) (none_first (partition_object settings) r c.args.conn c.args.member c.args.registration.now c.in_default.not-Rows) ∙ append-nil c.args.out.now.items)
+
+pub returns : goal.returns
+returns g c = λ settings r h.
+    let grid = c.args.self.now in
+    let conn = c.args.conn in
+    let out = c.args.out.now.items in
+    let o = partition_object settings in
+    let rows = rows_known o r c.args.member in
+    let correlation : ℤ = c.in-Rows.correlation in
+    let its : c.args.registration.now ≡ Rows correlation = c.in-Rows.is in
+    let bytes = c.as_slice-2.ensures ∙ c.in_ok-event.ensures.bytes ∙ ap (λ (xs : List (ℕ × Row)). spelled (rows_frames correlation xs)) (c.as_slice.ensures.value ∙ c.in_ok-rows.ensures settings r h) in
+    on_ok_weaker c.push_appended.result
+    (λ e. e ∙ (λ i. out ++ appended_text (own_answer (h.lines i) conn (bytes i))) ∙ ap (λ xs. out ++ xs) (sym (append-nil (appended_text (own_answer r.lines conn (spelled (rows_frames correlation rows))))))
+    ∙ ap (λ (x : Registration). out ++ texts_of (first_events o r conn c.args.member x)) (sym its))
+    (c.push_appended.ensures None None)
