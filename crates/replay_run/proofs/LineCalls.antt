@@ -1,5 +1,5 @@
 -- The items of a line of bytes on the grid, one after the other.
-use Rattle.std.proofs.Common.{◌≡◌, ℕ, ◌+◌, ◌<◌, ◌^◌, ◌-◌, ◌*◌, true, List, [], ◌∷◌, ◌++◌, length, get_or, map, take, drop, Option, Some, None, inl, refl, ap, sym, ◌∙◌, subst, append_assoc, arith, length-append}
+use Rattle.std.proofs.Common.{◌≡◌, ℕ, ◌+◌, ◌<◌, ◌^◌, ◌-◌, ◌*◌, true, List, [], ◌∷◌, ◌++◌, length, get_or, map, take, drop, Option, Some, None, Result, Ok, Err, OnOk, inl, refl, ap, sym, ◌∙◌, subst, append_assoc, arith, length-append}
 use Rattle.std.proofs.lemmas.List.{take-append-drop, drop_more}
 use Rattle.std.specs.Iterator.{Yields}
 use Rattle.std.proofs.lemmas.Iterator.Adapters.{YieldsList-from_vec}
@@ -92,6 +92,14 @@ pub told_on : {V : Type 0} {T : V → Type 0} {form : FormOf V T} {settings : Se
     → HasTold form settings new r other number answer written text → HasTold form settings new r conn number answer written text
 told_on {form = form} {settings = settings} {new = new} {r = r} {number = number} {answer = answer} {written = written} {text = text} same = subst (λ n. HasTold form settings new r n number answer written text) (sym same)
 
+pub told_with : {V : Type 0} {T : V → Type 0} {form : FormOf V T} {settings : Settings} {new : Grid V T} {r : Run} {conn number : ℕ} {answer other written text : List ℕ} → other ≡ answer
+    → HasTold form settings new r conn number other written text → HasTold form settings new r conn number answer written text
+told_with {form = form} {settings = settings} {new = new} {r = r} {conn = conn} {number = number} {written = written} {text = text} same = subst (λ a. HasTold form settings new r conn number a written text) same
+
+pub on_ok_then : {A E : Type 0} (result : Result A E) (P Q : Type 0) → (P → Q) → OnOk result P → OnOk result Q
+on_ok_then (Ok x) P Q f p = f p
+on_ok_then (Err why) P Q f p = tt
+
 pub asked_at : {V : Type 0} {T : V → Type 0} {form : FormOf V T} {settings : Settings} {new : Grid V T} {r : Run} {member other : ℕ} {q : Request} {written text : List ℕ} → member ≡ other
     → HasAsked form settings new r other q written text → HasAsked form settings new r member q written text
 asked_at {form = form} {settings = settings} {new = new} {r = r} {q = q} {written = written} {text = text} same = subst (λ m. HasAsked form settings new r m q written text) (sym same)
@@ -115,6 +123,9 @@ pub registered_on : {V : Type 0} {T : V → Type 0} {form : FormOf V T} {setting
     → HasRegistered form settings new r c m number registration written text → HasRegistered form settings new r conn member number registration written text
 registered_on {form = form} {settings = settings} {new = new} {r = r} {c = c} {member = member} {number = number} {registration = registration} {written = written} {text = text} conns members did =
     subst (λ n. HasRegistered form settings new r n member number registration written text) (sym conns) (subst (λ n. HasRegistered form settings new r c n number registration written text) (sym members) did)
+
+pub to_as : {r : Run} {conn c member m : ℕ} → c ≡ conn → m ≡ member → IsTo r c m → IsTo r conn member
+to_as {r = r} {conn = conn} {c = c} {member = member} {m = m} conns members to = subst (λ n. IsTo r n member) conns (subst (λ n. IsTo r c n) members to)
 
 pub registered_one_more : {V : Type 0} {T : V → Type 0} {form : FormOf V T} {settings : Settings} (grid : Grid V T) (r : Run) (k : Connection) (bytes : List ℕ) (done : List Item) (registration : Registration) (rest : List Item) → Brings settings r k bytes (done ++ Register registration ∷ rest)
     → (written mid : List ℕ) (so_far : HasHandledSome form settings grid r k bytes done written mid) (new : Grid V T) (text : List ℕ)

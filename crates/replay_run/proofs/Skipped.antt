@@ -8,6 +8,7 @@ use Rattle.partition_protocol.specs.Sequences.{IsFrontOf}
 use Rattle.partition_protocol.proofs.Lists.{In, in_left, in_right, in_cases, in_contains, contains_in, cases, on_if}
 use Rattle.partition_protocol.proofs.RowFacts.{false_or_not}
 use Rattle.object_store.specs.Partitions.{Partition}
+use Rattle.event_codecs.specs.SpelledRegistrations.{correlation_of}
 use Rattle.session_core.specs.declared.item.Item.{Item}
 use Rattle.session_core.specs.declared.item.Item.TheVariants.{Call as Asks, Wait, Register, Reply}
 use Rattle.call_engine.specs.Objects.{partition_object}

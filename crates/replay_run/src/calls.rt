@@ -210,7 +210,6 @@ impl Grid {
         for item in items {
             match item {
                 Item::Reply(answer) => self.tell(alloc, conn, answer, out)?,
-                Item::Call(request) => self.ask(alloc, member, request, out)?,
                 Item::Wait { request, .. } => {
                     let correlation = request.correlation;
                     drop(request);
@@ -219,6 +218,7 @@ impl Grid {
                 Item::Register(registration) => {
                     self.register(alloc, conn, member, registration, out)?
                 }
+                Item::Call(request) => self.ask(alloc, member, request, out)?,
             }
         }
         Ok(())

@@ -1,4 +1,7 @@
-use Rattle.std.proofs.Common.{◌≡◌, ◌<◌, ◌∙◌, ◌++◌, List, ℕ, Some, Vec, Global, refl, set, ap, sym, subst, arith}
+use Rattle.std.proofs.Common.{rules, ◌≡◌, ◌<◌, ◌∙◌, ◌++◌, List, ℕ, Some, Vec, Global, refl, set, ap, sym, subst, arith}
+use Rattle.std.specs.Int.{w64}
+use Rattle.std.specs.Int.RustNames.{FitsSigned}
+use Rattle.std.proofs.lemmas.Int.{to_z-of_z}
 use Rattle.replay_run.specs.Runs.{told, registered_reply}
 use Rattle.fixed_fields.specs.Responses.{void_bytes}
 use Rattle.replay_run.specs.WorldCalls.{HasTold}
@@ -26,7 +29,9 @@ pub returns : goal.returns
 returns g c = λ settings r number h to are count.
     let conn = c.args.conn in
     let registration = c.args.registration in
-    let reply_is : c.in_ok-reply.reply ≡ registered_reply registration = c.in_ok-reply.ensures ∙ (λ i. void_bytes (c.kind_of.ensures i) (c.correlation.ensures i)) in
+    let fits : FitsSigned w64 c.correlation.result = search rules in
+    let reply_is : c.in_ok-reply.reply ≡ registered_reply registration =
+    c.in_ok-reply.ensures ∙ ap (void_bytes c.kind_of.result) (to_z-of_z w64 c.correlation.result fits) ∙ (λ i. void_bytes (c.kind_of.ensures i) (c.correlation.ensures i)) in
     let mid = c.tell.new.self in
     let old = c.in_ok-tell.ensures settings r number h are count in
     let did = subst (λ bytes. HasTold _ settings mid r conn number bytes c.args.out.now.items c.tell.new.out.items) reply_is old in

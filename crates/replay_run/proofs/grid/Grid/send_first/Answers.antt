@@ -1,4 +1,7 @@
-use Rattle.std.proofs.Common.{◌≡◌, ◌∙◌, ◌++◌, List, ℕ, ℤ, None, ap, sym, append-nil}
+use Rattle.std.proofs.Common.{rules, ◌≡◌, ◌∙◌, ◌++◌, List, ℕ, ℤ, None, ap, sym, append-nil}
+use Rattle.std.specs.Int.{w64}
+use Rattle.std.specs.Int.RustNames.{FitsSigned}
+use Rattle.std.proofs.lemmas.Int.{to_z-of_z}
 use Rattle.std.proofs.lemmas.Result.{on_ok_weaker}
 use Rattle.frame_codec.specs.Laws.{spelled}
 use Rattle.partition_table.specs.declared.Row.{Row}
@@ -25,7 +28,9 @@ returns g c = λ settings r h.
     let rows = rows_known o r c.args.member in
     let correlation : ℤ = c.in-Rows.correlation in
     let its : c.args.registration.now ≡ Rows correlation = c.in-Rows.is in
-    let bytes = c.as_slice-2.ensures ∙ c.in_ok-event.ensures.bytes ∙ ap (λ (xs : List (ℕ × Row)). spelled (rows_frames correlation xs)) (c.as_slice.ensures.value ∙ c.in_ok-rows.ensures settings r h) in
+    let fits : FitsSigned w64 c.in-Rows.correlation = search rules in
+    let bytes = c.as_slice-2.ensures ∙ c.in_ok-event.ensures.bytes ∙ ap (λ z. spelled (rows_frames z c.as_slice.result.now)) (to_z-of_z w64 c.in-Rows.correlation fits)
+    ∙ ap (λ (xs : List (ℕ × Row)). spelled (rows_frames correlation xs)) (c.as_slice.ensures.value ∙ c.in_ok-rows.ensures settings r h) in
     on_ok_weaker c.push_appended.result
     (λ e. e ∙ (λ i. out ++ appended_text (own_answer (h.lines i) conn (bytes i))) ∙ ap (λ xs. out ++ xs) (sym (append-nil (appended_text (own_answer r.lines conn (spelled (rows_frames correlation rows))))))
     ∙ ap (λ (x : Registration). out ++ texts_of (first_events o r conn c.args.member x)) (sym its))
