@@ -2,12 +2,15 @@
 use Rattle.std.proofs.Common.{◌≡◌, ◌≢◌, ℕ, ℤ, ◌+◌, ◌<◌, List, [], ◌∷◌, ◌++◌, length, get_or, Option, None, Some, add-one, slice_get, slice_set, refl, ap, sym, ◌∙◌, subst, append-nil, append_assoc, arith, Vec, Global}
 use Rattle.std.specs.List.{filter_map, cons_option}
 use Rattle.std.proofs.lemmas.Option.{slice_get-get_or}
+use Rattle.frame_codec.specs.Laws.{spelled}
 use Rattle.partition_protocol.specs.Service.{numbers_below}
+use Rattle.partition_table.specs.declared.Row.{Row}
 use Rattle.grid_base.specs.Objects.{Object}
 use Rattle.grid_base.specs.declared.calls.Request.{Request}
 use Rattle.object_store.specs.Partitions.{Partition}
 use Rattle.call_engine.specs.Calls.{Settings}
 use Rattle.call_engine.specs.Objects.{partition_object}
+use Rattle.event_codecs.specs.Writing.{rows_frames}
 use Rattle.event_codecs.specs.declared.registration.Registration.{Registration}
 use Rattle.event_codecs.specs.declared.registration.Registration.TheVariants.{Entries, Invalidations, Rows}
 use Rattle.listeners.specs.Standing.{placed}
@@ -17,7 +20,7 @@ use Rattle.listeners.specs.declared.listener.Listener.{Listener}
 use Rattle.listeners.specs.declared.listeners.Listeners.{Listeners}
 use Rattle.replay_run.specs.declared.grid.Grid.{Grid}
 use Rattle.replay_run.specs.Runs.{Run, Connection, Appended, own_answer, event_to, events_to, told, listener_registered, rows_known, registered_reply, sends, registers}
-use Rattle.replay_run.specs.Printing.{new_messages}
+use Rattle.replay_run.specs.Printing.{new_messages, appended_text}
 use Rattle.replay_run.specs.Tables.{Table}
 use Rattle.replay_run.specs.Grids.{FormOf, HasTable, IsCounting, AreListening, Holds}
 use Rattle.replay_run.specs.WorldCalls.{texts_of, HasTold, HasRegistered, IsTo, first_events}
@@ -117,3 +120,19 @@ pub none_first : (o : Object Request Partition) (r : Run) (c member : ℕ) (regi
 none_first o r c member (Entries correlation name with_value) other = refl
 none_first o r c member (Invalidations correlation name) other = refl
 none_first o r c member (Rows correlation) other = absurd (other correlation refl)
+
+-- where a connection listens to rows: the one event, of all that its member knows
+row_text : (line c : ℕ) (bytes : List ℕ) → texts_of (events_to line ((c, bytes) ∷ [])) ≡ appended_text (own_answer line c bytes)
+row_text line c bytes = append-nil (appended_text (own_answer line c bytes))
+
+first_is : (o : Object Request Partition) (r : Run) (c member : ℕ) (correlation : ℤ) → first_events o r c member (Rows correlation) ≡ events_to r.lines ((c, spelled (rows_frames correlation (rows_known o r member))) ∷ [])
+first_is o r c member correlation = refl
+
+pub first_rows : (o : Object Request Partition) (r : Run) (c member : ℕ) (registration : Registration) (correlation : ℤ) → registration ≡ Rows correlation → (line : ℕ) → line ≡ r.lines
+    → (rows : List (ℕ × Row)) → rows ≡ rows_known o r member → (bytes : List ℕ) → bytes ≡ spelled (rows_frames correlation rows)
+    → (out text : List ℕ) → text ≡ out ++ appended_text (own_answer line c bytes) → text ≡ out ++ texts_of (first_events o r c member registration)
+first_rows o r c member registration correlation its line lines rows known bytes are out text is =
+    let bytes_are = are ∙ ap (λ xs. spelled (rows_frames correlation xs)) known in
+    is ∙ (λ i. out ++ appended_text (own_answer (lines i) c (bytes_are i)))
+    ∙ ap (λ xs. out ++ xs) (sym (row_text r.lines c (spelled (rows_frames correlation (rows_known o r member)))))
+    ∙ ap (λ ms. out ++ texts_of ms) (sym (ap (λ x. first_events o r c member x) its ∙ first_is o r c member correlation))

@@ -1,10 +1,10 @@
-use Rattle.std.proofs.Common.{rules, ◌≡◌, ◌<◌, ◌∙◌, ◌++◌, List, ℕ, Some, Vec, Global, refl, set, ap, sym, subst, arith}
+use Rattle.std.proofs.Common.{rules, ◌≡◌, ◌<◌, ◌∙◌, ◌++◌, List, ℕ, Some, Vec, Global, refl, set, ap, sym, arith}
 use Rattle.std.specs.Int.{w64}
 use Rattle.std.specs.Int.RustNames.{FitsSigned}
 use Rattle.std.proofs.lemmas.Int.{to_z-of_z}
 use Rattle.replay_run.specs.Runs.{told, registered_reply}
 use Rattle.fixed_fields.specs.Responses.{void_bytes}
-use Rattle.replay_run.specs.WorldCalls.{HasTold}
+use Rattle.replay_run.proofs.LineCalls.{told_with}
 use Rattle.replay_run.proofs.RegisteringLine.{has_registered}
 use Rattle.replay_run.proofs.grid.Grid.register.Goals as goal
 
@@ -34,7 +34,7 @@ returns g c = λ settings r number h to are count.
     c.in_ok-reply.ensures ∙ ap (void_bytes c.kind_of.result) (to_z-of_z w64 c.correlation.result fits) ∙ (λ i. void_bytes (c.kind_of.ensures i) (c.correlation.ensures i)) in
     let mid = c.tell.new.self in
     let old = c.in_ok-tell.ensures settings r number h are count in
-    let did = subst (λ bytes. HasTold _ settings mid r conn number bytes c.args.out.now.items c.tell.new.out.items) reply_is old in
+    let did = told_with reply_is old in
     has_registered settings r conn c.args.member number registration to mid c.args.out.now.items c.tell.new.out.items did
     c.send_first.new.out.items _ _ refl (c.in_ok-send_first.ensures settings (told r conn c.in_ok-reply.reply) old.holds)
     c.from.result c.from.ensures (omega (arith, c.from.ensures, h.members, did.listeners.size, c.requires.member))

@@ -12,7 +12,7 @@ use Rattle.call_engine.specs.Objects.{partition_object}
 use Rattle.replay_run.specs.Runs.{own_answer, rows_known}
 use Rattle.replay_run.specs.Printing.{appended_text}
 use Rattle.replay_run.specs.WorldCalls.{texts_of, first_events}
-use Rattle.replay_run.proofs.RegisteringLine.{none_first}
+use Rattle.replay_run.proofs.RegisteringLine.{none_first, first_rows}
 use Rattle.replay_run.proofs.grid.Grid.send_first.Goals as goal
 
 pub returns-in_default : goal.returns-in_default
@@ -21,17 +21,13 @@ returns-in_default g c = λ settings r h.
 
 pub returns : goal.returns
 returns g c = λ settings r h.
-    let grid = c.args.self.now in
-    let conn = c.args.conn in
-    let out = c.args.out.now.items in
     let o = partition_object settings in
-    let rows = rows_known o r c.args.member in
     let correlation : ℤ = c.in-Rows.correlation in
-    let its : c.args.registration.now ≡ Rows correlation = c.in-Rows.is in
     let fits : FitsSigned w64 c.in-Rows.correlation = search rules in
-    let bytes = c.as_slice-2.ensures ∙ c.in_ok-event.ensures.bytes ∙ ap (λ z. spelled (rows_frames z c.as_slice.result.now)) (to_z-of_z w64 c.in-Rows.correlation fits)
-    ∙ ap (λ (xs : List (ℕ × Row)). spelled (rows_frames correlation xs)) (c.as_slice.ensures.value ∙ c.in_ok-rows.ensures settings r h) in
+    let rows = c.as_slice.result.now in
+    let known = c.as_slice.ensures.value ∙ c.in_ok-rows.ensures settings r h in
+    let bytes = c.as_slice-2.result.now in
+    let are = c.as_slice-2.ensures ∙ c.in_ok-event.ensures.bytes ∙ ap (λ z. spelled (rows_frames z rows)) (to_z-of_z w64 c.in-Rows.correlation fits) in
     on_ok_weaker c.push_appended.result
-    (λ e. e ∙ (λ i. out ++ appended_text (own_answer (h.lines i) conn (bytes i))) ∙ ap (λ xs. out ++ xs) (sym (append-nil (appended_text (own_answer r.lines conn (spelled (rows_frames correlation rows))))))
-    ∙ ap (λ (x : Registration). out ++ texts_of (first_events o r conn c.args.member x)) (sym its))
+    (first_rows o r c.args.conn c.args.member c.args.registration.now correlation c.in-Rows.is c.args.self.now.lines h.lines rows known bytes are c.args.out.now.items c.push_appended.new.out.items)
     (c.push_appended.ensures None None)
