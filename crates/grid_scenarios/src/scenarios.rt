@@ -253,7 +253,7 @@ const OBJECT_CALLS: &[(&str, u8)] = &[
     ("queue_calls_that_cannot_be_read", 0),
     ("each_map_call_states_its_partition", 0),
     ("further_parts_of_each_call", 0),
-    ("registrations_are_not_served", 0),
+    ("registrations_are_served", 0),
     ("refusals_and_answers_of_one_session", 0),
     ("calls_of_one_line", 0),
     ("a_history_names_each_call", 0),
