@@ -8,6 +8,8 @@ mod grids;
 #[cfg(test)]
 mod requests;
 #[cfg(test)]
+mod stored;
+#[cfg(test)]
 mod trial;
 #[cfg(test)]
 mod worlds;

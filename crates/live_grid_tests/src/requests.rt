@@ -3,7 +3,7 @@ ghost use Rattle.std.specs.Prelude.{◌≡◌, IfOk};
 ghost use Rattle.grid_base.specs.Limits.{CallFits};
 ghost use Rattle.call_engine.specs.Limits.{RequestFits};
 
-use grid_base::{Bytes, CallId, ClientKey, GridCall, MapCall, Memory, Owner, Request};
+use grid_base::{Bytes, CallId, ClientKey, GridCall, MapCall, Memory, ObjectKey, Owner, Request};
 use std::alloc::Global;
 
 /// The one connection.
@@ -11,7 +11,7 @@ pub(crate) const CONN: u32 = 3;
 
 const KEY: &[u8] = b"\0\0\0\x05\xff\xff\xff\xf5k";
 
-const VALUE: &[u8] = b"\0\0\0\0\xff\xff\xff\xf5v";
+pub(crate) const VALUE: &[u8] = b"\0\0\0\0\xff\xff\xff\xf5v";
 
 /// The reply to a put where there was no value.
 pub(crate) const PUT_REPLY: &[u8] =
@@ -35,6 +35,7 @@ fn owner() -> Owner {
 fn request(number: u32, kind: u32, correlation: i64, call: GridCall) -> Request
     requires { CallFits call }
     ensures fits { RequestFits result }
+    ensures conn { result.id.conn ≡ 3 }
     ensures number { result.id.number ≡ number }
 {
     call.numbers_fit();
@@ -50,6 +51,7 @@ fn request(number: u32, kind: u32, correlation: i64, call: GridCall) -> Request
 /// A put of the value.
 pub(crate) fn put(alloc: Global, number: u32) -> Result<Request, Memory>
     ensures fits { IfOk result RequestFits }
+    ensures conn { IfOk result (λ request. request.id.conn ≡ 3) }
     ensures number { IfOk result (λ request. request.id.number ≡ number) }
 {
     let call = MapCall::Put {
@@ -65,6 +67,7 @@ pub(crate) fn put(alloc: Global, number: u32) -> Result<Request, Memory>
 /// A get of it.
 pub(crate) fn get(alloc: Global, number: u32) -> Result<Request, Memory>
     ensures fits { IfOk result RequestFits }
+    ensures conn { IfOk result (λ request. request.id.conn ≡ 3) }
     ensures number { IfOk result (λ request. request.id.number ≡ number) }
 {
     let call = MapCall::Get {
@@ -73,4 +76,12 @@ pub(crate) fn get(alloc: Global, number: u32) -> Result<Request, Memory>
         owner: owner(),
     };
     Ok(request(number, 0x01_02_00, 2, GridCall::Map(call)))
+}
+
+/// The entry that they are on.
+pub(crate) fn entry(alloc: Global) -> Result<ObjectKey, Memory> {
+    Ok(ObjectKey::Entry {
+        map: Bytes::copied_from(alloc, b"m")?,
+        key: Bytes::copied_from(alloc, KEY)?,
+    })
 }
