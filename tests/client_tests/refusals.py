@@ -62,7 +62,8 @@ def a_server_refuses_what_is_no_call(checks: Checks) -> None:
     """A server's refusals of messages that the client itself never sends."""
     messages = [
         ("a type that isn't served", Request(cast(Kind, 0x007F00)), UnknownType),
-        ("a registration", Request(cast(Kind, 0x011900), 5), UnknownType),
+        ("a registration", Request(cast(Kind, 0x011900), 5, b"\x01", (b"m",)), UnknownType),
+        ("a registration without a map", Request(cast(Kind, 0x011900), 5, b"\x01"), BadCall),
         ("a key of seven bytes", Request(Kind.GET, 5, bytes(8), (b"m", b"7 bytes")), BadCall),
         ("a partition that isn't the key's", Request(Kind.GET, 6, bytes(8), (b"m", struct.pack(">ii", 5, 0))), WrongPartition),
     ]

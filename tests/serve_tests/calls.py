@@ -81,15 +81,19 @@ def a_client_makes_itself_known(checks: Checks) -> None:
 
 
 def refusals_have_their_numbers(checks: Checks) -> None:
-    """A type that isn't served, a message that can't be read and another partition than the key's are refused, with what follows
-    served."""
+    """A type that isn't served, a registration, a message that can't be read and another partition than the key's are refused,
+    with what follows served."""
     key = Key(5, "k")
     short_key = wire.message(wire.beginning(Kind.GET, 3, 5) + bytes(8), b"m", b"7 bytes")
     stated_6 = wire.message(wire.beginning(Kind.GET, 4, 6) + bytes(8), b"m", key.spelling)
     with Server() as server, server.known(2) as client:
-        for kind in (0x007F00, 0x000300, 0x011900, 0x013F00):
-            wanted = wire.refused(2, Refusal.UNKNOWN_TYPE)
-            checks.equal(f"type {kind:#08x}", wanted, client.ask(wire.message(wire.beginning(kind, 2, 5))))
+        unserved = wire.refused(2, Refusal.UNKNOWN_TYPE)
+        for kind, fields, frames in ((0x007F00, b"", ()), (0x000300, b"", ()), (0x011900, b"\x01", (b"m",)), (0x013F00, b"", (b"m",))):
+            message = wire.message(wire.beginning(kind, 2, 5) + fields, *frames)
+            checks.equal(f"type {kind:#08x}", unserved, client.ask(message))
+        for kind in (0x011900, 0x013F00):
+            message = wire.message(wire.beginning(kind, 2, 5))
+            checks.equal(f"type {kind:#08x} without a map", wire.refused(2, Refusal.UNREADABLE), client.ask(message))
         checks.equal("a key of 7 bytes", wire.refused(3, Refusal.UNREADABLE), client.ask(short_key))
         checks.equal("another partition", wire.refused(4, Refusal.WRONG_PARTITION, 6, 5), client.ask(stated_6))
         checks.equal("a partition of none", wire.refused(5, Refusal.UNREADABLE), client.ask(wire.poll(5, 271, "q")))

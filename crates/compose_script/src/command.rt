@@ -1,7 +1,7 @@
 ghost use Rattle.std.specs.Prelude.{◌≡◌, ◌≢◌, ◌<◌, length};
 ghost use Rattle.grid_edge.specs.Faults.{Rose, HasCause};
 
-use crate::composer::{Composed, Composer};
+use compose_lines::{Composed, Composer};
 use grid_cli::{LimitWhat, Status, push_limit, push_refused};
 use grid_edge::{Sink, Source, WriteFault, write_all};
 use memchr::memchr;

@@ -2,12 +2,6 @@
 #![tactic(auto)]
 
 mod command;
-mod composer;
-mod data;
-mod numbers;
-mod options;
-mod reading;
-mod what;
 
 pub use command::compose_command;
 

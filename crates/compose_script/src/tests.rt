@@ -77,6 +77,34 @@ bytes 0 1600000000c0001303004000000000000000790000000800000000206d6d\n\
 bytes 0 1600000000c0000f03000e00000000000000640000000800000000206d6d\n\
 end\n";
 
+/// Calls that may wait, and registrations.
+const WAITING_WORDS: &[u8] = b"\
+grid 1 0 10\n\
+say 0 lockWait m at:5:k lease 1000 timeout 250 thread 3 as 30\n\
+say 0 putWait m at:0:a text:v ttl -1 as 31\n\
+say 0 offerWait q text:v timeout 0 partition 9 as -2\n\
+say 0 pollWait q partition 270 timeout 9223372036854775807\n\
+say 0 listenEntries %c3%a9\n\
+say 0 listenValues m\n\
+say 0 listenInvalidations m as 7\n\
+say 0 listenRows\n\
+end\n";
+
+/// The lines at which they arrive, which the tables of types and fields give.
+const WAITING_SCRIPT: &[u8] = b"\
+grid 1 0 10\n\
+bytes 0 4350322e00000000c0008001001e00000000000000050000000300000000000000e803000000000000fa000000000000000700000000006d0f000000002000000005\
+fffffff56b\n\
+bytes 0 2e00000000c0008101001f00000000000000000000000100000000000000ffffffffffffffffffffffffffffffff0700000000006d0f00000000000000010fffffff\
+f5610f000000002000000000fffffff576\n\
+bytes 0 1e00000000c000800300feffffffffffffff090000000000000000000000070000000000710f000000002000000000fffffff576\n\
+bytes 0 1e00000000c000810300ffffffffffffffff0e010000ffffffffffffff7f07000000002071\n\
+bytes 0 1700000000c0001901000000000000000000ffffffff00080000000020c3a9\n\
+bytes 0 1700000000c0001901000100000000000000ffffffff010700000000206d\n\
+bytes 0 1600000000c0003f01000700000000000000ffffffff0700000000206d\n\
+bytes 0 1600000000e0000300000800000000000000ffffffff\n\
+end\n";
+
 /// How words end, and the script that is written for them.
 fn composed(alloc: Global, words: &[u8]) -> Result<(Status, Vec<u8>), Fail> {
     let mut source = MemorySource::new(Vec::from_slice(alloc, words)?, Vec::new(alloc));
@@ -90,6 +118,14 @@ fn each_message_has_the_bytes_of_the_scenarios(rt: HostRuntime) -> Result<(), Fa
     let (status, script) = composed(rt.alloc(), WORDS)?;
     assert_eq!(rt; status, Status::Done);
     assert_eq!(rt; script.as_slice(), SCRIPT);
+    Ok(())
+}
+
+#[test]
+fn each_wait_and_registration_has_its_bytes(rt: HostRuntime) -> Result<(), Fail> {
+    let (status, script) = composed(rt.alloc(), WAITING_WORDS)?;
+    assert_eq!(rt; status, Status::Done);
+    assert_eq!(rt; script.as_slice(), WAITING_SCRIPT);
     Ok(())
 }
 

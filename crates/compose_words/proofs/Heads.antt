@@ -13,7 +13,8 @@ use Rattle.session_core.proofs.CallsAt.{below_partitions}
 use Rattle.compose_words.specs.Sayings.{message_of, IsPlaced}
 use Rattle.compose_words.specs.Layout.{kind_of, partition_of, fields_of}
 use Rattle.compose_words.specs.declared.saying.Saying.{Saying}
-use Rattle.compose_words.specs.declared.saying.Saying.TheVariants.{Hello, Ping, OnMap, OnQueue}
+use Rattle.compose_words.specs.declared.saying.Saying.TheVariants.{Hello, Ping, OnMap, OnQueue, WaitOnMap, WaitOnQueue, Listen}
+use Rattle.compose_words.specs.Waits.{plain_of}
 use Rattle.compose_words.proofs.Layouts.{payload_is, kind_small}
 
 pub record IsHead (payload : List ℕ) (kind : ℕ) (correlation partition : ℤ) : Type 0 where
@@ -39,6 +40,9 @@ partition_fits (Hello authentication) placed = record { sfits = omega arith }
 partition_fits Ping placed = record { sfits = omega arith }
 partition_fits (OnMap call) placed = let within = below_partitions (key_of call) in record { sfits = omega (arith, within) }
 partition_fits (OnQueue partition call) placed = record { sfits = omega (arith, placed) }
+partition_fits (WaitOnMap wait timeout) placed = let within = below_partitions (key_of (plain_of wait)) in record { sfits = omega (arith, within) }
+partition_fits (WaitOnQueue partition wait timeout) placed = record { sfits = omega (arith, placed) }
+partition_fits (Listen listening) placed = record { sfits = omega arith }
 
 pub said_head : (correlation : ℤ) (saying : Saying) → SFits w64 correlation → IsPlaced saying → IsHead (first_payload (message_of correlation saying).frames) (kind_of saying) correlation (partition_of saying)
 said_head correlation saying c placed =

@@ -12,10 +12,18 @@ use Rattle.message_frames.specs.Grammar.{Unfragmented, is_piece}
 use Rattle.client_codecs.specs.Authentications.{authentication_kind, ping_kind}
 use Rattle.map_codecs.specs.SpelledCalls as maps
 use Rattle.queue_codecs.specs.SpelledCalls as queues
-use Rattle.compose_words.specs.Sayings.{message_of, no_partition, version}
-use Rattle.compose_words.specs.Layout.{kind_of, partition_of, payload_of, parts_of, first_flags, frames_with}
+use Rattle.compose_words.specs.Sayings.{message_of, no_partition, version, first_flags}
+use Rattle.compose_words.specs.Layout.{kind_of, partition_of, payload_of, parts_of, frames_with}
 use Rattle.compose_words.specs.declared.saying.Saying.{Saying}
-use Rattle.compose_words.specs.declared.saying.Saying.TheVariants.{Hello, Ping, OnMap, OnQueue}
+use Rattle.compose_words.specs.declared.saying.Saying.TheVariants.{Hello, Ping, OnMap, OnQueue, WaitOnMap, WaitOnQueue, Listen}
+use Rattle.compose_words.specs.declared.saying.Listening.{Listening}
+use Rattle.compose_words.specs.declared.saying.Listening.TheVariants.{Entries, Invalidations, Rows}
+use Rattle.compose_words.specs.declared.saying.MapWait.{MapWait}
+use Rattle.compose_words.specs.declared.saying.MapWait.TheVariants as map_waits
+use Rattle.compose_words.specs.declared.saying.QueueWait.{QueueWait}
+use Rattle.compose_words.specs.declared.saying.QueueWait.TheVariants as queue_waits
+use Rattle.compose_words.specs.Waits.{plain_of, plain_of_queue, kind_of_map_wait, kind_of_queue_wait}
+use Rattle.compose_words.specs.Listenings.{kind_of_listening}
 
 -- ---- each call on an entry, each call on a queue
 
@@ -131,6 +139,39 @@ queue_kind_apart (Size name) = (refl, refl)
 queue_kind_apart (RemainingCapacity name) = (refl, refl)
 queue_kind_apart (Clear name) = (refl, refl)
 
+-- ---- each call that may wait, each registration
+
+map_wait_small : (wait : MapWait) → kind_of_map_wait wait < 2 ^ 31
+map_wait_small (map_waits.Lock name key owner lease) = lit< tt
+map_wait_small (map_waits.Put name key owner value ttl) = lit< tt
+
+queue_wait_small : (wait : QueueWait) → kind_of_queue_wait wait < 2 ^ 31
+queue_wait_small (queue_waits.Offer name value) = lit< tt
+queue_wait_small (queue_waits.Poll name) = lit< tt
+
+listening_small : (listening : Listening) → kind_of_listening listening < 2 ^ 31
+listening_small (Entries name with_value) = lit< tt
+listening_small (Invalidations name) = lit< tt
+listening_small Rows = lit< tt
+
+pub map_wait_apart : (wait : MapWait) → IsApart (kind_of_map_wait wait)
+map_wait_apart (map_waits.Lock name key owner lease) = (refl, refl)
+map_wait_apart (map_waits.Put name key owner value ttl) = (refl, refl)
+
+pub queue_wait_apart : (wait : QueueWait) → IsApart (kind_of_queue_wait wait)
+queue_wait_apart (queue_waits.Offer name value) = (refl, refl)
+queue_wait_apart (queue_waits.Poll name) = (refl, refl)
+
+pub listening_apart : (listening : Listening) → IsApart (kind_of_listening listening)
+listening_apart (Entries name with_value) = (refl, refl)
+listening_apart (Invalidations name) = (refl, refl)
+listening_apart Rows = (refl, refl)
+
+listening_form : (correlation : ℤ) (listening : Listening) → is_piece (Unfragmented (message_of correlation (Listen listening)).frames) ≡ true
+listening_form correlation (Entries name with_value) = refl
+listening_form correlation (Invalidations name) = refl
+listening_form correlation Rows = refl
+
 -- ---- each saying
 
 pub kind_small : (saying : Saying) → kind_of saying < 2 ^ 31
@@ -138,18 +179,27 @@ kind_small (Hello authentication) = lit< tt
 kind_small Ping = lit< tt
 kind_small (OnMap call) = map_kind_small call
 kind_small (OnQueue partition call) = queue_kind_small call
+kind_small (WaitOnMap wait timeout) = map_wait_small wait
+kind_small (WaitOnQueue partition wait timeout) = queue_wait_small wait
+kind_small (Listen listening) = listening_small listening
 
 pub form_is : (correlation : ℤ) (saying : Saying) → is_piece (Unfragmented (message_of correlation saying).frames) ≡ true
 form_is correlation (Hello authentication) = refl
 form_is correlation Ping = refl
 form_is correlation (OnMap call) = map_form (first_payload (message_of correlation (OnMap call)).frames) call
 form_is correlation (OnQueue partition call) = queue_form (first_payload (message_of correlation (OnQueue partition call)).frames) call
+form_is correlation (WaitOnMap wait timeout) = map_form (first_payload (message_of correlation (WaitOnMap wait timeout)).frames) (plain_of wait)
+form_is correlation (WaitOnQueue partition wait timeout) = queue_form (first_payload (message_of correlation (WaitOnQueue partition wait timeout)).frames) (plain_of_queue wait)
+form_is correlation (Listen listening) = listening_form correlation listening
 
 pub payload_is : (correlation : ℤ) (saying : Saying) → first_payload (message_of correlation saying).frames ≡ payload_of correlation saying
 payload_is correlation (Hello authentication) = append_assoc (request_head authentication_kind correlation no_partition) (uuid_bytes authentication.client) (version ∷ [])
 payload_is correlation Ping = sym (append-nil (request_head (kind_of Ping) correlation (partition_of Ping)))
 payload_is correlation (OnMap call) = append-nil (payload_of correlation (OnMap call))
 payload_is correlation (OnQueue partition call) = refl
+payload_is correlation (WaitOnMap wait timeout) = append-nil (payload_of correlation (WaitOnMap wait timeout))
+payload_is correlation (WaitOnQueue partition wait timeout) = append-nil (payload_of correlation (WaitOnQueue partition wait timeout))
+payload_is correlation (Listen listening) = refl
 
 with_payload : (flags : ℕ) (payload other : List ℕ) (parts : List (List ℕ)) → flags ≡ first_flags parts → payload ≡ other → record { flags = flags; payload = payload } ∷ with_parts parts [] ≡ frames_with other parts
 with_payload flags payload other parts f p = ap (λ n. record { flags = n; payload = payload } ∷ with_parts parts []) f ∙ ap (λ bytes. frames_with bytes parts) p
@@ -159,3 +209,7 @@ frames_are correlation (Hello authentication) = with_payload unfragmented _ _ (a
 frames_are correlation Ping = ap (λ bytes. frames_with bytes []) (payload_is correlation Ping)
 frames_are correlation (OnMap call) = with_payload unfragmented _ _ (maps.parts_of call) (sym (map_flags call)) (payload_is correlation (OnMap call))
 frames_are correlation (OnQueue partition call) = with_payload unfragmented _ _ (queues.parts_of call) (sym (queue_flags call)) (payload_is correlation (OnQueue partition call))
+frames_are correlation (WaitOnMap wait timeout) = with_payload unfragmented _ _ (maps.parts_of (plain_of wait)) (sym (map_flags (plain_of wait))) (payload_is correlation (WaitOnMap wait timeout))
+frames_are correlation (WaitOnQueue partition wait timeout) =
+    with_payload unfragmented _ _ (queues.parts_of (plain_of_queue wait)) (sym (queue_flags (plain_of_queue wait))) (payload_is correlation (WaitOnQueue partition wait timeout))
+frames_are correlation (Listen listening) = refl

@@ -73,7 +73,7 @@ pub record IsSayable (call : MapCall) : Type 0 where
   pub numbers : All (FitsSigned w64) (numbers_of call)
   pub processor : IfSome (processor_of call) (FitsSigned w32)
 
-clients_call : (client : ClientKey) (call : MapCall) → IsSayable call → IsCallOf client (made_by client call)
+pub clients_call : (client : ClientKey) (call : MapCall) → IsSayable call → IsCallOf client (made_by client call)
 clients_call client (Put name key owner value ttl) s = record { name = s.name; key = s.key; caller = refl; numbers = s.numbers; processor = tt }
 clients_call client (Set name key owner value ttl) s = record { name = s.name; key = s.key; caller = refl; numbers = s.numbers; processor = tt }
 clients_call client (PutIfAbsent name key owner value ttl) s = record { name = s.name; key = s.key; caller = refl; numbers = s.numbers; processor = tt }
@@ -102,6 +102,14 @@ map_read client correlation partition call s =
     in
     ap (λ (found : Result MapCall CallRefused). either_call found (queue_call_of message)) read
 
+-- a message whose type no call on an entry has
+pub no_map_kind : (client : ClientKey) (message : Message) (kind : ℕ) → kind_in (first_payload message.frames) ≡ Some kind → reader_in (Some kind) map_calls ≡ None → map_call_of client message ≡ Err UnknownType
+unfolding map_call_of
+no_map_kind client message kind e none =
+    let payload = first_payload message.frames in
+    ap (λ (found : Option ℕ). call_by client payload (drop 1 message.frames) (reader_in found map_calls)) e
+    ∙ ap (λ (reader : Option Reader). call_by client payload (drop 1 message.frames) reader) none
+
 -- no call on an entry has the type of a call on a queue
 no_reader : (call : QueueCall) → reader_in (Some (queues.kind_of_call call)) map_calls ≡ None
 no_reader (Offer name value) = refl
@@ -111,16 +119,9 @@ no_reader (Size name) = refl
 no_reader (RemainingCapacity name) = refl
 no_reader (Clear name) = refl
 
-no_map_call : (client : ClientKey) (message : Message) (call : QueueCall) → kind_in (first_payload message.frames) ≡ Some (queues.kind_of_call call) → map_call_of client message ≡ Err UnknownType
-unfolding map_call_of
-no_map_call client message call e =
-    let payload = first_payload message.frames in
-    ap (λ (kind : Option ℕ). call_by client payload (drop 1 message.frames) (reader_in kind map_calls)) e
-    ∙ ap (λ (reader : Option Reader). call_by client payload (drop 1 message.frames) reader) (no_reader call)
-
 pub queue_read : (client : ClientKey) (correlation : ℤ) (partition : ℕ) (call : QueueCall) → kind_in (first_payload (queues.call_message correlation partition call [] []).frames) ≡ Some (queues.kind_of_call call)
     → queues.IsCall call → partition < PARTITIONS → call_of client (queues.call_message correlation partition call [] []) ≡ Ok (calls.Queue call)
 queue_read client correlation partition call kind is within =
     let message = queues.call_message correlation partition call [] [] in
-    ap (λ (found : Result MapCall CallRefused). either_call found (queue_call_of message)) (no_map_call client message call kind)
+    ap (λ (found : Result MapCall CallRefused). either_call found (queue_call_of message)) (no_map_kind client message (queues.kind_of_call call) kind (no_reader call))
     ∙ ap (either_call (Err UnknownType)) (queue_sent_again correlation partition call [] [] is within)

@@ -1,8 +1,9 @@
 -- What is said goes on any stream of a connection that has room for it.
 use Rattle.std.proofs.Common.{◌≡◌, ℕ, ◌+◌, ℤ, SFits, to_z, of_z, true, List, [], ◌∷◌, ◌++◌, length, None, Result, Ok, Err, refl, sym, ap, subst, ◌∙◌, append_assoc, append-nil, arith}
-use Rattle.std.specs.Prelude.{IfOk, OnOk}
+use Rattle.std.specs.Prelude.{IfOk, OnOk, IfSome}
 use Rattle.std.specs.List.{flat_map}
-use Rattle.std.specs.Int.{w64}
+use Rattle.std.specs.Int.{w32, w64}
+use Rattle.std.specs.Int.RustNames.{FitsSigned}
 use Rattle.std.proofs.lemmas.Int.{to_z-of_z}
 use Rattle.std.proofs.lemmas.List.Concat.{flat_map-append}
 use Rattle.frame_codec.specs.Laws.{spelled}
@@ -12,6 +13,7 @@ use Rattle.message_frames.specs.Writing.{IsWritable}
 use Rattle.message_frames.specs.declared.message.Message.{Message}
 use Rattle.message_frames.proofs.HeardPieces.{grammar_heard}
 use Rattle.message_frames.proofs.Written.{written_message_heard}
+use Rattle.map_codecs.specs.SpelledCalls.{processor_of}
 use Rattle.session_core.specs.Items.{identity_after_all, item_of, items_from, items_of}
 use Rattle.session_core.proofs.ItemLists.{items_from-append, identity_after_all-append}
 use Rattle.compose_words.specs.Sayings.{message_of, bytes_of, IsPlaced, IsNamed, IsKeyed, FitMessage}
@@ -19,10 +21,17 @@ use Rattle.compose_words.specs.Sessions.{item_said, identity_said, Say}
 use Rattle.compose_words.specs.Layout.{payload_of, parts_of, frames_with, NumbersFit}
 use Rattle.compose_words.specs.declared.refusal.SayRefused.{SayRefused}
 use Rattle.compose_words.specs.declared.saying.Saying.{Saying}
-use Rattle.compose_words.specs.declared.saying.Saying.TheVariants.{Hello, Ping, OnMap, OnQueue}
+use Rattle.compose_words.specs.declared.saying.Saying.TheVariants.{Hello, Ping, OnMap, OnQueue, WaitOnMap, WaitOnQueue, Listen}
+use Rattle.compose_words.specs.Waits.{plain_of}
+use Rattle.compose_words.specs.declared.saying.MapWait.{MapWait}
+use Rattle.compose_words.specs.declared.saying.MapWait.TheVariants as map_waits
 use Rattle.compose_words.proofs.Layouts.{form_is, frames_are}
 use Rattle.compose_words.proofs.Heads.{said_head}
 use Rattle.compose_words.proofs.Items.{CanBeSaid, item_is_said, client_is_said}
+
+no_processor : (wait : MapWait) → IfSome (processor_of (plain_of wait)) (FitsSigned w32)
+no_processor (map_waits.Lock name key owner lease) = tt
+no_processor (map_waits.Put name key owner value ttl) = tt
 
 -- what is named and keyed can be said
 pub can_be_said : (saying : Saying) → IsNamed saying → IsKeyed saying → NumbersFit saying → CanBeSaid saying
@@ -30,6 +39,10 @@ can_be_said (Hello authentication) named keyed numbers = record { fits = numbers
 can_be_said Ping named keyed numbers = tt
 can_be_said (OnMap call) named keyed numbers = record { name = named; key = keyed; numbers = numbers.0; processor = numbers.1 }
 can_be_said (OnQueue partition call) named keyed numbers = named
+can_be_said (WaitOnMap wait timeout) named keyed numbers =
+    (record { name = named; key = keyed; numbers = numbers.0; processor = no_processor wait }, numbers.1)
+can_be_said (WaitOnQueue partition wait timeout) named keyed numbers = (named, numbers)
+can_be_said (Listen listening) named keyed numbers = named
 
 pub writable : (correlation : ℤ) (saying : Saying) → FitMessage (message_of correlation saying).frames → IsWritable (message_of correlation saying).frames
 writable correlation saying fit = record { each = fit.each; form = form_is correlation saying; fits = fit.all }
@@ -81,7 +94,7 @@ module _ (correlation : ℤ) (saying : Saying) (fits : SFits w64 correlation) (p
         client = λ conn. ap (identity_after_all conn None) messages ∙ client_longer conn (messages_of true (stream_of true pieces));
       }
 
-laid_out_same : (correlation : ℤ) (saying : Saying) (payload : List ℕ) (parts : List (List ℕ)) → payload ≡ payload_of correlation saying → parts ≡ parts_of saying
+pub laid_out_same : (correlation : ℤ) (saying : Saying) (payload : List ℕ) (parts : List (List ℕ)) → payload ≡ payload_of correlation saying → parts ≡ parts_of saying
     → frames_with payload parts ≡ (message_of correlation saying).frames
 laid_out_same correlation saying payload parts p ps = (λ i. frames_with (p i) (ps i)) ∙ sym (frames_are correlation saying)
 

@@ -1,12 +1,13 @@
 -- Frames are appended one after another, and make a message.
-use Rattle.std.proofs.Common.{◌≡◌, ℕ, ◌+◌, ◌<◌, ◌≤◌, ℤ, SFits, to_z, of_z, List, [], ◌∷◌, suc, ◌++◌, length, get_or, map, take, refl, sym, ap, subst, ◌∙◌, append_assoc, append-nil, length-append, arith}
+use Rattle.std.proofs.Common.{◌≡◌, ℕ, ◌+◌, ◌<◌, ◌≤◌, ◌&&◌, Bool, true, false, All, ℤ, SFits, to_z, of_z, List, [], ◌∷◌, suc, ◌++◌, length, get_or, map, take, refl, sym, ap, subst, ◌∙◌, append_assoc, append-nil, length-append, arith}
 use Rattle.std.specs.Prelude.{sum_by}
+use Rattle.std.specs.List.{AllByRecursion}
 use Rattle.std.specs.Int.{w64}
 use Rattle.std.proofs.lemmas.Int.{to_z-of_z}
-use Rattle.std.proofs.lemmas.Bool.{and_from, le-leb}
+use Rattle.std.proofs.lemmas.Bool.{and_from, le-leb, leb-true}
 use Rattle.std.proofs.lemmas.Grind.{flat_map-append}
 use Rattle.std.proofs.lemmas.List.{map-append, take_more}
-use Rattle.std.proofs.lemmas.List.Elements.{All-nil, All-append}
+use Rattle.std.proofs.lemmas.List.Elements.{All-nil, All-append, All-from_recursion, recursion_from_All}
 use Rattle.std.proofs.lemmas.List.Sums.{sum_by-cons}
 use Rattle.frame_codec.specs.Frames.{frame_bytes, frame_length}
 use Rattle.frame_codec.specs.Laws.{IsWithinLimits, spelled}
@@ -17,7 +18,7 @@ use Rattle.fixed_fields.specs.Responses.{final}
 use Rattle.fixed_fields.specs.Spelled.{with_parts}
 use Rattle.message_frames.specs.Assembly.{most_frames, most_length}
 use Rattle.compose_words.specs.Sayings.{FitMessage}
-use Rattle.compose_words.specs.Layout.{Appended, inner_frame, frames_with}
+use Rattle.compose_words.specs.Layout.{Appended, IsShort, inner_frame, frames_with}
 
 pub appended_none : (out : List ℕ) → Appended out out []
 appended_none out = record { bytes = sym (append-nil out); limits = All-nil IsWithinLimits }
@@ -78,6 +79,33 @@ laid payload bytes parts a short few =
     let size : sum_by frame_length frames ≤ most_length = subst (λ n. n ≤ most_length) (ap length a.bytes ∙ spelled_length frames) short in
     let count : length frames ≤ most_frames = omega (arith, few, parts_length parts) in
     record { each = a.limits; all = and_from _ _ (le-leb _ _ count) (le-leb _ _ size) }
+
+-- ---- what fits a message
+
+short_by : (parts : List (List ℕ)) → AllByRecursion IsWithinLimits (with_parts parts []) → AllByRecursion IsShort parts
+short_by [] all = tt
+short_by (part ∷ []) all = (all.0.1, tt)
+short_by (part ∷ next ∷ parts) all = (all.0.1, short_by (next ∷ parts) all.1)
+
+-- has short parts,
+pub short_of : (payload : List ℕ) (parts : List (List ℕ)) → FitMessage (frames_with payload parts) → IsShort payload × All IsShort parts
+short_of payload parts fit =
+    let all = recursion_from_All IsWithinLimits (frames_with payload parts) fit.each in
+    (all.0.1, All-from_recursion IsShort parts (short_by parts all.1))
+
+both_true : (a b : Bool) → (a && b) ≡ true → (a ≡ true) × (b ≡ true)
+both_true true b e = (refl, e)
+both_true false b e = absurd cc
+
+-- few of them, and isn't long
+pub laid_within : (payload bytes : List ℕ) (parts : List (List ℕ)) → Appended [] bytes (frames_with payload parts) → FitMessage (frames_with payload parts) → (length bytes ≤ most_length) × (length parts < most_frames)
+laid_within payload bytes parts a fit =
+    let frames = frames_with payload parts in
+    let both = both_true _ _ fit.all in
+    let size : length bytes ≡ sum_by frame_length frames = ap length a.bytes ∙ spelled_length frames in
+    let count : length frames ≤ most_frames = leb-true _ _ both.0 in
+    let sum : sum_by frame_length frames ≤ most_length = leb-true _ _ both.1 in
+    (omega (arith, size, sum), omega (arith, count, parts_length parts))
 
 -- ---- numbers
 

@@ -1,3 +1,5 @@
+pub mod Waits
+pub mod Listenings
 pub mod Sayings
 pub mod Sessions
 pub mod Layout

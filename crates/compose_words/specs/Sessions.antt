@@ -20,9 +20,11 @@ use Rattle.queue_codecs.specs.SpelledCalls as queues
 use Rattle.session_core.specs.Items.{is_accepted, client_of, identity_after_all, items_of}
 use Rattle.session_core.specs.Places.{partition_of_key}
 use Rattle.session_core.specs.declared.item.Item.{Item}
-use Rattle.session_core.specs.declared.item.Item.TheVariants.{Call, Reply}
+use Rattle.session_core.specs.declared.item.Item.TheVariants.{Call, Wait, Register, Reply}
 use Rattle.compose_words.specs.declared.saying.Saying.{Saying}
-use Rattle.compose_words.specs.declared.saying.Saying.TheVariants.{Hello, Ping, OnMap, OnQueue}
+use Rattle.compose_words.specs.declared.saying.Saying.TheVariants.{Hello, Ping, OnMap, OnQueue, WaitOnMap, WaitOnQueue, Listen}
+use Rattle.compose_words.specs.Waits.{plain_of, plain_of_queue, kind_of_map_wait, kind_of_queue_wait}
+use Rattle.compose_words.specs.Listenings.{registration_of}
 
 -- a thread of that client
 abbrev pub thread_of : ClientKey → Owner → Owner
@@ -50,7 +52,8 @@ made_by client (SetMaxIdle name key owner value ttl idle) = SetMaxIdle name key 
 
 -- ---- the item
 
--- what a known client's saying gives that is no authentication: a ping is answered, and a call is exactly that call, in the partition of its key or the queue's
+-- What a known client's saying gives that is no authentication: a ping is answered, a call is exactly that call, in the partition of its key or the
+-- queue's, a call that may wait is that one with its timeout, and a registration is exactly that one, under its correlation.
 abbrev pub served_item : CallId → ClientKey → ℤ → Saying → Item
 served_item id client correlation (Hello authentication) = Reply (error_bytes correlation (pos not_authenticated) (pos 0) (pos 0))
 served_item id client correlation Ping = Reply (void_bytes ping_kind correlation)
@@ -70,6 +73,27 @@ served_item id client correlation (OnQueue partition call) =
       partition = partition;
       call = Queue call;
     })
+served_item id client correlation (WaitOnMap wait timeout) =
+    Wait
+    (record {
+      id = id;
+      correlation = correlation;
+      kind = kind_of_map_wait wait;
+      partition = partition_of_key (key_of (plain_of wait));
+      call = Map (made_by client (plain_of wait));
+    })
+    timeout
+served_item id client correlation (WaitOnQueue partition wait timeout) =
+    Wait
+    (record {
+      id = id;
+      correlation = correlation;
+      kind = kind_of_queue_wait wait;
+      partition = partition;
+      call = Queue (plain_of_queue wait);
+    })
+    timeout
+served_item id client correlation (Listen listening) = Register (registration_of correlation listening)
 
 -- nothing but an authentication is served before one was accepted
 abbrev pub item_after : CallId → Option ClientKey → ℤ → Saying → Item
@@ -82,6 +106,9 @@ item_said member id identity correlation (Hello authentication) = Reply (authent
 item_said member id identity correlation Ping = item_after id identity correlation Ping
 item_said member id identity correlation (OnMap call) = item_after id identity correlation (OnMap call)
 item_said member id identity correlation (OnQueue partition call) = item_after id identity correlation (OnQueue partition call)
+item_said member id identity correlation (WaitOnMap wait timeout) = item_after id identity correlation (WaitOnMap wait timeout)
+item_said member id identity correlation (WaitOnQueue partition wait timeout) = item_after id identity correlation (WaitOnQueue partition wait timeout)
+item_said member id identity correlation (Listen listening) = item_after id identity correlation (Listen listening)
 
 -- who the client is after it: a hello to this grid's cluster makes one known
 abbrev pub identity_said : ℕ → Option ClientKey → Saying → Option ClientKey
@@ -89,6 +116,9 @@ identity_said conn identity (Hello authentication) = if is_accepted authenticati
 identity_said conn identity Ping = identity
 identity_said conn identity (OnMap call) = identity
 identity_said conn identity (OnQueue partition call) = identity
+identity_said conn identity (WaitOnMap wait timeout) = identity
+identity_said conn identity (WaitOnQueue partition wait timeout) = identity
+identity_said conn identity (Listen listening) = identity
 
 -- ---- the connection
 

@@ -1,10 +1,12 @@
 //! What is said, as a line of a script.
-ghost use Rattle.std.specs.Prelude.{◌≡◌, ◌++◌, ◌∷◌, [], ◌≤◌, OnOk, length};
+ghost use Rattle.std.specs.Prelude.{◌≡◌, ◌≢◌, ◌↔◌, ◌++◌, ◌∷◌, [], ◌<◌, ◌≤◌, OnOk, IsErrOf, length};
 ghost use Rattle.hex.specs.Hex.{encode_lower};
 ghost use Rattle.script_lang.specs.Words.{newline};
-ghost use Rattle.compose_words.specs.Sayings.{bytes_of, IsPlaced};
+ghost use Rattle.script_lang.specs.Spelling.{spelled};
+ghost use Rattle.script_lang.specs.declared.line.Line.TheVariants.{Arrive};
+ghost use Rattle.compose_words.specs.Sayings.{bytes_of, IsPlaced, IsNamed, IsKeyed};
 ghost use Rattle.compose_words.specs.Sessions.{Say};
-ghost use Rattle.compose_words.specs.Lines.{arrival_line, opening};
+ghost use Rattle.compose_words.specs.Lines.{arrival_line, opening, FitsLine};
 
 use crate::message::say;
 use crate::refusal::SayRefused;
@@ -33,7 +35,11 @@ pub fn write_arrival(
     bytes: &[u8],
     out: &mut Vec<u8>,
 ) -> Result<(), SayRefused>
-    ensures { OnOk result (out.new.items ≡ out.old.items ++ arrival_line conn bytes.now) }
+    ensures line { OnOk result (out.new.items ≡ out.old.items ++ arrival_line conn bytes.now) }
+    ensures short { OnOk result (length (spelled (Arrive conn bytes.now)) ≤ MOST_LINE_BYTES) }
+    ensures long { IsErrOf result SayRefused.Long → MOST_LINE_BYTES < length (spelled (Arrive conn bytes.now)) }
+    ensures named { result ≢ Err SayRefused.Name }
+    ensures keyed { result ≢ Err SayRefused.Key }
 {
     let before = out.len();
     out.extend_from_slice(b"bytes ")?;
@@ -57,8 +63,8 @@ fn opening(begun: bool) -> &'static [u8]
 /// Appends the line of a script at which this is said on a connection, which begins with the prefix where nothing was
 /// said there before. Copies each name, key and value.
 ///
-/// `Name`, `Key` and `Long` as `say` has them; `Long` also where the line is longer than one may be. After an `Err` the
-/// line may stand in part.
+/// `Name`, `Key` and `Long` as `say` has them; `Long` also where the line is longer than one may be, its newline not
+/// counted. After an `Err` the line may stand in part.
 pub fn write_say_line(
     alloc: Global,
     conn: u32,
@@ -71,6 +77,10 @@ pub fn write_say_line(
     ensures line { OnOk result (out.new.items ≡ out.old.items ++ arrival_line conn (opening begun ++ bytes_of correlation saying.now)) }
     // Wherever the message's bytes come on a connection, its session makes of them exactly the item that this says.
     ensures heard { OnOk result (Say correlation saying.now (bytes_of correlation saying.now)) }
+    ensures fits { OnOk result (FitsLine conn begun correlation saying.now) }
+    ensures long { IsErrOf result SayRefused.Long → ¬ (FitsLine conn begun correlation saying.now) }
+    ensures name { IsErrOf result SayRefused.Name ↔ ¬ (IsNamed saying.now) }
+    ensures key { IsErrOf result SayRefused.Key ↔ (IsNamed saying.now × ¬ (IsKeyed saying.now)) }
 {
     let message = say(alloc, correlation, saying)?;
     let mut bytes = Vec::from_slice(alloc, opening(begun))?;

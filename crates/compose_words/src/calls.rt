@@ -67,7 +67,12 @@ fn write_two(first: i64, second: i64, out: &mut Vec<u8>) -> Result<(), Memory>
 }
 
 /// or three.
-fn write_three(first: i64, second: i64, third: i64, out: &mut Vec<u8>) -> Result<(), Memory>
+pub(crate) fn write_three(
+    first: i64,
+    second: i64,
+    third: i64,
+    out: &mut Vec<u8>,
+) -> Result<(), Memory>
     ensures { OnOk result (out.new.items ≡ out.old.items ++ (int64_bytes first ++ (int64_bytes second ++ int64_bytes third))) }
 {
     write_int64(first, out)?;
@@ -122,7 +127,7 @@ pub(crate) fn one_part(alloc: Global, first: &Bytes) -> Result<Vec<Bytes>, Memor
 }
 
 /// of two,
-fn two_parts(alloc: Global, first: &Bytes, second: &Bytes) -> Result<Vec<Bytes>, Memory>
+pub(crate) fn two_parts(alloc: Global, first: &Bytes, second: &Bytes) -> Result<Vec<Bytes>, Memory>
     ensures { IfOk result (λ parts. parts.items ≡ first.now ∷ second.now ∷ []) }
 {
     let mut parts = one_part(alloc, first)?;
@@ -131,7 +136,7 @@ fn two_parts(alloc: Global, first: &Bytes, second: &Bytes) -> Result<Vec<Bytes>,
 }
 
 /// of three,
-fn three_parts(
+pub(crate) fn three_parts(
     alloc: Global,
     first: &Bytes,
     second: &Bytes,
@@ -266,7 +271,7 @@ fn one_fits(_first: i64)
     ensures { All (FitsSigned w64) (_first ∷ []) }
 {}
 
-fn two_fit(_first: i64, _second: i64)
+pub(crate) fn two_fit(_first: i64, _second: i64)
     ensures { All (FitsSigned w64) (_first ∷ _second ∷ []) }
 {}
 

@@ -3,11 +3,13 @@
 
 mod arrival;
 mod calls;
+mod listening;
 mod message;
 mod refusal;
 mod saying;
+mod waits;
 
 pub use arrival::{write_arrival, write_say_line};
 pub use message::say;
 pub use refusal::SayRefused;
-pub use saying::Saying;
+pub use saying::{Listening, MapWait, QueueWait, Saying};

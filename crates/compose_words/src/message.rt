@@ -1,17 +1,20 @@
 //! What is said, as the bytes of its message.
-ghost use Rattle.std.specs.Prelude.{◌≡◌, ◌≢◌, ◌↔◌, ◌<◌, ◌^◌, ◌++◌, ◌∷◌, [], map, IsTrue, IfOk, OnOk, IsErrOf};
+ghost use Rattle.std.specs.Prelude.{◌≡◌, ◌≢◌, ◌↔◌, ◌<◌, ◌≤◌, ◌^◌, ◌++◌, ◌∷◌, [], pos, length, map, All, IsTrue, IfOk, OnOk, IsErrOf};
 ghost use Rattle.std.specs.Str.{IsUtf8};
+ghost use Rattle.std.specs.Int.{w64};
+ghost use Rattle.std.specs.Int.RustNames.{FitsSigned};
 ghost use Rattle.frame_codec.specs.Laws.{spelled};
 ghost use Rattle.fixed_fields.specs.Spelled.{with_parts};
-ghost use Rattle.compose_words.specs.Sayings.{bytes_of, IsPlaced, IsNamed, IsKeyed, FitMessage};
+ghost use Rattle.session_core.specs.Places.{partition_of_key};
+ghost use Rattle.compose_words.specs.Sayings.{message_of, bytes_of, first_flags, IsPlaced, IsNamed, IsKeyed, FitMessage};
 ghost use Rattle.compose_words.specs.Sessions.{Say};
-ghost use Rattle.compose_words.specs.Layout.{kind_of, partition_of as stated_in, fields_of, parts_of, payload_of, first_flags, frames_with, inner_frame, Appended, NumbersFit};
+ghost use Rattle.compose_words.specs.Layout.{kind_of, partition_of as stated_in, fields_of, parts_of, payload_of, frames_with, inner_frame, Appended, IsShort, NumbersFit};
 
 use crate::calls::{
     map_kind, map_numbers_fit, map_parts, one_part, queue_kind, queue_parts, write_fields,
 };
 use crate::refusal::SayRefused;
-use crate::saying::Saying;
+use crate::saying::{Listening, Saying};
 use client_codecs::{AUTHENTICATION_KIND, PING_KIND};
 use fixed_fields::{write_int32, write_int64, write_uuid};
 use frame_codec::flags::{FINAL, UNFRAGMENTED};
@@ -44,7 +47,19 @@ fn kind_of(saying: &Saying) -> u32
         Saying::Ping => PING_KIND,
         Saying::OnMap(call) => map_kind(call),
         Saying::OnQueue { call, .. } => queue_kind(call),
+        Saying::WaitOnMap { wait, .. } => wait.kind(),
+        Saying::WaitOnQueue { wait, .. } => wait.kind(),
+        Saying::Listen(listening) => listening.kind(),
     }
+}
+
+/// The partition of a key.
+fn partition_of_key(key: &Bytes) -> i32
+    requires { 8 ≤ length key.now }
+    ensures { result ≡ pos (partition_of_key key.now) }
+{
+    let hash = key_hash(key.as_slice()).unwrap();
+    i32::from(partition_of(hash))
 }
 
 /// The partition that the message states.
@@ -53,12 +68,12 @@ fn stated_partition(saying: &Saying) -> i32
     ensures { result ≡ stated_in saying.now }
 {
     match saying {
-        Saying::Hello(_) | Saying::Ping => NO_PARTITION,
-        Saying::OnMap(call) => {
-            let hash = key_hash(call.key().as_slice()).unwrap();
-            i32::from(partition_of(hash))
+        Saying::Hello(_) | Saying::Ping | Saying::Listen(_) => NO_PARTITION,
+        Saying::OnMap(call) => partition_of_key(call.key()),
+        Saying::WaitOnMap { wait, .. } => partition_of_key(wait.key()),
+        Saying::OnQueue { partition, .. } | Saying::WaitOnQueue { partition, .. } => {
+            i32::from(*partition)
         }
-        Saying::OnQueue { partition, .. } => i32::from(*partition),
     }
 }
 
@@ -73,6 +88,9 @@ fn write_behind_head(saying: &Saying, out: &mut Vec<u8>) -> Result<(), Memory>
             Ok(())
         }
         Saying::OnMap(call) => write_fields(call, out),
+        Saying::WaitOnMap { wait, timeout } => wait.write_fields(*timeout, out),
+        Saying::WaitOnQueue { timeout, .. } => write_int64(*timeout, out),
+        Saying::Listen(listening) => listening.write_fields(out),
         Saying::Ping | Saying::OnQueue { .. } => Ok(()),
     }
 }
@@ -99,12 +117,16 @@ fn parts_of(alloc: Global, saying: &Saying) -> Result<Vec<Bytes>, Memory>
         Saying::Ping => Ok(Vec::new(alloc)),
         Saying::OnMap(call) => map_parts(alloc, call),
         Saying::OnQueue { call, .. } => queue_parts(alloc, call),
+        Saying::WaitOnMap { wait, .. } => wait.parts(alloc),
+        Saying::WaitOnQueue { wait, .. } => wait.parts(alloc),
+        Saying::Listen(listening) => listening.parts(alloc),
     }
 }
 
 /// Appends a frame with these flags and this payload.
 fn write_part(flags: u16, part: &[u8], out: &mut Vec<u8>) -> Result<(), SayRefused>
     ensures frame { OnOk result (Appended out.old.items out.new.items (record { flags = flags; payload = part.now } ∷ [])) }
+    ensures long { IsErrOf result SayRefused.Long → ¬ (IsShort part.now) }
     ensures named { result ≢ Err SayRefused.Name }
     ensures keyed { result ≢ Err SayRefused.Key }
 {
@@ -118,6 +140,7 @@ fn write_part(flags: u16, part: &[u8], out: &mut Vec<u8>) -> Result<(), SayRefus
 /// Appends frames without flags.
 fn write_inner_parts(parts: &[Bytes], out: &mut Vec<u8>) -> Result<(), SayRefused>
     ensures frames { OnOk result (Appended out.old.items out.new.items (map inner_frame parts.now)) }
+    ensures long { IsErrOf result SayRefused.Long → ¬ (All IsShort parts.now) }
     ensures named { result ≢ Err SayRefused.Name }
     ensures keyed { result ≢ Err SayRefused.Key }
 {
@@ -130,6 +153,7 @@ fn write_inner_parts(parts: &[Bytes], out: &mut Vec<u8>) -> Result<(), SayRefuse
 /// Appends a frame for each part, of which the last ends the message.
 fn write_parts(parts: &[Bytes], out: &mut Vec<u8>) -> Result<(), SayRefused>
     ensures frames { OnOk result (Appended out.old.items out.new.items (with_parts parts.now [])) }
+    ensures long { IsErrOf result SayRefused.Long → ¬ (All IsShort parts.now) }
     ensures named { result ≢ Err SayRefused.Name }
     ensures keyed { result ≢ Err SayRefused.Key }
 {
@@ -157,6 +181,7 @@ fn first_flags(parts: &[Bytes]) -> u16
 fn laid_out(alloc: Global, payload: &[u8], parts: &[Bytes]) -> Result<Bytes, SayRefused>
     ensures bytes { IfOk result (λ bytes. bytes ≡ spelled (frames_with payload.now parts.now)) }
     ensures fit { OnOk result (FitMessage (frames_with payload.now parts.now)) }
+    ensures long { IsErrOf result SayRefused.Long → ¬ (FitMessage (frames_with payload.now parts.now)) }
     ensures named { result ≢ Err SayRefused.Name }
     ensures keyed { result ≢ Err SayRefused.Key }
 {
@@ -184,6 +209,12 @@ fn is_named(saying: &Saying) -> bool
         Saying::Ping => true,
         Saying::OnMap(call) => is_text(call.map()),
         Saying::OnQueue { call, .. } => is_text(call.queue()),
+        Saying::WaitOnMap { wait, .. } => is_text(wait.map()),
+        Saying::WaitOnQueue { wait, .. } => is_text(wait.queue()),
+        Saying::Listen(Listening::Entries { name, .. } | Listening::Invalidations { name }) => {
+            is_text(name)
+        }
+        Saying::Listen(Listening::Rows) => true,
     }
 }
 
@@ -192,7 +223,12 @@ fn is_keyed(saying: &Saying) -> bool
 {
     match saying {
         Saying::OnMap(call) => call.key().len() >= KEY_HEADER_LENGTH,
-        Saying::Hello(_) | Saying::Ping | Saying::OnQueue { .. } => true,
+        Saying::WaitOnMap { wait, .. } => wait.key().len() >= KEY_HEADER_LENGTH,
+        Saying::Hello(_)
+        | Saying::Ping
+        | Saying::OnQueue { .. }
+        | Saying::WaitOnQueue { .. }
+        | Saying::Listen(_) => true,
     }
 }
 
@@ -201,6 +237,7 @@ fn check(saying: &Saying) -> Result<(), SayRefused>
     ensures ok { OnOk result (IsNamed saying.now × IsKeyed saying.now) }
     ensures name { IsErrOf result SayRefused.Name ↔ ¬ (IsNamed saying.now) }
     ensures key { IsErrOf result SayRefused.Key ↔ (IsNamed saying.now × ¬ (IsKeyed saying.now)) }
+    ensures short { result ≢ Err SayRefused.Long }
 {
     if !is_named(saying) {
         return Err(SayRefused::Name);
@@ -215,6 +252,10 @@ fn number_fits(_number: u128)
     ensures { _number < 2 ^ 128 }
 {}
 
+fn timeout_fits(_timeout: i64)
+    ensures { FitsSigned w64 _timeout }
+{}
+
 /// The numbers of a saying are those of their types. Nothing runs here.
 fn numbers_fit(saying: &Saying)
     ensures { NumbersFit saying.now }
@@ -226,7 +267,9 @@ fn numbers_fit(saying: &Saying)
             }
         }
         Saying::OnMap(call) => map_numbers_fit(call),
-        Saying::Ping | Saying::OnQueue { .. } => {}
+        Saying::WaitOnMap { wait, timeout } => wait.numbers_fit(*timeout),
+        Saying::WaitOnQueue { timeout, .. } => timeout_fits(*timeout),
+        Saying::Ping | Saying::OnQueue { .. } | Saying::Listen(_) => {}
     }
 }
 
@@ -240,6 +283,8 @@ pub fn say(alloc: Global, correlation: i64, saying: &Saying) -> Result<Bytes, Sa
     ensures bytes { IfOk result (λ bytes. bytes ≡ bytes_of correlation saying.now) }
     // Wherever they come on a connection, its session makes of them exactly the item that this says.
     ensures heard { IfOk result (λ bytes. Say correlation saying.now bytes) }
+    ensures fit { OnOk result (FitMessage (message_of correlation saying.now).frames) }
+    ensures long { IsErrOf result SayRefused.Long → ¬ (FitMessage (message_of correlation saying.now).frames) }
     ensures name { IsErrOf result SayRefused.Name ↔ ¬ (IsNamed saying.now) }
     ensures key { IsErrOf result SayRefused.Key ↔ (IsNamed saying.now × ¬ (IsKeyed saying.now)) }
 {

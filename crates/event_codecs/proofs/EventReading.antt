@@ -27,6 +27,7 @@ use Rattle.event_codecs.specs.Events.{number_at, key_in, value_in, rows_in, Read
 use Rattle.event_codecs.specs.SpelledEvents.{kind_of_event, correlation_of, partition_of, fields_of, IsKey, IsEvent, HoldValues, HoldEvent, HasArrived, Spells}
 use Rattle.event_codecs.specs.declared.events.ClientEvent.{ClientEvent}
 use Rattle.event_codecs.specs.declared.events.ClientEvent.TheVariants.{Entry, Invalidation, Rows}
+use Rattle.event_codecs.proofs.Heads.{head_found, first_bytes}
 use Rattle.event_codecs.proofs.Numbers.{number_is}
 use Rattle.event_codecs.proofs.RowReading.{list_found}
 
@@ -75,19 +76,6 @@ pub record SpellParts (kind : ℕ) (payload : List ℕ) (frames : List Frame) (e
   pub held : HoldEvent frames event
 
 module _ (kind : ℕ) (payload : List ℕ) (frames : List Frame) (bytes : IsBytes payload) (all : All (λ frame. IsBytes frame.payload) frames) (typed : kind_of payload ≡ Some kind) where
-  record HeadIs (correlation partition : ℤ) : Type 0 where
-    correlation_fits : FitsSigned w64 correlation
-    partition_fits : FitsSigned w32 partition
-    spelled : request_head kind correlation partition ≡ take 16 payload
-
-  head_found : (correlation partition : ℤ) → int64_at payload 4 ≡ Some correlation → int32_at payload 12 ≡ Some partition → HeadIs correlation partition
-  head_found correlation partition c p =
-      let first = kind_is payload kind bytes typed in
-      let second = int64_is payload 4 correlation bytes c in
-      let third = int32_is payload 12 partition bytes p in
-      let front : to_le_bytes w32 kind ++ int64_bytes correlation ≡ take 12 payload = (λ i. first i ++ second.spelled i) ∙ take_on 4 8 payload in
-      record { correlation_fits = second.fits; partition_fits = third.fits; spelled = (λ i. front i ++ third.spelled i) ∙ take_on 12 4 payload }
-
   abbrev Found : ClientEvent → Type 0
   Found event = SpellParts kind payload frames event
 
@@ -99,7 +87,7 @@ module _ (kind : ℕ) (payload : List ℕ) (frames : List Frame) (bytes : IsByte
       behind (Found event) (key_in frames) _ event e (λ key y e.
       behind (Found event) (value_in (drop 1 frames)) _ event e (λ new n e.
       behind (Found event) (value_in (drop 1 (drop 1 frames))) _ event e (λ old o e.
-      let head = head_found correlation partition c p in
+      let head = head_found kind payload bytes typed correlation partition c p in
       let field = int32_is payload 16 change bytes k in
       let keyed = key_found frames key y in
       let third = value_holds (drop 1 (drop 1 frames)) old [] (value_of (drop 1 (drop 1 frames)) old o) tt in
@@ -122,7 +110,7 @@ module _ (kind : ℕ) (payload : List ℕ) (frames : List Frame) (bytes : IsByte
       behind (Found event) (number_at payload 20) _ event e (λ number m e.
       behind (Found event) (text_in frames) _ event e (λ name n e.
       behind (Found event) (key_in (drop 1 frames)) _ event e (λ key y e.
-      let head = head_found correlation partition c p in
+      let head = head_found kind payload bytes typed correlation partition c p in
       let first = number_is payload 16 version bytes v in
       let second = number_is payload 20 number bytes m in
       let named = text_of frames name n in
@@ -143,7 +131,7 @@ module _ (kind : ℕ) (payload : List ℕ) (frames : List Frame) (bytes : IsByte
       behind (Found event) (int64_at payload 4) _ event e (λ correlation c e.
       behind (Found event) (int32_at payload 12) _ event e (λ partition p e.
       behind (Found event) (rows_in frames) _ event e (λ rows r e.
-      let head = head_found correlation partition c p in
+      let head = head_found kind payload bytes typed correlation partition c p in
       let list = list_found frames rows all r in
       subst Found (given (Rows correlation rows) event e) (record {
         its = record { correlation = head.correlation_fits; partition = tt; parts = list.0 };
@@ -175,10 +163,6 @@ by_reader payload frames event kind None bytes all typed found e = absurd cc
 by_reader payload frames event None (Some reader) bytes all typed found e = absurd cc
 by_reader payload frames event (Some kind) (Some reader) bytes all typed found e =
     (kind, reader_keeps IsRow events every_row kind reader found payload frames event bytes all typed (ok_or_some (reader payload frames) BadCall event e))
-
-first_bytes : (frames : List Frame) → All (λ frame. IsBytes frame.payload) frames → IsBytes (first_payload frames)
-first_bytes [] all = All-nil (λ byte. byte < 256)
-first_bytes (frame ∷ frames) all = All-head (λ frame. IsBytes frame.payload) frame frames all
 
 pub found : (message : Message) (event : ClientEvent) → HasArrived message → event_of message ≡ Ok event → IsEvent event × Spells message event
 unfolding event_of

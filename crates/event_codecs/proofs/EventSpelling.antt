@@ -22,6 +22,7 @@ use Rattle.event_codecs.specs.SpelledEvents.{kind_of_event, correlation_of, part
 use Rattle.event_codecs.specs.declared.events.ClientEvent.{ClientEvent}
 use Rattle.event_codecs.specs.declared.events.ClientEvent.TheVariants.{Entry, Invalidation, Rows}
 use Rattle.event_codecs.specs.declared.seen.SeenRow.{SeenRow}
+use Rattle.event_codecs.proofs.Heads.{correlation_read, partition_read, partition_there}
 use Rattle.event_codecs.proofs.Numbers.{number_read}
 use Rattle.event_codecs.proofs.RowSpelling.{list_read}
 
@@ -33,25 +34,6 @@ value_next (frame ∷ frames) value values h = (ap (λ (plain : Bool). cond plai
 
 key_is : (frames : List Frame) (key : List ℕ) → IsKey key → data_in frames ≡ Some key → key_in frames ≡ Some key
 key_is frames key h e = let long = le-leb 8 (length key) h in rw (e, long) refl
-
--- ---- the head
-
-module _ (kind : ℕ) (correlation partition : ℤ) (behind : List ℕ) where
-  abbrev payload : List ℕ
-  payload = request_head kind correlation partition ++ behind
-
-  abbrev before_partition : List ℕ
-  before_partition = to_le_bytes w32 kind ++ int64_bytes correlation
-
-  correlation_read : FitsSigned w64 correlation → int64_at payload 4 ≡ Some correlation
-  correlation_read fits = int64_read (to_le_bytes w32 kind) before_partition (int64_bytes correlation) correlation fits refl refl (int32_bytes partition ++ behind)
-
-  partition_read : FitsSigned w32 partition → int32_at payload 12 ≡ Some partition
-  partition_read fits = int32_read before_partition behind partition fits
-
-  -- whatever number it is
-  partition_there : int32_at payload 12 ≡ Some (int32_of (int32_bytes partition))
-  partition_there = ap (option_map int32_of) (field_at-written before_partition (int32_bytes partition) behind)
 
 -- ---- events of the parts that were read
 

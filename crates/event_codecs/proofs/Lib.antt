@@ -1,9 +1,11 @@
 pub mod Listing
 pub mod Appending
 pub mod Numbers
+pub mod Heads
 pub mod Refusals
 pub mod RowSpelling
 pub mod EventSpelling
 pub mod Hearing
 pub mod RowReading
 pub mod EventReading
+pub mod RegistrationReading

@@ -1,4 +1,13 @@
-//! The message types of the events, and the kinds of change that an entry event tells.
+//! The message types of the registrations and the events, and the kinds of change that an entry event tells.
+
+/// The message type of a registration of an entry listener.
+pub const ENTRY_LISTENER_KIND: u32 = 0x01_19_00;
+
+/// The message type of a registration of an invalidation listener.
+pub const INVALIDATION_LISTENER_KIND: u32 = 0x01_3f_00;
+
+/// The message type of a registration for rows.
+pub const CLUSTER_VIEW_KIND: u32 = 0x00_03_00;
 
 /// The message type of an entry event.
 pub const ENTRY_EVENT_KIND: u32 = 0x01_19_02;

@@ -1,4 +1,4 @@
-//! Reading an event is the inverse of spelling it. The functions compute nothing: their contracts are the laws.
+//! Reading an event or a registration is the inverse of spelling it. The functions compute nothing: their contracts are the laws.
 
 ghost use Rattle.std.specs.Prelude.{◌≡◌, ◌≢◌, ◌↔◌, ℕ, ℤ, Bool, List, map, pos, Ok, Err};
 ghost use Rattle.grid_base.specs.declared.calls.Change.{Change as ChangeOf};
@@ -7,10 +7,13 @@ ghost use Rattle.message_frames.specs.declared.message.Message.{Message as Messa
 ghost use Rattle.partition_table.specs.declared.Row.{Row as RowOf};
 ghost use Rattle.event_codecs.specs.Events.{event_of};
 ghost use Rattle.event_codecs.specs.Sent.{FitMessage, AreHeardAs};
+ghost use Rattle.event_codecs.specs.Registrations.{registration_of};
 ghost use Rattle.event_codecs.specs.SpelledEvents.{HasArrived, HasOtherKind, IsEvent, Spells, SpellsNone};
+ghost use Rattle.event_codecs.specs.SpelledRegistrations.{IsRegistration, Spells as SpellsRegistration, HasOtherKind as IsNoRegistration};
 ghost use Rattle.event_codecs.specs.Writing.{entry_event, entry_frames, invalidation_frames, rows_frames, seen};
 ghost use Rattle.event_codecs.specs.declared.events.ClientEvent.{ClientEvent as EventOf};
 ghost use Rattle.event_codecs.specs.declared.events.ClientEvent.TheVariants as told;
+ghost use Rattle.event_codecs.specs.declared.registration.Registration.{Registration as RegistrationOf};
 
 /// What is read as an event is one, and its message spells it; and each event is read from every
 /// message that spells it, whatever further bytes and frames that has.
@@ -28,6 +31,21 @@ pub fn event_refusals_are_told_apart()
     ensures bad { (message : MessageOf) → HasArrived message
         → (event_of message ≡ Err BadCall) ↔ SpellsNone message }
     ensures memory { (message : MessageOf) → event_of message ≢ Err Memory }
+{}
+
+/// What is read as a registration is one, and its message spells it; and each registration is read from
+/// every message that spells it, whatever further bytes and frames that has.
+pub fn registrations_are_read_as_spelled()
+    ensures found { (message : MessageOf) (registration : RegistrationOf)
+        → HasArrived message → registration_of message ≡ Ok registration → IsRegistration registration × SpellsRegistration message registration }
+    ensures only { (message : MessageOf) (registration : RegistrationOf)
+        → IsRegistration registration → SpellsRegistration message registration → registration_of message ≡ Ok registration }
+{}
+
+/// Exactly another type is unknown, and no message says that memory is wanting.
+pub fn registration_refusals_are_told_apart()
+    ensures unknown { (message : MessageOf) → (registration_of message ≡ Err UnknownType) ↔ IsNoRegistration message }
+    ensures memory { (message : MessageOf) → registration_of message ≢ Err Memory }
 {}
 
 /// What is written is heard by a client as one message, which it reads as exactly the event that was

@@ -8,9 +8,9 @@ use Rattle.partition_protocol.specs.Service.{numbers_below}
 use Rattle.partition_protocol.specs.Events as event
 use Rattle.replay_run.specs.Runs.{Run, Connection, Arrival, partitions, world_at, is_full, connection_of, takes_bytes, can_open, event_by, bytes_arrived, next_line, took_bytes, handled, handled_all, asked, asks, arrival_at, is_skipped, items_by}
 use Rattle.replay_run.specs.AfterLines.{after_line}
-use Rattle.replay_run.specs.ScriptRuns.{IsRun, grid_begun, line_counted, clock_was_set, connection_opened, bytes_taken, answer_told, event_occurred, call_arrived, run_given_up, call_asked}
+use Rattle.replay_run.specs.ScriptRuns.{IsRun, grid_begun, line_counted, clock_was_set, connection_opened, bytes_taken, listener_was_registered, answer_told, event_occurred, call_arrived, run_given_up, call_asked}
 use Rattle.session_core.specs.declared.item.Item.{Item}
-use Rattle.session_core.specs.declared.item.Item.TheVariants.{Call as Asks, Reply}
+use Rattle.session_core.specs.declared.item.Item.TheVariants.{Call as Asks, Wait, Register, Reply}
 use Rattle.script_lang.specs.declared.line.Line.{Line}
 use Rattle.script_lang.specs.declared.line.Line.TheVariants.{OpenConn, Arrive, Clock, Flow, FlowAll, Crash, Detect, Rebalance}
 use Rattle.replay_run.proofs.Rebalanced.{rebalanced_kept}
@@ -29,6 +29,8 @@ members_asks o skips r a = either (is_full (world_at o r a.request.partition)) _
 
 members_handled : (o : Object Request Partition) (skips : List CallId) (r : Run) (connection : Connection) (item : Item) → (handled o skips r connection item).members ≡ r.members
 members_handled o skips r connection (Reply bytes) = refl
+members_handled o skips r connection (Wait request timeout) = refl
+members_handled o skips r connection (Register registration) = refl
 members_handled o skips r connection (Asks request) = members_asks o skips r (arrival_at r connection.member request)
 
 members_handled_all : (o : Object Request Partition) (skips : List CallId) (r : Run) (connection : Connection) (items : List Item) → (handled_all o skips r connection items).members ≡ r.members
@@ -62,6 +64,7 @@ has_members _ (line_counted r is) = has_members r is
 has_members _ (clock_was_set r member moment is) = has_members r is
 has_members _ (connection_opened r c member is none) = has_members r is
 has_members _ (bytes_taken r connection bytes is there) = has_members r is
+has_members _ (listener_was_registered r listener connection is there) = has_members r is
 has_members _ (answer_told r c bytes is) = has_members r is
 has_members _ (event_occurred r p event is unasked) = has_members r is
 has_members _ (call_arrived r member request is next) = has_members r is

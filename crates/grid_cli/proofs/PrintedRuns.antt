@@ -30,14 +30,14 @@ use Rattle.grid_cli.specs.declared.status.LimitWhat.{LimitWhat}
 use Rattle.grid_cli.proofs.Progress.{continued, later_line}
 
 -- the run that is printed after a line that was read
-abbrev pub printed_on : {State : Type 0} → Object Request State → List CallId → Run → List (List ℕ) → Line → Run
+abbrev pub printed_on : Object Request Partition → List CallId → Run → List (List ℕ) → Line → Run
 printed_on o skips r texts line =
     let next = after_line o skips r line in
     if next.full then r
     else if is_end line then next
     else printed_after o skips next texts
 
-abbrev pub printed_at : {State : Type 0} → Object Request State → List CallId → Run → List (List ℕ) → Result Line LineWhy → Run
+abbrev pub printed_at : Object Request Partition → List CallId → Run → List (List ℕ) → Result Line LineWhy → Run
 printed_at o skips r texts read = elim read [ Err why ↦ r | Ok line ↦ printed_on o skips r texts line ]
 
 -- parts

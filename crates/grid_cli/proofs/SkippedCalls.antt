@@ -28,7 +28,7 @@ use Rattle.grid_cli.specs.declared.status.LimitWhat.TheVariants.{InFlight}
 use Rattle.grid_cli.proofs.Progress.{continued, later_line}
 use Rattle.grid_cli.proofs.PrintedRuns.{printed_on, printed_at}
 
-printed_grows : {State : Type 0} (o : Object Request State) (skips : List CallId) (r : Run) (texts : List (List ℕ)) → Grows r (printed_after o skips r texts)
+printed_grows : (o : Object Request Partition) (skips : List CallId) (r : Run) (texts : List (List ℕ)) → Grows r (printed_after o skips r texts)
 printed_grows o skips r [] = grows_refl r
 printed_grows o skips r (text ∷ texts) = by_line (λ next. printed_grows o skips next texts) (line_of false r.members text)
   where

@@ -3,6 +3,7 @@ use Rattle.std.specs.Prelude.{◌≡◌, ℕ, false, true, if◌then◌else◌, 
 use Rattle.grid_base.specs.Objects.{Object}
 use Rattle.grid_base.specs.declared.names.CallId.{CallId}
 use Rattle.grid_base.specs.declared.calls.Request.{Request}
+use Rattle.object_store.specs.Partitions.{Partition}
 use Rattle.entry_processors.specs.Processors.{ProcessorForm}
 use Rattle.call_engine.specs.Objects.{partition_object}
 use Rattle.script_lang.specs.Lines.{line_of, is_end}
@@ -16,7 +17,7 @@ use Rattle.grid_cli.specs.Scripts.{lines_of}
 use Rattle.grid_cli.specs.Transcripts.{settings, transcript}
 
 -- The run after the lines whose text a transcript has: up to `end`, or to where a line isn't in the grammar or gives the run up.
-abbrev pub printed_after : {State : Type 0} → Object Request State → List CallId → Run → List (List ℕ) → Run
+abbrev pub printed_after : Object Request Partition → List CallId → Run → List (List ℕ) → Run
 printed_after o skips r [] = r
 printed_after o skips r (text ∷ texts) =
     elim (line_of false r.members text) [

@@ -3,6 +3,7 @@ use Rattle.std.specs.Prelude.{◌≡◌, ℕ, false, true, List, [], ◌∷◌, 
 use Rattle.grid_base.specs.Objects.{Object}
 use Rattle.grid_base.specs.declared.names.CallId.{CallId}
 use Rattle.grid_base.specs.declared.calls.Request.{Request}
+use Rattle.object_store.specs.Partitions.{Partition}
 use Rattle.script_lang.specs.Lines.{line_of}
 use Rattle.script_lang.specs.declared.line.Line.{Line}
 use Rattle.script_lang.specs.declared.line.Line.TheVariants.{Grid}
@@ -16,7 +17,7 @@ use Rattle.grid_cli.specs.Transcripts.{settings, first_line, later_lines, follow
 use Rattle.grid_cli.specs.declared.status.LimitWhat.{LimitWhat}
 
 -- the run after these lines, up to the first that isn't in the grammar
-abbrev pub run_after : {State : Type 0} → Object Request State → List CallId → Run → List (List ℕ) → Run
+abbrev pub run_after : Object Request Partition → List CallId → Run → List (List ℕ) → Run
 run_after o skips r [] = r
 run_after o skips r (text ∷ texts) = elim (line_of false r.members text) [ Err why ↦ r | Ok line ↦ run_after o skips (after_line o skips r line) texts ]
 

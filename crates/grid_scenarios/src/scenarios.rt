@@ -10,7 +10,7 @@ pub(crate) struct Subject {
 }
 
 /// All of them, in the order in which they run.
-pub(crate) const SUBJECTS: [Subject; 24] = [
+pub(crate) const SUBJECTS: [Subject; 25] = [
     Subject {
         folder: "sessions",
         scenarios: SESSIONS,
@@ -70,6 +70,10 @@ pub(crate) const SUBJECTS: [Subject; 24] = [
     Subject {
         folder: "rebalancing",
         scenarios: REBALANCING,
+    },
+    Subject {
+        folder: "listeners",
+        scenarios: LISTENERS,
     },
     Subject {
         folder: "bad_bytes",
@@ -273,7 +277,6 @@ const OBJECT_CALLS: &[(&str, u8)] = &[
     ("queue_calls_that_cannot_be_read", 0),
     ("each_map_call_states_its_partition", 0),
     ("further_parts_of_each_call", 0),
-    ("registrations_are_not_served", 0),
     ("refusals_and_answers_of_one_session", 0),
     ("calls_of_one_line", 0),
     ("a_history_names_each_call", 0),
@@ -385,6 +388,31 @@ const REBALANCING: &[(&str, u8)] = &[
     ("a_held_put_is_answered_by_a_step", 0),
     ("lost_messages_are_sent_again_by_a_step", 0),
     ("contents_go_with_their_partition", 0),
+];
+
+/// Clients that listen: what they are told, by whom, when and in which order.
+const LISTENERS: &[(&str, u8)] = &[
+    ("registrations_are_served", 0),
+    ("registrations_that_are_refused", 0),
+    ("registrations_among_calls", 0),
+    ("changes_are_told_with_their_values", 0),
+    ("changes_are_told_without_their_values", 0),
+    ("expired_values_are_told_once_met", 0),
+    ("writes_over_an_expired_value", 0),
+    ("processors_and_idle_ends", 0),
+    ("locks_and_queues_tell_nothing", 0),
+    ("a_listener_hears_its_own_map", 0),
+    ("what_an_invalidation_names", 0),
+    ("an_invalidation_of_an_earlier_version", 0),
+    ("connections_and_registrations_in_order", 0),
+    ("a_held_put_is_told_with_its_answer", 0),
+    ("a_listener_that_comes_between", 0),
+    ("the_caller_is_gone", 0),
+    ("listeners_of_other_members", 0),
+    ("a_promotion_tells_no_change", 0),
+    ("rows_of_one_member", 0),
+    ("rows_come_before_answers", 0),
+    ("rows_of_a_loss_and_a_reopening", 0),
 ];
 
 /// Bytes at fault: what closes a connection from its first message on, and what was served before.

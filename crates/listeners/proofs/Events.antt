@@ -5,8 +5,8 @@ use Rattle.std.specs.Option.{option_to_list}
 use Rattle.std.proofs.lemmas.List.{take_more}
 use Rattle.std.proofs.lemmas.List.Elements.{filter_map-append}
 use Rattle.listeners.specs.Telling.{Sent, told}
-use Rattle.listeners.specs.declared.registration.Listener.{Listener}
-use Rattle.listeners.specs.declared.registration.Registration.{Registration}
+use Rattle.listeners.specs.declared.listener.Listener.{Listener}
+use Rattle.event_codecs.specs.declared.registration.Registration.{Registration}
 
 -- what one listener is sent, if anything
 abbrev pub sent_to : Listener → Option (List ℕ) → Option Sent

@@ -10,10 +10,10 @@ use Rattle.std.proofs.lemmas.Map.Entries.{option_filter, lookup-filter-values}
 use Rattle.std.proofs.lemmas.Map.Made.{lookup-map_values, keys_of-map_values}
 use Rattle.std.proofs.lemmas.Bool.{false_from_ne_true}
 use Rattle.partition_table.specs.Rows.{is_empty}
-use Rattle.listeners.specs.Registrations.{map_of}
+use Rattle.event_codecs.specs.SpelledRegistrations.{map_of}
 use Rattle.listeners.specs.Standing.{is_about, is_about_rows, placed, without}
 use Rattle.listeners.specs.Tables.{Maps, kept_for, Adds, AreSame, Drops, Keep}
-use Rattle.listeners.specs.declared.registration.Listener.{Listener}
+use Rattle.listeners.specs.declared.listener.Listener.{Listener}
 use Rattle.listeners.proofs.Placing.{filter-placed, filter-placed_other, filter-filter, order-placed, order-filter}
 
 module _ {S : Type 0} where

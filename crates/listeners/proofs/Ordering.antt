@@ -8,8 +8,8 @@ use Rattle.listeners.specs.Standing.{placed, without}
 use Rattle.listeners.specs.Telling.{Sent, told, events_of, change_events, change_event, row_event}
 use Rattle.listeners.specs.Tables.{AreInOrder}
 use Rattle.listeners.specs.Steps.{Step, Registered, Closed, after, registered, GoInOrder, EveryConnectionKeepsItsOrder, EveryEventGoesInOrder}
-use Rattle.listeners.specs.declared.registration.Listener.{Listener}
-use Rattle.listeners.specs.declared.registration.Registration.{Registration}
+use Rattle.listeners.specs.declared.listener.Listener.{Listener}
+use Rattle.event_codecs.specs.declared.registration.Registration.{Registration}
 use Rattle.listeners.proofs.Placing.{is_later, order-filter, order-placed, filter-placed, filter-placed_other}
 
 abbrev is_of : ℕ → Listener → Bool

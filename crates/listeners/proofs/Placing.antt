@@ -5,7 +5,7 @@ use Rattle.std.proofs.lemmas.Bool.{ltb-true, ltb-false, lt-ltb}
 use Rattle.std.proofs.lemmas.List.Sums.{prefix_len-le-length}
 use Rattle.listeners.specs.Standing.{placed}
 use Rattle.listeners.specs.Tables.{AreInOrder}
-use Rattle.listeners.specs.declared.registration.Listener.{Listener}
+use Rattle.listeners.specs.declared.listener.Listener.{Listener}
 
 -- it goes to a later connection than that of the new one
 abbrev pub is_later : Listener → Listener → Bool

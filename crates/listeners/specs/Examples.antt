@@ -8,8 +8,8 @@ use Rattle.primary_hold.specs.declared.answer.CallAnswer.{CallAnswer}
 use Rattle.event_codecs.specs.Writing.{entry_frames, invalidation_frames, rows_frames}
 use Rattle.listeners.specs.Telling.{events_of, rows_of}
 use Rattle.listeners.specs.Steps.{Step, Registered, Closed, after}
-use Rattle.listeners.specs.declared.registration.Registration.{Registration}
-use Rattle.listeners.specs.declared.registration.Registration.TheVariants.{Entries, Invalidations, Rows}
+use Rattle.event_codecs.specs.declared.registration.Registration.{Registration}
+use Rattle.event_codecs.specs.declared.registration.Registration.TheVariants.{Entries, Invalidations, Rows}
 
 abbrev on : ℕ → Registration → Step
 on conn registration = Registered (record { conn = conn; registration = registration })

@@ -1,4 +1,3 @@
-pub mod Registrations
 pub mod Standing
 pub mod Telling
 pub mod Tables

@@ -1,8 +1,8 @@
 -- Who listens: the registrations that stand, in order of connection, and those of one connection as they were made.
 use Rattle.std.specs.Prelude.{ℕ, Bool, false, not, ◌==◌, nat_lt, bytes_eq, if◌then◌else◌, List, [], ◌∷◌, filter}
 use Rattle.std.specs.Option.{option_map_or, is_none}
-use Rattle.listeners.specs.Registrations.{map_of}
-use Rattle.listeners.specs.declared.registration.Listener.{Listener}
+use Rattle.event_codecs.specs.SpelledRegistrations.{map_of}
+use Rattle.listeners.specs.declared.listener.Listener.{Listener}
 
 -- it listens to the map of that name
 abbrev pub is_about : List ℕ → Listener → Bool

@@ -5,7 +5,7 @@ use Rattle.partition_table.specs.declared.Row.{Row}
 use Rattle.primary_hold.specs.declared.answer.CallAnswer.{CallAnswer}
 use Rattle.listeners.specs.Standing.{placed, without}
 use Rattle.listeners.specs.Telling.{Sent, events_of, rows_of}
-use Rattle.listeners.specs.declared.registration.Listener.{Listener}
+use Rattle.listeners.specs.declared.listener.Listener.{Listener}
 
 pub data Step : Type 0 where
   Registered : (listener : Listener) → Step

@@ -3,7 +3,7 @@ use Rattle.std.specs.Prelude.{◌≡◌, ℕ, ◌≤◌, List, [], ◌∷◌, fi
 use Rattle.std.specs.List.{AllByRecursion}
 use Rattle.std.specs.HashMap.{HashMap, get}
 use Rattle.listeners.specs.Standing.{is_about, is_about_rows, placed, without}
-use Rattle.listeners.specs.declared.registration.Listener.{Listener}
+use Rattle.listeners.specs.declared.listener.Listener.{Listener}
 
 -- the listeners of each map by its name, in a table hashed by an S
 abbrev pub Maps : Type 0 → Type 0

@@ -7,9 +7,9 @@ use Rattle.partition_table.specs.declared.Row.{Row}
 use Rattle.primary_hold.specs.declared.answer.CallAnswer.{CallAnswer}
 use Rattle.event_codecs.specs.Writing.{entry_frames, invalidation_frames, rows_frames}
 use Rattle.listeners.specs.Standing.{is_about, is_about_rows}
-use Rattle.listeners.specs.declared.registration.Listener.{Listener}
-use Rattle.listeners.specs.declared.registration.Registration.{Registration}
-use Rattle.listeners.specs.declared.registration.Registration.TheVariants.{Entries, Invalidations, Rows}
+use Rattle.listeners.specs.declared.listener.Listener.{Listener}
+use Rattle.event_codecs.specs.declared.registration.Registration.{Registration}
+use Rattle.event_codecs.specs.declared.registration.Registration.TheVariants.{Entries, Invalidations, Rows}
 
 -- bytes for a connection
 abbrev pub Sent : Type 0

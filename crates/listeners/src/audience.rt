@@ -1,9 +1,9 @@
 ghost use Rattle.std.specs.Prelude.{◌≡◌, ◌≤◌, ◌↔◌, [], length, IsTrue, OnOk, OnErr, nat_lt};
 ghost use Rattle.std.specs.List.{position_or_len};
 ghost use Rattle.listeners.specs.Standing.{placed, without};
-ghost use Rattle.listeners.specs.declared.registration.Listener.{Listener as ListenerOf};
+ghost use Rattle.listeners.specs.declared.listener.Listener.{Listener as ListenerOf};
 
-use crate::registration::Listener;
+use crate::listener::Listener;
 use grid_base::Memory;
 use std::alloc::Global;
 use std::marker::Model;
@@ -16,7 +16,7 @@ pub(crate) struct Audience {
 
 impl Model for Audience {
     ghost use Rattle.std.specs.Prelude.{List};
-    ghost use Rattle.listeners.specs.declared.registration.Listener.{Listener as ListenerOf};
+    ghost use Rattle.listeners.specs.declared.listener.Listener.{Listener as ListenerOf};
 
     ghost Value = { List ListenerOf };
 

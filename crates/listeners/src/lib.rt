@@ -4,13 +4,13 @@
 
 mod audience;
 pub mod laws;
+mod listener;
 mod listeners;
 mod maps;
-mod registration;
 mod telling;
 
+pub use listener::Listener;
 pub use listeners::Listeners;
-pub use registration::{Listener, Registration};
 
 #[cfg(test)]
 mod tests;

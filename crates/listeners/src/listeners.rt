@@ -2,12 +2,13 @@ ghost use Rattle.std.specs.Prelude.{◌≡◌, [], List, IfOk, OnOk, OnErr};
 ghost use Rattle.std.specs.List.{list_any};
 ghost use Rattle.listeners.specs.Standing.{is_about, placed, without};
 ghost use Rattle.listeners.specs.Telling.{events_of, rows_of};
-ghost use Rattle.listeners.specs.declared.registration.Listener.{Listener as ListenerOf};
+ghost use Rattle.listeners.specs.declared.listener.Listener.{Listener as ListenerOf};
 
 use crate::audience::Audience;
+use crate::listener::Listener;
 use crate::maps::{self, Maps};
-use crate::registration::{Listener, Registration};
 use crate::telling::{change_events, row_events};
+use event_codecs::Registration;
 use grid_base::{Bytes, Memory, PartitionId};
 use partition_table::Row;
 use primary_hold::CallAnswer;

@@ -6,7 +6,7 @@ ghost use Rattle.listeners.specs.Standing.{without};
 ghost use Rattle.listeners.specs.Tables.{Adds, AreSame, Drops};
 
 use crate::audience::Audience;
-use crate::registration::Listener;
+use crate::listener::Listener;
 use grid_base::{Bytes, Memory};
 use std::alloc::Global;
 use std::collections::HashMap;

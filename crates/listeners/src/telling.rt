@@ -3,8 +3,8 @@
 ghost use Rattle.std.specs.Prelude.{◌≡◌, ◌++◌, option_map, option_to_list, IfOk, OnOk};
 ghost use Rattle.listeners.specs.Telling.{told, change_event, row_event};
 
-use crate::registration::{Listener, Registration};
-use event_codecs::{write_entry_event, write_invalidation, write_rows};
+use crate::listener::Listener;
+use event_codecs::{Registration, write_entry_event, write_invalidation, write_rows};
 use grid_base::{Bytes, Change, Memory, PartitionId};
 use partition_table::Row;
 use primary_hold::CallAnswer;

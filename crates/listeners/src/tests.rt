@@ -1,4 +1,5 @@
-use crate::{Listeners, Registration};
+use crate::Listeners;
+use event_codecs::Registration;
 use grid_base::{Bytes, CallId, Change, Memory};
 use partition_table::{Row, RowMembers};
 use primary_hold::CallAnswer;

@@ -1,5 +1,6 @@
 -- How a call is started.
 use Rattle.std.proofs.Common.{◌≡◌, ℕ, suc, ℤ, ◌<◌, inl, inr, true, List, [], ◌∷◌, ◌++◌, length, Contains, Option, Some, None, slice_get, refl, sym, ap, ◌∙◌, subst, append-nil, arith}
+use Rattle.std.specs.Prelude.{option_and_then}
 use Rattle.grid_base.specs.Limits.{CallFits, NumbersFit}
 use Rattle.grid_base.specs.declared.names.CallId.{CallId}
 use Rattle.grid_base.specs.declared.calls.Request.{Request}
@@ -22,6 +23,7 @@ use Rattle.session_core.specs.Items.{items_of}
 use Rattle.session_core.specs.Sessions.{session_after}
 use Rattle.session_core.specs.declared.item.Item.{Item}
 use Rattle.session_core.specs.declared.item.Item.TheVariants.{Call}
+use Rattle.session_core.specs.Laws.{request_in}
 use Rattle.session_core.proofs.CallsAt.{placed_call, fitting_call}
 use Rattle.live_session.specs.declared.connection.Asked.{Asked}
 use Rattle.live_session.specs.declared.connection.Connection.{Connection}
@@ -53,11 +55,11 @@ module _ {T P E O : Type 0} (key_of : E → Key) (tells : P → List E → E →
   here = ap (λ (l : List Item). slice_get l (length had.answers.answered)) had.answers.whole ∙ get_seam had.answers.answered (Call request) c.items.items
 
   pub call_fits : CallFits request.call
-  call_fits = fitting_call c.pass.conn c.pass.member read number request here
+  call_fits = fitting_call c.pass.conn c.pass.member read number request (ap (option_and_then request_in) here)
 
   module _ (fits : Request → Type 0) (calls : ServesCalls fits place) where
     within : request.partition < length c.pass.passes.items
-    within = subst (λ (n : ℕ). request.partition < n) (sym (served.pass.each ∙ calls.cells)) (placed_call c.pass.conn c.pass.member (messages_of true read) number request here).within
+    within = subst (λ (n : ℕ). request.partition < n) (sym (served.pass.each ∙ calls.cells)) (placed_call c.pass.conn c.pass.member (messages_of true read) number request (ap (option_and_then request_in) here)).within
 
     at_place : HasSeen c.pass request.partition (seen request.partition)
     at_place = served.remains.passes request.partition within (λ none. none)

@@ -48,6 +48,16 @@ impl<T: Served> Connection<T> {
         match self.items.pop_front() {
             Some(Item::Call(request)) => self.ask(rt, alloc, place, to, request, clock.moment()),
             Some(Item::Reply(reply)) => self.reply(to, reply),
+            Some(Item::Wait { request, .. }) => {
+                let correlation = request.correlation;
+                drop(request);
+                self.refuse(alloc, to, correlation)
+            }
+            Some(Item::Register(registration)) => {
+                let correlation = registration.correlation();
+                drop(registration);
+                self.refuse(alloc, to, correlation)
+            }
             None => match self.session.closed() {
                 Some(fault) => Turned::Ended(ConnectionEnd::Closed(fault)),
                 None => self.read(alloc, from),

@@ -3,3 +3,4 @@ pub mod Reading
 pub mod Table
 pub mod Refusals
 pub mod Spelling
+pub mod WaitReading

@@ -74,7 +74,7 @@ module _ (client : ClientKey) (payload : List ℕ) (frames : List Frame) where
       let o = owner_is client payload owner s.whose s.stand.0 in
       rw (o, it.first, it.second) refl
 
-  leased_again : (make : List ℕ → List ℕ → Owner → ℤ → MapCall) (name key : List ℕ) (owner : Owner) (lease : ℤ) → Said name key (Some owner) (owner.thread ∷ lease ∷ []) (name ∷ key ∷ [])
+  pub leased_again : (make : List ℕ → List ℕ → Owner → ℤ → MapCall) (name key : List ℕ) (owner : Owner) (lease : ℤ) → Said name key (Some owner) (owner.thread ∷ lease ∷ []) (name ∷ key ∷ [])
       → leased_in make client payload frames ≡ Some (make name key owner lease)
   leased_again make name key owner lease s =
       let it = named name key [] (Some owner) (owner.thread ∷ lease ∷ []) s in
@@ -102,7 +102,7 @@ module _ (client : ClientKey) (payload : List ℕ) (frames : List Frame) where
       let v = data_held (drop 1 later) value fourth.0 in
       rw (o, it.first, it.second, t, v) refl
 
-  stored_again : (make : List ℕ → List ℕ → Owner → List ℕ → ℤ → MapCall) (name key : List ℕ) (owner : Owner) (value : List ℕ) (ttl : ℤ) → Said name key (Some owner) (owner.thread ∷ ttl ∷ []) (name ∷ key ∷ value ∷ [])
+  pub stored_again : (make : List ℕ → List ℕ → Owner → List ℕ → ℤ → MapCall) (name key : List ℕ) (owner : Owner) (value : List ℕ) (ttl : ℤ) → Said name key (Some owner) (owner.thread ∷ ttl ∷ []) (name ∷ key ∷ value ∷ [])
       → stored_in make client payload frames ≡ Some (make name key owner value ttl)
   stored_again make name key owner value ttl s =
       let it = named name key (value ∷ []) (Some owner) (owner.thread ∷ ttl ∷ []) s in
@@ -201,7 +201,7 @@ module _ (client : ClientKey) (payload : List ℕ) (frames : List Frame) where
 -- ---- the message
 
 -- the numbers stand where their fields do
-numbers_stand : (kind : List ℕ) (between more : List ℕ) (numbers : List ℤ) → length kind ≡ 4 → length between ≡ 12 → All (FitsSigned w64) numbers → StandAt ((kind ++ between ++ spelled numbers) ++ more) 16 numbers
+pub numbers_stand : (kind : List ℕ) (between more : List ℕ) (numbers : List ℤ) → length kind ≡ 4 → length between ≡ 12 → All (FitsSigned w64) numbers → StandAt ((kind ++ between ++ spelled numbers) ++ more) 16 numbers
 numbers_stand kind between more numbers four twelve fit =
     let front : List ℕ = kind ++ between in
     let size : length front ≡ 16 = length-append kind between ∙ (λ i. four i + twelve i) in

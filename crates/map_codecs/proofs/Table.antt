@@ -106,7 +106,7 @@ call_read client message call e =
     by_reader client payload (drop 1 message.frames) (kind_of payload) (reader_in (kind_of payload) map_calls) call refl e
 
 -- the fields are the front of the payload
-fields_joined : (payload : List ℕ) (kind : ℕ) (fields : List ℕ) → to_le_bytes w32 kind ≡ take 4 payload → fields ≡ take (length fields) (drop 16 payload)
+pub fields_joined : (payload : List ℕ) (kind : ℕ) (fields : List ℕ) → to_le_bytes w32 kind ≡ take 4 payload → fields ≡ take (length fields) (drop 16 payload)
     → payload ≡ (to_le_bytes w32 kind ++ take 12 (drop 4 payload) ++ fields) ++ drop (16 + length fields) payload
 fields_joined payload kind fields k f =
     let size : ℕ = length fields in
@@ -115,7 +115,7 @@ fields_joined payload kind fields k f =
     in
     sym (take-append-drop (16 + size) payload) ∙ ap (λ (t : List ℕ). t ++ drop (16 + size) payload) (sym front)
 
-first_bytes : (frames : List Frame) → All (λ frame. IsBytes frame.payload) frames → IsBytes (first_payload frames)
+pub first_bytes : (frames : List Frame) → All (λ frame. IsBytes frame.payload) frames → IsBytes (first_payload frames)
 first_bytes [] all = All-nil (λ byte. byte < 256)
 first_bytes (frame ∷ frames) all = All-head (λ frame. IsBytes frame.payload) frame frames all
 

@@ -33,3 +33,7 @@ pub const FORCE_UNLOCK_KIND: u32 = 0x01_33_00;
 pub const PUT_MAX_IDLE_KIND: u32 = 0x01_60_00;
 
 pub const SET_MAX_IDLE_KIND: u32 = 0x01_61_00;
+
+pub const LOCK_WAIT_KIND: u32 = 0x01_80_00;
+
+pub const PUT_WAIT_KIND: u32 = 0x01_81_00;

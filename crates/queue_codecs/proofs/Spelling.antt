@@ -32,7 +32,7 @@ offer_again frames name value n v = rw (n, v) refl
 -- ---- each call
 
 -- what reads a call of its type
-abbrev reader_for : QueueCall → Reader
+abbrev pub reader_for : QueueCall → Reader
 reader_for (Offer name value) = offer_in
 reader_for (Poll name) = named_in Poll
 reader_for (Peek name) = named_in Peek
@@ -56,7 +56,7 @@ module _ (frames : List Frame) where
   named_held : (make : List ℕ → QueueCall) (name : List ℕ) → IsUtf8 name → HoldParts frames (name ∷ []) → named_in make frames ≡ Some (make name)
   named_held make name text held = named_again frames make name (text_held frames name (first_held frames name [] held).0 text)
 
-  reader_again : (call : QueueCall) → IsCall call → HoldParts frames (parts_of call) → reader_for call frames ≡ Some call
+  pub reader_again : (call : QueueCall) → IsCall call → HoldParts frames (parts_of call) → reader_for call frames ≡ Some call
   reader_again (Offer name value) text held =
       let first = first_held frames name (value ∷ []) held in
       let second = first_held (drop 1 frames) value [] first.1 in
@@ -70,7 +70,7 @@ module _ (frames : List Frame) where
 -- ---- the message
 
 -- the partition, at its place
-partition_again : (kind correlation : List ℕ) (partition : ℕ) (more : List ℕ) → length kind ≡ 4 → length correlation ≡ 8 → partition < PARTITIONS → partition_in ((kind ++ correlation ++ int32_bytes (pos partition)) ++ more) ≡ Some partition
+pub partition_again : (kind correlation : List ℕ) (partition : ℕ) (more : List ℕ) → length kind ≡ 4 → length correlation ≡ 8 → partition < PARTITIONS → partition_in ((kind ++ correlation ++ int32_bytes (pos partition)) ++ more) ≡ Some partition
 partition_again kind correlation partition more four eight within =
     let front : List ℕ = kind ++ correlation in
     let small : partition < 2 ^ 31 = omega (arith, within) in
@@ -81,7 +81,7 @@ partition_again kind correlation partition more four eight within =
     let below : nat_lt partition PARTITIONS ≡ true = lt-ltb partition PARTITIONS within in
     rw (stated, below) refl
 
-placed_again : (reader : Reader) (payload : List ℕ) (frames : List Frame) (partition : ℕ) (call : QueueCall) → partition_in payload ≡ Some partition → reader frames ≡ Some call → placed_in reader payload frames ≡ Some call
+pub placed_again : (reader : Reader) (payload : List ℕ) (frames : List Frame) (partition : ℕ) (call : QueueCall) → partition_in payload ≡ Some partition → reader frames ≡ Some call → placed_in reader payload frames ≡ Some call
 placed_again reader payload frames partition call p r = bind_at (partition_in payload) (λ partition. reader frames) partition p ∙ r
 
 pub call_again : (message : Message) (call : QueueCall) → IsCall call → Spells message call → queue_call_of message ≡ Ok call

@@ -46,10 +46,10 @@ module _ (frames : List Frame) where
 
   -- What holds of each call that is made of what was read, holds of a call that was read.
 
-  named_read : (make : List ℕ → QueueCall) (Is : QueueCall → Type 0) (call : QueueCall) → named_in make frames ≡ Some call → ((name : List ℕ) → IsRead frames name (name ∷ []) [] → Is (make name)) → Is call
+  pub named_read : (make : List ℕ → QueueCall) (Is : QueueCall → Type 0) (call : QueueCall) → named_in make frames ≡ Some call → ((name : List ℕ) → IsRead frames name (name ∷ []) [] → Is (make name)) → Is call
   named_read make Is call e each = behind (Is call) (text_in frames) _ call e (λ name n e. subst Is (given (make name) call e) (each name (name_read name [] n tt)))
 
-  offer_read : (Is : QueueCall → Type 0) (call : QueueCall) → offer_in frames ≡ Some call → ((name value : List ℕ) → IsRead frames name (name ∷ value ∷ []) (value ∷ []) → Is (Offer name value)) → Is call
+  pub offer_read : (Is : QueueCall → Type 0) (call : QueueCall) → offer_in frames ≡ Some call → ((name value : List ℕ) → IsRead frames name (name ∷ value ∷ []) (value ∷ []) → Is (Offer name value)) → Is call
   offer_read Is call e each =
       behind (Is call) (text_in frames) _ call e (λ name n e.
       behind (Is call) (data_in (drop 1 frames)) _ call e (λ value v e.
@@ -91,7 +91,7 @@ every_row = (
 
 -- ---- found
 
-partition_is : (number : ℤ) (partition : ℕ) → partition_of number ≡ Some partition → (number ≡ pos partition) × (partition < PARTITIONS)
+pub partition_is : (number : ℤ) (partition : ℕ) → partition_of number ≡ Some partition → (number ≡ pos partition) × (partition < PARTITIONS)
 partition_is (pos n) partition e = go (nat_lt n PARTITIONS) refl e
   where
     go : (b : Bool) → nat_lt n PARTITIONS ≡ b → cond b (Some n) None ≡ Some partition → (pos n ≡ pos partition) × (partition < PARTITIONS)

@@ -19,7 +19,7 @@ const PARTITION_OFFSET: usize = 12;
 
 /// A call of a queue alone.
 #[derive(Clone, Copy)]
-enum Named {
+pub(crate) enum Named {
     Size,
     Poll,
     Peek,
@@ -45,7 +45,7 @@ fn read_partition(first: &Frame) -> Result<PartitionId, CallRefused>
     partition_of(number).ok_or(CallRefused::BadCall)
 }
 
-fn read_named(
+pub(crate) fn read_named(
     alloc: Global,
     which: Named,
     first: &Frame,
@@ -66,7 +66,11 @@ fn read_named(
     })
 }
 
-fn read_offer(alloc: Global, first: &Frame, frames: &[Frame]) -> Result<QueueCall, CallRefused>
+pub(crate) fn read_offer(
+    alloc: Global,
+    first: &Frame,
+    frames: &[Frame],
+) -> Result<QueueCall, CallRefused>
     ensures { IsReadAs result (ok_or (placed_in offer_in first.now.payload frames.now) CallRefused.BadCall) }
 {
     read_partition(first)?;

@@ -1,5 +1,5 @@
 -- As many calls are marked in the table as arrived and were answered.
-use Rattle.std.proofs.Common.{◌≡◌, ◌≢◌, ℕ, zero, suc, ◌+◌, ◌-◌, ◌≤◌, ◌<◌, ◌==◌, Bool, true, false, cond, ◌&&◌, List, [], ◌∷◌, length, map, Option, Some, None, slice_get, refl, ap, sym, ◌∙◌, subst, ◌⊎◌, ⊎_elim, inl, inr, arith}
+use Rattle.std.proofs.Common.{◌≡◌, ℕ, suc, ◌+◌, ◌-◌, ◌≤◌, ◌==◌, Bool, true, false, cond, ◌&&◌, List, [], ◌∷◌, map, Option, Some, None, slice_get, refl, ap, sym, ◌∙◌, inl, inr, arith}
 use Rattle.std.specs.Prelude.{nat_le, is_some, count_by}
 use Rattle.std.specs.Option.{option_map, option_and_then}
 use Rattle.std.specs.List.{sum_by}
@@ -8,17 +8,17 @@ use Rattle.std.proofs.lemmas.List.Sums.{sum_by-cons}
 use Rattle.grid_base.specs.Names.{is_same_call}
 use Rattle.grid_base.specs.declared.names.CallId.{CallId}
 use Rattle.partition_protocol.specs.Arrivals.{NamedOnce}
-use Rattle.partition_protocol.proofs.Lists.{In, contains_in, cases}
+use Rattle.partition_protocol.proofs.Lists.{In, contains_in}
 use Rattle.partition_protocol.proofs.RowFacts.{false_or_not}
 use Rattle.replay_run.specs.declared.connections.CallLines.{CallLines}
 use Rattle.replay_run.specs.Runs.{Run, Arrival, Appended}
 use Rattle.replay_run.specs.Printing.{arrival_of, answer_of}
 use Rattle.replay_run.specs.Counts.{is_answered}
-use Rattle.replay_run.specs.Tables.{Table, Opened, present, opened_at, lines_of, is_marked, marked_in, answered_count}
+use Rattle.replay_run.specs.Tables.{Table, Opened, present, is_marked, marked_in, answered_count}
 use Rattle.replay_run.specs.Grids.{HasTable, lines_in}
 use Rattle.replay_run.proofs.Parts.{in_map}
 use Rattle.replay_run.proofs.Places.{same_call, same_call_refl, same_number}
-use Rattle.replay_run.proofs.Tallies.{find_none, count_same}
+use Rattle.replay_run.proofs.Tallies.{count_same}
 use Rattle.replay_run.proofs.Trails.{find_some}
 use Rattle.replay_run.proofs.RunFacts.{ArrivalsOk, arrival_name, id_name, arrival_found}
 

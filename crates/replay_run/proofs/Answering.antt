@@ -20,7 +20,7 @@ use Rattle.partition_protocol.proofs.RowFacts.{number_same}
 use Rattle.partition_protocol.proofs.Extends.{run_append, front_trans, same}
 use Rattle.partition_protocol.proofs.Theorem.{every_run_extends}
 use Rattle.partition_world.specs.Answers.{id_of}
-use Rattle.replay_run.specs.Runs.{Run, Arrival, Appended, Reopened, At, is_at, world_at, events_at, executed_for, released_by, answer_to, refusal, refused_by}
+use Rattle.replay_run.specs.Runs.{Run, Arrival, Appended, Reopened, At, is_at, world_at, events_at, refusal, refused_by}
 use Rattle.grid_base.specs.Errors.{partition_lost, wrong_target, migrating}
 use Rattle.replay_run.specs.Printing.{is_answer_to}
 use Rattle.replay_run.proofs.Parts.{in_map, in_mapped, in_drop}
@@ -31,6 +31,7 @@ use Rattle.replay_run.proofs.RunFacts.{id_name, arrival_name, ArrivalsOk, Answer
 use Rattle.replay_run.proofs.EventRuns.{events_at-append}
 use Rattle.replay_run.proofs.Arriving.{events_with_one, maybe_one}
 use Rattle.replay_run.proofs.Answers.{named_answer}
+use Rattle.replay_run.proofs.Bare.{executed_for, executed_by, answer_to}
 
 -- what an event releases
 
@@ -157,7 +158,7 @@ module _ {State : Type 0} (o : Object Request State) (r : Run) (ok : RunOk o r) 
 
   -- an event, of whose answers these are given
   module _ (p : ℕ) (event : Event Request) (others : List Appended) (silent : (m : Appended) → In m others → m.answers ≡ None)
-      (given : List (Executed Request)) (part : IsPart given (released_by (before o r p event) (happened o r p event).world)) where
+      (given : List (Executed Request)) (part : IsPart given (executed_by (before o r p event) (happened o r p event).world)) where
     abbrev pub after : World Request
     after = (happened o r p event).world
 
@@ -175,7 +176,7 @@ module _ {State : Type 0} (o : Object Request State) (r : Run) (ok : RunOk o r) 
       pub given_now : (m : Appended) (id : CallId) → In m given_new → m.answers ≡ Some id → IsGivenIn o next p m id
       given_now m id i e =
           let made = in_mapped (answer_to r.lines) given m i in
-          let from = in_filter_map (executed_for after) released_now made.0 (part_in given (released_by (before o r p event) after) made.0 part made.1) in
+          let from = in_filter_map (executed_for after) released_now made.0 (part_in given (executed_by (before o r p event) after) made.0 part made.1) in
           let named = newest_executed (record { conn = from.0.conn; number = from.0.number }) after.recorded.log made.0 from.2 in
           let named_by : Some (id_of made.0) ≡ Some id = ap (λ (n : Appended). n.answers) made.2 ∙ e in
           let call_is : id_of made.0 ≡ id = cc in
@@ -237,8 +238,8 @@ module _ {State : Type 0} (o : Object Request State) (r : Run) (ok : RunOk o r) 
           fewer : count (is_answer_to id) given_new ≤ answers (id_name id) released_now
           fewer =
               let all = answers_count after r.lines id released_now in
-              let some = count_part (is_answer_to id) given_new (map (answer_to r.lines) (released_by (before o r p event) after))
-              (part_map (answer_to r.lines) given (released_by (before o r p event) after) part) in
+              let some = count_part (is_answer_to id) given_new (map (answer_to r.lines) (executed_by (before o r p event) after))
+              (part_map (answer_to r.lines) given (executed_by (before o r p event) after) part) in
               omega (arith, all, some)
 
           -- what was answered before was released before

@@ -1,5 +1,5 @@
 -- The world of a call's partition, where the code reads it.
-use Rattle.std.proofs.Common.{◌≡◌, ℕ, ◌+◌, ◌-◌, ◌*◌, ◌<◌, ◌^◌, true, List, [], ◌∷◌, length, get_or, map, Result, Err, Some, slice_get, refl, ap, sym, subst, ◌∙◌, ◌++◌, ◌⊎◌, arith}
+use Rattle.std.proofs.Common.{◌≡◌, ℕ, ◌+◌, ◌-◌, ◌*◌, ◌<◌, ◌^◌, true, List, [], ◌∷◌, length, get_or, map, Result, Err, Some, inl, inr, slice_get, refl, ap, sym, subst, ◌∙◌, ◌++◌, ◌⊎◌, arith}
 use Rattle.std.specs.Result.{IsErrAnd}
 use Rattle.std.specs.Prelude.{Option, unwrap_or}
 use Rattle.std.proofs.lemmas.Bool.{eq-eqb}
@@ -17,7 +17,8 @@ use Rattle.call_engine.specs.Objects.{partition_object}
 use Rattle.object_store.specs.Partitions.{Partition}
 use Rattle.partition_world.specs.declared.entry.Entry.{Entry}
 use Rattle.partition_world.specs.RecordedEntries.{entry_of}
-use Rattle.partition_world.specs.Worlds.{steps_of, run_of, Comes}
+use Rattle.table_service.specs.Services.{Setup}
+use Rattle.partition_world.specs.Worlds.{steps_of, run_of, setup_of, node_count, Comes}
 use Rattle.partition_world.proofs.Places.{read_there}
 use Rattle.replay_run.specs.declared.grid.Grid.{Grid}
 use Rattle.replay_run.specs.Runs.{Run, Arrival, events_at, moment_of, world_at, call_of, arrival_at, arrived, happening, partitions}
@@ -66,6 +67,19 @@ module _ {V : Type 0} {T : V → Type 0} {form : FormOf V T} {settings : Setting
     -- it has room for one event more
     pub world_room : length r.arrivals + most_line_events * r.lines + 1 < 2 ^ 32 - 1 → AreFew r → steps_of world + 1 < 2 ^ 32 - 1
     world_room room few = let own = few p in omega (arith, room, world_is.stands.steps, own)
+
+-- a node of each member
+
+pub nodes_by : (settings : Settings) (world : GridWorld) (events : List (Event Request)) → StandsForEvents settings world events → node_count world ≡ (setup_of world).members
+nodes_by settings world events stands = stands.agrees.size ∙ sym (ap (λ (x : Setup). x.members) stands.agrees.setup)
+
+pub nodes_of : (settings : Settings) (world : GridWorld) (r : Run) (p : ℕ) → IsWorld settings world r p → node_count world ≡ r.members
+nodes_of settings world r p is = nodes_by settings world (events_at p r.events) is.stands ∙ ap (λ (x : Setup). x.members) is.setup
+
+-- also once it ran the call, or skipped it
+pub nodes_did : (settings : Settings) (old new : GridWorld) (events : List (Event Request)) (a : Arrival) (before after : List ℕ) (reception : Reception) → Did settings old new events a before after reception → node_count new ≡ (setup_of old).members
+nodes_did settings old new events a before after reception (text, is, inl did) = nodes_by settings new (events ++ call_of a ∷ []) did.called.stands ∙ ap (λ (x : Setup). x.members) did.called.setup
+nodes_did settings old new events a before after reception (text, is, inr did) = nodes_by settings new events did.skipped.stands ∙ ap (λ (x : Setup). x.members) did.skipped.setup
 
 -- the clock of a member, where the code reads it
 module _ {V : Type 0} {T : V → Type 0} {form : FormOf V T} {settings : Settings} (grid : Grid V T) (r : Run) (h : Holds form settings grid r) (member i : ℕ) (within : member < grid.members) (same : i ≡ member) where

@@ -13,7 +13,7 @@ use Rattle.replay_run.specs.Runs.{Run, begun, partitions}
 use Rattle.replay_run.specs.Tables.{most_connections, unopened, no_connections, opened_at}
 use Rattle.replay_run.specs.ScriptRuns.{grid_begun}
 use Rattle.replay_run.specs.Tallies.{no_tally}
-use Rattle.replay_run.specs.Grids.{FormOf, GridWorld, IsWorld, Matches, HasTable, IsSettled, IsTally, HasWorld, Stands}
+use Rattle.replay_run.specs.Grids.{FormOf, GridWorld, IsWorld, Matches, HasTable, IsSettled, IsTally, AreListening, HasWorld, Stands}
 use Rattle.replay_run.proofs.TableChanges.{got_last, got_before, line_at}
 
 -- one world more
@@ -50,12 +50,13 @@ begun_settled : (members backups : ℕ) → IsSettled no_connections (begun memb
 begun_settled members backups c o k at there = absurd cc
 
 pub begun_stands : {V : Type 0} {T : V → Type 0} {form : FormOf V T} (grid : Grid V T) (env : GridEnv V T) (members backups : ℕ) → 1 ≤ members → grid.env ≡ env → grid.lines ≡ 1 → grid.members ≡ members → grid.links.items ≡ links_of members → grid.moments.items ≡ replicate members 0
-    → grid.connections ≡ no_connections → grid.tally ≡ no_tally → grid.reopened.items ≡ [] → ((p : ℕ) → p < partitions → HasWorld (settings_of form env) grid.worlds.items (begun members backups) p)
-    → Stands form (settings_of form env) grid (begun members backups)
-begun_stands {form = form} grid env members backups some same lines own links moments table tally none worlds = record {
+    → grid.connections ≡ no_connections → grid.tally ≡ no_tally → AreListening grid.listeners.items (begun members backups) None → grid.reopened.items ≡ []
+    → ((p : ℕ) → p < partitions → HasWorld (settings_of form env) grid.worlds.items (begun members backups) p) → Stands form (settings_of form env) grid (begun members backups)
+begun_stands {form = form} grid env members backups some same lines own links moments table tally nobody none worlds = record {
   run = grid_begun members backups some;
   small = omega arith;
   few = λ p. omega arith;
+  bounded = record { lines = omega arith; reopenings = omega arith };
   holds = record {
     goes_by = ap (settings_of form) same;
     goes_on = refl;
@@ -69,6 +70,7 @@ begun_stands {form = form} grid env members backups some same lines own links mo
     reopened = none;
     worlds = worlds;
   };
+  listeners = nobody;
   settled = subst (λ t. IsSettled t (begun members backups)) (sym table) (begun_settled members backups);
   reached = λ c k there. absurd cc;
 }

@@ -13,12 +13,12 @@ use Rattle.partition_protocol.specs.Service.{numbers_below}
 use Rattle.partition_protocol.proofs.Lists.{In, contains_in, cases, on_if}
 use Rattle.partition_protocol.proofs.RowFacts.{false_or_not}
 use Rattle.session_core.specs.declared.item.Item.{Item}
-use Rattle.session_core.specs.declared.item.Item.TheVariants.{Call as Asks, Reply}
+use Rattle.session_core.specs.declared.item.Item.TheVariants.{Call as Asks, Wait, Register, Reply}
 use Rattle.script_lang.specs.Limits.{most_lines, most_line_bytes}
 use Rattle.script_lang.specs.Lines.{IsWithin}
 use Rattle.script_lang.specs.declared.line.Line.{Line}
 use Rattle.script_lang.specs.declared.line.Line.TheVariants.{OpenConn, Arrive, Clock, Flow, FlowAll, Crash, Detect, Rebalance}
-use Rattle.replay_run.specs.Runs.{Run, At, Connection, Arrival, partitions, events_at, world_at, clock_set, is_connection, connection_of, messages_on, bytes_of, updated, takes_bytes, can_open, is_full, with_bytes, took_bytes, opened, next_line, items_by, told, refusal, arrival_at, happening, arrived, is_skipped, given_up, asked, asks, takes, takes_in, flowed, flowed_in, bytes_arrived, event_by, handled_all}
+use Rattle.replay_run.specs.Runs.{Run, At, Connection, Arrival, partitions, events_at, world_at, clock_set, is_connection, connection_of, messages_on, bytes_of, updated, takes_bytes, can_open, is_full, with_bytes, took_bytes, opened, next_line, items_by, told, refusal, arrival_at, happening, arrived, is_skipped, given_up, asked, asks, takes, takes_in, flowed, flowed_in, bytes_arrived, event_by, handled_all, unserved, registers}
 use Rattle.replay_run.specs.AfterLines.{after_event, after_line}
 use Rattle.replay_run.specs.Linearizability.{Before}
 use Rattle.replay_run.specs.ScriptRuns.{IsRun}
@@ -245,6 +245,8 @@ module _ (o : Object Request Partition) (skips : List CallId) where
   pub handled_few : (r : Run) (k : Connection) (items : List Item) → AreFew r → AreFew (handled_all o skips r k items)
   handled_few r k [] few = few
   handled_few r k (Reply bytes ∷ items) few = handled_few (told r k.conn bytes) k items few
+  handled_few r k (Wait request timeout ∷ items) few = handled_few (told r k.conn (unserved request.correlation)) k items few
+  handled_few r k (Register registration ∷ items) few = handled_few (registers o r k.conn k.member registration) k items few
   handled_few r k (Asks request ∷ items) few = handled_few (asks o skips r (arrival_at r k.member request)) k items (asks_few r (arrival_at r k.member request) few)
 
   asks_arrivals : (r : Run) (a : Arrival) → length (asks o skips r a).arrivals ≤ length r.arrivals + 1
@@ -253,6 +255,8 @@ module _ (o : Object Request Partition) (skips : List CallId) where
   pub handled_arrivals : (r : Run) (k : Connection) (items : List Item) → length (handled_all o skips r k items).arrivals ≤ length r.arrivals + length items
   handled_arrivals r k [] = omega arith
   handled_arrivals r k (Reply bytes ∷ items) = let rest = handled_arrivals (told r k.conn bytes) k items in omega (arith, rest)
+  handled_arrivals r k (Wait request timeout ∷ items) = let rest = handled_arrivals (told r k.conn (unserved request.correlation)) k items in omega (arith, rest)
+  handled_arrivals r k (Register registration ∷ items) = let rest = handled_arrivals (registers o r k.conn k.member registration) k items in omega (arith, rest)
   handled_arrivals r k (Asks request ∷ items) =
       let one = asks_arrivals r (arrival_at r k.member request) in
       let rest = handled_arrivals (asks o skips r (arrival_at r k.member request)) k items in
@@ -281,7 +285,7 @@ module _ (o : Object Request Partition) (skips : List CallId) where
 
 -- what lines of events add: 5,014 events of a partition at most
 
-module _ {State : Type 0} (o : Object Request State) (r : Run) (few : AreFew r) where
+module _ (o : Object Request Partition) (r : Run) (few : AreFew r) where
   kept_few : (next : Run) (most : ℕ) → most ≤ most_line_events → Kept (next_line r) next → ((p : ℕ) → length (events_at p next.events) ≤ length (events_at p r.events) + most) → AreFew next
   kept_few next most size kept more p =
       let f = few p in

@@ -1,19 +1,17 @@
 -- Each call that arrived is of one kind: answered, refused by a row, refused for want of memory, or none of these.
-use Rattle.std.proofs.Common.{◌≡◌, ◌≢◌, ℕ, ◌+◌, ◌≤◌, Bool, true, false, cond, List, [], ◌∷◌, length, Option, Some, None, refl, ap, sym, ◌∙◌, arith}
-use Rattle.std.specs.Prelude.{count_by, is_some, nat_le, not, ◌&&◌, ◌==◌}
+use Rattle.std.proofs.Common.{◌≡◌, ℕ, ◌+◌, Bool, true, false, cond, List, [], ◌∷◌, length, Option, Some, None, refl, ap, arith}
+use Rattle.std.specs.Prelude.{count_by, is_some, not, ◌&&◌}
 use Rattle.std.proofs.lemmas.Bool.Decides.{nat_tests}
 use Rattle.std.proofs.lemmas.List.Sums.{sum_by-cons}
 use Rattle.grid_base.specs.Objects.{Object}
 use Rattle.grid_base.specs.declared.calls.Request.{Request}
-use Rattle.partition_protocol.proofs.Lists.{In, in_contains, cases}
-use Rattle.call_engine.specs.Calls.{Settings}
+use Rattle.partition_protocol.proofs.Lists.{In}
 use Rattle.call_engine.specs.Objects.{partition_object}
-use Rattle.script_lang.specs.declared.line.Line.{Line}
 use Rattle.replay_run.specs.Runs.{Run, Arrival, Appended, begun}
 use Rattle.replay_run.specs.AfterLines.{after_lines}
 use Rattle.replay_run.specs.ScriptRuns.{grid_begun}
 use Rattle.replay_run.specs.Printing.{answer_of, is_answer_to}
-use Rattle.replay_run.specs.Counts.{refusal_among, is_refusal_of, error_number, has_number, is_refused_with, is_of_row, is_of_memory, is_answered, is_refused, is_out_of_memory, is_waiting, one_if, IsOfOneKind, CountsOnce, EveryCallCountsOnce}
+use Rattle.replay_run.specs.Counts.{refusal_among, is_refusal_of, error_number, has_number, is_refused_with, is_of_row, is_of_memory, is_answered, is_refused, is_out_of_memory, is_waiting, one_if, IsOfOneKind, EveryCallCountsOnce}
 use Rattle.replay_run.proofs.Answers.{named_answer}
 use Rattle.replay_run.proofs.Tallies.{named_refusal}
 use Rattle.replay_run.proofs.Trails.{find_some}

@@ -1,23 +1,28 @@
 -- How many entries the trails of a run have, and that they are no more than its arrivals and reopenings.
-use Rattle.std.proofs.Common.{◌≡◌, ℕ, zero, suc, ◌+◌, ◌≤◌, ◌<◌, ◌^◌, ◌==◌, Bool, true, false, cond, List, [], ◌∷◌, ◌++◌, length, map, filter, drop, refl, ap, sym, ◌∙◌, ⊎_elim, arith, length-append, add-one}
+use Rattle.std.proofs.Common.{◌≡◌, ℕ, zero, suc, ◌+◌, ◌*◌, ◌≤◌, ◌<◌, ◌^◌, ◌==◌, Bool, true, false, cond, List, [], ◌∷◌, length, map, filter, drop, refl, ap, ◌∙◌, arith, length-append, add-one}
 use Rattle.std.specs.Prelude.{nat_lt, count_by}
 use Rattle.std.specs.List.{sum_by, flat_map}
 use Rattle.std.proofs.lemmas.Bool.Decides.{nat_tests}
 use Rattle.std.proofs.lemmas.List.Sums.{sum_by-cons, sum_by_push}
 use Rattle.grid_base.specs.Objects.{Object}
 use Rattle.grid_base.specs.declared.calls.Request.{Request}
-use Rattle.partition_protocol.specs.History.{Entry, Executed, Called, Reset}
+use Rattle.object_store.specs.Partitions.{Partition}
+use Rattle.partition_protocol.specs.History.{Entry, Called, Reset}
 use Rattle.partition_protocol.specs.Service.{numbers_below}
 use Rattle.partition_protocol.specs.World.{trail}
-use Rattle.partition_protocol.proofs.Lists.{In}
 use Rattle.partition_protocol.proofs.HistorySizes.{part_length}
-use Rattle.replay_run.specs.Runs.{Run, Arrival, Reopened, partitions, reopened_at, world_at}
-use Rattle.replay_run.specs.Printing.{Printed, printed_from, entries_of, all_entries}
-use Rattle.replay_run.proofs.Bounds.{sum_more, sum_both}
+use Rattle.script_lang.specs.Limits.{most_lines, most_line_bytes}
+use Rattle.replay_run.specs.Runs.{Run, Arrival, Reopened, partitions, bytes_of, reopened_at, world_at}
+use Rattle.replay_run.specs.Printing.{printed_from, entries_of, all_entries}
+use Rattle.replay_run.specs.ScriptRuns.{IsRun}
+use Rattle.replay_run.specs.Grids.{IsSmall, IsBounded}
+use Rattle.replay_run.proofs.Bounds.{sum_more, sum_both, messages_in, messages_fewer, arrivals_fewer}
+use Rattle.replay_run.proofs.Hearing.{header}
 use Rattle.replay_run.proofs.Parts.{subsequence_part}
 use Rattle.replay_run.proofs.Stamps.{AreStamped}
 use Rattle.replay_run.proofs.Trails.{executed, asked}
 use Rattle.replay_run.proofs.RunFacts.{RunOk, asked_of, is_of, safe, log_part}
+use Rattle.replay_run.proofs.RunsOfLines.{run_ok}
 
 length_map : {X Y : Type 0} (f : X → Y) (xs : List X) → length (map f xs) ≡ length xs
 length_map f [] = refl
@@ -44,12 +49,12 @@ below_first a b whole is small = omega (arith, is, small)
 pub below_both : (x y a b whole : ℕ) → x ≡ a → y ≡ b → whole ≡ a + b → whole < 2 ^ 128 → x + y < 2 ^ 128
 below_both x y a b whole first second is small = omega (arith, first, second, is, small)
 
--- what four bytes count and what a list of code has are together no more than eight bytes count
-pub below_wide : (whole calls resets : ℕ) → whole ≤ calls + resets → calls < 2 ^ 32 → resets < 2 ^ 63 → whole < 2 ^ 64
-below_wide whole calls resets few first second = omega (arith, few, first, second)
+-- What four bytes count: as many entries as calls and reopenings, where these are of no more lines than a script may have.
+few_entries : (whole calls resets messages bytes lines : ℕ) → whole ≤ calls + resets → calls ≤ messages → header * messages ≤ bytes → 2 * bytes ≤ most_line_bytes * lines → resets ≤ lines → lines ≤ most_lines → whole < 2 ^ 32
+few_entries whole calls resets messages bytes lines few come sized small reopened within = omega (arith, few, come, sized, small, reopened, within)
 
-pub wide_below : (whole : ℕ) → whole < 2 ^ 64 → whole < 2 ^ 128
-wide_below whole small = omega (arith, small)
+pub field_below : (whole : ℕ) → whole < 2 ^ 32 → whole < 2 ^ 128
+field_below whole small = omega (arith, small)
 
 module _ {State : Type 0} (o : Object Request State) (r : Run) where
   -- how many entries a partition's trail has
@@ -132,3 +137,9 @@ module _ {State : Type 0} (o : Object Request State) (r : Run) (ok : RunOk o r) 
       let calls = by_numbers (λ (a : Arrival). a.request.partition) r.arrivals n in
       let resets = by_numbers (λ (x : Reopened). x.partition) r.reopened n in
       omega (arith, more, both, calls, resets)
+
+-- and of a run of no more lines than a script may have: four bytes count them
+pub entries_fit : (o : Object Request Partition) (r : Run) → IsRun o r → IsSmall r → IsBounded r → sum_by (entries_at o r) (numbers_below partitions) < 2 ^ 32
+entries_fit o r is small bounded =
+    few_entries (sum_by (entries_at o r) (numbers_below partitions)) (length r.arrivals) (length r.reopened) (messages_in r) (bytes_of r) r.lines
+    (all_entries_few o r (run_ok is) partitions) (arrivals_fewer r is) (messages_fewer r) small bounded.reopenings bounded.lines

@@ -20,17 +20,23 @@ use Rattle.replay_run.specs.AfterLines.{after_line}
 use Rattle.replay_run.specs.Printing.{does_nothing, line_close, line_dump, line_links, line_text, printed_by, entry_text, outcome_text, outcome_at, words_line, words_of, done_word, fate_words, flow_text, new_events, line_messages, new_messages}
 use Rattle.replay_run.specs.Rebalancing.{most_line_events}
 use Rattle.replay_run.specs.Skips.{AreOfLine}
-use Rattle.replay_run.specs.ScriptRuns.{IsRun}
-use Rattle.replay_run.specs.Grids.{FormOf, IsSmall, AreFew, Stands, HasRun, IsGivenUp}
+use Rattle.replay_run.specs.ScriptRuns.{IsRun, line_counted}
+use Rattle.replay_run.specs.Grids.{FormOf, IsSmall, AreFew, IsBounded, Stands, HasRun, IsGivenUp}
 use Rattle.replay_run.specs.WorldCalls.{texts_of, event_in_all, line_of_fate, HasRoomAt, IsAmid, HasGoneOn}
 use Rattle.replay_run.proofs.Bounds.{messages_fewer, arrivals_fewer, kept_small}
 use Rattle.replay_run.proofs.EventRuns.{Kept, takes_nothing}
-use Rattle.replay_run.proofs.GridLines.{counted, counted_stands}
+use Rattle.replay_run.proofs.GridLines.{counted, next_holds}
+use Rattle.replay_run.proofs.LineBounds.{line_bounded}
 use Rattle.replay_run.proofs.LineTexts.{text_with}
 
 -- the run of the next line, before its events
 pub counted_amid : {V : Type 0} {T : V → Type 0} {form : FormOf V T} {settings : Settings} (grid : Grid V T) (r : Run) (number : ℕ) → Stands form settings grid r → number ≡ r.lines + 1 → IsAmid form settings (counted grid number) (next_line r)
-counted_amid grid r number s at_line = let stands = counted_stands grid r number s at_line in record { run = stands.run; holds = stands.holds; settled = stands.settled }
+counted_amid grid r number s at_line = record {
+  run = line_counted r s.run;
+  holds = next_holds grid r number s.holds at_line;
+  listeners = record { size = s.listeners.size; each = s.listeners.each };
+  settled = s.settled;
+}
 
 -- Each partition has room for the events of one line.
 line_room : (settings : Settings) (r : Run) → IsRun (partition_object settings) r → IsSmall r → AreFew r → r.lines + 1 ≤ most_lines → (p most : ℕ) → most ≤ most_line_events → HasRoomAt (next_line r) p most
@@ -59,7 +65,7 @@ pub record PrintsMessages (settings : Settings) (r next : Run) (line : ScriptLin
   pub links : line_links settings next line ≡ []
   pub printed : printed_by (partition_object settings) next line ≡ []
 
-module _ {V : Type 0} {T : V → Type 0} {form : FormOf V T} {settings : Settings} (grid new : Grid V T) (r next : Run) (line : ScriptLine) (s : Stands form settings grid r)
+module _ {V : Type 0} {T : V → Type 0} {form : FormOf V T} {settings : Settings} (grid new : Grid V T) (r next : Run) (line : ScriptLine) (s : Stands form settings grid r) (limit : r.lines + 1 ≤ most_lines)
     (after : after_line (partition_object settings) [] r line ≡ next) (kept : Kept (next_line r) next) (few : AreFew next) (prints : PrintsMessages settings r next line)
     (start said : List ℕ) (on : HasGoneOn form settings new (next_line r) next start said) where
   stands_now : Stands form settings new next
@@ -67,7 +73,9 @@ module _ {V : Type 0} {T : V → Type 0} {form : FormOf V T} {settings : Setting
     run = on.amid.run;
     small = kept_small r next kept s.small;
     few = few;
+    bounded = subst IsBounded after (line_bounded (partition_object settings) [] r limit s.bounded line);
     holds = on.amid.holds;
+    listeners = on.amid.listeners;
     settled = on.amid.settled;
     reached = λ c k found. subst (λ m. k.member < m) (sym kept.members) (s.reached c k (ap (find (is_connection c)) (sym kept.connections) ∙ found));
   }

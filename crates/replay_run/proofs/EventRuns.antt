@@ -12,22 +12,22 @@ use Rattle.partition_protocol.specs.Service.{numbers_below}
 use Rattle.partition_protocol.proofs.Lists.{on_if}
 use Rattle.partition_protocol.proofs.RowFacts.{number_other, number_cases}
 use Rattle.session_core.specs.declared.item.Item.{Item}
-use Rattle.session_core.specs.declared.item.Item.TheVariants.{Call as Asks, Reply}
+use Rattle.session_core.specs.declared.item.Item.TheVariants.{Call as Asks, Wait, Register, Reply}
 use Rattle.partition_world.specs.declared.Link.{Link}
 use Rattle.partition_world.specs.LinkOrder.{next_link}
 use Rattle.replay_run.specs.Runs.{Run, At, Connection, Arrival, is_at, events_at, world_at, is_full, is_skipped, arrived, asked, given_up, asks, arrival_at, occurred, meets_full, takes, takes_in, delivery_on, flowed, flowed_in, handled, handled_all}
 use Rattle.replay_run.specs.ScriptRuns.{IsRun, event_occurred, run_given_up}
 
 -- what holds of a run given up, and after the event, holds where the event meets the partition
-pub takes_keeps : {State : Type 0} (o : Object Request State) (P : Run → Type 0) (r : Run) (p : ℕ) (event : Event Request) → P (given_up r) → P (occurred o r p event) → P (takes o r p event)
+pub takes_keeps : (o : Object Request Partition) (P : Run → Type 0) (r : Run) (p : ℕ) (event : Event Request) → P (given_up r) → P (occurred o r p event) → P (takes o r p event)
 takes_keeps o P r p event up on = on_if P (meets_full (world_at o r p) event) (given_up r) (occurred o r p event) up on
 
 -- a flow of one delivery more, where this is the link that comes first
-abbrev pub flowed_on : {State : Type 0} → Object Request State → Run → ℕ → ℕ → Option Link → Run
+abbrev pub flowed_on : Object Request Partition → Run → ℕ → ℕ → Option Link → Run
 flowed_on o r p most next = elim next [ None ↦ r | Some l ↦ flowed o (takes o r p (delivery_on l)) p most ]
 
 -- and what holds after each event of a run holds after several
-module _ {State : Type 0} (o : Object Request State) (P : Run → Type 0) where
+module _ (o : Object Request Partition) (P : Run → Type 0) where
   pub takes_in_keeps : (event : Event Request) → ((r : Run) (p : ℕ) → P r → P (takes o r p event)) → (r : Run) (ps : List ℕ) → P r → P (takes_in o r event ps)
   takes_in_keeps event step r [] h = h
   takes_in_keeps event step r (p ∷ ps) h = takes_in_keeps event step (takes o r p event) ps (step r p h)
@@ -67,7 +67,7 @@ kept_trans a b = record {
   arrivals = b.arrivals ∙ a.arrivals;
 }
 
-module _ {State : Type 0} (o : Object Request State) where
+module _ (o : Object Request Partition) where
   pub occurred_kept : (r : Run) (p : ℕ) (event : Event Request) → Kept r (occurred o r p event)
   occurred_kept r p event = record { members = refl; backups = refl; lines = refl; moments = refl; connections = refl; arrivals = refl }
 
@@ -103,7 +103,7 @@ module _ {o : Object Request Partition} where
 abbrev pub IsFull : Run → Type 0
 IsFull r = r.full ≡ true
 
-module _ {State : Type 0} (o : Object Request State) where
+module _ (o : Object Request Partition) where
   pub takes_full : (r : Run) (p : ℕ) (event : Event Request) → r.full ≡ true → (takes o r p event).full ≡ true
   takes_full r p event full = takes_keeps o IsFull r p event refl full
 
@@ -125,6 +125,8 @@ module _ {State : Type 0} (o : Object Request State) where
 
     pub handled_full : (r : Run) (k : Connection) (item : Item) → r.full ≡ true → (handled o skips r k item).full ≡ true
     handled_full r k (Reply bytes) full = full
+    handled_full r k (Wait request timeout) full = full
+    handled_full r k (Register registration) full = full
     handled_full r k (Asks request) full = asks_full r (arrival_at r k.member request) full
 
     pub handled_all_full : (r : Run) (k : Connection) (items : List Item) → r.full ≡ true → (handled_all o skips r k items).full ≡ true
@@ -159,7 +161,7 @@ HasMost q most r = length (events_at q r.events) ≤ most
 abbrev pub HasEvents : ℕ → List (Event Request) → Run → Type 0
 HasEvents q events r = events_at q r.events ≡ events
 
-module _ {State : Type 0} (o : Object Request State) where
+module _ (o : Object Request Partition) where
   pub takes_few : (r : Run) (p : ℕ) (event : Event Request) (q : ℕ) → length (events_at q (takes o r p event).events) ≤ length (events_at q r.events) + 1
   takes_few r p event q =
       let one : At = record { partition = p; event = event } in
@@ -199,7 +201,7 @@ module _ (now : ℕ → Run) (q : ℕ) (elsewhere : (n : ℕ) → q ≢ n → ev
       (λ other. let before = one_turn most turn n in let same = ap length (elsewhere n other) in omega (arith, before, same))
       (number_cases q n)
 
-module _ {State : Type 0} (o : Object Request State) where
+module _ (o : Object Request Partition) where
   pub takes_in-append : (r : Run) (event : Event Request) (ps qs : List ℕ) → takes_in o r event (ps ++ qs) ≡ takes_in o (takes_in o r event ps) event qs
   takes_in-append r event [] qs = refl
   takes_in-append r event (p ∷ ps) qs = takes_in-append (takes o r p event) event ps qs
@@ -241,7 +243,7 @@ module _ {State : Type 0} (o : Object Request State) where
 
 -- one step
 
-module _ {State : Type 0} (o : Object Request State) (r : Run) (p : ℕ) where
+module _ (o : Object Request Partition) (r : Run) (p : ℕ) where
   pub takes_here : (event : Event Request) → meets_full (world_at o r p) event ≡ false → takes o r p event ≡ occurred o r p event
   takes_here event free = ap (λ b. cond b (given_up r) (occurred o r p event)) free
 
@@ -255,7 +257,7 @@ module _ {State : Type 0} (o : Object Request State) (r : Run) (p : ℕ) where
   pub flowed_some : (most : ℕ) (l : Link) → next_link (world_at o r p) ≡ Some l → flowed o r p (suc most) ≡ flowed o (takes o r p (delivery_on l)) p most
   flowed_some most l some = ap (flowed_on o r p most) some
 
-module _ {State : Type 0} (o : Object Request State) (skips : List CallId) (r : Run) (a : Arrival) where
+module _ (o : Object Request Partition) (skips : List CallId) (r : Run) (a : Arrival) where
   pub asks_here : is_full (world_at o r a.request.partition) ≡ false → asks o skips r a ≡ asked o skips r a
   asks_here free = ap (λ b. cond b (given_up (arrived r a [] [])) (asked o skips r a)) free
 

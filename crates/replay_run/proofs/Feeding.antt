@@ -1,10 +1,13 @@
 -- A line of bytes on an open connection: what its session gave, and that the items are yet to be handled.
-use Rattle.std.proofs.Common.{◌≡◌, ℕ, ◌+◌, List, [], ◌++◌, Option, Some, None, subst, ap, ◌∙◌}
+use Rattle.std.proofs.Common.{◌≡◌, ℕ, ◌+◌, not, List, [], ◌++◌, Option, Some, None, subst, ap, ◌∙◌}
+use Rattle.std.specs.Option.{is_some}
+use Rattle.partition_protocol.proofs.RowFacts.{both_left}
 use Rattle.call_engine.specs.Calls.{Settings}
+use Rattle.call_engine.specs.Objects.{partition_object}
 use Rattle.session_core.specs.Sessions.{session_after, StandsFor}
 use Rattle.session_core.specs.declared.session.FedSession.{FedSession}
 use Rattle.replay_run.specs.declared.grid.Grid.{Grid}
-use Rattle.replay_run.specs.Runs.{Run, fault_on, with_bytes}
+use Rattle.replay_run.specs.Runs.{Run, fault_on, lives, with_bytes}
 use Rattle.replay_run.specs.Tables.{Table, Opened, opened_at, with_session, Gives, FeedGives}
 use Rattle.replay_run.specs.Grids.{FormOf, IsConnection, Stands}
 use Rattle.replay_run.specs.WorldCalls.{open_member_in, Brings, HasHandledSome}
@@ -47,6 +50,6 @@ module _ {V : Type 0} {T : V → Type 0} {form : FormOf V T} {settings : Setting
       record {
         open_there = its;
         brings = they_bring grid r s conn its.connection its.there bytes fed given;
-        none_handled = begun_some grid new r s number conn its.connection at_line its.there its.itself bytes text (made ∙ ap (λ (t : Table). with_table grid number t) table_is);
+        none_handled = begun_some grid new r s number conn its.connection at_line its.there its.itself (both_left (not (is_some (fault_on its.connection))) (lives (partition_object settings) r its.connection.member) its.takes) bytes text (made ∙ ap (λ (t : Table). with_table grid number t) table_is);
         closed = closed_as grid r s conn its.connection its.there bytes fed given;
       }

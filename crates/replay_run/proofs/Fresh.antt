@@ -6,7 +6,7 @@ use Rattle.grid_base.specs.declared.names.CallId.{CallId}
 use Rattle.object_store.specs.Partitions.{Partition}
 use Rattle.partition_protocol.proofs.Lists.{In, contains_in}
 use Rattle.session_core.specs.declared.item.Item.{Item}
-use Rattle.session_core.specs.declared.item.Item.TheVariants.{Call as Asks, Reply}
+use Rattle.session_core.specs.declared.item.Item.TheVariants.{Call as Asks, Wait, Register, Reply}
 use Rattle.script_lang.specs.declared.line.Line.{Line}
 use Rattle.script_lang.specs.declared.line.Line.TheVariants.{Arrive}
 use Rattle.replay_run.specs.Runs.{Run, Connection, Arrival, connection_of, takes_bytes, items_by}
@@ -19,6 +19,8 @@ use Rattle.replay_run.proofs.Lines.{connection_there, has_taken}
 pub in_numbered : (conn number : ℕ) (items : List Item) (id : CallId) → AreNumbered conn number items → In id (calls_in items) → (id.conn ≡ conn) × (number ≤ id.number)
 in_numbered conn number [] id numbered i = absurd i
 in_numbered conn number (Reply bytes ∷ items) id numbered i = let more = in_numbered conn (number + 1) items id numbered.1 i in (more.0, omega (arith, more.1))
+in_numbered conn number (Wait request timeout ∷ items) id numbered i = let more = in_numbered conn (number + 1) items id numbered.1 i in (more.0, omega (arith, more.1))
+in_numbered conn number (Register registration ∷ items) id numbered i = let more = in_numbered conn (number + 1) items id numbered.1 i in (more.0, omega (arith, more.1))
 in_numbered conn number (Asks request ∷ items) id numbered (inl e) =
     let at = ap (λ (c : CallId). c.number) (sym numbered.0.0 ∙ e) in
     (ap (λ (c : CallId). c.conn) (sym e ∙ numbered.0.0), omega (arith, at))

@@ -1,16 +1,15 @@
 -- The grid after an event that is no call: its partition's world ran it and gave out what it released.
-use Rattle.std.proofs.Common.{◌≡◌, ◌≢◌, ℕ, ◌==◌, ◌<◌, true, false, List, [], ◌∷◌, ◌++◌, length, map, filter, drop, Option, Some, None, slice_set, get_or, refl, ap, sym, ◌∙◌, subst, ⊎_elim, append-nil, arith, Vec, Global}
-use Rattle.std.specs.List.{filter_map}
-use Rattle.std.proofs.Math.Seq.{drop-length}
+use Rattle.std.proofs.Common.{◌≡◌, ◌≢◌, ℕ, ◌==◌, ◌<◌, true, false, List, [], ◌∷◌, ◌++◌, length, map, Option, Some, None, slice_set, get_or, refl, ap, sym, ◌∙◌, subst, ⊎_elim, append-nil, arith, Vec, Global}
+use Rattle.std.specs.Option.{option_map}
 use Rattle.std.proofs.lemmas.Bool.{cases_eq, eq-eqb, ne_eqb}
 use Rattle.grid_base.specs.Objects.{Object}
 use Rattle.grid_base.specs.declared.calls.Change.{Change}
 use Rattle.grid_base.specs.declared.calls.Request.{Request}
-use Rattle.partition_protocol.specs.Node.{Held}
+use Rattle.replay_run.specs.declared.outgoing.Reaching.{Reaching}
 use Rattle.partition_protocol.specs.World.{World}
 use Rattle.partition_protocol.specs.Events.{Event, Call, Deliver, Lose, Repeat, Resend, Crash, Detect, BeginMove, BeginJoin, BeginHandover, Advance, Reopen, Outcome, happens}
 use Rattle.partition_protocol.specs.Arrivals.{asked_by, arrivals, name, NamedOnce}
-use Rattle.partition_protocol.proofs.Lists.{In, set_get_same, set_get_other}
+use Rattle.partition_protocol.proofs.Lists.{set_get_same, set_get_other}
 use Rattle.primary_hold.specs.declared.answer.CallAnswer.{CallAnswer}
 use Rattle.partition_world.specs.Answers.{released_at, released_by as answers_by}
 use Rattle.partition_world.specs.Events.{EventWithin, event_of, happened_of}
@@ -26,22 +25,21 @@ use Rattle.call_engine.specs.Limits.{RequestFits}
 use Rattle.call_engine.specs.Objects.{partition_object}
 use Rattle.object_store.specs.Partitions.{Partition}
 use Rattle.replay_run.specs.declared.grid.Grid.{Grid}
-use Rattle.replay_run.specs.Runs.{Run, Appended, Reopened, partitions, messages_on, events_at, world_at, answer_to, executed_for, is_heard, given_out, reopening_by, occurred, meets_full}
+use Rattle.replay_run.specs.Runs.{Run, Appended, Reopened, partitions, messages_on, events_at, world_at, listening, message_of, version_known, adopted_since, messages_at, taker_of, given_to, given_out, reopening_by, occurred, meets_full}
 use Rattle.replay_run.specs.ScriptRuns.{event_occurred}
 use Rattle.replay_run.specs.Shelves.{grid_meaning}
 use Rattle.replay_run.specs.Tables.{Table}
-use Rattle.replay_run.specs.Grids.{FormOf, GridWorld, StandsForEvents, IsWorld, HasTable, IsSettled, IsTally, HasWorld, Holds}
-use Rattle.replay_run.specs.WorldCalls.{message_of, texts_of, with_answers, going_out, taker_of, HasRoomAt, IsAmid, HasTaken}
+use Rattle.replay_run.specs.Grids.{FormOf, GridWorld, StandsForEvents, IsWorld, HasTable, IsSettled, IsTally, AreListening, HasWorld, Holds}
+use Rattle.replay_run.specs.WorldCalls.{texts_of, with_answers, going_out, messages_in, reaching_of, HasRoomAt, IsAmid, HasTaken}
 use Rattle.replay_run.proofs.Arriving.{arrivals-append, events_with_one, maybe_one}
 use Rattle.replay_run.proofs.Asking.{world_there, world_is, stands_by}
 use Rattle.replay_run.proofs.GivingOut.{HasGivenOut}
-use Rattle.replay_run.proofs.LineTexts.{answers_given}
-use Rattle.replay_run.proofs.Occurring.{keeps_released}
-use Rattle.replay_run.proofs.Parts.{in_mapped}
+use Rattle.replay_run.proofs.Speaking.{spoken, spoken_more, alike_table}
+use Rattle.replay_run.proofs.Releasing.{changes_are, spoken_at, given_refuse_none}
 use Rattle.replay_run.proofs.TableRuns.{answers_table}
 use Rattle.replay_run.proofs.Tallies.{quiet_tally}
 use Rattle.replay_run.proofs.TableCounts.{counting_answers}
-use Rattle.replay_run.proofs.WorldRuns.{same_events, run_is}
+use Rattle.replay_run.proofs.WorldRuns.{same_events, run_is, ran_to}
 use Rattle.partition_world.specs.Recorders.{KeepsAll}
 
 -- what an event releases
@@ -139,6 +137,11 @@ abbrev pub waiting_at : GridWorld → Option ℕ → List CallAnswer
 waiting_at world None = []
 waiting_at world (Some member) = waiting world member
 
+-- what is appended where the event reaches a member
+abbrev pub said_at : Settings → Run → ℕ → Event Request → GridWorld → Option ℕ → List Appended
+said_at settings r p event called None = []
+said_at settings r p event called (Some member) = messages_in (grid_meaning settings) called (events_at p r.events ++ event ∷ []) (reaching_of settings r p member) r (listening r None member)
+
 -- The table, the reopenings and the worlds after an event.
 pub record IsAfterEvent {V : Type 0} {T : V → Type 0} (grid new : Grid V T) (partition : ℕ) (world : GridWorld) (answers : List CallAnswer) (more : List Reopened) : Type 0 where
   pub env : new.env ≡ grid.env
@@ -148,6 +151,7 @@ pub record IsAfterEvent {V : Type 0} {T : V → Type 0} (grid new : Grid V T) (p
   pub moments : new.moments.items ≡ grid.moments.items
   pub table : new.connections ≡ with_answers grid.connections grid.lines answers
   pub tally : new.tally ≡ grid.tally
+  pub listeners : new.listeners.items ≡ grid.listeners.items
   pub reopened : new.reopened.items ≡ grid.reopened.items ++ more
   pub worlds : new.worlds.items ≡ slice_set grid.worlds.items partition world
 
@@ -183,19 +187,26 @@ module _ {V : Type 0} {T : V → Type 0} {form : FormOf V T} {settings : Setting
       did.waits member ∙ ap (λ ws. ws ++ released_at o (change_of settings) (run_of (grid_meaning settings) old.world (events_at p r.events)) event member) (old.given member)
       ∙ ap (λ w. released_at o (change_of settings) w event member) its_run
 
-  -- the messages that are given out
+  -- the messages
 
-  messages_of : (x : Option ℕ) → x ≡ taker_of event → map (message_of r.lines) (going_out r None (waiting_at called x)) ≡ given_out o r p event
-  messages_of None e =
-      let same = keeps_released o before event quiet (sym e) in
-      let none : drop (length before.released) (happens o before event).world.released ≡ [] = ap (drop (length before.released)) same ∙ drop-length before.released in
-      sym (ap (λ (hs : List Held). map (answer_to r.lines) (filter (is_heard r) (filter_map (executed_for (happens o before event).world) hs))) none)
+  -- as the code appended them
+  abbrev said : Option ℕ → List Appended
+  said x = said_at settings r p event called x
+
+  messages_of : (x : Option ℕ) → x ≡ taker_of event → said x ≡ given_to o r p event x
+  messages_of None e = refl
   messages_of (Some member) e =
-      ap (λ ws. map (message_of r.lines) (going_out r None ws)) (waits_now member ∙ released_to o (change_of settings) before event member (sym e))
-      ∙ answers_given settings r None r.lines (happens o before event).world (drop (length before.released) (happens o before event).world.released)
+      let change = ap (λ f. answers_by o f before (happens o before event).world) (sym (changes_are settings)) in
+      let waits = waits_now member ∙ released_to o (change_of settings) before event member (sym e) ∙ change in
+      λ i. messages_at r None p (listening r None member) (adopted_since (version_known before member) (ran_to old.world called r p event old.is did.setup i) member) (waits i)
 
-  messages_are : map (message_of r.lines) answers ≡ given_out o r p event
-  messages_are = messages_of taker its_taker
+  messages_are : said taker ≡ given_out o r p event
+  messages_are = messages_of taker its_taker ∙ ap (given_to o r p event) its_taker
+
+  said_alike : (x : Option ℕ) → spoken (map (message_of r.lines) (going_out r None (waiting_at called x))) ≡ spoken (said x)
+  said_alike None = refl
+  said_alike (Some member) =
+      sym (spoken_at r None p (listening r None member) (adopted_since (version_known before member) (run_of (grid_meaning settings) called (events_at p r.events ++ event ∷ [])) member) (waiting called member))
 
   -- the worlds
 
@@ -250,15 +261,12 @@ module _ {V : Type 0} {T : V → Type 0} {form : FormOf V T} {settings : Setting
   table_now : HasTable new.connections next
   table_now =
       let all = answers_table r.lines answers grid.connections r amid.holds.table in
-      let whole = subst (λ (ms : List Appended). HasTable (with_answers grid.connections r.lines answers) (record r { appended = r.appended ++ ms })) messages_are all in
+      let same = spoken_more r.appended (map (message_of r.lines) answers) (given_out o r p event) (said_alike taker ∙ ap spoken messages_are) in
+      let whole = alike_table (with_answers grid.connections r.lines answers) (record r { appended = r.appended ++ map (message_of r.lines) answers }) (r.appended ++ given_out o r p event) same all in
       subst (λ t. HasTable t next) (sym table_is) (record { size = whole.size; connections = whole.connections; calls = whole.calls })
 
   settled_now : IsSettled new.connections next
   settled_now = subst (λ t. IsSettled t next) (sym table_is) (settled_answers r.lines answers grid.connections r amid.settled)
-
-  -- answers refuse no call
-  refuses_none : (m : Appended) → In m (given_out o r p event) → m.refuses ≡ None
-  refuses_none m i = let made = in_mapped (answer_to r.lines) _ m i in ap (λ (n : Appended). n.refuses) (sym made.2)
 
   holds_now : Holds form settings new next
   holds_now = record {
@@ -270,7 +278,7 @@ module _ {V : Type 0} {T : V → Type 0} {form : FormOf V T} {settings : Setting
     moments = after.moments ∙ amid.holds.moments;
     clocks = amid.holds.clocks;
     table = table_now;
-    tally = subst (λ t. IsTally t next) (sym after.tally) (quiet_tally grid.tally r next (given_out o r p event) refl refl refuses_none amid.holds.tally);
+    tally = subst (λ t. IsTally t next) (sym after.tally) (quiet_tally grid.tally r next (given_out o r p event) refl refl (given_refuse_none o r p event (taker_of event)) amid.holds.tally);
     reopened = after.reopened ∙ (λ i. amid.holds.reopened i ++ reopening_by p (amid.holds.lines i) event (its_outcome i));
     worlds = λ q below. subst (λ ws. HasWorld settings ws next q) (sym after.worlds) (worlds_now q (amid.holds.worlds q below));
   }
@@ -278,14 +286,17 @@ module _ {V : Type 0} {T : V → Type 0} {form : FormOf V T} {settings : Setting
       its_outcome : happened_of happened ≡ (happens o before event).outcome
       its_outcome = did.outcome ∙ ap (λ w. (happens o w event).outcome) its_run
 
-  pub event_taken : meets_full before event ≡ false → (written text : List ℕ) → text ≡ written ++ texts_of (map (message_of grid.lines) answers) → HasTaken form settings new r p event happened written text
+  listening_now : AreListening new.listeners.items next None
+  listening_now = subst (λ ls. AreListening ls next None) (sym after.listeners) (record { size = amid.listeners.size; each = amid.listeners.each })
+
+  pub event_taken : meets_full before event ≡ false → (written text : List ℕ) → text ≡ written ++ texts_of (said taker) → HasTaken form settings new r p event happened written text
   event_taken goes written text wrote = record {
     goes = goes;
     on = record {
-      amid = record { run = event_occurred r p event amid.run quiet; holds = holds_now; settled = settled_now };
+      amid = record { run = event_occurred r p event amid.run quiet; holds = holds_now; listeners = listening_now; settled = settled_now };
       messages = given_out o r p event;
       appended = refl;
-      added = wrote ∙ ap (λ n. written ++ texts_of (map (message_of n) answers)) amid.holds.lines ∙ ap (λ ms. written ++ texts_of ms) messages_are;
+      added = wrote ∙ ap (λ ms. written ++ texts_of ms) messages_are;
     };
     outcome = did.outcome ∙ ap (λ w. (happens o w event).outcome) its_run;
   }
@@ -322,38 +333,61 @@ with_table grid p world given table worlds answered placed = record {
   moments = refl;
   table = answered;
   tally = refl;
+  listeners = refl;
   reopened = sym (append-nil grid.reopened.items);
   worlds = placed;
 }
 
--- The answers of an event were given out.
-pub record HasReleased {V : Type 0} {T : V → Type 0} (settings : Settings) (grid mid : Grid V T) (r : Run) (partition : ℕ) (called : GridWorld) (taker : Option ℕ) (written text : List ℕ) : Type 0 where
+-- What an event did where it reached a member was appended.
+pub record HasReleased {V : Type 0} {T : V → Type 0} (settings : Settings) (grid mid : Grid V T) (r : Run) (p : ℕ) (event : Event Request) (called : GridWorld) (taker : Option ℕ) (written text : List ℕ) : Type 0 where
   pub world : GridWorld
   pub out : HasGivenAt settings called world taker
-  pub after : IsAfterEvent grid mid partition world (going_out r None (waiting_at called taker)) []
-  pub added : text ≡ written ++ texts_of (map (message_of grid.lines) (going_out r None (waiting_at called taker)))
+  pub after : IsAfterEvent grid mid p world (going_out r None (waiting_at called taker)) []
+  pub added : text ≡ written ++ texts_of (said_at settings r p event called taker)
 
-pub released_some : {V : Type 0} {T : V → Type 0} (settings : Settings) (grid mid : Grid V T) (table : Table) (worlds : Vec GridWorld Global) (r : Run) (p : ℕ) (called world : GridWorld) (taker : Option ℕ) (member : ℕ) (written text made : List ℕ)
-    → taker ≡ Some member → mid ≡ record grid { connections = table; worlds = worlds } → text ≡ made
-    → HasGivenOut settings called world member → table ≡ with_answers grid.connections grid.lines (going_out r None (waiting called member)) → worlds.items ≡ slice_set grid.worlds.items p world
-    → made ≡ written ++ texts_of (map (message_of grid.lines) (going_out r None (waiting called member))) → HasReleased settings grid mid r p called taker written text
-released_some settings grid mid table worlds r p called world taker member written text made its same made_it out answered placed is =
-    subst (λ t. HasReleased settings grid mid r p called t written text) (sym its)
-    (subst (λ m. HasReleased settings grid m r p called (Some member) written text) (sym same)
-    (record { world = world; out = gave_at settings called world member out; after = with_table grid p world (going_out r None (waiting called member)) table worlds answered placed; added = made_it ∙ is }))
+-- an event that reaches a member, and one that doesn't
 
-pub released_none : {V : Type 0} {T : V → Type 0} (settings : Settings) (grid mid : Grid V T) (worlds : Vec GridWorld Global) (r : Run) (p : ℕ) (called : GridWorld) (taker : Option ℕ) (written text : List ℕ)
-    → taker ≡ None → mid ≡ record grid { worlds = worlds } → text ≡ written → worlds.items ≡ slice_set grid.worlds.items p called → HasReleased settings grid mid r p called taker written text
-released_none settings grid mid worlds r p called taker written text its same is placed =
-    subst (λ t. HasReleased settings grid mid r p called t written text) (sym its)
-    (subst (λ m. HasReleased settings grid m r p called None written text) (sym same)
-    (record { world = called; out = gave_nothing settings called; after = with_table grid p called [] grid.connections worlds refl placed; added = is ∙ sym (append-nil written) }))
+pub reaches_some : (settings : Settings) (r : Run) (p : ℕ) (taker : Option ℕ) (at : Reaching) → Some at ≡ option_map (reaching_of settings r p) taker → (taker ≡ Some at.member) × (at ≡ reaching_of settings r p at.member)
+reaches_some settings r p None at e = absurd cc
+reaches_some settings r p (Some member) at e =
+    let same : at ≡ reaching_of settings r p member = cc in
+    let its : at.member ≡ member = ap (λ (x : Reaching). x.member) same in
+    (ap Some (sym its), same ∙ ap (reaching_of settings r p) (sym its))
+
+pub reaches_none : (settings : Settings) (r : Run) (p : ℕ) (taker : Option ℕ) → None ≡ option_map (reaching_of settings r p) taker → taker ≡ None
+reaches_none settings r p None e = refl
+reaches_none settings r p (Some member) e = absurd cc
+
+module _ {V : Type 0} {T : V → Type 0} (settings : Settings) (grid mid : Grid V T) (r : Run) (p : ℕ) (event : Event Request) (called : GridWorld) (taker : Option ℕ) (written text : List ℕ) where
+  pub released_some : (table : Table) (worlds : Vec GridWorld Global) (world : GridWorld) (at : Reaching) (made : List ℕ) → (taker ≡ Some at.member) × (at ≡ reaching_of settings r p at.member) → grid.lines ≡ r.lines
+      → mid ≡ record grid { connections = table; worlds = worlds } → text ≡ made → HasGivenOut settings called world at.member
+      → table ≡ with_answers grid.connections at.line (going_out r at.own (waiting called at.member)) → worlds.items ≡ slice_set grid.worlds.items p world
+      → made ≡ written ++ texts_of (messages_in (grid_meaning settings) called (events_at p r.events ++ event ∷ []) at r (listening r None at.member))
+      → HasReleased settings grid mid r p event called taker written text
+  released_some table worlds world at made (its, where_it) at_line same made_it out answered placed is =
+      let own : at.own ≡ None = ap (λ (x : Reaching). x.own) where_it in
+      let line : at.line ≡ grid.lines = ap (λ (x : Reaching). x.line) where_it ∙ sym at_line in
+      let out_table : table ≡ with_answers grid.connections grid.lines (going_out r None (waiting called at.member)) = answered ∙ (λ i. with_answers grid.connections (line i) (going_out r (own i) (waiting called at.member))) in
+      subst (λ t. HasReleased settings grid mid r p event called t written text) (sym its)
+      (subst (λ m. HasReleased settings grid m r p event called (Some at.member) written text) (sym same)
+      (record {
+        world = world;
+        out = gave_at settings called world at.member out;
+        after = with_table grid p world (going_out r None (waiting called at.member)) table worlds out_table placed;
+        added = made_it ∙ is ∙ ap (λ x. written ++ texts_of (messages_in (grid_meaning settings) called (events_at p r.events ++ event ∷ []) x r (listening r None at.member))) where_it;
+      }))
+
+  pub released_none : (worlds : Vec GridWorld Global) → taker ≡ None → mid ≡ record grid { worlds = worlds } → text ≡ written → worlds.items ≡ slice_set grid.worlds.items p called → HasReleased settings grid mid r p event called taker written text
+  released_none worlds its same is placed =
+      subst (λ t. HasReleased settings grid mid r p event called t written text) (sym its)
+      (subst (λ m. HasReleased settings grid m r p event called None written text) (sym same)
+      (record { world = called; out = gave_nothing settings called; after = with_table grid p called [] grid.connections worlds refl placed; added = is ∙ sym (append-nil written) }))
 
 -- It ran, and its answers were given out.
 module _ {V : Type 0} {T : V → Type 0} {form : FormOf V T} {settings : Settings} (grid : Grid V T) (r : Run) (amid : IsAmid form settings grid r) (p i : ℕ) (low : p < partitions) (same : i ≡ p) (event : Event Request) (quiet : asked_by event ≡ [])
     (old : GridWorld) (read : old ≡ get_or grid.worlds.items i old) (goes : meets_full (world_at (partition_object settings) r p) event ≡ false)
     (taker : Option ℕ) (its_taker : taker ≡ taker_of event) (mid new : Grid V T) (called : GridWorld) (happened : Happened)
-    (did : HasStepped settings old called (events_at p r.events) event happened) (written text : List ℕ) (gave : HasReleased settings grid mid r p called taker written text) where
+    (did : HasStepped settings old called (events_at p r.events) event happened) (written text : List ℕ) (gave : HasReleased settings grid mid r p event called taker written text) where
   same_world : old ≡ (amid.holds.worlds p low).world
   same_world =
       let both : Some old ≡ Some (amid.holds.worlds p low).world = sym (world_there grid r amid.holds p i low same old read) ∙ (amid.holds.worlds p low).there in
@@ -372,6 +406,7 @@ module _ {V : Type 0} {T : V → Type 0} {form : FormOf V T} {settings : Setting
         moments = ap (λ (g : Grid V T). g.moments.items) rest ∙ gave.after.moments;
         table = ap (λ (g : Grid V T). g.connections) rest ∙ gave.after.table;
         tally = ap (λ (g : Grid V T). g.tally) rest ∙ gave.after.tally;
+        listeners = ap (λ (g : Grid V T). g.listeners.items) rest ∙ gave.after.listeners;
         reopened = reopened ∙ (λ j. (gave.after.reopened ∙ append-nil grid.reopened.items) j ++ is j);
         worlds = ap (λ (g : Grid V T). g.worlds.items) rest ∙ gave.after.worlds;
       })

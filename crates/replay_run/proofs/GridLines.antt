@@ -1,6 +1,6 @@
 -- The grid after each line: it stands for the run after the line, and the line's text was added.
-use Rattle.std.proofs.Common.{◌≡◌, ℕ, ◌+◌, ◌*◌, ◌<◌, ◌≤◌, Bool, true, false, not, cond, List, [], ◌++◌, length, slice_get, slice_set, Option, Some, None, refl, ap, sym, ◌∙◌, subst, ⊎_elim, append-nil, append_assoc, arith}
-use Rattle.std.specs.Option.{option_and_then}
+use Rattle.std.proofs.Common.{◌≡◌, ℕ, ◌+◌, ◌*◌, ◌<◌, ◌≤◌, Bool, true, false, not, cond, List, [], ◌++◌, length, slice_get, slice_set, Option, Some, None, refl, ap, sym, ◌∙◌, subst, ⊎_elim, append-nil, append_assoc, arith, Vec, Global}
+use Rattle.std.specs.Option.{is_some, option_and_then}
 use Rattle.std.specs.List.{find}
 use Rattle.std.proofs.lemmas.Bool.{cases_eq}
 use Rattle.std.proofs.lemmas.List.{length-set}
@@ -12,6 +12,7 @@ use Rattle.script_lang.specs.Limits.{most_lines, most_line_bytes}
 use Rattle.script_lang.specs.declared.line.Line.{Line}
 use Rattle.script_lang.specs.declared.line.Line.TheVariants.{OpenConn, Arrive, Clock}
 use Rattle.replay_run.specs.declared.grid.Grid.{Grid}
+use Rattle.listeners.specs.declared.listeners.Listeners.{Listeners}
 use Rattle.call_engine.specs.Calls.{Settings}
 use Rattle.call_engine.specs.Env.{settings_of}
 use Rattle.call_engine.specs.Objects.{partition_object}
@@ -21,10 +22,12 @@ use Rattle.replay_run.specs.Printing.{ok_text, nothing_text, close_text, outcome
 use Rattle.replay_run.specs.Skips.{AreOfLine}
 use Rattle.replay_run.specs.ScriptRuns.{line_counted, clock_was_set, connection_opened}
 use Rattle.replay_run.specs.Tables.{Table, most_connections, opened_at, with_opened, with_session}
-use Rattle.replay_run.specs.Grids.{FormOf, GridWorld, HasTable, IsSettled, IsCounting, IsTally, Holds, IsSmall, AreFew, AreReached, Stands, MayRun, HasRun}
+use Rattle.replay_run.specs.Grids.{FormOf, GridWorld, HasTable, IsSettled, IsCounting, IsTally, AreListening, Holds, IsSmall, AreFew, IsBounded, AreReached, Stands, MayRun, HasRun}
 use Rattle.replay_run.specs.WorldCalls.{texts_of, member_if_open, open_member_in, Brings, HasHandledSome}
 use Rattle.replay_run.proofs.Bounds.{stays_small}
+use Rattle.replay_run.proofs.LineBounds.{line_bounded}
 use Rattle.replay_run.proofs.Items.{items_room}
+use Rattle.replay_run.proofs.Listening.{opened_listening, taken_listening}
 use Rattle.replay_run.proofs.LineTexts.{text_nothing, entries_text, text_without, new_with}
 use Rattle.replay_run.proofs.Midway.{begun_midway, midway_come, midway_few, unopened_line, unopened_does_nothing, closed_line, closed_does_nothing, open_does_something, ended_line, ended_skips}
 use Rattle.replay_run.proofs.Places.{same_number}
@@ -56,12 +59,24 @@ counted_holds grid r number t ks h at_line table = record {
   worlds = λ p low. let w = h.worlds p low in record { world = w.world; there = w.there; is = record { stands = w.is.stands; setup = w.is.setup }; given = w.given };
 }
 
-pub counted_stands : {V : Type 0} {T : V → Type 0} {form : FormOf V T} {settings : Settings} (grid : Grid V T) (r : Run) (number : ℕ) → Stands form settings grid r → number ≡ r.lines + 1 → Stands form settings (counted grid number) (next_line r)
-counted_stands grid r number s at_line = record {
+pub next_holds : {V : Type 0} {T : V → Type 0} {form : FormOf V T} {settings : Settings} (grid : Grid V T) (r : Run) (number : ℕ) → Holds form settings grid r → number ≡ r.lines + 1 → Holds form settings (counted grid number) (next_line r)
+next_holds grid r number h at_line = counted_holds grid r number grid.connections r.connections h at_line (record { size = h.table.size; connections = h.table.connections; calls = h.table.calls })
+
+-- a run with one line more, and no reopening
+one_line_more : (r next : Run) (number : ℕ) → IsBounded r → number ≡ r.lines + 1 → number ≤ most_lines → next.lines ≡ r.lines + 1 → next.reopened ≡ r.reopened → IsBounded next
+one_line_more r next number bounded at_line limit lines same =
+    let few = bounded.reopenings in
+    let as_many = ap length same in
+    record { lines = omega (arith, at_line, limit, lines); reopenings = omega (arith, few, lines, as_many) }
+
+pub counted_stands : {V : Type 0} {T : V → Type 0} {form : FormOf V T} {settings : Settings} (grid : Grid V T) (r : Run) (number : ℕ) → Stands form settings grid r → number ≡ r.lines + 1 → number ≤ most_lines → Stands form settings (counted grid number) (next_line r)
+counted_stands grid r number s at_line limit = record {
   run = line_counted r s.run;
   small = let small : IsSmall r = s.small in omega (arith, small);
   few = λ p. (let few = s.few p in omega (arith, few));
-  holds = counted_holds grid r number grid.connections r.connections s.holds at_line (record { size = s.holds.table.size; connections = s.holds.table.connections; calls = s.holds.table.calls });
+  bounded = one_line_more r (next_line r) number s.bounded at_line limit refl refl;
+  listeners = record { size = s.listeners.size; each = s.listeners.each };
+  holds = next_holds grid r number s.holds at_line;
   settled = s.settled;
   reached = s.reached;
 }
@@ -101,10 +116,10 @@ alone : (xs : List ℕ) → xs ++ [] ++ [] ++ [] ≡ xs
 alone xs = append-nil (xs ++ [] ++ []) ∙ append-nil (xs ++ []) ∙ append-nil xs
 
 -- a line that is only counted
-module _ {V : Type 0} {T : V → Type 0} {form : FormOf V T} {settings : Settings} (grid new : Grid V T) (r : Run) (number : ℕ) (line : Line) (s : Stands form settings grid r) (at_line : number ≡ r.lines + 1) (after : after_line (partition_object settings) [] r line ≡ next_line r)
+module _ {V : Type 0} {T : V → Type 0} {form : FormOf V T} {settings : Settings} (grid new : Grid V T) (r : Run) (number : ℕ) (line : Line) (s : Stands form settings grid r) (at_line : number ≡ r.lines + 1) (limit : number ≤ most_lines) (after : after_line (partition_object settings) [] r line ≡ next_line r)
     (made : new ≡ counted grid number) (written text : List ℕ) where
   stands_after : Stands form settings new (after_line (partition_object settings) [] r line)
-  stands_after = subst (λ g. Stands form settings g (after_line (partition_object settings) [] r line)) (sym made) (subst (Stands form settings (counted grid number)) (sym after) (counted_stands grid r number s at_line))
+  stands_after = subst (λ g. Stands form settings g (after_line (partition_object settings) [] r line)) (sym made) (subst (Stands form settings (counted grid number)) (sym after) (counted_stands grid r number s at_line limit))
 
   -- Its condition is false.
   pub passed_line : does_nothing (partition_object settings) r line ≡ true → text ≡ written ++ nothing_text number → HasRun form settings new r line written text
@@ -130,15 +145,15 @@ module _ {V : Type 0} {T : V → Type 0} {form : FormOf V T} {settings : Setting
 -- `open`
 
 -- of a connection that was opened before, or to a member that crashed
-pub unopened : {V : Type 0} {T : V → Type 0} {form : FormOf V T} {settings : Settings} (grid new : Grid V T) (r : Run) (number c member : ℕ) (written text : List ℕ) → Stands form settings grid r → number ≡ r.lines + 1 → can_open (partition_object settings) r c member ≡ false
+pub unopened : {V : Type 0} {T : V → Type 0} {form : FormOf V T} {settings : Settings} (grid new : Grid V T) (r : Run) (number c member : ℕ) (written text : List ℕ) → Stands form settings grid r → number ≡ r.lines + 1 → number ≤ most_lines → can_open (partition_object settings) r c member ≡ false
     → new ≡ counted grid number → text ≡ written ++ nothing_text number → HasRun form settings new r (OpenConn c member) written text
-unopened grid new r number c member written text s at_line cannot made is =
-    passed_line grid new r number (OpenConn c member) s at_line (ap (λ b. cond b (opened r c member) (next_line r)) cannot) made written text (ap not cannot) is
+unopened grid new r number c member written text s at_line limit cannot made is =
+    passed_line grid new r number (OpenConn c member) s at_line limit (ap (λ b. cond b (opened r c member) (next_line r)) cannot) made written text (ap not cannot) is
 
-pub opened_line : {V : Type 0} {T : V → Type 0} {form : FormOf V T} {settings : Settings} (grid new : Grid V T) (r : Run) (number c member : ℕ) (written text : List ℕ) → Stands form settings grid r → number ≡ r.lines + 1 → c < most_connections → member < r.members
+pub opened_line : {V : Type 0} {T : V → Type 0} {form : FormOf V T} {settings : Settings} (grid new : Grid V T) (r : Run) (number c member : ℕ) (written text : List ℕ) → Stands form settings grid r → number ≡ r.lines + 1 → number ≤ most_lines → c < most_connections → member < r.members
     → opened_at grid.connections c ≡ None → can_open (partition_object settings) r c member ≡ true
     → new ≡ with_table grid number (with_opened grid.connections c member) → text ≡ written ++ ok_text number → HasRun form settings new r (OpenConn c member) written text
-opened_line {form = form} {settings = settings} grid new r number c member written text s at_line within there closed can made is = record {
+opened_line {form = form} {settings = settings} grid new r number c member written text s at_line limit within there closed can made is = record {
   skips = [];
   of_line = no_skips settings r (OpenConn c member);
   stands = subst (λ g. Stands form settings g (after_line (partition_object settings) [] r (OpenConn c member))) (sym made) (subst (Stands form settings (with_table grid number (with_opened grid.connections c member))) (sym after) stands_opened);
@@ -156,7 +171,9 @@ opened_line {form = form} {settings = settings} grid new r number c member writt
       run = connection_opened r c member s.run free;
       small = subst IsSmall after (stays_small [] r s.run (OpenConn c member) s.small (omega arith));
       few = λ p. (let few = s.few p in omega (arith, few));
+      bounded = one_line_more r (opened r c member) number s.bounded at_line limit refl refl;
       holds = counted_holds grid r number (with_opened grid.connections c member) (opened r c member).connections s.holds at_line (opened_table grid.connections r s.holds.table c member within closed);
+      listeners = opened_listening grid.connections r s.run s.holds.table c member within closed grid.listeners.items s.listeners;
       settled = settled_opened grid.connections r s.holds.table c member within closed s.settled;
       reached = opened_reached r c member s.reached there;
     }
@@ -178,10 +195,11 @@ pub record HasClock {V : Type 0} {T : V → Type 0} (grid new : Grid V T) (numbe
   pub moments : new.moments.items ≡ slice_set grid.moments.items member moment
   pub connections : new.connections ≡ grid.connections
   pub tally : new.tally ≡ grid.tally
+  pub listeners : new.listeners.items ≡ grid.listeners.items
   pub reopened : new.reopened.items ≡ grid.reopened.items
   pub worlds : new.worlds.items ≡ grid.worlds.items
 
-module _ {V : Type 0} {T : V → Type 0} {form : FormOf V T} {settings : Settings} (grid new : Grid V T) (r : Run) (number member moment : ℕ) (s : Stands form settings grid r) (at_line : number ≡ r.lines + 1) (set : HasClock grid new number member moment) where
+module _ {V : Type 0} {T : V → Type 0} {form : FormOf V T} {settings : Settings} (grid new : Grid V T) (r : Run) (number member moment : ℕ) (s : Stands form settings grid r) (at_line : number ≡ r.lines + 1) (limit : number ≤ most_lines) (set : HasClock grid new number member moment) where
   abbrev clocked : Run
   clocked = clock_set r member moment
 
@@ -213,13 +231,31 @@ module _ {V : Type 0} {T : V → Type 0} {form : FormOf V T} {settings : Setting
       run = clock_was_set r member moment s.run;
       small = let small : IsSmall r = s.small in omega (arith, small);
       few = λ p. (let few = s.few p in omega (arith, few));
+      bounded = one_line_more r clocked number s.bounded at_line limit refl refl;
       holds = clocked_holds;
+      listeners = subst (λ ls. AreListening ls clocked None) (sym set.listeners) (record { size = s.listeners.size; each = s.listeners.each });
       settled = subst (λ t. IsSettled t clocked) (sym set.connections) s.settled;
       reached = s.reached;
     };
     added = is ∙ ap (λ n. written ++ ok_text n) at_line
         ∙ ap (λ xs. written ++ xs) (sym (text_without settings r clocked (Clock member moment) refl refl refl refl ∙ alone (ok_text (r.lines + 1))));
   }
+
+-- Who listens is no matter of what the grid holds else.
+pub holds_with : {V : Type 0} {T : V → Type 0} {form : FormOf V T} {settings : Settings} (grid : Grid V T) (listeners : Vec Listeners Global) (r : Run) → Holds form settings grid r → Holds form settings (record grid { listeners = listeners }) r
+holds_with grid listeners r h = record {
+  goes_by = h.goes_by;
+  goes_on = h.goes_on;
+  lines = h.lines;
+  members = h.members;
+  links = h.links;
+  moments = h.moments;
+  clocks = h.clocks;
+  table = h.table;
+  tally = h.tally;
+  reopened = h.reopened;
+  worlds = h.worlds;
+}
 
 -- bytes where none can arrive
 
@@ -238,11 +274,11 @@ not_open settings r c bytes none = go (connection_of r c) refl none
     go None there e = record { after = unopened_line (partition_object settings) r c bytes [] there; nothing = unopened_does_nothing (partition_object settings) r c bytes there }
     go (Some k) there e = closed k there (takes_bytes (partition_object settings) r k) refl e
 
-pub idle_line : {V : Type 0} {T : V → Type 0} {form : FormOf V T} {settings : Settings} (grid new : Grid V T) (r : Run) (number c : ℕ) (bytes written text : List ℕ) → Stands form settings grid r → number ≡ r.lines + 1 → open_member_in settings r c ≡ None
+pub idle_line : {V : Type 0} {T : V → Type 0} {form : FormOf V T} {settings : Settings} (grid new : Grid V T) (r : Run) (number c : ℕ) (bytes written text : List ℕ) → Stands form settings grid r → number ≡ r.lines + 1 → number ≤ most_lines → open_member_in settings r c ≡ None
     → new ≡ counted grid number → text ≡ written ++ nothing_text number → HasRun form settings new r (Arrive c bytes) written text
-idle_line {settings = settings} grid new r number c bytes written text s at_line none made is =
+idle_line {settings = settings} grid new r number c bytes written text s at_line limit none made is =
     let idle = not_open settings r c bytes none in
-    passed_line grid new r number (Arrive c bytes) s at_line idle.after made written text idle.nothing is
+    passed_line grid new r number (Arrive c bytes) s at_line limit idle.after made written text idle.nothing is
 
 -- bytes on an open connection, to a member that lives
 
@@ -272,14 +308,16 @@ is_open settings r c member open_to = go (connection_of r c) refl open_to
     go (Some k) there e = taking k there (takes_bytes (partition_object settings) r k) refl e
 
 -- The line is counted and the connection has its bytes.
-pub begun_some : {V : Type 0} {T : V → Type 0} {form : FormOf V T} {settings : Settings} (grid new : Grid V T) (r : Run) (s : Stands form settings grid r) (number c : ℕ) (k : Connection) → number ≡ r.lines + 1 → connection_of r c ≡ Some k → connection_of r k.conn ≡ Some k → (bytes text : List ℕ)
+pub begun_some : {V : Type 0} {T : V → Type 0} {form : FormOf V T} {settings : Settings} (grid new : Grid V T) (r : Run) (s : Stands form settings grid r) (number c : ℕ) (k : Connection) → number ≡ r.lines + 1 → connection_of r c ≡ Some k → connection_of r k.conn ≡ Some k → not (is_some (fault_on k)) ≡ true → (bytes text : List ℕ)
     → new ≡ with_table grid number (with_session grid.connections c (session_after k.conn k.member (k.bytes ++ bytes))) → HasHandledSome form settings new r k bytes [] text text
-begun_some {form = form} {settings = settings} grid new r s number c k at_line there itself bytes text made = record {
+begun_some {form = form} {settings = settings} grid new r s number c k at_line there itself open_still bytes text made = record {
   skips = [];
   now = took_bytes r k bytes;
   midway = begun_midway r s.run k itself bytes;
   holds = subst (λ g. Holds form settings g (took_bytes r k bytes)) (sym made)
       (counted_holds grid r number fed (took_bytes r k bytes).connections s.holds at_line (fed_table grid.connections r s.holds.table c k there bytes));
+  listeners = subst (λ (g : Grid _ _). AreListening g.listeners.items (took_bytes r k bytes) (Some k.conn)) (sym made)
+      (taken_listening grid.connections r s.holds.table k.conn k itself bytes open_still grid.listeners.items s.listeners);
   counting = subst (λ (g : Grid _ _). IsCounting g.connections (took_bytes r k bytes) k.conn (length (messages_on k) + 0)) (sym made)
       (subst (λ n. IsCounting fed (took_bytes r k bytes) n (length (messages_on k) + 0)) (sym (its_number r c k there))
       (subst (λ n. IsCounting fed (took_bytes r k bytes) c n) none_yet (counting_fed grid.connections r s.holds.table c k there bytes s.settled)));
@@ -293,9 +331,9 @@ begun_some {form = form} {settings = settings} grid new r s number c k at_line t
     none_yet = omega arith
 
 module _ {V : Type 0} {T : V → Type 0} {form : FormOf V T} {settings : Settings} (r : Run) (c : ℕ) (k : Connection) (there : connection_of r c ≡ Some k) (bytes : List ℕ) (items : List Item) (brings : Brings settings r k bytes items)
-    (new : Grid V T) (start mid : List ℕ) (did : HasHandledSome form settings new r k bytes items start mid) where
+    (handled : Grid V T) (start mid : List ℕ) (did : HasHandledSome form settings handled r k bytes items start mid) where
   -- all items were handled
-  all_settled : IsSettled new.connections did.now
+  all_settled : IsSettled handled.connections did.now
   all_settled d o j at found = ⊎_elim here (λ apart. did.counting.others d o j apart at found) (cases_eq d k.conn)
     where
       here : d ≡ k.conn → length o.calls ≡ length (messages_on j)
@@ -304,14 +342,26 @@ module _ {V : Type 0} {T : V → Type 0} {form : FormOf V T} {settings : Setting
           let same : with_bytes k bytes ≡ j = cc in
           let room = (items_room k bytes).1 in
           let came = ap length brings.come in
-          let counts = did.counting.here o (ap (opened_at new.connections) (sym e) ∙ at) in
+          let counts = did.counting.here o (ap (opened_at handled.connections) (sym e) ∙ at) in
           let whole : length o.calls ≡ length (messages_on (with_bytes k bytes)) = omega (arith, room, came, counts) in
           whole ∙ ap (λ (x : Connection). length (messages_on x)) same
 
   now_lines : did.now.lines ≡ r.lines + 1
   now_lines = (midway_come r brings.run k brings.there bytes items did.skips did.now did.midway).lines
 
-  now_there : connection_of did.now c ≡ Some (with_bytes k bytes)
+  -- its member has its listeners
+  pub heard_within : k.member < length handled.listeners.items
+  heard_within =
+      let members = (midway_come r brings.run k brings.there bytes items did.skips did.now did.midway).members in
+      let size = did.listeners.size in
+      let reached = brings.reached in
+      omega (arith, members, size, reached)
+
+  -- who listened while they were handled
+  pub heard_on : AreListening handled.listeners.items did.now (Some c)
+  heard_on = subst (λ n. AreListening handled.listeners.items did.now (Some n)) (its_number r c k there) did.listeners
+
+  pub now_there : connection_of did.now c ≡ Some (with_bytes k bytes)
   now_there = ap (connection_of did.now) (sym (its_number r c k there)) ∙ did.midway.may.there
 
   still_reached : AreReached r → AreReached did.now
@@ -329,19 +379,21 @@ module _ {V : Type 0} {T : V → Type 0} {form : FormOf V T} {settings : Setting
     its_text : line_text settings r (Arrive c bytes) did.now ≡ (ok_text (r.lines + 1) ++ texts_of (new_messages r did.now)) ++ close_text (r.lines + 1) c (fault_on (with_bytes k bytes))
     its_text = rw (open_does_something (partition_object settings) r c bytes k there takes, now_there, now_lines) (alone its_parts)
 
-    pub bytes_line : (fault : Option Malformed) (number : ℕ) (written text : List ℕ) → IsSmall r → AreFew r → AreReached r → 2 * length bytes ≤ most_line_bytes → start ≡ written ++ ok_text number → number ≡ r.lines + 1
+    pub bytes_line : (fault : Option Malformed) (number : ℕ) (written text : List ℕ) (listeners : Vec Listeners Global) (new : Grid V T) → new ≡ record handled { listeners = listeners } → AreListening listeners.items did.now None → IsSmall r → AreFew r → IsBounded r → AreReached r → 2 * length bytes ≤ most_line_bytes → start ≡ written ++ ok_text number → number ≡ r.lines + 1 → number ≤ most_lines
         → fault ≡ fault_on (with_bytes k bytes) → text ≡ mid ++ close_text number c fault → HasRun form settings new r (Arrive c bytes) written text
-    bytes_line fault number written text small few reached size began at_line shown is = record {
+    bytes_line fault number written text listeners new made are small few bounded reached size began at_line limit shown is = record {
       skips = did.skips;
       of_line = ended_skips (partition_object settings) r c bytes k there takes items did.skips did.now brings.come did.midway;
-      stands = subst (Stands form settings new) (sym after) (record {
+      stands = subst (Stands form settings new) (sym after) (subst (λ g. Stands form settings g did.now) (sym made) (record {
         run = did.midway.run;
         small = subst IsSmall after (stays_small did.skips r brings.run (Arrive c bytes) small size);
         few = midway_few r brings.run k brings.there bytes items did.skips did.now did.midway few;
-        holds = did.holds;
+        bounded = subst IsBounded after (line_bounded (partition_object settings) did.skips r (omega (arith, at_line, limit)) bounded (Arrive c bytes));
+        holds = holds_with handled listeners did.now did.holds;
+        listeners = are;
         settled = all_settled;
         reached = still_reached reached;
-      });
+      }));
       added = is ∙ (λ i. whole i ++ close_text (at_line i) c (shown i)) ∙ grouped
           ∙ ap (λ xs. written ++ xs) (sym (ap (λ (x : Run). line_text settings r (Arrive c bytes) x) after ∙ its_text));
     }

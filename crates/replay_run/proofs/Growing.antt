@@ -1,8 +1,9 @@
 -- What arrived and what was appended stays, at each step of a run, and a run that is given up stays so.
-use Rattle.std.proofs.Common.{◌≡◌, ℕ, Bool, true, false, cond, List, [], ◌∷◌, Option, Some, None, refl, sym, ◌∙◌, subst}
+use Rattle.std.proofs.Common.{◌≡◌, ℕ, true, List, [], ◌∷◌, Option, Some, None, refl, sym, ◌∙◌, subst}
 use Rattle.grid_base.specs.Objects.{Object}
 use Rattle.grid_base.specs.declared.names.CallId.{CallId}
 use Rattle.grid_base.specs.declared.calls.Request.{Request}
+use Rattle.object_store.specs.Partitions.{Partition}
 use Rattle.partition_protocol.specs.Events.{Event}
 use Rattle.partition_protocol.specs.Events as event
 use Rattle.partition_protocol.specs.Sequences.{IsFrontOf}
@@ -10,10 +11,9 @@ use Rattle.partition_protocol.specs.Service.{numbers_below}
 use Rattle.partition_protocol.proofs.Extends.{same, front_trans}
 use Rattle.partition_protocol.proofs.Lists.{on_if}
 use Rattle.session_core.specs.declared.item.Item.{Item}
-use Rattle.session_core.specs.declared.item.Item.TheVariants.{Call as Asks, Reply}
 use Rattle.script_lang.specs.declared.line.Line.{Line}
 use Rattle.script_lang.specs.declared.line.Line.TheVariants.{OpenConn, Arrive, Clock, Flow, FlowAll, Crash, Detect, Rebalance}
-use Rattle.replay_run.specs.Runs.{Run, At, Connection, Arrival, partitions, connection_of, takes_bytes, is_full, world_at, items_by, took_bytes, next_line, clock_set, can_open, opened, bytes_arrived, told, asked, asks, handled, handled_all, given_out, occurred, takes, takes_in, delivery_on, flowed, flowed_in, event_by}
+use Rattle.replay_run.specs.Runs.{Run, At, Connection, Arrival, partitions, connection_of, takes_bytes, items_by, took_bytes, next_line, clock_set, can_open, opened, bytes_arrived, asks, handled_all, given_out, takes, takes_in, delivery_on, flowed, flowed_in, event_by}
 use Rattle.replay_run.specs.AfterLines.{after_event, after_line, after_lines}
 use Rattle.replay_run.specs.Rebalancing.{stepped, stepped_all, rebalanced}
 use Rattle.rebalance.specs.declared.Step.{Step}
@@ -47,7 +47,7 @@ since r mid next arrivals appended full grows = record {
   full = λ e. grows.full (full ∙ e);
 }
 
-module _ {State : Type 0} (o : Object Request State) where
+module _ (o : Object Request Partition) where
   -- events
 
   pub takes_grows : (r : Run) (p : ℕ) (event : Event Request) → Grows r (takes o r p event)
@@ -68,13 +68,13 @@ module _ {State : Type 0} (o : Object Request State) where
   flowed_in_grows r most ps = flowed_in_keeps o (Grows r) (λ x p l h. takes_on r x p (delivery_on l) h) r most ps (grows_refl r)
 
   pub stepped_grows : (r : Run) (step : Step) → Grows r (stepped o r step)
-  stepped_grows r step = step_keeps o (Grows r) step (λ x event quiet h. takes_on r x step.partition event h) r (grows_refl r)
+  stepped_grows r step = step_keeps o (Grows r) step (λ x event of_step h. takes_on r x step.partition event h) r (grows_refl r)
 
   pub stepped_all_grows : (r : Run) (steps : List Step) → Grows r (stepped_all o r steps)
-  stepped_all_grows r steps = steps_keep o (Grows r) (λ x p event quiet h. takes_on r x p event h) steps r (grows_refl r)
+  stepped_all_grows r steps = steps_keep o (Grows r) (λ x p event of_step h. takes_on r x p event h) steps r (grows_refl r)
 
   rebalanced_grows : (r : Run) (most : ℕ) → Grows r (rebalanced o r most)
-  rebalanced_grows r most = rebalance_keeps o (Grows r) (λ x p event quiet h. takes_on r x p event h) r most (grows_refl r)
+  rebalanced_grows r most = rebalance_keeps o (Grows r) (λ x p event of_step h. takes_on r x p event h) r most (grows_refl r)
 
   event_grows : (r : Run) (e : Option At) → Grows r (after_event o r e)
   event_grows r None = grows_refl r

@@ -1,6 +1,6 @@
 -- The items that bytes bring on a connection: there is one for each new message, and each call among them is named by its message's number, is for its object's partition, and fits frames.
 use Rattle.std.proofs.Common.{◌≡◌, ℕ, zero, suc, ◌+◌, List, [], ◌∷◌, ◌++◌, drop, length, Some, refl, ap, sym, inl, inr, subst, arith, length-drop}
-use Rattle.std.specs.Prelude.{slice_get}
+use Rattle.std.specs.Prelude.{slice_get, option_and_then}
 use Rattle.grid_base.specs.Limits.{CallFits}
 use Rattle.grid_base.specs.declared.calls.GridCall.{GridCall}
 use Rattle.grid_base.specs.declared.calls.GridCall.TheVariants as call
@@ -9,10 +9,10 @@ use Rattle.grid_base.specs.declared.calls.Request.{Request}
 use Rattle.message_frames.specs.declared.message.Message.{Message}
 use Rattle.partition_protocol.proofs.Lists.{In}
 use Rattle.session_core.specs.Items.{items_of}
-use Rattle.session_core.specs.Laws.{IsPlaced as IsPlacedCall}
+use Rattle.session_core.specs.Laws.{request_in, IsPlaced as IsPlacedCall}
 use Rattle.session_core.specs.Places.{BelongsTo}
 use Rattle.session_core.specs.declared.item.Item.{Item}
-use Rattle.session_core.specs.declared.item.Item.TheVariants.{Call as Asks, Reply}
+use Rattle.session_core.specs.declared.item.Item.TheVariants.{Call as Asks, Wait, Register, Reply}
 use Rattle.session_core.proofs.CallsAt.{numbered_call, placed_call, fitting_call}
 use Rattle.session_core.proofs.ItemLists.{one_item_each}
 use Rattle.replay_run.specs.Runs.{Connection, messages_on, items_on, items_by, with_bytes}
@@ -23,6 +23,8 @@ use Rattle.replay_run.proofs.Parts.{in_drop}
 -- A call is named so and is for its object's partition.
 abbrev pub IsNumbered : CallId → Item → Type 0
 IsNumbered id (Reply bytes) = Unit {0}
+IsNumbered id (Wait request timeout) = Unit {0}
+IsNumbered id (Register registration) = Unit {0}
 IsNumbered id (Asks request) = (request.id ≡ id) × IsPlaced request
 
 -- items of messages that are numbered on from there
@@ -44,6 +46,8 @@ numbered_by conn number (item ∷ items) at = (
   where
     first : (i : Item) → ((request : Request) → i ≡ Asks request → IsNumbered (record { conn = conn; number = number + zero }) (Asks request)) → IsNumbered (record { conn = conn; number = number }) i
     first (Reply bytes) h = tt
+    first (Wait request timeout) h = tt
+    first (Register registration) h = tt
     first (Asks request) h = subst (λ n. IsNumbered (record { conn = conn; number = n }) (Asks request)) (let here : number + 0 ≡ number = omega arith in here) (h request refl)
 
 home_belongs : (c : GridCall) (partition : ℕ) → BelongsTo c partition → home_of c partition ≡ partition
@@ -57,7 +61,7 @@ items_numbered : (conn member : ℕ) (messages : List Message) → AreNumbered c
 items_numbered conn member messages =
     numbered_by conn 0 (items_of conn member messages) (λ place request e.
     subst (λ n. IsNumbered (record { conn = conn; number = n }) (Asks request)) (let here : place ≡ 0 + place = omega arith in here)
-    (numbered_call conn member messages place request e, placed request (placed_call conn member messages place request e)))
+    (numbered_call conn member messages place request (ap (option_and_then request_in) e), placed request (placed_call conn member messages place request (ap (option_and_then request_in) e))))
 
 -- parts of them
 
@@ -103,4 +107,4 @@ pub calls_fit : (k : Connection) (bytes : List ℕ) (request : Request) → In (
 calls_fit k bytes request i =
     let new : Connection = with_bytes k bytes in
     let at = in_at (items_on new) (Asks request) (in_drop (length (items_on k)) (items_on new) (Asks request) i) in
-    fitting_call k.conn k.member new.bytes at.0 request at.1
+    fitting_call k.conn k.member new.bytes at.0 request (ap (option_and_then request_in) at.1)

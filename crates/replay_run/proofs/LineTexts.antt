@@ -1,26 +1,18 @@
 -- The text of a line, by what it appended.
-use Rattle.std.proofs.Common.{◌≡◌, ℕ, Bool, true, false, cond, ◌||◌, List, [], ◌∷◌, ◌++◌, length, map, filter, drop, refl, ap, sym, ◌∙◌, append_assoc, append-nil}
-use Rattle.std.specs.List.{filter_map, cons_option, flat_map}
-use Rattle.std.specs.Option.{option_map}
-use Rattle.std.specs.Prelude.{Option, Some, None}
+use Rattle.std.proofs.Common.{◌≡◌, ℕ, true, false, List, [], ◌++◌, length, drop, refl, ap, sym, ◌∙◌, append_assoc, append-nil}
+use Rattle.std.specs.List.{flat_map}
 use Rattle.std.proofs.lemmas.List.{drop_at}
 use Rattle.std.proofs.lemmas.List.Concat.{flat_map-append}
 use Rattle.grid_base.specs.Objects.{Object}
 use Rattle.grid_base.specs.declared.calls.Request.{Request}
 use Rattle.partition_protocol.specs.Sequences.{IsFrontOf}
-use Rattle.partition_protocol.specs.Node.{Held}
-use Rattle.partition_protocol.specs.History.{Executed}
-use Rattle.partition_protocol.specs.World.{World}
-use Rattle.partition_world.specs.Answers.{answer_of, held_answer, newest_call}
-use Rattle.primary_hold.specs.declared.answer.CallAnswer.{CallAnswer}
 use Rattle.call_engine.specs.Calls.{Settings}
-use Rattle.call_engine.specs.Changes.{change_of}
 use Rattle.call_engine.specs.Objects.{partition_object}
 use Rattle.object_store.specs.Partitions.{Partition}
-use Rattle.replay_run.specs.Runs.{Run, Appended, answer_to, connection_of, executed_for, is_open}
+use Rattle.replay_run.specs.Runs.{Run, Appended}
 use Rattle.replay_run.specs.Printing.{appended_text, entry_text, nothing_text, outcome_text, printed_by, does_nothing, line_close, line_dump, line_links, line_text, new_messages, line_messages}
 use Rattle.script_lang.specs.declared.line.Line.{Line}
-use Rattle.replay_run.specs.WorldCalls.{message_of, texts_of, is_own, going_out}
+use Rattle.replay_run.specs.WorldCalls.{texts_of}
 
 -- what was appended since
 
@@ -67,35 +59,3 @@ module _ (settings : Settings) (r next : Run) (line : Line) where
       text_with [] goes said (e ∙ sym (append-nil r.appended))
       ∙ ap (λ xs. outcome_text settings r line next ++ [] ++ xs ++ line_dump o next line ++ line_links settings next line ++ entries_text) none
       ∙ ap (λ xs. xs ++ line_dump o next line ++ line_links settings next line ++ entries_text) (append-nil (outcome_text settings r line next ++ []) ∙ append-nil (outcome_text settings r line next))
-
--- The answers that an event released and that go out are messages that the code gives out. A call's own connection is open to them.
-
--- whether the answer of a call goes out
-abbrev pub goes_to : Run → Option ℕ → Executed Request → Bool
-goes_to r own x = is_own own x.conn || is_open (connection_of r x.conn)
-
-module _ (settings : Settings) (r : Run) (own : Option ℕ) (line : ℕ) (w : World Request) where
-  -- as the code gives them out
-  abbrev pub held_messages : List Held → List Appended
-  held_messages hs = map (message_of line) (going_out r own (filter_map (held_answer (partition_object settings) (change_of settings) w) hs))
-
-  -- as the run has them
-  abbrev pub run_messages : List Held → List Appended
-  run_messages hs = map (answer_to line) (filter (goes_to r own) (filter_map (executed_for w) hs))
-
-  pub answers_given : (hs : List Held) → map (message_of line) (going_out r own (filter_map (held_answer (partition_object settings) (change_of settings) w) hs)) ≡ map (answer_to line) (filter (goes_to r own) (filter_map (executed_for w) hs))
-  answers_given [] = refl
-  answers_given (h ∷ hs) = go (newest_call (record { conn = h.conn; number = h.number }) w.recorded.log) (answers_given hs)
-    where
-      one : (x : Executed Request) (answer : CallAnswer) (goes : Bool) → message_of line answer ≡ answer_to line x → (answers : List CallAnswer) (calls : List (Executed Request)) → map (message_of line) answers ≡ map (answer_to line) calls
-          → map (message_of line) (cond goes (answer ∷ answers) answers) ≡ map (answer_to line) (cond goes (x ∷ calls) calls)
-      one x answer true same answers calls e = λ i. same i ∷ e i
-      one x answer false same answers calls e = e
-
-      go : (found : Option (Executed Request)) → held_messages hs ≡ run_messages hs
-          → map (message_of line) (going_out r own (cons_option (option_map (answer_of (partition_object settings) (change_of settings) w) found) (filter_map (held_answer (partition_object settings) (change_of settings) w) hs)))
-          ≡ map (answer_to line) (filter (goes_to r own) (cons_option found (filter_map (executed_for w) hs)))
-      go None e = e
-      go (Some x) e =
-          one x (answer_of (partition_object settings) (change_of settings) w x) (goes_to r own x) refl
-          (going_out r own (filter_map (held_answer (partition_object settings) (change_of settings) w) hs)) (filter (goes_to r own) (filter_map (executed_for w) hs)) e

@@ -12,14 +12,17 @@ use Rattle.partition_protocol.specs.Events as event
 use Rattle.partition_protocol.specs.Service.{numbers_below}
 use Rattle.partition_protocol.proofs.Lists.{In, in_cases, in_contains, contains_in, on_if}
 use Rattle.partition_protocol.proofs.Extends.{front_trans, same}
+use Rattle.event_codecs.specs.declared.registration.Registration.{Registration}
+use Rattle.listeners.specs.Telling.{Sent, rows_of}
+use Rattle.listeners.specs.declared.listener.Listener.{Listener}
 use Rattle.session_core.specs.declared.item.Item.{Item}
-use Rattle.session_core.specs.declared.item.Item.TheVariants.{Call as Asks, Reply}
+use Rattle.session_core.specs.declared.item.Item.TheVariants.{Call as Asks, Wait, Register, Reply}
 use Rattle.script_lang.specs.declared.line.Line.{Line}
 use Rattle.script_lang.specs.declared.line.Line.TheVariants.{OpenConn, Arrive, Clock, Deliver, Lose, Repeat, Flow, FlowAll, Resend, Crash, Detect, Move, Join, Handover, Advance, Reopen, Rebalance}
 use Rattle.object_store.specs.Partitions.{Partition}
-use Rattle.replay_run.specs.Runs.{Run, Connection, Arrival, At, Appended, partitions, is_connection, connection_of, messages_on, world_at, lives, takes_bytes, is_full, with_bytes, took_bytes, moment_of, items_by, own_answer, told, refusal, arrival_at, happening, arrived, is_skipped, given_up, asked, asks, handled_all, opened, next_line, bytes_arrived, event_by}
+use Rattle.replay_run.specs.Runs.{Run, Connection, Arrival, At, Appended, partitions, is_connection, connection_of, messages_on, world_at, lives, takes_bytes, is_full, with_bytes, took_bytes, moment_of, items_by, own_answer, told, refusal, arrival_at, happening, arrived, is_skipped, given_up, asked, asks, handled_all, opened, next_line, bytes_arrived, event_by, unserved, listener_registered, event_to, events_to, rows_known, registered_reply, sends, registers}
 use Rattle.replay_run.specs.AfterLines.{after_event, after_line, after_lines}
-use Rattle.replay_run.specs.ScriptRuns.{IsPlaced, MayAsk, IsNext, IsRun, line_counted, clock_was_set, connection_opened, bytes_taken, answer_told, call_arrived, run_given_up, call_asked}
+use Rattle.replay_run.specs.ScriptRuns.{IsPlaced, MayAsk, IsNext, IsRun, line_counted, clock_was_set, connection_opened, bytes_taken, listener_was_registered, answer_told, call_arrived, run_given_up, call_asked}
 use Rattle.replay_run.specs.WorldCalls.{arrival_to}
 use Rattle.replay_run.proofs.Items.{AreNumbered, numbered_front, items_room}
 use Rattle.replay_run.proofs.Places.{same_number}
@@ -57,7 +60,7 @@ come_both r mid next first then a b = record {
   appended = front_trans r.appended mid.appended next.appended a.appended b.appended;
 }
 
-pub asked_come : {State : Type 0} (o : Object Request State) (skips : List CallId) (r : Run) (a : Arrival) → HasCome r (a ∷ []) (asked o skips r a)
+pub asked_come : (o : Object Request Partition) (skips : List CallId) (r : Run) (a : Arrival) → HasCome r (a ∷ []) (asked o skips r a)
 asked_come o skips r a = go (is_skipped skips a.request.id)
   where
     is : (events : List At) (appended : List Appended) → HasCome r (a ∷ []) (arrived r a events appended)
@@ -68,7 +71,7 @@ asked_come o skips r a = go (is_skipped skips a.request.id)
     go false = is (its_event a ∷ []) (happening o r a)
 
 -- also where the run is given up
-pub asks_come : {State : Type 0} (o : Object Request State) (skips : List CallId) (r : Run) (a : Arrival) → HasCome r (a ∷ []) (asks o skips r a)
+pub asks_come : (o : Object Request Partition) (skips : List CallId) (r : Run) (a : Arrival) → HasCome r (a ∷ []) (asks o skips r a)
 asks_come o skips r a =
     on_if (HasCome r (a ∷ [])) (is_full (world_at o r a.request.partition)) (given_up (arrived r a [] [])) (asked o skips r a)
     (record { members = refl; backups = refl; lines = refl; moments = refl; connections = refl; arrivals = refl; appended = ([], refl) }) (asked_come o skips r a)
@@ -76,20 +79,43 @@ asks_come o skips r a =
 pub told_come : (r : Run) (c : ℕ) (bytes : List ℕ) → HasCome r [] (told r c bytes)
 told_come r c bytes = record { members = refl; backups = refl; lines = refl; moments = refl; connections = refl; arrivals = sym (append-nil r.arrivals); appended = (own_answer r.lines c bytes ∷ [], refl) }
 
+pub registers_come : {State : Type 0} (o : Object Request State) (r : Run) (c member : ℕ) (registration : Registration) → HasCome r [] (registers o r c member registration)
+registers_come o r c member registration =
+    let listener : Listener = record { conn = c; registration = registration } in
+    let reply = own_answer r.lines c (registered_reply registration) in
+    let events = events_to r.lines (rows_of (rows_known o r member) (listener ∷ [])) in
+    record {
+      members = refl;
+      backups = refl;
+      lines = refl;
+      moments = refl;
+      connections = refl;
+      arrivals = sym (append-nil r.arrivals);
+      appended = (reply ∷ events, sym (append_assoc r.appended (reply ∷ []) events));
+    }
+
 -- the arrival of an item that reaches a member at a line and at a moment, if it is a call
 abbrev pub arriving : ℕ → ℕ → ℕ → Item → Option Arrival
 arriving line member now (Asks request) = Some (arrival_to line member now request)
 arriving line member now (Reply bytes) = None
+arriving line member now (Wait request timeout) = None
+arriving line member now (Register registration) = None
 
 abbrev pub all_arriving : ℕ → ℕ → ℕ → List Item → List Arrival
 all_arriving line member now items = filter_map (arriving line member now) items
 
-pub handled_all_come : {State : Type 0} (o : Object Request State) (skips : List CallId) (r : Run) (k : Connection) (items : List Item)
+pub handled_all_come : (o : Object Request Partition) (skips : List CallId) (r : Run) (k : Connection) (items : List Item)
     → HasCome r (all_arriving r.lines k.member (moment_of r k.member) items) (handled_all o skips r k items)
 handled_all_come o skips r k [] = record { members = refl; backups = refl; lines = refl; moments = refl; connections = refl; arrivals = sym (append-nil r.arrivals); appended = same r.appended }
 handled_all_come o skips r k (Reply bytes ∷ items) =
     let mid = told r k.conn bytes in
     come_both r mid (handled_all o skips mid k items) [] (all_arriving r.lines k.member (moment_of r k.member) items) (told_come r k.conn bytes) (handled_all_come o skips mid k items)
+handled_all_come o skips r k (Wait request timeout ∷ items) =
+    let mid = told r k.conn (unserved request.correlation) in
+    come_both r mid (handled_all o skips mid k items) [] (all_arriving r.lines k.member (moment_of r k.member) items) (told_come r k.conn (unserved request.correlation)) (handled_all_come o skips mid k items)
+handled_all_come o skips r k (Register registration ∷ items) =
+    let mid = registers o r k.conn k.member registration in
+    come_both r mid (handled_all o skips mid k items) [] (all_arriving r.lines k.member (moment_of r k.member) items) (registers_come o r k.conn k.member registration) (handled_all_come o skips mid k items)
 handled_all_come o skips r k (Asks request ∷ items) =
     let a = arrival_at r k.member request in
     let one = asks_come o skips r a in
@@ -122,7 +148,7 @@ may_ask_come r next k number member request may named come = record {
     last_conn b (inl e) = ap (λ (c : Arrival). c.request.id.conn) (sym e) ∙ ap (λ (c : CallId). c.conn) named
     last_conn b (inr i) = absurd i
 
-module _ {State : Type 0} (o : Object Request State) (skips : List CallId) (r : Run) (k : Connection) (number member : ℕ) (request : Request) where
+module _ (o : Object Request Partition) (skips : List CallId) (r : Run) (k : Connection) (number member : ℕ) (request : Request) where
   pub may_ask_more : MayAsk r k number → request.id ≡ record { conn = k.conn; number = number } → MayAsk (asked o skips r (arrival_at r member request)) k (number + 1)
   may_ask_more may named = may_ask_come r (asked o skips r (arrival_at r member request)) k number member request may named (asked_come o skips r (arrival_at r member request))
 
@@ -136,6 +162,28 @@ may_ask_after r k number c bytes may = record {
   after = λ a i s. let l = may.after a i s in omega (arith, l);
   of_line = may.of_line;
 }
+
+-- and after a registration
+pub may_ask_registered : {State : Type 0} (o : Object Request State) (r : Run) (k : Connection) (number c member : ℕ) (registration : Registration) → MayAsk r k number → MayAsk (registers o r c member registration) k (number + 1)
+may_ask_registered o r k number c member registration may = record {
+  there = may.there;
+  after = λ a i s. let l = may.after a i s in omega (arith, l);
+  of_line = may.of_line;
+}
+
+-- What is sent answers nothing.
+sends_run : {o : Object Request Partition} (r : Run) (sent : List Sent) → IsRun o r → IsRun o (sends r sent)
+sends_run {o} r [] is = subst (λ ms. IsRun o (record r { appended = ms })) (sym (append-nil r.appended)) is
+sends_run {o} r (one ∷ sent) is =
+    subst (λ ms. IsRun o (record r { appended = ms })) (append_assoc r.appended (event_to r.lines one ∷ []) (events_to r.lines sent))
+    (sends_run (told r one.0 one.1) sent (answer_told r one.0 one.1 is))
+
+pub registers_run : {o : Object Request Partition} (r : Run) (k : Connection) (member : ℕ) (registration : Registration) → IsRun o r → connection_of r k.conn ≡ Some k → IsRun o (registers o r k.conn member registration)
+registers_run {o} r k member registration is there =
+    let listener : Listener = record { conn = k.conn; registration = registration } in
+    let answered = told r k.conn (registered_reply registration) in
+    sends_run (listener_registered answered listener) (rows_of (rows_known o r member) (listener ∷ []))
+    (listener_was_registered answered listener k (answer_told r k.conn (registered_reply registration) is) there)
 
 pub is_next : (r : Run) (k : Connection) (number : ℕ) (request : Request) → MayAsk r k number → number < length (messages_on k)
     → request.id ≡ record { conn = k.conn; number = number } → IsPlaced request → IsNext r request
@@ -161,6 +209,16 @@ handled_all_run skips r k bytes number (Reply answer ∷ items) is may numbered 
     handled_all_run skips (told r k.conn answer) k bytes (number + 1) items
     (answer_told r k.conn answer is)
     (may_ask_after r (with_bytes k bytes) number k.conn answer may)
+    numbered.1 (omega (arith, room))
+handled_all_run skips r k bytes number (Wait request timeout ∷ items) is may numbered room =
+    handled_all_run skips (told r k.conn (unserved request.correlation)) k bytes (number + 1) items
+    (answer_told r k.conn (unserved request.correlation) is)
+    (may_ask_after r (with_bytes k bytes) number k.conn (unserved request.correlation) may)
+    numbered.1 (omega (arith, room))
+handled_all_run {o} skips r k bytes number (Register registration ∷ items) is may numbered room =
+    handled_all_run skips (registers o r k.conn k.member registration) k bytes (number + 1) items
+    (registers_run r (with_bytes k bytes) k.member registration is may.there)
+    (may_ask_registered o r (with_bytes k bytes) number k.conn k.member registration may)
     numbered.1 (omega (arith, room))
 handled_all_run {o} skips r k bytes number (Asks request ∷ items) is may numbered room =
     let next = is_next r (with_bytes k bytes) number request may (omega (arith, room)) numbered.0.0 numbered.0.1 in

@@ -4,11 +4,12 @@ use Rattle.grid_base.specs.Objects.{Object}
 use Rattle.grid_base.specs.declared.names.CallId.{CallId}
 use Rattle.grid_base.specs.declared.calls.Request.{Request}
 use Rattle.partition_protocol.proofs.Lists.{In, in_cases, in_left, in_right, in_contains, contains_in}
+use Rattle.event_codecs.specs.declared.registration.Registration.{Registration}
 use Rattle.session_core.specs.declared.item.Item.{Item}
-use Rattle.session_core.specs.declared.item.Item.TheVariants.{Call as Asks, Reply}
+use Rattle.session_core.specs.declared.item.Item.TheVariants.{Call as Asks, Wait, Register, Reply}
 use Rattle.script_lang.specs.declared.line.Line.TheVariants.{Arrive}
 use Rattle.object_store.specs.Partitions.{Partition}
-use Rattle.replay_run.specs.Runs.{Run, Connection, connection_of, world_at, takes_bytes, is_full, messages_on, bytes_of, moment_of, with_bytes, took_bytes, items_by, arrival_at, is_skipped, told, asked, asks, handled_all, next_line}
+use Rattle.replay_run.specs.Runs.{Run, Connection, connection_of, world_at, takes_bytes, is_full, messages_on, bytes_of, moment_of, with_bytes, took_bytes, items_by, arrival_at, is_skipped, told, asked, asks, handled_all, next_line, unserved, handled, registers}
 use Rattle.replay_run.specs.AfterLines.{after_line}
 use Rattle.replay_run.specs.Printing.{does_nothing}
 use Rattle.replay_run.specs.Skips.{AreOfLine, items_at, calls_at}
@@ -17,7 +18,7 @@ use Rattle.call_engine.specs.Calls.{Settings}
 use Rattle.call_engine.specs.Objects.{partition_object}
 use Rattle.replay_run.proofs.EventRuns.{handled_all_full, asks_here, asks_nothing}
 use Rattle.replay_run.proofs.Items.{IsNumbered, AreNumbered, numbered_at, items_room}
-use Rattle.replay_run.proofs.Lines.{HasCome, all_arriving, handled_all_come, may_ask_more, may_ask_after, is_next, has_taken}
+use Rattle.replay_run.proofs.Lines.{HasCome, all_arriving, handled_all_come, may_ask_more, may_ask_after, may_ask_registered, registers_run, is_next, has_taken}
 use Rattle.replay_run.proofs.SkipLaws.{Alike, skipped_by_either, not_skipped, unless_same, asks_alike, handled_all_alike, handled_all-append, on_bytes}
 use Rattle.replay_run.specs.Grids.{AreFew, IsGivenUp}
 use Rattle.replay_run.specs.WorldCalls.{IsGivenUpMidway}
@@ -28,13 +29,36 @@ use Rattle.replay_run.proofs.Bounds.{bytes_taken_more, handled_no_more, handled_
 numbered_below : (conn number : ℕ) (done rest : List Item) (id : CallId) → AreNumbered conn number (done ++ rest) → In id (calls_in done) → id.number < number + length done
 numbered_below conn number [] rest id h i = absurd i
 numbered_below conn number (Reply bytes ∷ done) rest id h i = let l = numbered_below conn (number + 1) done rest id h.1 i in omega (arith, l)
+numbered_below conn number (Wait request timeout ∷ done) rest id h i = let l = numbered_below conn (number + 1) done rest id h.1 i in omega (arith, l)
+numbered_below conn number (Register registration ∷ done) rest id h i = let l = numbered_below conn (number + 1) done rest id h.1 i in omega (arith, l)
 numbered_below conn number (Asks p ∷ done) rest id h (inl e) = let n = ap (λ (c : CallId). c.number) (sym e ∙ h.0.0) in omega (arith, n)
 numbered_below conn number (Asks p ∷ done) rest id h (inr i) = let l = numbered_below conn (number + 1) done rest id h.1 i in omega (arith, l)
 
 pub calls_in-append : (first then : List Item) → calls_in (first ++ then) ≡ calls_in first ++ calls_in then
 calls_in-append [] then = refl
 calls_in-append (Reply bytes ∷ first) then = calls_in-append first then
+calls_in-append (Wait request timeout ∷ first) then = calls_in-append first then
+calls_in-append (Register registration ∷ first) then = calls_in-append first then
 calls_in-append (Asks request ∷ first) then = ap (λ ids. request.id ∷ ids) (calls_in-append first then)
+
+-- the answer to an item for which no member is asked
+abbrev pub answer_of : Item → Option (List ℕ)
+answer_of (Reply bytes) = Some bytes
+answer_of (Wait request timeout) = Some (unserved request.correlation)
+answer_of (Register registration) = None
+answer_of (Asks request) = None
+
+handled_told : (o : Object Request Partition) (skips : List CallId) (r : Run) (k : Connection) (item : Item) (answer : List ℕ) → answer_of item ≡ Some answer → handled o skips r k item ≡ told r k.conn answer
+handled_told o skips r k (Reply bytes) answer its = let same : bytes ≡ answer = cc in ap (told r k.conn) same
+handled_told o skips r k (Wait request timeout) answer its = let same : unserved request.correlation ≡ answer = cc in ap (told r k.conn) same
+handled_told o skips r k (Register registration) answer its = absurd cc
+handled_told o skips r k (Asks request) answer its = absurd cc
+
+no_calls : (item : Item) (answer : List ℕ) → answer_of item ≡ Some answer → calls_in (item ∷ []) ≡ []
+no_calls (Reply bytes) answer its = refl
+no_calls (Wait request timeout) answer its = refl
+no_calls (Register registration) answer its = absurd cc
+no_calls (Asks request) answer its = absurd cc
 
 module _ {o : Object Request Partition} (r : Run) (is : IsRun o r) (k : Connection) (there : connection_of r k.conn ≡ Some k) (bytes : List ℕ) where
   abbrev pub first_number : ℕ
@@ -80,17 +104,31 @@ module _ {o : Object Request Partition} (r : Run) (is : IsRun o r) (k : Connecti
     one_more : first_number + length done + 1 ≡ first_number + length (done ++ item ∷ [])
     one_more = let more = length-append done (item ∷ []) in omega (arith, more)
 
-  -- One item more, which the session answered itself.
-  module _ (done : List Item) (answer : List ℕ) (rest : List Item) (come : items_by k bytes ≡ done ++ Reply answer ∷ rest) (skips : List CallId) (now : Run) (m : IsMidway o r k bytes done skips now) where
-    pub told_midway : IsMidway o r k bytes (done ++ Reply answer ∷ []) skips (told now k.conn answer)
+  -- One item more, which is answered without a member.
+  module _ (done : List Item) (item : Item) (answer : List ℕ) (its : answer_of item ≡ Some answer) (rest : List Item) (come : items_by k bytes ≡ done ++ item ∷ rest) (skips : List CallId) (now : Run) (m : IsMidway o r k bytes done skips now) where
+    pub told_midway : IsMidway o r k bytes (done ++ item ∷ []) skips (told now k.conn answer)
     told_midway = record {
       run = answer_told now k.conn answer m.run;
       is =
           ap (λ (x : Run). told x k.conn answer) m.is
-          ∙ sym (handled_all-append o skips (took_bytes r k bytes) k done (Reply answer ∷ []));
-      own = λ id c. subst (λ ids. Contains ids id) (sym (calls_in-append done (Reply answer ∷ []) ∙ append-nil (calls_in done))) (m.own id c);
-      may = subst (λ n. MayAsk (told now k.conn answer) (with_bytes k bytes) n) (one_more done (Reply answer) rest come skips now m)
+          ∙ sym (handled_told o skips (handled_all o skips (took_bytes r k bytes) k done) k item answer its)
+          ∙ sym (handled_all-append o skips (took_bytes r k bytes) k done (item ∷ []));
+      own = λ id c. subst (λ ids. Contains ids id) (sym (calls_in-append done (item ∷ []) ∙ ap (λ ids. calls_in done ++ ids) (no_calls item answer its) ∙ append-nil (calls_in done))) (m.own id c);
+      may = subst (λ n. MayAsk (told now k.conn answer) (with_bytes k bytes) n) (one_more done item rest come skips now m)
           (may_ask_after now (with_bytes k bytes) (first_number + length done) k.conn answer m.may);
+    }
+
+  -- One item more, which is a registration.
+  module _ (done : List Item) (registration : Registration) (rest : List Item) (come : items_by k bytes ≡ done ++ Register registration ∷ rest) (skips : List CallId) (now : Run) (m : IsMidway o r k bytes done skips now) where
+    pub registered_midway : IsMidway o r k bytes (done ++ Register registration ∷ []) skips (registers o now k.conn k.member registration)
+    registered_midway = record {
+      run = registers_run now (with_bytes k bytes) k.member registration m.run m.may.there;
+      is =
+          ap (λ (x : Run). registers o x k.conn k.member registration) m.is
+          ∙ sym (handled_all-append o skips (took_bytes r k bytes) k done (Register registration ∷ []));
+      own = λ id c. subst (λ ids. Contains ids id) (sym (calls_in-append done (Register registration ∷ []) ∙ append-nil (calls_in done))) (m.own id c);
+      may = subst (λ n. MayAsk (registers o now k.conn k.member registration) (with_bytes k bytes) n) (one_more done (Register registration) rest come skips now m)
+          (may_ask_registered o now (with_bytes k bytes) (first_number + length done) k.conn k.member registration m.may);
     }
 
   -- One item more, which is a call.

@@ -13,14 +13,14 @@ use Rattle.partition_protocol.specs.Arrivals.{asked_by, arrivals}
 use Rattle.partition_protocol.proofs.EventCases.{EventCases, every_event}
 use Rattle.partition_protocol.proofs.Lists.{In, in_cases, IsPart, cases}
 use Rattle.partition_protocol.proofs.RowFacts.{number_same}
-use Rattle.replay_run.specs.Runs.{Run, Appended, Reopened, is_at, events_at, world_at, answer_to, released_by, is_heard, reopening_by, occurred, reopened_at}
-use Rattle.replay_run.specs.WorldCalls.{taker_of}
+use Rattle.replay_run.specs.Runs.{Run, Appended, Reopened, is_at, events_at, world_at, reopening_by, reopened_at, taker_of}
 use Rattle.replay_run.proofs.Parts.{in_mapped}
 use Rattle.replay_run.proofs.Places.{same_number}
 use Rattle.replay_run.proofs.Trails.{executed, executed-append}
 use Rattle.replay_run.proofs.Stamps.{AreStamped, stamped_reset}
 use Rattle.replay_run.proofs.RunFacts.{asked_of, is_of, ArrivalsOk, RefusalsOk, ReopeningsOk, RunOk}
 use Rattle.replay_run.proofs.Arriving.{arrivals_stay, arrivals-append, events_with_one, maybe_one}
+use Rattle.replay_run.proofs.Bare.{answer_to, executed_by, is_heard, bare_occurred}
 use Rattle.replay_run.proofs.Answering.{its, before, happened, world_with, world_here, world_elsewhere}
 
 -- what an event leaves as it was
@@ -127,9 +127,9 @@ module _ {State : Type 0} (o : Object Request State) (r : Run) (ok : RunOk o r) 
         ap arrivals (events_with_one q r.events (its o r p event)) ∙ arrivals-append (events_at q r.events) (maybe_one (is_at q (its o r p event)) event)
         ∙ ap (λ ks. arrivals (events_at q r.events) ++ ks) (asked_by_maybe (is_at q (its o r p event)) event quiet) ∙ append-nil (arrivals (events_at q r.events))
 
-    pub occurred_arrivals : ArrivalsOk (occurred o r p event)
+    pub occurred_arrivals : ArrivalsOk (bare_occurred o r p event)
     occurred_arrivals =
-        let next = occurred o r p event in
+        let next = bare_occurred o r p event in
         arrivals_stay r next.events next.appended next.reopened next.full ok.of_arrivals (λ q. subst (λ ks. IsPart ks (map asked_of (filter (is_of q) r.arrivals))) (sym (same_calls q)) (ok.of_arrivals.calls q))
 
     -- refusals
@@ -148,14 +148,14 @@ module _ {State : Type 0} (o : Object Request State) (r : Run) (ok : RunOk o r) 
             subst (λ v. executed (world_with o r p event v).recorded.log ≡ executed (world_at o r v).recorded.log) (same_number p q e)
             (ap (λ (w : World Request). executed w.recorded.log) (world_here o r p event) ∙ executed_here)
 
-    pub occurred_refusals : RefusalsOk o (occurred o r p event)
+    pub occurred_refusals : RefusalsOk o (bare_occurred o r p event)
     occurred_refusals = record {
       arrived = λ m id i e. ⊎_elim (λ j. ok.of_refusals.arrived m id j e) (λ j. absurd (refuses_none m id j e)) (in_cases m r.appended given i);
       unexecuted = λ m id i e q x j. ⊎_elim (λ k. ok.of_refusals.unexecuted m id k e q x (subst (λ xs. In x xs) (same_executed q) j)) (λ k. absurd (refuses_none m id k e)) (in_cases m r.appended given i);
     }
       where
         heard : List (Executed Request)
-        heard = filter (is_heard r) (released_by (before o r p event) h.world)
+        heard = filter (is_heard r) (executed_by (before o r p event) h.world)
 
         given : List Appended
         given = map (answer_to r.lines) heard
@@ -211,5 +211,5 @@ module _ {State : Type 0} (o : Object Request State) (r : Run) (ok : RunOk o r) 
             subst (λ (w : World Request). IsStampedIn q (r.reopened ++ new) w.recorded.log) (sym (world_elsewhere o r p event q e))
             (subst (λ ls. AreStamped r.arrivals 0 r.lines ls (world_at o r q).recorded.log) (sym (reopened_elsewhere q e)) (ok.of_reopenings.stamped q))
 
-    pub occurred_reopenings : ReopeningsOk o (occurred o r p event)
+    pub occurred_reopenings : ReopeningsOk o (bare_occurred o r p event)
     occurred_reopenings = record { stamped = stamped_after }

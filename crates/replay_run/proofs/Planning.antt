@@ -1,5 +1,5 @@
 -- The plan of a run's rows: it can be made, and its steps are of rising partitions.
-use Rattle.std.proofs.Common.{◌≡◌, ℕ, zero, suc, ◌+◌, ◌≤◌, ◌<◌, ◌==◌, Bool, true, false, not, cond, List, [], ◌∷◌, map, filter, take, length, Option, Some, None, slice_get, slice_index, refl, ap, sym, ◌∙◌, subst, inl, inr, arith}
+use Rattle.std.proofs.Common.{◌≡◌, ℕ, zero, suc, ◌+◌, ◌≤◌, ◌<◌, ◌==◌, Bool, true, false, not, cond, List, [], ◌∷◌, take, length, Option, Some, None, slice_get, slice_index, refl, ap, sym, ◌∙◌, subst, inl, inr, arith}
 use Rattle.std.specs.List.{list_all}
 use Rattle.std.proofs.lemmas.List.{length-map}
 use Rattle.grid_base.specs.Objects.{Object}
@@ -7,11 +7,10 @@ use Rattle.grid_base.specs.declared.calls.Request.{Request}
 use Rattle.object_store.specs.Partitions.{Partition}
 use Rattle.partition_table.specs.declared.Row.{Row}
 use Rattle.partition_table.specs.declared.RowMember.{RowMember}
-use Rattle.partition_table.specs.Rows.{first_of, is_among, number_of}
+use Rattle.partition_table.specs.Rows.{first_of, is_among}
 use Rattle.partition_protocol.specs.Service.{numbers_below}
-use Rattle.partition_protocol.specs.World.{World, start}
-use Rattle.partition_protocol.specs.Events.{run}
-use Rattle.partition_protocol.proofs.Lists.{In, cases}
+use Rattle.partition_protocol.specs.World.{World}
+use Rattle.partition_protocol.proofs.Lists.{In}
 use Rattle.partition_protocol.proofs.Histories.{filter_in}
 use Rattle.partition_protocol.proofs.RowFacts.{both_left, both_right, false_or_not, not_both, in_among}
 use Rattle.partition_protocol.proofs.NextRows.{in_below, member_is_in}
@@ -20,12 +19,12 @@ use Rattle.partition_protocol.proofs.Theorem.{grid_good, length-numbers_below, g
 use Rattle.partition_protocol.proofs.WellFormed.{every_run_is_well_formed}
 use Rattle.rebalance.specs.declared.Step.{Step}
 use Rattle.rebalance.specs.Rows.{primaries, primary_of}
-use Rattle.rebalance.specs.Members.{is_undetected, undetected_count, load_of, IsUndetected, AreUndetected}
+use Rattle.rebalance.specs.Members.{undetected_count, load_of, AreUndetected}
 use Rattle.rebalance.specs.Steps.{moved}
-use Rattle.rebalance.specs.Plans.{Planned, NoMember, Unsettled, Balanced, balanced, first_unsettled, targets_of, step_at, steps_from, plan_of}
+use Rattle.rebalance.specs.Plans.{NoMember, Unsettled, Balanced, balanced, first_unsettled, targets_of, step_at, steps_from, plan_of}
 use Rattle.rebalance.proofs.Pure.{step_some}
 use Rattle.replay_run.specs.Runs.{Run, partitions, events_at, world_at}
-use Rattle.replay_run.specs.Rebalancing.{service_at, is_moving_at, rows_in, marks_in, is_detected_in, detected_in, plan_in, first_steps, steps_in, stepped_all, rebalanced, most_line_events}
+use Rattle.replay_run.specs.Rebalancing.{service_at, is_moving_at, rows_in, marks_in, is_detected_in, detected_in, first_steps, steps_in, rebalanced, most_line_events}
 use Rattle.replay_run.specs.ScriptRuns.{IsRun}
 use Rattle.replay_run.specs.WorldCalls.{HasRoomAt, MayStep}
 use Rattle.replay_run.proofs.Rebalanced.{AreRising, steps_few}
@@ -72,7 +71,7 @@ planned_rise rows moving detected n most = go (undetected_count detected n == 0)
     go true = tt
     go false = settled (first_unsettled rows moving)
 
-module _ {State : Type 0} (o : Object Request State) (r : Run) where
+module _ (o : Object Request Partition) (r : Run) where
   pub all_rows : length (rows_in o r) ≡ partitions
   all_rows = length-map (numbers_below partitions) (λ p. (service_at o r p).row) ∙ length-numbers_below partitions
 

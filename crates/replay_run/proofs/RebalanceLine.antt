@@ -1,6 +1,6 @@
 -- The line that runs the steps of a plan: the run goes on from part to part, and the line prints the plan and each step's end.
-use Rattle.std.proofs.Common.{◌≡◌, ℕ, zero, suc, ◌+◌, ◌-◌, ◌*◌, ◌≤◌, ◌<◌, Bool, true, false, not, ◌&&◌, cond, List, [], ◌∷◌, ◌++◌, map, filter, take, drop, fold, length, get_or, Option, Some, None, Result, Ok, Err, refl, ap, sym, ◌∙◌, subst, append-nil, append_assoc, add-one, arith}
-use Rattle.std.specs.List.{list_all, find, flat_map}
+use Rattle.std.proofs.Common.{◌≡◌, ℕ, zero, suc, ◌+◌, ◌-◌, ◌*◌, ◌≤◌, ◌<◌, Bool, true, false, ◌&&◌, cond, List, [], ◌∷◌, ◌++◌, map, filter, take, drop, length, get_or, Option, Some, None, Result, Ok, refl, ap, sym, ◌∙◌, subst, append-nil, append_assoc, add-one, arith}
+use Rattle.std.specs.List.{list_all, find}
 use Rattle.std.proofs.lemmas.List.{map-append, take-append-drop, take_more, drop_more}
 use Rattle.partition_protocol.proofs.Lists.{In}
 use Rattle.partition_protocol.proofs.RowFacts.{false_or_not, not_both}
@@ -13,34 +13,32 @@ use Rattle.grid_base.specs.Objects.{Object}
 use Rattle.grid_base.specs.declared.calls.Request.{Request}
 use Rattle.object_store.specs.Partitions.{Partition}
 use Rattle.partition_table.specs.Rows.{first_of}
-use Rattle.partition_protocol.specs.Events.{Event, Resend, BeginJoin, Advance}
+use Rattle.partition_protocol.specs.Events.{Event, Resend}
 use Rattle.partition_protocol.specs.Service.{numbers_below}
 use Rattle.partition_world.specs.declared.event.Happened.{Happened}
 use Rattle.rebalance.specs.declared.Step.{Step}
-use Rattle.rebalance.specs.declared.StepKind.{StepKind}
-use Rattle.rebalance.specs.declared.StepKind.TheVariants.{Move, Handover}
+use Rattle.rebalance.specs.declared.StepKind.TheVariants.{Handover}
 use Rattle.rebalance.specs.declared.Plan.{Plan}
 use Rattle.rebalance.specs.declared.PlanRefused.{PlanRefused}
-use Rattle.rebalance.specs.declared.PlanRefused.TheVariants as refused
-use Rattle.rebalance.specs.Plans.{Planned, NoMember, Unsettled, Balanced, Gives}
+use Rattle.rebalance.specs.Plans.{Planned, Balanced, Gives}
 use Rattle.call_engine.specs.Calls.{Settings}
 use Rattle.call_engine.specs.Objects.{partition_object}
-use Rattle.script_lang.specs.declared.line.Line.{Line}
+use Rattle.script_lang.specs.Limits.{most_lines}
 use Rattle.script_lang.specs.declared.line.Line.TheVariants.{Rebalance}
 use Rattle.replay_run.specs.declared.grid.Grid.{Grid}
-use Rattle.replay_run.specs.Runs.{Run, Appended, is_connection, events_at, meets_full, world_at, next_line, takes, flowed, occurred}
-use Rattle.replay_run.specs.AfterLines.{after_line}
-use Rattle.replay_run.specs.Printing.{outcome_text, line_text, new_messages}
-use Rattle.replay_run.specs.Rebalancing.{service_at, is_moving_at, most_deliveries, most_turns, most_line_events, event_begun, first_resends, turned, turned_on, joined, rejoined, stepped, stepped_all, plan_in, first_steps, steps_in, rebalanced}
+use Rattle.replay_run.specs.Runs.{Run, is_connection, events_at, meets_full, world_at, next_line, takes, flowed}
+use Rattle.replay_run.specs.Printing.{new_messages}
+use Rattle.replay_run.specs.Rebalancing.{service_at, is_moving_at, most_deliveries, most_turns, most_line_events, first_resends, turned, turned_on, joined, rejoined, stepped, stepped_all, plan_in, first_steps, steps_in, rebalanced}
 use Rattle.replay_run.specs.RebalancingTexts.{plan_text, end_text, ran_text, ran_texts}
 use Rattle.replay_run.specs.Grids.{FormOf, Stands, HasRun, IsGivenUp}
-use Rattle.replay_run.specs.WorldCalls.{texts_of, HasRoomAt, IsAmid, HasGoneOn, HasTaken, HasFlowed, MayStep, HasStepped, HasNoSteps}
+use Rattle.replay_run.specs.WorldCalls.{texts_of, HasRoomAt, IsAmid, HasGoneOn, HasTaken, MayStep, HasStepped, HasNoSteps}
 use Rattle.replay_run.proofs.Bounds.{kept_small, rebalance_few}
-use Rattle.replay_run.proofs.EventRuns.{Kept, takes_here, takes_nothing, takes_full, takes_few, flowed_full, flowed_few}
+use Rattle.replay_run.proofs.LineBounds.{line_bounded}
+use Rattle.replay_run.proofs.EventRuns.{Kept, takes_here, takes_nothing, takes_few, flowed_few}
 use Rattle.replay_run.proofs.EventLines.{no_calls, line_given_up}
 use Rattle.replay_run.proofs.Flowing.{gone_nowhere, gone_further, gone_as}
 use Rattle.replay_run.proofs.LineTexts.{new_with}
-use Rattle.replay_run.proofs.Rebalanced.{turned_few, turned_on_few, turned_on_full, first_few, stepped_all_full, rebalanced_kept, stepped_elsewhere}
+use Rattle.replay_run.proofs.Rebalanced.{turned_few, turned_on_full, first_few, stepped_all_full, rebalanced_kept, stepped_elsewhere}
 
 module _ {V : Type 0} {T : V → Type 0} {form : FormOf V T} {settings : Settings} where
   -- an event that was taken
@@ -285,7 +283,7 @@ refuses line written text planned none empty is shown = (subst HasNoSteps (sym i
 
 -- the line
 
-module _ {V : Type 0} {T : V → Type 0} {form : FormOf V T} {settings : Settings} (grid new : Grid V T) (r : Run) (most : ℕ) (s : Stands form settings grid r)
+module _ {V : Type 0} {T : V → Type 0} {form : FormOf V T} {settings : Settings} (grid new : Grid V T) (r : Run) (most : ℕ) (s : Stands form settings grid r) (limit : r.lines + 1 ≤ most_lines)
     (on : IsAmid form settings new (rebalanced (partition_object settings) (next_line r) most)) where
   next_stands : Stands form settings new (rebalanced (partition_object settings) (next_line r) most)
   next_stands =
@@ -294,7 +292,9 @@ module _ {V : Type 0} {T : V → Type 0} {form : FormOf V T} {settings : Setting
         run = on.run;
         small = kept_small r (rebalanced (partition_object settings) (next_line r) most) kept s.small;
         few = rebalance_few (partition_object settings) r s.few most;
+        bounded = line_bounded (partition_object settings) [] r limit s.bounded (Rebalance most);
         holds = on.holds;
+        listeners = on.listeners;
         settled = on.settled;
         reached = λ c k found. subst (λ m. k.member < m) (sym kept.members) (s.reached c k (ap (find (is_connection c)) (sym kept.connections) ∙ found));
       }
@@ -331,15 +331,15 @@ module _ {V : Type 0} {T : V → Type 0} {form : FormOf V T} {settings : Setting
   pub planned_full : (stepped_all (partition_object settings) (next_line r) (first_steps most planned)).full ≡ true → IsGivenUp settings r (Rebalance most)
   planned_full full = line_given_up settings r (Rebalance most) (ap (λ ss. (stepped_all (partition_object settings) (next_line r) ss).full) steps_are ∙ full)
 
-  pub planned_line : IsAmid form settings new (stepped_all (partition_object settings) (next_line r) (first_steps most planned)) → (number : ℕ) (written text : List ℕ) → number ≡ r.lines + 1
+  pub planned_line : IsAmid form settings new (stepped_all (partition_object settings) (next_line r) (first_steps most planned)) → (number : ℕ) (written text : List ℕ) → number ≡ r.lines + 1 → r.lines + 1 ≤ most_lines
       → text ≡ (written ++ plan_text number planned) ++ ran_texts (partition_object settings) (next_line r) (first_steps most planned) → HasRun form settings new r (Rebalance most) written text
-  planned_line amid number written text at_line shown =
-      rebalance_line grid new r most s (subst (λ ss. IsAmid form settings new (stepped_all (partition_object settings) (next_line r) ss)) (sym steps_are) amid) number written text at_line
+  planned_line amid number written text at_line limit shown =
+      rebalance_line grid new r most s limit (subst (λ ss. IsAmid form settings new (stepped_all (partition_object settings) (next_line r) ss)) (sym steps_are) amid) number written text at_line
       (shown ∙ (λ i. (written ++ plan_text number (sym is i)) ++ ran_texts (partition_object settings) (next_line r) (sym steps_are i)))
 
 -- where nothing is run
 pub refused_line : {V : Type 0} {T : V → Type 0} {form : FormOf V T} {settings : Settings} (grid : Grid V T) (r : Run) (most : ℕ) (s : Stands form settings grid r) (planned : Planned) → plan_in (partition_object settings) (next_line r) ≡ planned
-    → first_steps most planned ≡ [] → {new : Grid V T} → IsAmid form settings new (next_line r) → (number : ℕ) (written text : List ℕ) → number ≡ r.lines + 1 → text ≡ written ++ plan_text number planned → HasRun form settings new r (Rebalance most) written text
-refused_line {form = form} {settings = settings} grid r most s planned is none {new = new} amid number written text at_line shown =
-    planned_line grid new r most s planned is (subst (λ ss. IsAmid form settings new (stepped_all (partition_object settings) (next_line r) ss)) (sym none) amid) number written text at_line
+    → first_steps most planned ≡ [] → {new : Grid V T} → IsAmid form settings new (next_line r) → (number : ℕ) (written text : List ℕ) → number ≡ r.lines + 1 → r.lines + 1 ≤ most_lines → text ≡ written ++ plan_text number planned → HasRun form settings new r (Rebalance most) written text
+refused_line {form = form} {settings = settings} grid r most s planned is none {new = new} amid number written text at_line limit shown =
+    planned_line grid new r most s planned is (subst (λ ss. IsAmid form settings new (stepped_all (partition_object settings) (next_line r) ss)) (sym none) amid) number written text at_line limit
     (shown ∙ sym (append-nil (written ++ plan_text number planned)) ∙ ap (λ ss. (written ++ plan_text number planned) ++ ran_texts (partition_object settings) (next_line r) ss) (sym none))

@@ -1,106 +1,128 @@
 -- What the steps of a plan do to a run: they are lists of events, few for each partition.
-use Rattle.std.proofs.Common.{◌≡◌, ◌≢◌, ℕ, zero, suc, ◌+◌, ◌*◌, ◌≤◌, ◌<◌, Bool, true, false, cond, List, [], ◌∷◌, length, Option, Some, None, refl, ap, sym, ◌∙◌, ⊎_elim, arith}
+use Rattle.std.proofs.Common.{◌≡◌, ◌≢◌, ℕ, zero, suc, ◌+◌, ◌*◌, ◌≤◌, ◌<◌, true, List, [], ◌∷◌, length, Option, Some, None, refl, ap, ◌∙◌, ⊎_elim, arith}
 use Rattle.grid_base.specs.Objects.{Object}
 use Rattle.grid_base.specs.declared.calls.Request.{Request}
 use Rattle.object_store.specs.Partitions.{Partition}
 use Rattle.partition_table.specs.Rows.{first_of}
 use Rattle.partition_protocol.specs.Arrivals.{asked_by}
-use Rattle.partition_protocol.specs.Events.{Event, Resend, BeginJoin, Advance}
+use Rattle.partition_protocol.specs.Events.{Event, Outcome, Resend, BeginJoin, Advance}
+use Rattle.partition_world.specs.declared.Link.{Link}
 use Rattle.partition_protocol.proofs.Lists.{on_if}
 use Rattle.partition_protocol.proofs.RowFacts.{number_cases}
 use Rattle.rebalance.specs.declared.Step.{Step}
 use Rattle.rebalance.specs.declared.StepKind.{StepKind}
 use Rattle.rebalance.specs.declared.StepKind.TheVariants.{Move, Handover}
-use Rattle.replay_run.specs.Runs.{Run, events_at, takes, flowed, delivery_on}
+use Rattle.replay_run.specs.Runs.{Run, events_at, takes, flowed, delivery_on, reopening_by}
 use Rattle.replay_run.specs.Rebalancing.{service_at, is_moving_at, most_deliveries, most_turns, most_line_events, event_begun, first_resends, turned, turned_on, joined, rejoined, stepped, stepped_all, steps_in, rebalanced}
 use Rattle.replay_run.specs.ScriptRuns.{IsRun}
-use Rattle.replay_run.proofs.EventRuns.{HasEvents, HasMost, Kept, kept_refl, kept_trans, flowed_keeps, takes_kept, takes_run, takes_full, takes_few, takes_elsewhere, flowed_few, flowed_full}
+use Rattle.replay_run.proofs.EventRuns.{HasEvents, Kept, kept_refl, kept_trans, flowed_keeps, takes_kept, takes_run, takes_full, takes_few, takes_elsewhere, flowed_few}
+
+-- an event of a step, which is neither a call nor a reopening
+pub record IsOfStep (event : Event Request) : Type 0 where
+  pub asks : asked_by event ≡ []
+  pub reopens : (p line : ℕ) (outcome : Outcome) → reopening_by p line event outcome ≡ []
 
 pub begun_unasked : (kind : StepKind) (from to : ℕ) → asked_by (event_begun kind from to) ≡ []
 begun_unasked Move from to = refl
 begun_unasked Handover from to = refl
 
--- What holds after each event of a partition that is no call holds after a step of it.
-module _ {State : Type 0} (o : Object Request State) (P : Run → Type 0) (p : ℕ) (each : (r : Run) (event : Event Request) → asked_by event ≡ [] → P r → P (takes o r p event)) where
+begun_of_step : (kind : StepKind) (from to : ℕ) → IsOfStep (event_begun kind from to)
+begun_of_step Move from to = record { asks = refl; reopens = λ p line outcome. refl }
+begun_of_step Handover from to = record { asks = refl; reopens = λ p line outcome. refl }
+
+delivered : (l : Link) → IsOfStep (delivery_on l)
+delivered l = record { asks = refl; reopens = λ p line outcome. refl }
+
+sent_again : (end : ℕ) → IsOfStep (Resend end)
+sent_again end = record { asks = refl; reopens = λ p line outcome. refl }
+
+gone_on : IsOfStep Advance
+gone_on = record { asks = refl; reopens = λ p line outcome. refl }
+
+join_begun : (member : ℕ) → IsOfStep (BeginJoin member)
+join_begun member = record { asks = refl; reopens = λ p line outcome. refl }
+
+-- What holds after each such event of a partition holds after a step of it.
+module _ (o : Object Request Partition) (P : Run → Type 0) (p : ℕ) (each : (r : Run) (event : Event Request) → IsOfStep event → P r → P (takes o r p event)) where
   flow_keeps : (r : Run) (most : ℕ) → P r → P (flowed o r p most)
-  flow_keeps r most h = flowed_keeps o P p (λ x l k. each x (delivery_on l) refl k) r most h
+  flow_keeps r most h = flowed_keeps o P p (λ x l k. each x (delivery_on l) (delivered l) k) r most h
 
   pub first_keeps : (r : Run) → P r → P (first_resends o r p)
   first_keeps r h = go (first_of (service_at o r p).row.members)
     where
       go : (first : Option ℕ) → P (elim first [ None ↦ r | Some first ↦ takes o r p (Resend first) ])
       go None = h
-      go (Some first) = each r (Resend first) refl h
+      go (Some first) = each r (Resend first) (sent_again first) h
 
   pub turn_keeps : (r : Run) → P r → P (turned o r p)
   turn_keeps r h =
       let told = takes o r p (Resend r.members) in
       let again = first_resends o told p in
-      each (flowed o again p most_deliveries) Advance refl (flow_keeps again most_deliveries (first_keeps told (each r (Resend r.members) refl h)))
+      each (flowed o again p most_deliveries) Advance gone_on (flow_keeps again most_deliveries (first_keeps told (each r (Resend r.members) (sent_again r.members) h)))
 
   pub turns_keep : (r : Run) (turns : ℕ) → P r → P (turned_on o r p turns)
   turns_keep r zero h = h
   turns_keep r (suc turns) h = on_if P (is_moving_at o r p) (turned_on o (turned o r p) p turns) r (turns_keep (turned o r p) turns (turn_keeps r h)) h
 
   pub join_keeps : (r : Run) (member : ℕ) → P r → P (joined o r p member)
-  join_keeps r member h = flow_keeps (takes o r p (BeginJoin member)) most_deliveries (each r (BeginJoin member) refl h)
+  join_keeps r member h = flow_keeps (takes o r p (BeginJoin member)) most_deliveries (each r (BeginJoin member) (join_begun member) h)
 
   pub rejoin_keeps : (r : Run) (from : ℕ) (kind : StepKind) → P r → P (rejoined o r p from kind)
   rejoin_keeps r from Move h = h
   rejoin_keeps r from Handover h = on_if P (is_moving_at o r p) r (joined o r p from) h (join_keeps r from h)
 
-module _ {State : Type 0} (o : Object Request State) (P : Run → Type 0) where
-  pub step_keeps : (step : Step) → ((r : Run) (event : Event Request) → asked_by event ≡ [] → P r → P (takes o r step.partition event)) → (r : Run) → P r → P (stepped o r step)
+module _ (o : Object Request Partition) (P : Run → Type 0) where
+  pub step_keeps : (step : Step) → ((r : Run) (event : Event Request) → IsOfStep event → P r → P (takes o r step.partition event)) → (r : Run) → P r → P (stepped o r step)
   step_keeps step each r h =
       let p = step.partition in
       let begun = takes o r p (event_begun step.kind step.from step.to) in
       rejoin_keeps o P p each (turned_on o begun p most_turns) step.from step.kind
-      (turns_keep o P p each begun most_turns (each r (event_begun step.kind step.from step.to) (begun_unasked step.kind step.from step.to) h))
+      (turns_keep o P p each begun most_turns (each r (event_begun step.kind step.from step.to) (begun_of_step step.kind step.from step.to) h))
 
-  module _ (each : (r : Run) (p : ℕ) (event : Event Request) → asked_by event ≡ [] → P r → P (takes o r p event)) where
+  module _ (each : (r : Run) (p : ℕ) (event : Event Request) → IsOfStep event → P r → P (takes o r p event)) where
     pub steps_keep : (steps : List Step) (r : Run) → P r → P (stepped_all o r steps)
     steps_keep [] r h = h
-    steps_keep (step ∷ steps) r h = steps_keep steps (stepped o r step) (step_keeps step (λ x event quiet k. each x step.partition event quiet k) r h)
+    steps_keep (step ∷ steps) r h = steps_keep steps (stepped o r step) (step_keeps step (λ x event of_step k. each x step.partition event of_step k) r h)
 
     pub rebalance_keeps : (r : Run) (most : ℕ) → P r → P (rebalanced o r most)
     rebalance_keeps r most h = steps_keep (steps_in o r most) r h
 
-module _ {State : Type 0} (o : Object Request State) where
+module _ (o : Object Request Partition) where
   pub turned_kept : (r : Run) (p : ℕ) → Kept r (turned o r p)
-  turned_kept r p = turn_keeps o (Kept r) p (λ x event quiet h. kept_trans h (takes_kept o x p event)) r (kept_refl r)
+  turned_kept r p = turn_keeps o (Kept r) p (λ x event of_step h. kept_trans h (takes_kept o x p event)) r (kept_refl r)
 
   pub stepped_kept : (r : Run) (step : Step) → Kept r (stepped o r step)
-  stepped_kept r step = step_keeps o (Kept r) step (λ x event quiet h. kept_trans h (takes_kept o x step.partition event)) r (kept_refl r)
+  stepped_kept r step = step_keeps o (Kept r) step (λ x event of_step h. kept_trans h (takes_kept o x step.partition event)) r (kept_refl r)
 
   pub rebalanced_kept : (r : Run) (most : ℕ) → Kept r (rebalanced o r most)
-  rebalanced_kept r most = rebalance_keeps o (Kept r) (λ x p event quiet h. kept_trans h (takes_kept o x p event)) r most (kept_refl r)
+  rebalanced_kept r most = rebalance_keeps o (Kept r) (λ x p event of_step h. kept_trans h (takes_kept o x p event)) r most (kept_refl r)
 
   abbrev IsGivenUp : Run → Type 0
   IsGivenUp r = r.full ≡ true
 
   pub first_full : (r : Run) (p : ℕ) → r.full ≡ true → (first_resends o r p).full ≡ true
-  first_full r p full = first_keeps o IsGivenUp p (λ x event quiet h. takes_full o x p event h) r full
+  first_full r p full = first_keeps o IsGivenUp p (λ x event of_step h. takes_full o x p event h) r full
 
   pub turned_full : (r : Run) (p : ℕ) → r.full ≡ true → (turned o r p).full ≡ true
-  turned_full r p full = turn_keeps o IsGivenUp p (λ x event quiet h. takes_full o x p event h) r full
+  turned_full r p full = turn_keeps o IsGivenUp p (λ x event of_step h. takes_full o x p event h) r full
 
   pub turned_on_full : (r : Run) (p turns : ℕ) → r.full ≡ true → (turned_on o r p turns).full ≡ true
-  turned_on_full r p turns full = turns_keep o IsGivenUp p (λ x event quiet h. takes_full o x p event h) r turns full
+  turned_on_full r p turns full = turns_keep o IsGivenUp p (λ x event of_step h. takes_full o x p event h) r turns full
 
   pub rejoined_full : (r : Run) (p from : ℕ) (kind : StepKind) → r.full ≡ true → (rejoined o r p from kind).full ≡ true
-  rejoined_full r p from kind full = rejoin_keeps o IsGivenUp p (λ x event quiet h. takes_full o x p event h) r from kind full
+  rejoined_full r p from kind full = rejoin_keeps o IsGivenUp p (λ x event of_step h. takes_full o x p event h) r from kind full
 
   pub stepped_all_full : (r : Run) (steps : List Step) → r.full ≡ true → (stepped_all o r steps).full ≡ true
-  stepped_all_full r steps full = steps_keep o IsGivenUp (λ x p event quiet h. takes_full o x p event h) steps r full
+  stepped_all_full r steps full = steps_keep o IsGivenUp (λ x p event of_step h. takes_full o x p event h) steps r full
 
 pub rebalanced_run : {o : Object Request Partition} (r : Run) (most : ℕ) → IsRun o r → IsRun o (rebalanced o r most)
-rebalanced_run {o} r most is = rebalance_keeps o (IsRun o) (λ x p event quiet h. takes_run x p event h quiet) r most is
+rebalanced_run {o} r most is = rebalance_keeps o (IsRun o) (λ x p event of_step h. takes_run x p event h of_step.asks) r most is
 
 -- the events of a partition
 
-module _ {State : Type 0} (o : Object Request State) where
+module _ (o : Object Request Partition) where
   pub stepped_elsewhere : (r : Run) (step : Step) (q : ℕ) → q ≢ step.partition → events_at q (stepped o r step).events ≡ events_at q r.events
-  stepped_elsewhere r step q other = step_keeps o (HasEvents q (events_at q r.events)) step (λ x event quiet h. takes_elsewhere o x step.partition event q other ∙ h) r refl
+  stepped_elsewhere r step q other = step_keeps o (HasEvents q (events_at q r.events)) step (λ x event of_step h. takes_elsewhere o x step.partition event q other ∙ h) r refl
 
   module _ (p q : ℕ) where
     abbrev count : Run → ℕ
@@ -153,7 +175,7 @@ abbrev pub AreRising : ℕ → ℕ → List Step → Type 0
 AreRising end next [] = Unit {0}
 AreRising end next (step ∷ steps) = (next ≤ step.partition) × (step.partition < end) × AreRising end (step.partition + 1) steps
 
-module _ {State : Type 0} (o : Object Request State) (end : ℕ) where
+module _ (o : Object Request Partition) (end : ℕ) where
   pub steps_elsewhere : (r : Run) (next : ℕ) (steps : List Step) (q : ℕ) → AreRising end next steps → q < next → events_at q (stepped_all o r steps).events ≡ events_at q r.events
   steps_elsewhere r next [] q rising low = refl
   steps_elsewhere r next (step ∷ steps) q rising low =

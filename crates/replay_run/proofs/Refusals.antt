@@ -11,7 +11,7 @@ use Rattle.partition_protocol.specs.World.{World, start, is_live, map_or, pair_s
 use Rattle.partition_protocol.specs.Events.{Happened, entry_of, Outcome, HeldAt, ReleasedAt, nothing, if_executes, calling, executes, happens, run}
 use Rattle.partition_protocol.specs.Arrivals.{name}
 use Rattle.partition_protocol.proofs.Lists.{In, in_left, in_right, in_cases, cases, on_if}
-use Rattle.replay_run.specs.Runs.{Run, Arrival, Appended, At, world_at, events_at, arrival_at, answer_to, refusal, refused_by, released_by, is_heard_by, call_of, happening, arrived}
+use Rattle.replay_run.specs.Runs.{Run, Arrival, Appended, At, world_at, events_at, arrival_at, refusal, refused_by, call_of, arrived}
 use Rattle.grid_base.specs.Errors.{want_of_memory}
 use Rattle.replay_run.proofs.Parts.{in_mapped}
 use Rattle.replay_run.specs.ScriptRuns.{IsNext}
@@ -20,6 +20,7 @@ use Rattle.replay_run.proofs.Trails.{executed, executed-append, executed_name}
 use Rattle.replay_run.proofs.RunFacts.{id_name, arrival_name, is_of, RefusalsOk, RunOk, origin}
 use Rattle.replay_run.proofs.Arriving.{its_event, fresh}
 use Rattle.replay_run.proofs.Answering.{refused_with, world_here, world_elsewhere}
+use Rattle.replay_run.proofs.Bare.{answer_to, executed_by, is_heard_by, bare_happening}
 
 -- a refusal names the call that it refuses
 pub refusals_name_the_call : (line : ℕ) (request : Request) (outcome : Outcome) (m : Appended) → In m (refused_by line request outcome) → m.refuses ≡ Some request.id
@@ -123,7 +124,7 @@ module _ {State : Type 0} (o : Object Request State) (r : Run) (ok : RunOk o r) 
   p = request.partition
 
   abbrev after : Run
-  after = arrived r a (its_event a ∷ []) (happening o r a)
+  after = arrived r a (its_event a ∷ []) (bare_happening o r a)
 
   executed_in : ℕ → List (Executed Request)
   executed_in q = executed (world_at o after q).recorded.log
@@ -156,10 +157,10 @@ module _ {State : Type 0} (o : Object Request State) (r : Run) (ok : RunOk o r) 
           (executed_now x (subst (λ (w : World Request). In x (executed w.recorded.log)) (world_here o r p (call_of a)) now))
 
   pub refusals_after : RefusalsOk o after
-  refusals_after = refused_more (its_event a ∷ []) (happening o r a) (λ q x i. ⊎_elim (λ j. inl j) (λ j. inr j.0) (executed_after q x i)) refused
+  refusals_after = refused_more (its_event a ∷ []) (bare_happening o r a) (λ q x i. ⊎_elim (λ j. inl j) (λ j. inr j.0) (executed_after q x i)) refused
     where
       heard : List (Executed Request)
-      heard = filter (is_heard_by r a.request.id.conn) (released_by (world_at o r p) (happens o (world_at o r p) (call_of a)).world)
+      heard = filter (is_heard_by r a.request.id.conn) (executed_by (world_at o r p) (happens o (world_at o r p) (call_of a)).world)
 
       given : (m : Appended) (id : CallId) → In m (map (answer_to a.line) heard) → m.refuses ≡ Some id → ⊥
       given m id i e =
@@ -173,7 +174,7 @@ module _ {State : Type 0} (o : Object Request State) (r : Run) (ok : RunOk o r) 
           let its : id ≡ request.id = cc in
           (its, λ q x j. ⊎_elim (not_yet q x) (λ l. absurd (subst (λ ms. In m ms) l.1 i)) (executed_after q x j))
 
-      refused : (m : Appended) (id : CallId) → In m (happening o r a) → m.refuses ≡ Some id
+      refused : (m : Appended) (id : CallId) → In m (bare_happening o r a) → m.refuses ≡ Some id
           → (id ≡ a.request.id) × ((q : ℕ) (x : Executed Request) → In x (executed (world_at o after q).recorded.log) → executed_name x ≢ arrival_name a)
       refused m id i e =
           ⊎_elim (refused_here m id e) (λ j. absurd (given m id j e))

@@ -6,12 +6,13 @@ use Rattle.partition_protocol.specs.History.{Entry}
 use Rattle.partition_protocol.specs.World.{World, start}
 use Rattle.partition_protocol.specs.Events.{run}
 use Rattle.partition_protocol.proofs.Lists.{in_left, in_right, cases}
-use Rattle.replay_run.specs.Runs.{Run, Arrival, Appended, reopened_at, world_at, events_at, arrival_at, call_of, happening, arrived}
+use Rattle.replay_run.specs.Runs.{Run, Arrival, Appended, reopened_at, world_at, events_at, arrival_at, call_of, arrived}
 use Rattle.replay_run.proofs.Places.{same_number}
 use Rattle.replay_run.proofs.Stamps.{AreStamped, stamped_later, stamped_call}
 use Rattle.replay_run.proofs.RunFacts.{is_of, ReopeningsOk, RunOk}
 use Rattle.replay_run.proofs.Arriving.{its_event}
 use Rattle.replay_run.proofs.Answers.{id_of_name}
+use Rattle.replay_run.proofs.Bare.{bare_happening}
 use Rattle.replay_run.proofs.Answering.{before, happened, world_with, world_here, world_elsewhere}
 use Rattle.replay_run.proofs.Refusals.{IsLogged, call_log}
 
@@ -59,5 +60,5 @@ module _ {State : Type 0} (o : Object Request State) (r : Run) (ok : RunOk o r) 
           subst (λ v. IsStampedIn v (world_with o r p (call_of a) v).recorded.log) (same_number p q e)
           (subst (λ (w : World Request). IsStampedIn p w.recorded.log) (sym (world_here o r p (call_of a))) stamped_here)
 
-  pub called_reopenings : ReopeningsOk o (arrived r a (its_event a ∷ []) (happening o r a))
+  pub called_reopenings : ReopeningsOk o (arrived r a (its_event a ∷ []) (bare_happening o r a))
   called_reopenings = record { stamped = stamped_after }

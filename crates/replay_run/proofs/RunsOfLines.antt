@@ -1,16 +1,23 @@
 -- What holds of every run that lines can make.
-use Rattle.std.proofs.Common.{pos, ◌≡◌, ℕ, ◌≤◌, Bool, true, false, cond, List, [], ◌∷◌, ◌++◌, filter, slice_set, Option, Some, None, refl, ap, sym, ◌∙◌, ⊎_elim, inl, inr, arith}
+use Rattle.std.proofs.Common.{pos, ◌≡◌, ℕ, ◌≤◌, Bool, true, false, cond, List, [], ◌∷◌, ◌++◌, length, map, filter, drop, slice_set, Option, Some, None, refl, ap, sym, ◌∙◌, ⊎_elim, inl, inr, arith}
+use Rattle.std.specs.List.{filter_map}
+use Rattle.std.proofs.Math.Seq.{drop-length}
 use Rattle.grid_base.specs.Objects.{Object}
 use Rattle.grid_base.specs.declared.names.CallId.{CallId}
 use Rattle.grid_base.specs.declared.calls.Request.{Request}
 use Rattle.object_store.specs.Partitions.{Partition}
 use Rattle.partition_protocol.specs.Arrivals.{asked_by}
-use Rattle.partition_protocol.specs.Events.{Event}
+use Rattle.partition_protocol.specs.Events.{Event, happens}
+use Rattle.partition_protocol.specs.Node.{Held}
+use Rattle.partition_protocol.specs.World.{World}
+use Rattle.partition_world.specs.Answers.{released_by}
+use Rattle.listeners.specs.declared.listener.Listener.{Listener}
+use Rattle.replay_run.specs.Changes.{change_by}
 use Rattle.partition_protocol.proofs.Lists.{In, in_left, in_cases}
 use Rattle.grid_base.specs.Errors.{want_of_memory}
-use Rattle.replay_run.specs.Runs.{Run, Connection, Arrival, Appended, begun, updated, with_bytes, own_answer, told, refusal, refused_by, released_by, call_of, arrival_at, happening, arrived, is_skipped, is_heard, is_heard_by, given_up, occurred, asked}
+use Rattle.replay_run.specs.Runs.{Run, Connection, Arrival, Appended, begun, updated, with_bytes, listener_registered, own_answer, told, refusal, refused_by, call_of, arrival_at, happening, arrived, is_skipped, given_up, listening, version_known, adopted_since, messages_by, taker_of, given_to, given_out, occurred, asked, world_at}
 use Rattle.replay_run.specs.Printing.{arrival_of, answer_of, is_answer_to}
-use Rattle.replay_run.specs.ScriptRuns.{IsNext, IsRun, grid_begun, line_counted, clock_was_set, connection_opened, bytes_taken, answer_told, event_occurred, call_arrived, run_given_up, call_asked}
+use Rattle.replay_run.specs.ScriptRuns.{IsNext, IsRun, grid_begun, line_counted, clock_was_set, connection_opened, bytes_taken, listener_was_registered, answer_told, event_occurred, call_arrived, run_given_up, call_asked}
 use Rattle.replay_run.proofs.Hearing.{no_fewer}
 use Rattle.replay_run.proofs.Parts.{part_filter}
 use Rattle.replay_run.proofs.Counting.{count-append}
@@ -20,8 +27,11 @@ use Rattle.replay_run.proofs.Arriving.{apart_opened, apart_updated, opened_grows
 use Rattle.replay_run.proofs.Answering.{before, happened, refusals_answer_none, answers_still, answers_after}
 use Rattle.replay_run.proofs.Refusals.{unasked_refusals, skipped_refusals, refusals_after}
 use Rattle.replay_run.proofs.Reopenings.{skipped_reopenings, called_reopenings}
-use Rattle.replay_run.proofs.Occurring.{occurred_arrivals, occurred_refusals, occurred_reopenings}
+use Rattle.replay_run.proofs.Occurring.{keeps_released, occurred_arrivals, occurred_refusals, occurred_reopenings}
 use Rattle.replay_run.proofs.Answers.{id_of_name, named_answer}
+use Rattle.replay_run.proofs.Bare.{answer_to, is_heard, is_heard_by, executed_for, executed_by, bare_happening, bare_given_out, bare_occurred}
+use Rattle.replay_run.proofs.Speaking.{spoken, spoken_more, alike_ok}
+use Rattle.replay_run.proofs.Releasing.{spoken_at, goes_to, answers_given}
 
 -- the first line has made nothing
 pub begun_ok : {State : Type 0} (o : Object Request State) (members backups : ℕ) → 1 ≤ members → RunOk o (begun members backups)
@@ -97,8 +107,39 @@ eventless_ok o r member request appended ok next silent refusals =
 pub unasked_ok : {State : Type 0} (o : Object Request State) (r : Run) (member : ℕ) (request : Request) → RunOk o r → IsNext r request → RunOk o (arrived r (arrival_at r member request) [] [])
 unasked_ok o r member request ok next = eventless_ok o r member request [] ok next (λ m i. absurd i) (unasked_refusals o r ok member request next)
 
+-- what those who listen are told answers nothing and refuses nothing
+
+module _ (o : Object Request Partition) (r : Run) where
+  -- of a member that an event has reached
+  spoken_by : (own : Option ℕ) (p member : ℕ) (before after : World Request)
+      → spoken (messages_by o r own p member before after) ≡ spoken (map (answer_to r.lines) (filter (goes_to r own) (executed_by before after)))
+  spoken_by own p member before after =
+      spoken_at r own p (listening r own member) (adopted_since (version_known before member) after member) (released_by o (change_by o) before after)
+      ∙ ap spoken (answers_given o (change_by o) r own r.lines after (drop (length before.released) after.released))
+
+  pub happening_speaks : (a : Arrival) → spoken (happening o r a) ≡ spoken (bare_happening o r a)
+  happening_speaks a =
+      let p = a.request.partition in
+      let before = world_at o r p in
+      let after = (happens o before (call_of a)).world in
+      spoken_more (refused_by a.line a.request (happens o before (call_of a)).outcome) (messages_by o r (Some a.request.id.conn) p a.member before after)
+      (map (answer_to r.lines) (filter (is_heard_by r a.request.id.conn) (executed_by before after))) (spoken_by (Some a.request.id.conn) p a.member before after)
+
+  pub given_speaks : (p : ℕ) (event : Event Request) → asked_by event ≡ [] → spoken (given_out o r p event) ≡ spoken (bare_given_out o r p event)
+  given_speaks p event quiet = go (taker_of event) refl
+    where
+      go : (taker : Option ℕ) → taker_of event ≡ taker
+          → spoken (given_to o r p event taker) ≡ spoken (map (answer_to r.lines) (filter (is_heard r) (executed_by (world_at o r p) (happens o (world_at o r p) event).world)))
+      go None e =
+          let before = world_at o r p in
+          let after = (happens o before event).world in
+          let same = keeps_released o before event quiet e in
+          let none : drop (length before.released) after.released ≡ [] = ap (drop (length before.released)) same ∙ drop-length before.released in
+          sym (ap (λ (hs : List Held). spoken (map (answer_to r.lines) (filter (is_heard r) (filter_map (executed_for after) hs)))) none)
+      go (Some member) e = spoken_by None p member (world_at o r p) (happens o (world_at o r p) event).world
+
 -- a call, with an event or none
-pub asked_ok : {State : Type 0} (o : Object Request State) (skips : List CallId) (r : Run) (member : ℕ) (request : Request) → RunOk o r → IsNext r request → RunOk o (asked o skips r (arrival_at r member request))
+pub asked_ok : (o : Object Request Partition) (skips : List CallId) (r : Run) (member : ℕ) (request : Request) → RunOk o r → IsNext r request → RunOk o (asked o skips r (arrival_at r member request))
 asked_ok o skips r member request ok next = go (is_skipped skips request.id)
   where
     a : Arrival
@@ -111,11 +152,10 @@ asked_ok o skips r member request ok next = go (is_skipped skips request.id)
     refusal_silent m (inl e) = ap (λ (n : Appended). n.answers) (sym e)
     refusal_silent m (inr i) = absurd i
 
-    go : (b : Bool) → RunOk o (cond b (arrived r a [] (refusal r.lines request (pos want_of_memory) 0 ∷ [])) (arrived r a (its_event a ∷ []) (happening o r a)))
-    go true = eventless_ok o r member request (refusal r.lines request (pos want_of_memory) 0 ∷ []) ok next refusal_silent (skipped_refusals o r ok member request next)
-    go false =
-        let come = arrivals_with r ok.of_arrivals member request next (its_event a ∷ []) (happening o r a) (inr refl) in
-        let released = released_by (before o r request.partition (call_of a)) (happened o r request.partition (call_of a)).world in
+    bare_ok : RunOk o (arrived r a (its_event a ∷ []) (bare_happening o r a))
+    bare_ok =
+        let come = arrivals_with r ok.of_arrivals member request next (its_event a ∷ []) (bare_happening o r a) (inr refl) in
+        let released = executed_by (before o r request.partition (call_of a)) (happened o r request.partition (call_of a)).world in
         record {
           members = ok.members;
           connections = ok.connections;
@@ -127,20 +167,47 @@ asked_ok o skips r member request ok next = go (is_skipped skips request.id)
           of_reopenings = called_reopenings o r ok member request;
         }
 
+    go : (b : Bool) → RunOk o (cond b (arrived r a [] (refusal r.lines request (pos want_of_memory) 0 ∷ [])) (arrived r a (its_event a ∷ []) (happening o r a)))
+    go true = eventless_ok o r member request (refusal r.lines request (pos want_of_memory) 0 ∷ []) ok next refusal_silent (skipped_refusals o r ok member request next)
+    go false =
+        alike_ok o (arrived r a (its_event a ∷ []) (bare_happening o r a)) (r.appended ++ happening o r a)
+        (spoken_more r.appended (happening o r a) (bare_happening o r a) (happening_speaks o r a)) bare_ok
+
 -- something else than a call
-pub occurred_ok : {State : Type 0} (o : Object Request State) (r : Run) (p : ℕ) (event : Event Request) → RunOk o r → asked_by event ≡ [] → RunOk o (occurred o r p event)
+pub occurred_ok : (o : Object Request Partition) (r : Run) (p : ℕ) (event : Event Request) → RunOk o r → asked_by event ≡ [] → RunOk o (occurred o r p event)
 occurred_ok o r p event ok quiet =
     let come = occurred_arrivals o r ok p event quiet in
-    let released = released_by (before o r p event) (happened o r p event).world in
-    record {
+    let released = executed_by (before o r p event) (happened o r p event).world in
+    let bare : RunOk o (bare_occurred o r p event) = record {
       members = ok.members;
       connections = ok.connections;
       of_arrivals = come;
       of_answers =
-          answers_after o r ok r.arrivals (occurred o r p event).reopened (λ b i. i) p event [] (λ m i. absurd i) (filter (is_heard r) released) (part_filter (is_heard r) released) come;
+          answers_after o r ok r.arrivals (bare_occurred o r p event).reopened (λ b i. i) p event [] (λ m i. absurd i) (filter (is_heard r) released) (part_filter (is_heard r) released) come;
       of_refusals = occurred_refusals o r ok p event quiet;
       of_reopenings = occurred_reopenings o r ok p event quiet;
-    }
+    } in
+    alike_ok o (bare_occurred o r p event) (r.appended ++ given_out o r p event) (spoken_more r.appended (given_out o r p event) (bare_given_out o r p event) (given_speaks o r p event quiet)) bare
+
+-- who listens has no part in what holds
+pub registered_ok : {State : Type 0} (o : Object Request State) (r : Run) (listener : Listener) → RunOk o r → RunOk o (listener_registered r listener)
+registered_ok o r listener ok = record {
+  members = ok.members;
+  connections = ok.connections;
+  of_arrivals = record {
+    placed = ok.of_arrivals.placed;
+    once = ok.of_arrivals.once;
+    counted = ok.of_arrivals.counted;
+    in_order = ok.of_arrivals.in_order;
+    rising = ok.of_arrivals.rising;
+    of_line = ok.of_arrivals.of_line;
+    by_now = ok.of_arrivals.by_now;
+    calls = ok.of_arrivals.calls;
+  };
+  of_answers = record { given = ok.of_answers.given; once = ok.of_answers.once };
+  of_refusals = record { arrived = ok.of_refusals.arrived; unexecuted = ok.of_refusals.unexecuted };
+  of_reopenings = record { stamped = ok.of_reopenings.stamped };
+}
 
 pub run_ok : {o : Object Request Partition} {r : Run} → IsRun o r → RunOk o r
 run_ok {o} (grid_begun members backups grid) = begun_ok o members backups grid
@@ -154,6 +221,7 @@ run_ok {o} (bytes_taken r connection bytes is there) =
     let ok = run_ok is in
     let new : Connection = with_bytes connection bytes in
     quiet o r r.moments (updated new r.connections) ok (apart_updated r.connections new ok.connections) (updated_grows r connection new there refl (no_fewer connection.bytes bytes))
+run_ok {o} (listener_was_registered r listener connection is there) = registered_ok o r listener (run_ok is)
 run_ok {o} (answer_told r c bytes is) = told_ok o r c bytes (run_ok is)
 run_ok {o} (event_occurred r p event is quiet) = occurred_ok o r p event (run_ok is) quiet
 run_ok {o} (call_arrived r member request is next) = unasked_ok o r member request (run_ok is) next

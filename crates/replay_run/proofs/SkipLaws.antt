@@ -9,11 +9,11 @@ use Rattle.partition_protocol.specs.Service.{numbers_below}
 use Rattle.partition_protocol.proofs.Lists.{In}
 use Rattle.partition_protocol.proofs.RowFacts.{false_or_not}
 use Rattle.session_core.specs.declared.item.Item.{Item}
-use Rattle.session_core.specs.declared.item.Item.TheVariants.{Call as Asks, Reply}
+use Rattle.session_core.specs.declared.item.Item.TheVariants.{Call as Asks, Wait, Register, Reply}
 use Rattle.script_lang.specs.declared.line.Line.{Line}
 use Rattle.script_lang.specs.declared.line.Line.TheVariants.{OpenConn, Arrive, Clock, Flow, FlowAll, Crash, Detect, Rebalance}
 use Rattle.object_store.specs.Partitions.{Partition}
-use Rattle.replay_run.specs.Runs.{Run, At, Connection, Arrival, partitions, connection_of, world_at, takes_bytes, is_full, items_by, moment_of, took_bytes, next_line, clock_set, can_open, event_by, bytes_arrived, told, arrived, given_up, asked, asks, takes_in, flowed, flowed_in, handled, handled_all, arrival_at, is_skipped, opened}
+use Rattle.replay_run.specs.Runs.{Run, At, Connection, Arrival, partitions, connection_of, world_at, takes_bytes, is_full, items_by, moment_of, took_bytes, next_line, clock_set, can_open, event_by, bytes_arrived, told, arrived, given_up, asked, asks, takes_in, flowed, flowed_in, handled, handled_all, arrival_at, is_skipped, opened, unserved, registers}
 use Rattle.replay_run.specs.AfterLines.{after_event, after_line}
 use Rattle.replay_run.specs.ScriptRuns.{calls_in}
 use Rattle.replay_run.specs.Skips.{items_at, calls_at}
@@ -43,27 +43,31 @@ Alike s k calls = (id : CallId) → In id calls → is_skipped s id ≡ is_skipp
 pub names_arriving : (line member now : ℕ) (items : List Item) → map (λ (a : Arrival). a.request.id) (all_arriving line member now items) ≡ calls_in items
 names_arriving line member now [] = refl
 names_arriving line member now (Reply bytes ∷ items) = names_arriving line member now items
+names_arriving line member now (Wait request timeout ∷ items) = names_arriving line member now items
+names_arriving line member now (Register registration ∷ items) = names_arriving line member now items
 names_arriving line member now (Asks request ∷ items) = ap (λ ids. request.id ∷ ids) (names_arriving line member now items)
 
-pub asked_alike : {State : Type 0} (o : Object Request State) (s k : List CallId) (r : Run) (a : Arrival) → is_skipped s a.request.id ≡ is_skipped k a.request.id → asked o s r a ≡ asked o k r a
+pub asked_alike : (o : Object Request Partition) (s k : List CallId) (r : Run) (a : Arrival) → is_skipped s a.request.id ≡ is_skipped k a.request.id → asked o s r a ≡ asked o k r a
 asked_alike o s k r a e = same_choice (is_skipped s a.request.id) (is_skipped k a.request.id) _ _ e
   where
     same_choice : (b d : Bool) (x y : Run) → b ≡ d → cond b x y ≡ cond d x y
     same_choice b d x y h = ap (λ t. cond t x y) h
 
-pub asks_alike : {State : Type 0} (o : Object Request State) (s k : List CallId) (r : Run) (a : Arrival) → is_skipped s a.request.id ≡ is_skipped k a.request.id → asks o s r a ≡ asks o k r a
+pub asks_alike : (o : Object Request Partition) (s k : List CallId) (r : Run) (a : Arrival) → is_skipped s a.request.id ≡ is_skipped k a.request.id → asks o s r a ≡ asks o k r a
 asks_alike o s k r a e = ap (λ next. cond (is_full (world_at o r a.request.partition)) (given_up (arrived r a [] [])) next) (asked_alike o s k r a e)
 
-pub handled_all_alike : {State : Type 0} (o : Object Request State) (s k : List CallId) (r : Run) (c : Connection) (items : List Item) → Alike s k (calls_in items)
+pub handled_all_alike : (o : Object Request Partition) (s k : List CallId) (r : Run) (c : Connection) (items : List Item) → Alike s k (calls_in items)
     → handled_all o s r c items ≡ handled_all o k r c items
 handled_all_alike o s k r c [] h = refl
 handled_all_alike o s k r c (Reply bytes ∷ items) h = handled_all_alike o s k (told r c.conn bytes) c items h
+handled_all_alike o s k r c (Wait request timeout ∷ items) h = handled_all_alike o s k (told r c.conn (unserved request.correlation)) c items h
+handled_all_alike o s k r c (Register registration ∷ items) h = handled_all_alike o s k (registers o r c.conn c.member registration) c items h
 handled_all_alike o s k r c (Asks request ∷ items) h =
     ap (λ next. handled_all o s next c items) (asks_alike o s k r (arrival_at r c.member request) (h request.id (inl refl)))
     ∙ handled_all_alike o s k (asks o k r (arrival_at r c.member request)) c items (λ id i. h id (inr i))
 
 -- the items of a front, and then the others
-pub handled_all-append : {State : Type 0} (o : Object Request State) (skips : List CallId) (r : Run) (c : Connection) (first then : List Item)
+pub handled_all-append : (o : Object Request Partition) (skips : List CallId) (r : Run) (c : Connection) (first then : List Item)
     → handled_all o skips r c (first ++ then) ≡ handled_all o skips (handled_all o skips r c first) c then
 handled_all-append o skips r c [] then = refl
 handled_all-append o skips r c (item ∷ items) then = handled_all-append o skips (handled o skips r c item) c items then
@@ -122,7 +126,7 @@ opened_counts r c member true = quiet r (opened r c member) refl refl
 opened_counts r c member false = quiet r (next_line r) refl refl
 
 -- an event, if the line is one
-pub event_kept : {State : Type 0} (o : Object Request State) (r : Run) (e : Option At) → Kept r (after_event o r e)
+pub event_kept : (o : Object Request Partition) (r : Run) (e : Option At) → Kept r (after_event o r e)
 event_kept o r None = kept_refl r
 event_kept o r (Some e) = takes_kept o r e.partition e.event
 

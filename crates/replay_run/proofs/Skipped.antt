@@ -1,5 +1,5 @@
 -- A call that is skipped is told of, unless its run is given up; so a run that tells of no skip has none.
-use Rattle.std.proofs.Common.{◌≡◌, ℕ, Bool, true, false, cond, List, [], ◌∷◌, ◌++◌, map, Option, Some, None, Contains, pos, refl, ap, sym, ◌∙◌, subst, ◌⊎◌, ⊎_elim, inl, inr, append-nil, true≢false}
+use Rattle.std.proofs.Common.{◌≡◌, ℕ, Bool, true, false, cond, List, [], ◌∷◌, ◌++◌, map, Option, Some, None, pos, refl, ap, sym, ◌∙◌, subst, ⊎_elim, inl, inr, append-nil, true≢false}
 use Rattle.grid_base.specs.Errors.{want_of_memory}
 use Rattle.grid_base.specs.Objects.{Object}
 use Rattle.grid_base.specs.declared.names.CallId.{CallId}
@@ -9,18 +9,18 @@ use Rattle.partition_protocol.proofs.Lists.{In, in_left, in_right, in_cases, in_
 use Rattle.partition_protocol.proofs.RowFacts.{false_or_not}
 use Rattle.object_store.specs.Partitions.{Partition}
 use Rattle.session_core.specs.declared.item.Item.{Item}
-use Rattle.session_core.specs.declared.item.Item.TheVariants.{Call as Asks, Reply}
+use Rattle.session_core.specs.declared.item.Item.TheVariants.{Call as Asks, Wait, Register, Reply}
 use Rattle.call_engine.specs.Objects.{partition_object}
 use Rattle.script_lang.specs.declared.line.Line.{Line}
 use Rattle.script_lang.specs.declared.line.Line.TheVariants.{Arrive}
-use Rattle.replay_run.specs.Runs.{Run, Connection, Arrival, Appended, begun, connection_of, world_at, takes_bytes, is_full, is_skipped, items_by, took_bytes, next_line, told, refusal, happening, arrived, given_up, asked, asks, arrival_at, handled_all}
+use Rattle.replay_run.specs.Runs.{Run, Connection, Arrival, Appended, begun, connection_of, world_at, takes_bytes, is_full, is_skipped, items_by, took_bytes, next_line, told, refusal, happening, arrived, given_up, asked, asks, arrival_at, handled_all, unserved, registers}
 use Rattle.replay_run.specs.AfterLines.{after_line, after_lines}
 use Rattle.replay_run.specs.SkippedCalls.{IsTold, TellsOfSkips, TellsOfNoSkip, EverySkippedCallIsTold, EveryRunThatTellsOfNoSkipHasNone}
 use Rattle.replay_run.proofs.Arriving.{its_event}
 use Rattle.replay_run.proofs.EventRuns.{asks_here}
-use Rattle.replay_run.proofs.Lines.{HasCome, asks_come, told_come}
+use Rattle.replay_run.proofs.Lines.{HasCome, asks_come}
 use Rattle.replay_run.proofs.SkipLaws.{asked_alike, on_bytes, Counts, line_counts}
-use Rattle.replay_run.proofs.Growing.{Grows, grows_refl, asks_grows, handled_all_grows, line_grows, lines_grow}
+use Rattle.replay_run.proofs.Growing.{Grows, asks_grows, handled_all_grows, line_grows, lines_grow}
 
 in_front : {X : Type 0} (x : X) (xs ys : List X) → IsFrontOf xs ys → In x xs → In x ys
 in_front x xs ys front i = subst (In x) front.1 (in_left x xs front.0 i)
@@ -33,7 +33,7 @@ pub none_before : (r next : Run) → Grows r next → TellsOfNoSkip next → Tel
 none_before r next grows none a there is = none a (contains_in a next.arrivals (in_front a r.arrivals next.arrivals grows.arrivals (in_contains a r.arrivals there))) (told_still r next a grows is)
 
 -- a call that is skipped is told of
-skipped_is_told : {State : Type 0} (o : Object Request State) (skips : List CallId) (r : Run) (member : ℕ) (request : Request) → is_skipped skips request.id ≡ true
+skipped_is_told : (o : Object Request Partition) (skips : List CallId) (r : Run) (member : ℕ) (request : Request) → is_skipped skips request.id ≡ true
     → let a = arrival_at r member request in IsTold (asked o skips r a) a
 skipped_is_told o skips r member request skipped =
     let a : Arrival = arrival_at r member request in
@@ -45,7 +45,7 @@ skipped_is_told o skips r member request skipped =
     )
 
 -- unless it gives the run up
-asks_tells : {State : Type 0} (o : Object Request State) (skips : List CallId) (r : Run) (member : ℕ) (request : Request) → is_skipped skips request.id ≡ true
+asks_tells : (o : Object Request Partition) (skips : List CallId) (r : Run) (member : ℕ) (request : Request) → is_skipped skips request.id ≡ true
     → let a = arrival_at r member request in (asks o skips r a).full ≡ false → IsTold (asks o skips r a) a
 asks_tells o skips r member request skipped =
     let a = arrival_at r member request in
@@ -76,12 +76,18 @@ module _ (skips : List CallId) (r next : Run) (grows : Grows r next) (tells : Te
       last (inl e) = subst (IsTold next) e (its (subst (λ (c : Arrival). is_skipped skips c.request.id ≡ true) (sym e) skipped) lasts)
       last (inr i) = absurd i
 
-module _ {State : Type 0} (o : Object Request State) (skips : List CallId) where
+module _ (o : Object Request Partition) (skips : List CallId) where
   items_tell : (r : Run) (c : Connection) (items : List Item) → Tells skips r → Tells skips (handled_all o skips r c items)
   items_tell r c [] tells = tells
   items_tell r c (Reply bytes ∷ items) tells =
       let next = told r c.conn bytes in
       items_tell next c items (tells_still skips r next (handled_all_grows o skips r c (Reply bytes ∷ [])) tells refl)
+  items_tell r c (Wait request timeout ∷ items) tells =
+      let next = told r c.conn (unserved request.correlation) in
+      items_tell next c items (tells_still skips r next (handled_all_grows o skips r c (Wait request timeout ∷ [])) tells refl)
+  items_tell r c (Register registration ∷ items) tells =
+      let next = registers o r c.conn c.member registration in
+      items_tell next c items (tells_still skips r next (handled_all_grows o skips r c (Register registration ∷ [])) tells refl)
   items_tell r c (Asks request ∷ items) tells =
       let a = arrival_at r c.member request in
       let next = asks o skips r a in
@@ -114,7 +120,7 @@ every_skipped_call_is_told settings members backups skips lines = lines_tell (pa
 
 -- runs that tell of no skip
 
-module _ {State : Type 0} (o : Object Request State) (skips : List CallId) where
+module _ (o : Object Request Partition) (skips : List CallId) where
   asks_none : (r : Run) (member : ℕ) (request : Request) → let a = arrival_at r member request in TellsOfNoSkip (asks o skips r a) → asks o skips r a ≡ asks o [] r a
   asks_none r member request none = ⊎_elim in_full in_free (cases (is_full (world_at o r request.partition)))
     where
@@ -136,6 +142,8 @@ module _ {State : Type 0} (o : Object Request State) (skips : List CallId) where
   items_none : (r : Run) (c : Connection) (items : List Item) → TellsOfNoSkip (handled_all o skips r c items) → handled_all o skips r c items ≡ handled_all o [] r c items
   items_none r c [] none = refl
   items_none r c (Reply bytes ∷ items) none = items_none (told r c.conn bytes) c items none
+  items_none r c (Wait request timeout ∷ items) none = items_none (told r c.conn (unserved request.correlation)) c items none
+  items_none r c (Register registration ∷ items) none = items_none (registers o r c.conn c.member registration) c items none
   items_none r c (Asks request ∷ items) none =
       let a = arrival_at r c.member request in
       let next = asks o skips r a in

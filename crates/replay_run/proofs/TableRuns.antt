@@ -12,11 +12,11 @@ use Rattle.session_core.specs.Sessions.{session_after}
 use Rattle.partition_protocol.proofs.Lists.{In}
 use Rattle.primary_hold.specs.declared.answer.CallAnswer.{CallAnswer}
 use Rattle.replay_run.specs.declared.connections.CallLines.{CallLines}
-use Rattle.replay_run.specs.Runs.{Run, Connection, Arrival, Appended, is_connection, connection_of, with_bytes, took_bytes, own_answer, told, opened}
+use Rattle.replay_run.specs.Runs.{Run, Connection, Arrival, Appended, is_connection, connection_of, with_bytes, took_bytes, own_answer, told, opened, message_of}
 use Rattle.replay_run.specs.Printing.{arrival_of, answer_of, is_answer_to, is_named}
 use Rattle.replay_run.specs.Tables.{Table, Opened, most_connections, opened_at, lines_of, silent, present, with_opened, with_change, heard, with_session, replied, with_reply, called, with_arrival, or_line, lines_answered, answered, with_answer}
 use Rattle.replay_run.specs.Grids.{IsConnection, Matches, HasConnections, HasTable, lines_in}
-use Rattle.replay_run.specs.WorldCalls.{message_of, with_answers}
+use Rattle.replay_run.specs.WorldCalls.{with_answers}
 use Rattle.replay_run.proofs.Arriving.{find_map, same_test, in_place, in_place_number}
 use Rattle.replay_run.proofs.Places.{same_call, same_call_refl, same_number}
 use Rattle.replay_run.proofs.Trails.{find_some}

@@ -1,12 +1,11 @@
 -- What messages more, and a call more, do to the tally of a run.
-use Rattle.std.proofs.Common.{◌≡◌, ◌≢◌, ℕ, ◌+◌, ◌≤◌, Bool, true, false, cond, List, [], ◌∷◌, ◌++◌, length, map, Option, Some, None, pos, refl, ap, sym, ◌∙◌, subst, ◌⊎◌, ⊎_elim, inl, inr, arith, length-append, append-nil}
+use Rattle.std.proofs.Common.{◌≡◌, ◌≢◌, ℕ, ◌+◌, ◌≤◌, Bool, true, false, cond, List, [], ◌∷◌, ◌++◌, length, Option, Some, None, pos, refl, ap, sym, ◌∙◌, subst, ◌⊎◌, ⊎_elim, inl, inr, arith, length-append}
 use Rattle.std.specs.Prelude.{count_by}
 use Rattle.std.specs.Option.{option_or}
-use Rattle.std.specs.List.{find, sum_by}
+use Rattle.std.specs.List.{find}
 use Rattle.std.proofs.lemmas.List.Folds.{find-append}
 use Rattle.std.proofs.lemmas.List.Sums.{sum_by-cons, sum_by_push, count_by-le-length}
 use Rattle.grid_base.specs.Errors.{partition_lost, wrong_target, migrating, want_of_memory}
-use Rattle.grid_base.specs.Names.{is_same_call}
 use Rattle.grid_base.specs.declared.names.CallId.{CallId}
 use Rattle.grid_base.specs.declared.calls.Request.{Request}
 use Rattle.object_store.specs.Partitions.{Partition}
@@ -19,7 +18,7 @@ use Rattle.replay_run.specs.declared.tally.Reception.{Reception}
 use Rattle.replay_run.specs.declared.tally.Reception.TheVariants.{Taken, Refused as WasRefused, OutOfMemory}
 use Rattle.replay_run.specs.declared.tally.Tally.{Tally}
 use Rattle.replay_run.specs.Tallies.{tallied, received}
-use Rattle.replay_run.specs.Runs.{Run, Arrival, Appended, At, arrival_at, arrived, refusal, refused_by, answer_to}
+use Rattle.replay_run.specs.Runs.{Run, Arrival, Appended, At, arrival_at, arrived, refusal, refused_by}
 use Rattle.replay_run.specs.Printing.{is_named}
 use Rattle.replay_run.specs.Counts.{is_refusal_of, refusal_among, has_number, is_refused_with, is_of_row, is_of_memory, is_refused, is_out_of_memory}
 use Rattle.replay_run.specs.Grids.{IsTally}

@@ -1,19 +1,19 @@
 -- The grid after a session's own answer was appended to its connection.
-use Rattle.std.proofs.Common.{◌≡◌, ℕ, ◌+◌, List, [], ◌∷◌, ◌++◌, None, refl, ap, sym, ◌∙◌, subst, inl, inr, append-nil}
+use Rattle.std.proofs.Common.{◌≡◌, ℕ, ◌+◌, List, [], ◌∷◌, ◌++◌, Some, None, refl, ap, sym, ◌∙◌, subst, inl, inr, append-nil}
 use Rattle.replay_run.specs.declared.grid.Grid.{Grid}
 use Rattle.call_engine.specs.Calls.{Settings}
 use Rattle.partition_protocol.proofs.Lists.{In}
 use Rattle.replay_run.specs.Runs.{Run, Appended, own_answer, told}
 use Rattle.replay_run.specs.Printing.{appended_text}
 use Rattle.replay_run.specs.Tables.{with_reply}
-use Rattle.replay_run.specs.Grids.{FormOf, IsCounting, Holds}
+use Rattle.replay_run.specs.Grids.{FormOf, IsCounting, AreListening, Holds}
 use Rattle.replay_run.specs.WorldCalls.{texts_of, HasTold}
 use Rattle.replay_run.proofs.LineTexts.{new_with}
 use Rattle.replay_run.proofs.TableRuns.{told_table}
 use Rattle.replay_run.proofs.TableCounts.{counting_told}
 use Rattle.replay_run.proofs.Tallies.{quiet_tally}
 
-module _ {V : Type 0} {T : V → Type 0} {form : FormOf V T} {settings : Settings} (grid : Grid V T) (r : Run) (conn number : ℕ) (answer : List ℕ) (h : Holds form settings grid r) (count : IsCounting grid.connections r conn number) where
+module _ {V : Type 0} {T : V → Type 0} {form : FormOf V T} {settings : Settings} (grid : Grid V T) (r : Run) (conn number : ℕ) (answer : List ℕ) (h : Holds form settings grid r) (are : AreListening grid.listeners.items r (Some conn)) (count : IsCounting grid.connections r conn number) where
   abbrev replied_grid : Grid V T
   replied_grid = record grid { connections = with_reply grid.connections conn }
 
@@ -41,6 +41,7 @@ module _ {V : Type 0} {T : V → Type 0} {form : FormOf V T} {settings : Setting
       → HasTold form settings new r conn number answer written text
   has_told new written text made is = record {
     holds = subst (λ g. Holds form settings g (told r conn answer)) (sym made) told_holds;
+    listeners = subst (λ (g : Grid V T). AreListening g.listeners.items (told r conn answer) (Some conn)) (sym made) (record { size = are.size; each = are.each });
     counting = subst (λ (g : Grid V T). IsCounting g.connections (told r conn answer) conn (number + 1)) (sym made)
         (let counting = counting_told grid.connections r conn number count in record { here = counting.here; others = counting.others });
     added = is ∙ ap (λ n. written ++ appended_text (own_answer n conn answer)) h.lines

@@ -1,11 +1,11 @@
 -- No member of a partition's newest row is detected.
-use Rattle.std.proofs.Common.{◌≡◌, ◌≢◌, ℕ, ◌<◌, ◌≤◌, Bool, true, false, not, ◌&&◌, ◌||◌, ◌==◌, nat_lt, List, [], ◌∷◌, ◌++◌, map, take, Option, Some, None, refl, ap, sym, ◌∙◌, subst, ◌⊎◌, inl, inr, arith, suc, zero}
+use Rattle.std.proofs.Common.{◌≡◌, ◌≢◌, ℕ, ◌≤◌, Bool, true, false, not, ◌&&◌, ◌==◌, List, [], ◌∷◌, map, None, refl, ap, sym, ◌∙◌, subst, ◌⊎◌, inl, inr, arith, suc, zero}
 use Rattle.grid_base.specs.Objects.{Object}
 use Rattle.partition_table.specs.declared.Row.{Row}
 use Rattle.partition_table.specs.declared.RowMember.{RowMember}
-use Rattle.partition_table.specs.Rows.{is_among, is_in, is_eligible, is_empty, number_of, first_of, without, with_joiner, handed, reopened, with_eligible, begun_by, with_backups, members_from, others, first_eligible, marked, eligible_member}
+use Rattle.partition_table.specs.Rows.{is_among, is_in, is_eligible, number_of, without, with_joiner, handed, begun_by, with_backups, members_from, others, first_eligible, marked}
 use Rattle.partition_table.proofs.RowLaws.{is_in-without}
-use Rattle.partition_protocol.specs.Service.{Service, ServiceStep, detecting, reopening, candidates, join_refused, is_idle, is_freezing, Drained}
+use Rattle.partition_protocol.specs.Service.{ServiceStep, detecting, reopening, candidates, join_refused, is_idle, is_freezing, Drained}
 use Rattle.partition_protocol.specs.World.{World, start}
 use Rattle.partition_protocol.specs.Events.{Event, happens, run}
 use Rattle.partition_protocol.proofs.Lists.{In, in_cases, on_if, cases}

@@ -2,11 +2,13 @@
 use Rattle.std.proofs.Common.{◌≡◌, ◌≢◌, ℕ, ◌==◌, false, List, [], ◌∷◌, ◌++◌, slice_set, refl, ap, sym, ◌∙◌, subst, ⊎_elim, append-nil}
 use Rattle.std.proofs.lemmas.Bool.{cases_eq, eq-eqb, ne_eqb}
 use Rattle.partition_protocol.specs.World.{start}
-use Rattle.partition_protocol.specs.Events.{run}
+use Rattle.partition_protocol.specs.Events.{Event, happens, run}
+use Rattle.partition_protocol.proofs.Extends.{run_append}
 use Rattle.partition_protocol.proofs.Lists.{set_get_same, set_get_other}
 use Rattle.partition_world.specs.Answers.{released_at}
 use Rattle.table_service.specs.Services.{Setup}
-use Rattle.partition_world.specs.Worlds.{run_of, waiting}
+use Rattle.partition_world.specs.Worlds.{run_of, setup_of, waiting}
+use Rattle.grid_base.specs.declared.calls.Request.{Request}
 use Rattle.call_engine.specs.Calls.{Settings}
 use Rattle.call_engine.specs.Changes.{change_of}
 use Rattle.call_engine.specs.Objects.{partition_object}
@@ -28,6 +30,13 @@ same_events {settings = settings} w r next p is e members backups = record {
 -- the protocol's world of a partition
 pub run_is : {settings : Settings} (w : GridWorld) (r : Run) (p : ℕ) → IsWorld settings w r p → run_of (grid_meaning settings) w (events_at p r.events) ≡ world_at (partition_object settings) r p
 run_is {settings = settings} w r p is = ap (λ (s : Setup). run (partition_object settings) (start s.partition s.members s.backups) (events_at p r.events)) is.setup
+
+-- and once it has run an event more
+pub ran_to : {settings : Settings} (old new : GridWorld) (r : Run) (p : ℕ) (event : Event Request) → IsWorld settings old r p → setup_of new ≡ setup_of old
+    → run_of (grid_meaning settings) new (events_at p r.events ++ event ∷ []) ≡ (happens (partition_object settings) (world_at (partition_object settings) r p) event).world
+ran_to {settings = settings} old new r p event is setup =
+    let o = partition_object settings in
+    ap (λ (s : Setup). run o (start s.partition s.members s.backups) (events_at p r.events ++ event ∷ [])) (setup ∙ is.setup) ∙ run_append o (start p r.members r.backups) (events_at p r.events) (event ∷ [])
 
 module _ {settings : Settings} (ws : List GridWorld) (r : Run) (a : Arrival) (new : GridWorld) (next : Run) (old : HasWorld settings ws r a.request.partition) (members : next.members ≡ r.members) (backups : next.backups ≡ r.backups) where
   -- the other partitions have their worlds

@@ -1,5 +1,5 @@
 -- What became of the calls of a run, and how much stands in its partitions' histories, in numbers.
-use Rattle.std.specs.Prelude.{◌≡◌, ◌≤◌, ℕ, ◌+◌, Bool, true, false, not, ◌&&◌, ◌==◌, nat_le, if◌then◌else◌, List, length, take, drop, count_by, Option, Some, None, is_some, Contains}
+use Rattle.std.specs.Prelude.{◌≡◌, ◌≤◌, ℕ, ◌+◌, Bool, false, not, ◌&&◌, ◌==◌, nat_le, if◌then◌else◌, List, length, take, drop, count_by, Option, Some, None, is_some, Contains}
 use Rattle.std.specs.Int.{w32, from_le_bytes}
 use Rattle.std.specs.List.{find}
 use Rattle.grid_base.specs.Errors.{partition_lost, migrating, want_of_memory}

@@ -10,19 +10,20 @@ use Rattle.partition_world.specs.declared.world.World.{World}
 use Rattle.partition_world.specs.Worlds.{StandsFor, setup_of, waiting}
 use Rattle.replay_run.specs.declared.connections.CallLines.{CallLines}
 use Rattle.replay_run.specs.declared.grid.Grid.{Grid}
+use Rattle.listeners.specs.StandsFor.{StandFor}
+use Rattle.listeners.specs.declared.listeners.Listeners.{Listeners}
 use Rattle.replay_run.specs.declared.tally.Tally.{Tally}
 use Rattle.script_lang.specs.declared.line.Line.{Line}
 use Rattle.script_lang.specs.Limits.{most_lines, most_line_bytes}
 use Rattle.script_lang.specs.Lines.{IsWithin}
 use Rattle.session_core.specs.Sessions.{session_after}
 use Rattle.call_engine.specs.declared.shelf.GridShelf.{GridShelf}
-use Rattle.call_engine.specs.declared.env.GridEnv.{GridEnv}
 use Rattle.call_engine.specs.Calls.{Settings}
 use Rattle.call_engine.specs.Env.{settings_of}
 use Rattle.call_engine.specs.Limits.{RequestFits}
 use Rattle.call_engine.specs.Objects.{partition_object}
 use Rattle.partition_world.specs.LinkOrder.{links_of}
-use Rattle.replay_run.specs.Runs.{Run, Connection, Arrival, Appended, partitions, connection_of, messages_on, bytes_of, events_at}
+use Rattle.replay_run.specs.Runs.{Run, Connection, Arrival, Appended, partitions, connection_of, messages_on, bytes_of, events_at, listening}
 use Rattle.replay_run.specs.AfterLines.{after_line}
 use Rattle.replay_run.specs.Counts.{is_refused, is_out_of_memory}
 use Rattle.replay_run.specs.Rebalancing.{most_line_events}
@@ -116,6 +117,11 @@ pub record Holds {V : Type 0} {T : V → Type 0} (form : FormOf V T) (settings :
   pub reopened : grid.reopened.items ≡ r.reopened
   pub worlds : (p : ℕ) → p < partitions → HasWorld settings grid.worlds.items r p
 
+-- Each member has its listeners, which stand for those who listen there, on a connection of its own too.
+pub record AreListening (all : List Listeners) (r : Run) (own : Option ℕ) : Type 0 where
+  pub size : length all ≡ r.members
+  pub each : (member : ℕ) (here : Listeners) → slice_get all member ≡ Some here → StandFor here (listening r own member)
+
 -- The lines brought no more bytes than so many lines can: each byte has two digits in its line.
 abbrev pub IsSmall : Run → Type 0
 IsSmall r = 2 * bytes_of r ≤ most_line_bytes * r.lines
@@ -123,6 +129,11 @@ IsSmall r = 2 * bytes_of r ≤ most_line_bytes * r.lines
 -- No partition has more events than there were calls, and 5,014 for each line. Those of 200,000 lines are 1,002,800,000, and the calls of as many lines of 65,536 bytes stay below 300,000,000: four bytes count both.
 abbrev pub AreFew : Run → Type 0
 AreFew r = (p : ℕ) → length (events_at p r.events) ≤ length r.arrivals + most_line_events * r.lines
+
+-- It has no more lines than a script may have, and no more reopenings than lines.
+pub record IsBounded (r : Run) : Type 0 where
+  pub lines : r.lines ≤ most_lines
+  pub reopenings : length r.reopened ≤ r.lines
 
 -- Each connection is to a member of the grid.
 abbrev pub AreReached : Run → Type 0
@@ -133,7 +144,9 @@ pub record Stands {V : Type 0} {T : V → Type 0} (form : FormOf V T) (settings 
   pub run : IsRun (partition_object settings) r
   pub small : IsSmall r
   pub few : AreFew r
+  pub bounded : IsBounded r
   pub holds : Holds form settings grid r
+  pub listeners : AreListening grid.listeners.items r None
   pub settled : IsSettled grid.connections r
   pub reached : AreReached r
 

@@ -1,7 +1,7 @@
 -- The run of a script: what its lines so far have made. The worlds of the partitions are not kept: each is the protocol's run of its events.
-use Rattle.std.specs.Prelude.{ℕ, zero, suc, ◌+◌, ◌==◌, Bool, true, false, not, ◌&&◌, ◌||◌, if◌then◌else◌, ℤ, pos, List, [], ◌∷◌, ◌++◌, length, map, filter, drop, sum_by, replicate, slice_get, slice_set, Option, Some, None, is_some, unwrap_or}
+use Rattle.std.specs.Prelude.{ℕ, zero, suc, ◌+◌, ◌==◌, Bool, true, false, not, ◌&&◌, ◌||◌, if◌then◌else◌, ℤ, pos, List, [], ◌∷◌, ◌++◌, length, map, filter, fold, drop, sum_by, replicate, slice_get, slice_set, Option, Some, None, is_some, option_map, option_and_then, unwrap_or}
 use Rattle.std.specs.Int.{w32, cast_signed}
-use Rattle.std.specs.List.{list_any, find, filter_map}
+use Rattle.std.specs.List.{list_any, find, filter_map, flat_map}
 use Rattle.grid_base.specs.Objects.{Object}
 use Rattle.grid_base.specs.Names.{is_same_call}
 use Rattle.frame_codec.specs.declared.malformed.Malformed.{Malformed}
@@ -9,22 +9,31 @@ use Rattle.message_frames.specs.Messages.{messages_of, fault_of}
 use Rattle.message_frames.specs.declared.message.Message.{Message}
 use Rattle.grid_base.specs.declared.names.CallId.{CallId}
 use Rattle.grid_base.specs.declared.calls.Request.{Request}
-use Rattle.partition_protocol.specs.Node.{Held}
-use Rattle.partition_protocol.specs.History.{Executed}
+use Rattle.partition_table.specs.declared.Row.{Row}
+use Rattle.partition_protocol.specs.Node.{Node}
+use Rattle.partition_protocol.specs.Service.{numbers_below}
 use Rattle.partition_protocol.specs.Execution.{Reached, Executes, PartitionLost, WrongTarget, Migrating}
-use Rattle.partition_protocol.specs.World.{World, start, is_live}
+use Rattle.partition_protocol.specs.World.{World, start, is_live, map_or}
 use Rattle.partition_protocol.specs.Events.{Event, Call, Outcome, Refused, RowMadeAt, happens, run}
 use Rattle.partition_protocol.specs.Events as event
-use Rattle.partition_world.specs.Answers.{id_of, newest_call}
+use Rattle.partition_world.specs.Answers.{released_by}
 use Rattle.partition_world.specs.LinkOrder.{next_link, has_crowded_link}
-use Rattle.grid_base.specs.Errors.{partition_lost, wrong_target, migrating, want_of_memory}
-use Rattle.fixed_fields.specs.Responses.{error_bytes}
+use Rattle.primary_hold.specs.declared.answer.CallAnswer.{CallAnswer}
+use Rattle.object_store.specs.Partitions.{Partition}
+use Rattle.listeners.specs.Standing.{placed}
+use Rattle.listeners.specs.Telling.{Sent, events_of, rows_of}
+use Rattle.listeners.specs.declared.listener.Listener.{Listener}
+use Rattle.grid_base.specs.Errors.{unknown_type, partition_lost, wrong_target, migrating, want_of_memory}
+use Rattle.fixed_fields.specs.Responses.{error_bytes, void_bytes}
+use Rattle.event_codecs.specs.SpelledRegistrations.{kind_of_registration, correlation_of}
+use Rattle.event_codecs.specs.declared.registration.Registration.{Registration}
 use Rattle.session_core.specs.Items.{items_of}
 use Rattle.session_core.specs.declared.item.Item.{Item}
-use Rattle.session_core.specs.declared.item.Item.TheVariants.{Call as Asks, Reply}
+use Rattle.session_core.specs.declared.item.Item.TheVariants.{Call as Asks, Wait, Register, Reply}
 use Rattle.script_lang.specs.declared.line.Line.{Line}
 use Rattle.script_lang.specs.declared.line.Line.TheVariants.{Deliver, Lose, Repeat, Resend, Move, Join, Handover, Advance, Reopen}
 use Rattle.partition_world.specs.declared.Link.{Link}
+use Rattle.replay_run.specs.Changes.{change_by}
 
 -- a connection: its number, the member that it is to, and all the bytes that arrived on it, however they were cut
 pub record Connection : Type 0 where
@@ -63,6 +72,7 @@ pub record Run : Type 0 where
   pub lines : ℕ  -- how many lines were run
   pub moments : List ℕ  -- of each member's clock
   pub connections : List Connection
+  pub registered : List Listener  -- who listens to what, in the order in which that was asked for
   pub events : List At  -- of all partitions, in order
   pub arrivals : List Arrival
   pub appended : List Appended
@@ -75,7 +85,7 @@ partitions = 271
 
 -- after the first line
 abbrev pub begun : ℕ → ℕ → Run
-begun members backups = record { members = members; backups = backups; lines = 1; moments = replicate members 0; connections = []; events = []; arrivals = []; appended = []; reopened = []; full = false }
+begun members backups = record { members = members; backups = backups; lines = 1; moments = replicate members 0; connections = []; registered = []; events = []; arrivals = []; appended = []; reopened = []; full = false }
 
 abbrev pub is_at : ℕ → At → Bool
 is_at p e = e.partition == p
@@ -133,18 +143,49 @@ most_in_flight = 65400
 abbrev pub is_full : {C : Type 0} → World C → Bool
 is_full w = has_crowded_link most_in_flight w
 
--- answers
+-- who listens
 
--- the call of an answer, as it was executed
-abbrev pub executed_for : World Request → Held → Option (Executed Request)
-executed_for w h = newest_call (record { conn = h.conn; number = h.number }) w.recorded.log
+-- the connection of the call at hand, if there is one
+abbrev pub is_own : Option ℕ → ℕ → Bool
+is_own None c = false
+is_own (Some own) c = c == own
 
--- the calls whose answers an event released, in order of release
-abbrev pub released_by : World Request → World Request → List (Executed Request)
-released_by before after = filter_map (executed_for after) (drop (length before.released) after.released)
+-- whether a connection is sent anything: it is open, or is the one of the call at hand, whose close comes after all that its bytes bring
+abbrev pub hears : Run → Option ℕ → ℕ → Bool
+hears r own c = is_own own c || is_open (connection_of r c)
 
-abbrev pub answer_to : ℕ → Executed Request → Appended
-answer_to line x = record { conn = x.conn; line = line; bytes = x.reply; answers = Some (id_of x); refuses = None }
+abbrev pub is_to : ℕ → Option Connection → Bool
+is_to member None = false
+is_to member (Some connection) = connection.member == member
+
+abbrev pub listens_at : Run → Option ℕ → ℕ → Listener → Bool
+listens_at r own member listener = is_to member (connection_of r listener.conn) && hears r own listener.conn
+
+abbrev pub placed_in : List Listener → Listener → List Listener
+placed_in all listener = placed listener all
+
+-- those who listen at a member: in order of connection, and those of one connection as they were registered
+abbrev pub listening : Run → Option ℕ → ℕ → List Listener
+listening r own member = fold placed_in [] (filter (listens_at r own member) r.registered)
+
+abbrev pub listener_registered : Run → Listener → Run
+listener_registered r listener = record r { registered = r.registered ++ listener ∷ [] }
+
+-- messages
+
+-- What a session answers itself, and what a listener is sent, answers no call and refuses none.
+abbrev pub own_answer : ℕ → ℕ → List ℕ → Appended
+own_answer line c bytes = record { conn = c; line = line; bytes = bytes; answers = None; refuses = None }
+
+abbrev pub event_to : ℕ → Sent → Appended
+event_to line sent = own_answer line sent.0 sent.1
+
+abbrev pub events_to : ℕ → List Sent → List Appended
+events_to line sent = map (event_to line) sent
+
+-- an answer that is given out
+abbrev pub message_of : ℕ → CallAnswer → Appended
+message_of line answer = record { conn = answer.id.conn; line = line; bytes = answer.reply; answers = Some answer.id; refuses = None }
 
 -- A refusal answers no call: it names the call that wasn't executed.
 abbrev pub refusal : ℕ → Request → ℤ → ℕ → Appended
@@ -161,10 +202,6 @@ refused_by line request (Refused reached) = refused_at line request reached
 refused_by line request _ = []
 
 -- A session answers a message itself.
-
-abbrev pub own_answer : ℕ → ℕ → List ℕ → Appended
-own_answer line c bytes = record { conn = c; line = line; bytes = bytes; answers = None; refuses = None }
-
 abbrev pub told : Run → ℕ → List ℕ → Run
 told r c bytes = record r { appended = r.appended ++ own_answer r.lines c bytes ∷ [] }
 
@@ -180,20 +217,50 @@ arrival_at r member request = record { line = r.lines; member = member; now = mo
 abbrev pub call_of : Arrival → Event Request
 call_of a = Call a.member a.request.id.conn a.request.id.number a.request a.now
 
--- Of the answers that an event releases those go out whose connections are open.
-abbrev pub is_heard : Run → Executed Request → Bool
-is_heard r x = is_open (connection_of r x.conn)
+-- what an event appends at the member that it reaches
 
--- At a call its own connection is one of them, whose close comes after all that its bytes bring.
-abbrev pub is_heard_by : Run → ℕ → Executed Request → Bool
-is_heard_by r c x = (x.conn == c) || is_heard r x
+-- the version of the row that a member knows; 0 where the number is no member's
+abbrev pub version_known : {C : Type 0} → World C → ℕ → ℕ
+version_known w member = map_or (slice_get w.nodes member) 0 (λ (node : Node). node.known.version)
 
--- the call with an event, which may release answers or refuse it
-abbrev pub happening : {State : Type 0} → Object Request State → Run → Arrival → List Appended
+-- the row, where it has another version
+abbrev pub if_newer : ℕ → Row → Option Row
+if_newer version row = if row.version == version then None else Some row
+
+-- the row that a member has adopted since it knew that version
+abbrev pub adopted_since : {C : Type 0} → ℕ → World C → ℕ → Option Row
+adopted_since version w member = option_and_then (λ (node : Node). if_newer version node.known) (slice_get w.nodes member)
+
+-- Those who listen to rows are sent it.
+abbrev pub row_messages : ℕ → ℕ → List Listener → Option Row → List Appended
+row_messages line p all None = []
+row_messages line p all (Some row) = events_to line (rows_of ((p, row) ∷ []) all)
+
+abbrev pub goes_out : Run → Option ℕ → CallAnswer → Bool
+goes_out r own answer = hears r own answer.id.conn
+
+abbrev pub answer_messages : Run → Option ℕ → CallAnswer → List Appended
+answer_messages r own answer = if goes_out r own answer then message_of r.lines answer ∷ [] else []
+
+-- At a release those who listen are told first how the call changed a value, also where the answer isn't heard.
+abbrev pub release_messages : Run → Option ℕ → ℕ → List Listener → CallAnswer → List Appended
+release_messages r own p all answer = events_to r.lines (events_of p answer all) ++ answer_messages r own answer
+
+-- The row that the member has adopted comes first, and then what it releases.
+abbrev pub messages_at : Run → Option ℕ → ℕ → List Listener → Option Row → List CallAnswer → List Appended
+messages_at r own p all row answers = row_messages r.lines p all row ++ flat_map (release_messages r own p all) answers
+
+-- what the worlds before and after the event give
+abbrev pub messages_by : Object Request Partition → Run → Option ℕ → ℕ → ℕ → World Request → World Request → List Appended
+messages_by o r own p member before after =
+    messages_at r own p (listening r own member) (adopted_since (version_known before member) after member) (released_by o (change_by o) before after)
+
+-- the call with an event, which may be refused, or release answers
+abbrev pub happening : Object Request Partition → Run → Arrival → List Appended
 happening o r a =
     let before = world_at o r a.request.partition in
     let next = happens o before (call_of a) in
-    refused_by a.line a.request next.outcome ++ map (answer_to a.line) (filter (is_heard_by r a.request.id.conn) (released_by before next.world))
+    refused_by a.line a.request next.outcome ++ messages_by o r (Some a.request.id.conn) a.request.partition a.member before next.world
 
 abbrev pub arrived : Run → Arrival → List At → List Appended → Run
 arrived r a events appended = record r {
@@ -206,7 +273,7 @@ arrived r a events appended = record r {
 abbrev pub is_skipped : List CallId → CallId → Bool
 is_skipped skips id = list_any (is_same_call id) skips
 
-abbrev pub asked : {State : Type 0} → Object Request State → List CallId → Run → Arrival → Run
+abbrev pub asked : Object Request Partition → List CallId → Run → Arrival → Run
 asked o skips r a =
     if is_skipped skips a.request.id then arrived r a [] (refusal a.line a.request (pos want_of_memory) 0 ∷ [])
     else arrived r a (record { partition = a.request.partition; event = call_of a } ∷ []) (happening o r a)
@@ -215,22 +282,29 @@ asked o skips r a =
 abbrev pub given_up : Run → Run
 given_up r = record r { full = true }
 
-abbrev pub asks : {State : Type 0} → Object Request State → List CallId → Run → Arrival → Run
+abbrev pub asks : Object Request Partition → List CallId → Run → Arrival → Run
 asks o skips r a = if is_full (world_at o r a.request.partition) then given_up (arrived r a [] []) else asked o skips r a
 
--- Something else than a call happens to a partition: it may release answers, and it may reopen the partition.
+-- Something else than a call happens to a partition: a member may adopt a row and release answers, and the partition may be reopened.
 
 abbrev pub reopening_by : ℕ → ℕ → Event Request → Outcome → List Reopened
 reopening_by p line event.Reopen (RowMadeAt version) = record { partition = p; line = line } ∷ []
 reopening_by p line event outcome = []
 
--- the answers that an event releases and that go out
-abbrev pub given_out : {State : Type 0} → Object Request State → Run → ℕ → Event Request → List Appended
-given_out o r p event =
-    let before = world_at o r p in
-    map (answer_to r.lines) (filter (is_heard r) (released_by before (happens o before event).world))
+-- the member that takes a message
+abbrev pub taker_of : {C : Type 0} → Event C → Option ℕ
+taker_of (event.Deliver from to place) = Some to
+taker_of event = None
 
-abbrev pub occurred : {State : Type 0} → Object Request State → Run → ℕ → Event Request → Run
+abbrev pub given_to : Object Request Partition → Run → ℕ → Event Request → Option ℕ → List Appended
+given_to o r p event None = []
+given_to o r p event (Some member) = let before = world_at o r p in messages_by o r None p member before (happens o before event).world
+
+-- what the event appends, at the member that it reaches
+abbrev pub given_out : Object Request Partition → Run → ℕ → Event Request → List Appended
+given_out o r p event = given_to o r p event (taker_of event)
+
+abbrev pub occurred : Object Request Partition → Run → ℕ → Event Request → Run
 occurred o r p event = record r {
   events = r.events ++ record { partition = p; event = event } ∷ [];
   appended = r.appended ++ given_out o r p event;
@@ -244,11 +318,11 @@ is_loss event = false
 abbrev pub meets_full : {C : Type 0} → World C → Event C → Bool
 meets_full w event = not (is_loss event) && is_full w
 
-abbrev pub takes : {State : Type 0} → Object Request State → Run → ℕ → Event Request → Run
+abbrev pub takes : Object Request Partition → Run → ℕ → Event Request → Run
 takes o r p event = if meets_full (world_at o r p) event then given_up r else occurred o r p event
 
 -- the same in each of these partitions, in order
-abbrev pub takes_in : {State : Type 0} → Object Request State → Run → Event Request → List ℕ → Run
+abbrev pub takes_in : Object Request Partition → Run → Event Request → List ℕ → Run
 takes_in o r event [] = r
 takes_in o r event (p ∷ ps) = takes_in o (takes o r p event) event ps
 
@@ -257,11 +331,11 @@ takes_in o r event (p ∷ ps) = takes_in o (takes o r p event) event ps
 abbrev pub delivery_on : Link → Event Request
 delivery_on l = event.Deliver l.from l.to 0
 
-abbrev pub flowed : {State : Type 0} → Object Request State → Run → ℕ → ℕ → Run
+abbrev pub flowed : Object Request Partition → Run → ℕ → ℕ → Run
 flowed o r p zero = r
 flowed o r p (suc most) = elim (next_link (world_at o r p)) [ None ↦ r | Some l ↦ flowed o (takes o r p (delivery_on l)) p most ]
 
-abbrev pub flowed_in : {State : Type 0} → Object Request State → Run → ℕ → List ℕ → Run
+abbrev pub flowed_in : Object Request Partition → Run → ℕ → List ℕ → Run
 flowed_in o r most [] = r
 flowed_in o r most (p ∷ ps) = flowed_in o (flowed o r p most) most ps
 
@@ -269,13 +343,42 @@ flowed_in o r most (p ∷ ps) = flowed_in o (flowed o r p most) most ps
 abbrev pub reopened_at : ℕ → List Reopened → List ℕ
 reopened_at p reopened = map (λ (x : Reopened). x.line) (filter (λ (x : Reopened). x.partition == p) reopened)
 
+-- a registration
+
+-- the rows that a member knows, in order of partition
+
+abbrev pub known_at : {State : Type 0} → Object Request State → Run → ℕ → ℕ → Option (ℕ × Row)
+known_at o r member p = option_map (λ (node : Node). (p, node.known)) (slice_get (world_at o r p).nodes member)
+
+abbrev pub rows_known : {State : Type 0} → Object Request State → Run → ℕ → List (ℕ × Row)
+rows_known o r member = filter_map (known_at o r member) (numbers_below partitions)
+
+-- it is answered with nothing
+abbrev pub registered_reply : Registration → List ℕ
+registered_reply registration = void_bytes (kind_of_registration registration) (correlation_of registration)
+
+abbrev pub sends : Run → List Sent → Run
+sends r sent = record r { appended = r.appended ++ events_to r.lines sent }
+
+-- The answer comes first. From then on the connection listens; if to rows, it is sent all those that its member knows, in one event.
+abbrev pub registers : {State : Type 0} → Object Request State → Run → ℕ → ℕ → Registration → Run
+registers o r c member registration =
+    let listener : Listener = record { conn = c; registration = registration } in
+    sends (listener_registered (told r c (registered_reply registration)) listener) (rows_of (rows_known o r member) (listener ∷ []))
+
+-- Calls that wait aren't served yet: they are refused as messages of an unknown type.
+abbrev pub unserved : ℤ → List ℕ
+unserved correlation = error_bytes correlation (pos unknown_type) (pos 0) (pos 0)
+
 -- an item of a connection, and several in a row
 
-abbrev pub handled : {State : Type 0} → Object Request State → List CallId → Run → Connection → Item → Run
+abbrev pub handled : Object Request Partition → List CallId → Run → Connection → Item → Run
 handled o skips r connection (Reply bytes) = told r connection.conn bytes
 handled o skips r connection (Asks request) = asks o skips r (arrival_at r connection.member request)
+handled o skips r connection (Wait request timeout) = told r connection.conn (unserved request.correlation)
+handled o skips r connection (Register registration) = registers o r connection.conn connection.member registration
 
-abbrev pub handled_all : {State : Type 0} → Object Request State → List CallId → Run → Connection → List Item → Run
+abbrev pub handled_all : Object Request Partition → List CallId → Run → Connection → List Item → Run
 handled_all o skips r connection [] = r
 handled_all o skips r connection (item ∷ items) = handled_all o skips (handled o skips r connection item) connection items
 
@@ -302,7 +405,7 @@ abbrev pub took_bytes : Run → Connection → List ℕ → Run
 took_bytes r connection bytes = record r { lines = r.lines + 1; connections = updated (with_bytes connection bytes) r.connections }
 
 -- Bytes on a closed connection, or to a member that crashed, do nothing. Others may complete messages, whose items are handled in order.
-abbrev pub bytes_arrived : {State : Type 0} → Object Request State → List CallId → Run → Connection → List ℕ → Run
+abbrev pub bytes_arrived : Object Request Partition → List CallId → Run → Connection → List ℕ → Run
 bytes_arrived o skips r connection bytes =
     if takes_bytes o r connection then handled_all o skips (took_bytes r connection bytes) connection (items_by connection bytes)
     else next_line r

@@ -11,10 +11,11 @@ use Rattle.grid_base.specs.declared.calls.Request.{Request}
 use Rattle.partition_protocol.specs.Arrivals.{asked_by}
 use Rattle.partition_protocol.specs.Events.{Event}
 use Rattle.object_store.specs.Partitions.{Partition}
+use Rattle.listeners.specs.declared.listener.Listener.{Listener}
 use Rattle.session_core.specs.Places.{partition_of_key}
 use Rattle.session_core.specs.declared.item.Item.{Item}
-use Rattle.session_core.specs.declared.item.Item.TheVariants.{Call as Asks, Reply}
-use Rattle.replay_run.specs.Runs.{Run, Connection, Arrival, begun, connection_of, messages_on, next_line, clock_set, opened, with_bytes, took_bytes, told, arrived, occurred, given_up, asked, handled_all, arrival_at}
+use Rattle.session_core.specs.declared.item.Item.TheVariants.{Call as Asks, Wait, Register, Reply}
+use Rattle.replay_run.specs.Runs.{Run, Connection, Arrival, begun, connection_of, messages_on, next_line, clock_set, opened, with_bytes, took_bytes, listener_registered, told, arrived, occurred, given_up, asked, handled_all, arrival_at}
 
 -- the partition that has a call's object: a map's entry is where its key is, and a queue where it was asked for
 abbrev pub home_of : GridCall → ℕ → ℕ
@@ -51,6 +52,8 @@ pub data IsRun (o : Object Request Partition) : Run → Type 0 where
   clock_was_set : (r : Run) (member moment : ℕ) → IsRun o r → IsRun o (clock_set r member moment)
   connection_opened : (r : Run) (c member : ℕ) → IsRun o r → connection_of r c ≡ None → IsRun o (opened r c member)
   bytes_taken : (r : Run) (connection : Connection) (bytes : List ℕ) → IsRun o r → connection_of r connection.conn ≡ Some connection → IsRun o (took_bytes r connection bytes)
+  -- a connection that was opened registers a listener
+  listener_was_registered : (r : Run) (listener : Listener) (connection : Connection) → IsRun o r → connection_of r listener.conn ≡ Some connection → IsRun o (listener_registered r listener)
   answer_told : (r : Run) (c : ℕ) (bytes : List ℕ) → IsRun o r → IsRun o (told r c bytes)
   event_occurred : (r : Run) (p : ℕ) (event : Event Request) → IsRun o r → asked_by event ≡ [] → IsRun o (occurred o r p event)
   -- a call that makes no event and isn't answered
@@ -58,9 +61,11 @@ pub data IsRun (o : Object Request Partition) : Run → Type 0 where
   run_given_up : (r : Run) → IsRun o r → IsRun o (given_up r)
   call_asked : (skips : List CallId) (r : Run) (member : ℕ) (request : Request) → IsRun o r → IsNext r request → IsRun o (asked o skips r (arrival_at r member request))
 
--- the names of the calls among items
+-- the names of the calls among items, but for those that wait, which make no call yet
 abbrev pub call_in : Item → Option CallId
 call_in (Asks request) = Some request.id
+call_in (Wait request timeout) = None
+call_in (Register registration) = None
 call_in (Reply bytes) = None
 
 abbrev pub calls_in : List Item → List CallId

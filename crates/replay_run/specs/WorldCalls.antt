@@ -1,5 +1,5 @@
 -- What a call does to its partition's world, and the messages that it makes.
-use Rattle.std.specs.Prelude.{◌≡◌, ◌≢◌, ℕ, ◌+◌, ◌-◌, ◌*◌, ◌<◌, ◌≤◌, ◌^◌, ◌==◌, Bool, true, false, ◌||◌, if◌then◌else◌, is_none, option_and_then, pos, List, length, filter, [], ◌∷◌, ◌++◌, Option, Some, None, Contains}
+use Rattle.std.specs.Prelude.{◌≡◌, ◌≢◌, ℕ, ◌+◌, ◌-◌, ◌*◌, ◌<◌, ◌≤◌, ◌^◌, Bool, true, false, if◌then◌else◌, is_none, option_and_then, pos, List, length, filter, [], ◌∷◌, ◌++◌, Option, Some, None, slice_get, Contains}
 use Rattle.std.specs.List.{flat_map}
 use Rattle.grid_base.specs.declared.names.CallId.{CallId}
 use Rattle.grid_base.specs.declared.calls.Request.{Request}
@@ -18,6 +18,14 @@ use Rattle.replay_run.specs.declared.tally.Reception.{Reception}
 use Rattle.replay_run.specs.declared.tally.Reception.TheVariants.{OutOfMemory}
 use Rattle.script_lang.specs.declared.line.Line.{Line}
 use Rattle.script_lang.specs.declared.line.Line.TheVariants as line
+use Rattle.event_codecs.specs.declared.registration.Registration.{Registration}
+use Rattle.listeners.specs.Telling.{rows_of}
+use Rattle.grid_base.specs.Objects.{Object}
+use Rattle.object_store.specs.Partitions.{Partition}
+use Rattle.listeners.specs.StandsFor.{StandFor}
+use Rattle.listeners.specs.declared.listeners.Listeners.{Listeners}
+use Rattle.listeners.specs.declared.listener.Listener.{Listener}
+use Rattle.replay_run.specs.declared.outgoing.Reaching.{Reaching}
 use Rattle.replay_run.specs.declared.events.Fate.{Fate}
 use Rattle.replay_run.specs.declared.events.Fate.TheVariants.{Crash, Detect}
 use Rattle.replay_run.specs.declared.grid.Grid.{Grid}
@@ -28,7 +36,7 @@ use Rattle.grid_base.specs.Errors.{want_of_memory}
 use Rattle.grid_base.specs.Limits.{CallFits}
 use Rattle.session_core.specs.declared.item.Item.{Item}
 use Rattle.session_core.specs.declared.item.Item.TheVariants.{Call as Asks}
-use Rattle.replay_run.specs.Runs.{Run, Connection, Arrival, Appended, partitions, connection_of, messages_on, is_open, takes_bytes, took_bytes, told, refusal, refused_by, call_of, arrival_at, items_by, asked, handled_all, event_by, events_at, world_at, is_full, meets_full, occurred, takes_in}
+use Rattle.replay_run.specs.Runs.{Run, Connection, Arrival, Appended, partitions, connection_of, messages_on, takes_bytes, took_bytes, told, refusal, refused_by, call_of, arrival_at, items_by, asked, handled_all, event_by, events_at, world_at, is_full, meets_full, occurred, takes_in, goes_out, version_known, adopted_since, messages_at, events_to, rows_known, registers}
 use Rattle.replay_run.specs.Printing.{appended_text, new_messages, outcome_at}
 use Rattle.replay_run.specs.ScriptRuns.{IsRun, IsMidway, calls_in}
 use Rattle.replay_run.specs.Tables.{Table, with_answer}
@@ -38,7 +46,7 @@ use Rattle.rebalance.specs.Plans.{Planned}
 use Rattle.replay_run.specs.Rebalancing.{most_line_events, stepped_all, first_steps}
 use Rattle.replay_run.specs.RebalancingTexts.{ran_texts}
 use Rattle.replay_run.specs.Shelves.{grid_meaning}
-use Rattle.replay_run.specs.Grids.{FormOf, GridWorld, StandsForEvents, IsSettled, IsCounting, Holds}
+use Rattle.replay_run.specs.Grids.{FormOf, GridWorld, StandsForEvents, HasConnections, IsSettled, IsCounting, AreListening, Holds}
 use Rattle.partition_protocol.specs.Recorded.{Recorded}
 
 -- the call of a request that reaches a member at a line, at the member's moment
@@ -77,23 +85,11 @@ pub record IsSkippedSo (settings : Settings) (old new : GridWorld) (events : Lis
   pub skipped : IsSkipped settings old new events a added
   pub so : reception ≡ OutOfMemory
 
--- an answer that was given out at a line, as a message
-abbrev pub message_of : ℕ → CallAnswer → Appended
-message_of line answer = record { conn = answer.id.conn; line = line; bytes = answer.reply; answers = Some answer.id; refuses = None }
-
 abbrev pub with_answers : Table → ℕ → List CallAnswer → Table
 with_answers table line [] = table
 with_answers table line (answer ∷ answers) = with_answers (with_answer table answer.id line) line answers
 
--- Of the answers that wait those go out whose connections are open, a call's own among them.
-
-abbrev pub is_own : Option ℕ → ℕ → Bool
-is_own None c = false
-is_own (Some own) c = c == own
-
-abbrev pub goes_out : Run → Option ℕ → CallAnswer → Bool
-goes_out r own answer = is_own own answer.id.conn || is_open (connection_of r answer.id.conn)
-
+-- those that go out
 abbrev pub going_out : Run → Option ℕ → List CallAnswer → List CallAnswer
 going_out r own answers = filter (goes_out r own) answers
 
@@ -104,11 +100,40 @@ pub record GivesOut {S R Plan C State : Type 0} (meaning_in : Plan → Meaning S
   pub given : waiting new member ≡ []
   pub others : (other : ℕ) → other ≢ member → waiting new other ≡ waiting old other
 
+-- where an event reaches a member
+
+-- The listeners of the member, if it is one, stand for these.
+abbrev pub StandAt : List Listeners → ℕ → List Listener → Type 0
+StandAt listeners member all = (here : Listeners) → slice_get listeners member ≡ Some here → StandFor here all
+
+-- The connections are those of a run at its line, and these listen at the member.
+pub record AreOfRun (table : Table) (listeners : List Listeners) (at : Reaching) (r : Run) (all : List Listener) : Type 0 where
+  pub line : r.lines ≡ at.line
+  pub connections : HasConnections table r
+  pub stand : StandAt listeners at.member all
+
+-- what a world has to append there: the row that the member has adopted since, and what waits there
+abbrev pub messages_in : {S R Plan C State : Type 0} → Meaning S C State → World S R Plan C → List (Event C) → Reaching → Run → List Listener → List Appended
+messages_in k world events at r all = messages_at r at.own at.partition all (adopted_since at.known (run_of k world events) at.member) (waiting world at.member)
+
+-- It was appended as text, if the world is that of these events.
+abbrev pub IsAppended : {S R Plan C State : Type 0} → Meaning S C State → (R → Recorded C → Type 0) → (C → Type 0) → World S R Plan C → List (Event C) → Reaching → Run → List Listener → List ℕ → List ℕ → Type 0
+IsAppended k records limits world events at r all written text = StandsFor k records limits world events → text ≡ written ++ texts_of (messages_in k world events at r all)
+
+-- Of the answers those are marked as answered that go out.
+abbrev pub MarksGoing : Run → Reaching → List CallAnswer → Table → Table → Type 0
+MarksGoing r at answers old new = new ≡ with_answers old at.line (going_out r at.own answers)
+
+-- where a message reaches a member, at an event of a partition
+abbrev pub reaching_of : Settings → Run → ℕ → ℕ → Reaching
+reaching_of settings r p member = record { line = r.lines; partition = p; member = member; known = version_known (world_at (partition_object settings) r p) member; own = None }
+
 -- The call of a request was run, or skipped for want of memory, and the messages that it appended were printed.
 pub record HasAsked {V : Type 0} {T : V → Type 0} (form : FormOf V T) (settings : Settings) (new : Grid V T) (r : Run) (member : ℕ) (request : Request) (written text : List ℕ) : Type 0 where
   pub skips : List CallId
   pub its_own : (id : CallId) → Contains skips id → request.id ≡ id
   pub holds : Holds form settings new (asked (partition_object settings) skips r (arrival_at r member request))
+  pub listeners : AreListening new.listeners.items (asked (partition_object settings) skips r (arrival_at r member request)) (Some request.id.conn)
   pub counting : IsCounting new.connections (asked (partition_object settings) skips r (arrival_at r member request)) request.id.conn (request.id.number + 1)
   pub added : text ≡ written ++ texts_of (new_messages r (asked (partition_object settings) skips r (arrival_at r member request)))
   -- its partition wasn't full
@@ -117,8 +142,30 @@ pub record HasAsked {V : Type 0} {T : V → Type 0} (form : FormOf V T) (setting
 -- A session's own answer was appended to its connection and printed.
 pub record HasTold {V : Type 0} {T : V → Type 0} (form : FormOf V T) (settings : Settings) (new : Grid V T) (r : Run) (conn number : ℕ) (answer written text : List ℕ) : Type 0 where
   pub holds : Holds form settings new (told r conn answer)
+  pub listeners : AreListening new.listeners.items (told r conn answer) (Some conn)
   pub counting : IsCounting new.connections (told r conn answer) conn (number + 1)
   pub added : text ≡ written ++ texts_of (new_messages r (told r conn answer))
+
+-- Each partition may have one event more: four bytes count them.
+abbrev pub HasCallRoom : Run → Type 0
+HasCallRoom r = length r.arrivals + most_line_events * r.lines + 1 < 2 ^ 32 - 1
+
+-- A registration came on a connection of this number and to this member: it was answered and listens, and what was appended was printed.
+pub record HasRegistered {V : Type 0} {T : V → Type 0} (form : FormOf V T) (settings : Settings) (new : Grid V T) (r : Run) (conn member number : ℕ) (registration : Registration) (written text : List ℕ) : Type 0 where
+  pub holds : Holds form settings new (registers (partition_object settings) r conn member registration)
+  pub listeners : AreListening new.listeners.items (registers (partition_object settings) r conn member registration) (Some conn)
+  pub counting : IsCounting new.connections (registers (partition_object settings) r conn member registration) conn (number + 1)
+  pub added : text ≡ written ++ texts_of (new_messages r (registers (partition_object settings) r conn member registration))
+
+-- what is sent behind the answer of a registration: to a connection that listens to rows those that its member knows
+abbrev pub first_events : Object Request Partition → Run → ℕ → ℕ → Registration → List Appended
+first_events o r conn member registration = events_to r.lines (rows_of (rows_known o r member) (record { conn = conn; registration = registration } ∷ []))
+
+-- The connection of this number is to this member.
+pub record IsTo (r : Run) (conn member : ℕ) : Type 0 where
+  pub connection : Connection
+  pub there : connection_of r conn ≡ Some connection
+  pub to : connection.member ≡ member
 
 -- However many of the bytes' items are calls, no partition has more events than four bytes can count.
 abbrev pub HasRoom : Run → Connection → List ℕ → Type 0
@@ -145,6 +192,7 @@ pub record HasHandledSome {V : Type 0} {T : V → Type 0} (form : FormOf V T) (s
   pub now : Run
   pub midway : IsMidway (partition_object settings) r k bytes done skips now
   pub holds : Holds form settings grid now
+  pub listeners : AreListening grid.listeners.items now (Some k.conn)
   pub counting : IsCounting grid.connections now k.conn (length (messages_on k) + length done)
   pub added : text ≡ written ++ texts_of (new_messages r now)
 
@@ -155,11 +203,6 @@ pub record IsGivenUpMidway (settings : Settings) (r : Run) (k : Connection) (byt
   pub full : (handled_all (partition_object settings) skips (took_bytes r k bytes) k items).full ≡ true
 
 -- events
-
--- the member at which an event may release answers: the one that takes a message
-abbrev pub taker_of : {C : Type 0} → Event C → Option ℕ
-taker_of (event.Deliver from to place) = Some to
-taker_of event = None
 
 -- what happens to a member in all partitions, and its line
 
@@ -189,6 +232,7 @@ HasRoomAt r p most = length (events_at p r.events) + most + 1 < 2 ^ 32
 pub record IsAmid {V : Type 0} {T : V → Type 0} (form : FormOf V T) (settings : Settings) (grid : Grid V T) (r : Run) : Type 0 where
   pub run : IsRun (partition_object settings) r
   pub holds : Holds form settings grid r
+  pub listeners : AreListening grid.listeners.items r None
   pub settled : IsSettled grid.connections r
 
 -- The run has gone on, and the messages that this appended were printed.

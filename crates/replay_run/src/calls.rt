@@ -1,6 +1,6 @@
-//! Calls on their way through a grid: bytes that arrive, calls that reach their partitions, and answers that go out.
+//! Calls on their way through a grid: bytes that arrive, and calls that reach their partitions.
 
-ghost use Rattle.std.specs.Prelude.{◌≡◌, ℕ, true, ◌+◌, ◌-◌, ◌*◌, ◌<◌, ◌^◌, List, [], ◌∷◌, ◌++◌, ◌⊎◌, Some, map, IfOk, OnOk, IsErrOf, ◌||◌, length};
+ghost use Rattle.std.specs.Prelude.{◌≡◌, ℕ, true, false, ◌+◌, ◌-◌, ◌*◌, ◌<◌, ◌^◌, List, [], ◌∷◌, ◌++◌, ◌⊎◌, Some, map, IfOk, OnOk, IsErrOf, ◌||◌, length, vec_len};
 ghost use Rattle.grid_base.specs.declared.calls.Request.{Request as Call};
 ghost use Rattle.partition_protocol.specs.Events.{Event as ProtocolEvent};
 ghost use Rattle.partition_protocol.specs.Arrivals.{NamedOnce, arrivals, name};
@@ -11,28 +11,29 @@ ghost use Rattle.call_engine.specs.Objects.{partition_object};
 ghost use Rattle.partition_world.specs.Events.{happened_of};
 ghost use Rattle.grid_base.specs.Shelves.{meaning};
 ghost use Rattle.partition_world.specs.Worlds.{steps_of, waiting};
-ghost use Rattle.replay_run.specs.Runs.{Run, Connection as RunConnection, partitions, call_of, refused_by, connection_of, is_open, is_full, world_at};
+ghost use Rattle.replay_run.specs.Runs.{Run, Connection as RunConnection, partitions, call_of, refused_by, connection_of, fault_on, is_full, world_at, unserved};
 ghost use Rattle.replay_run.specs.Printing.{appended_text};
 ghost use Rattle.replay_run.specs.Rebalancing.{most_line_events};
 ghost use Rattle.replay_run.specs.Tables.{with_answer};
-ghost use Rattle.replay_run.specs.Tallies.{received};
+ghost use Rattle.replay_run.specs.Tallies.{received, tallied};
 ghost use Rattle.replay_run.specs.ScriptRuns.{IsRun, IsNext};
-ghost use Rattle.replay_run.specs.Grids.{boxed, HasConnections, AreFew, Stands, StandsForEvents, Holds, IsCounting, MayRun, HasRun, IsGivenUp};
-ghost use Rattle.replay_run.specs.WorldCalls.{arrival_to, refusals, texts_of, message_of, with_answers, IsCalledSo, IsSkippedSo, is_own, going_out, GivesOut, HasAsked, HasTold, HasRoom, open_member_in, Brings, HasHandledSome, IsGivenUpMidway};
+ghost use Rattle.replay_run.specs.Grids.{boxed, AreFew, AreListening, Stands, StandsForEvents, Holds, IsCounting, MayRun, HasRun, IsGivenUp};
+ghost use Rattle.replay_run.specs.WorldCalls.{arrival_to, refusals, texts_of, IsCalledSo, IsSkippedSo, HasAsked, HasTold, HasCallRoom, HasRoom, open_member_in, Brings, HasHandledSome, IsGivenUpMidway};
 ghost use Rattle.replay_run.specs.declared.run_end.RunEnd.TheVariants as RunEnds;
 
-use crate::connections::Connections;
 use crate::grid::Grid;
 use crate::links::MOST_IN_FLIGHT;
+use crate::outgoing::{Reaching, append_reached, version_known};
 use crate::print::{push_appended, push_close};
 use crate::run_end::RunEnd;
 use crate::tally::Reception;
 use call_engine::{GridEnv, GridShelf};
 use client_codecs::write_error;
-use grid_base::errors::WANT_OF_MEMORY;
-use grid_base::{Bytes, MemberId, Memory, Moment, Request, Shelf};
-use partition_world::{CallOutcome, Event, Happened, Recorder, Records, World};
-use primary_hold::CallAnswer;
+use frame_codec::Malformed;
+use grid_base::errors::{UNKNOWN_TYPE, WANT_OF_MEMORY};
+use grid_base::{Bytes, MemberId, Memory, Moment, Request};
+use listeners::Listeners;
+use partition_world::{CallOutcome, Event, Happened, Recorder, World};
 use script_lang::Line;
 use session_core::Item;
 use std::alloc::Global;
@@ -152,50 +153,20 @@ fn call(
     }
 }
 
-/// Gives out an answer: marks its call as answered, and appends it as a message.
-fn give(
-    alloc: Global,
-    connections: &mut Connections,
-    line: u32,
-    answer: CallAnswer,
-    out: &mut Vec<u8>,
-) -> Result<(), Memory>
-    ensures table { connections.new ≡ with_answer connections.old answer.id line }
-    ensures text { OnOk result (out.new.items ≡ out.old.items ++ appended_text (message_of line answer)) }
-{
-    connections.answer(answer.id, line);
-    push_appended(alloc, out, line, answer.id.conn, answer.reply.as_slice())
-}
-
-/// Whether an answer to a connection goes out: where that is open, or is the one of the call at hand, whose close comes
-/// after all that its bytes bring.
-fn goes_out(connections: &Connections, own: Option<u32>, conn: u32) -> bool
-    ensures { (r : Run) → HasConnections connections.now r → result ≡ (is_own own conn || is_open (connection_of r conn)) }
-{
-    own == Some(conn) || connections.is_open(conn)
-}
-
-/// Takes the answers that wait at a member, the oldest first, and gives those out whose connections are open or are the
-/// one of the call at hand.
-pub(crate) fn give_out<S: Shelf, R: Records<S::Call>>(
-    alloc: Global,
-    world: &mut World<S, R>,
+/// Drops what a connection registered at its member, where the connection has closed.
+fn forget_closed(
+    listeners: &mut Vec<Listeners>,
+    conn: u32,
     member: MemberId,
-    connections: &mut Connections,
-    own: Option<u32>,
-    line: u32,
-    out: &mut Vec<u8>,
-) -> Result<(), Memory>
-    ensures text { (r : Run) → HasConnections connections.old r → OnOk result (out.new.items ≡ out.old.items ++ texts_of (map (message_of line) (going_out r own (waiting world.old member)))) }
-    ensures table { (r : Run) → HasConnections connections.old r → OnOk result (connections.new ≡ with_answers connections.old line (going_out r own (waiting world.old member))) }
-    ensures world { OnOk result (GivesOut (meaning S.model) R.records S.model.within_limits world.old world.new member) }
+    closed: Option<Malformed>,
+)
+    requires { member < vec_len listeners.old }
+    ensures { (r : Run) (k : RunConnection) → connection_of r conn ≡ Some k → k.member ≡ member → closed ≡ fault_on k
+        → AreListening listeners.old.items r (Some conn) → AreListening listeners.new.items r None }
 {
-    while let Some(answer) = world.pop_released(member) {
-        if goes_out(connections, own, answer.id.conn) {
-            give(alloc, connections, line, answer, out)?;
-        }
+    if closed.is_some() {
+        listeners[usize::from(member)].drop_connection(conn);
     }
-    Ok(())
 }
 
 impl Grid {
@@ -221,6 +192,7 @@ impl Grid {
         };
         self.count(number, out)?;
         self.handle_all(alloc, conn, member, fed.items, out)?;
+        forget_closed(&mut self.listeners, conn, member, fed.closed);
         Ok(push_close(out, number, conn, fed.closed)?)
     }
 
@@ -258,6 +230,14 @@ impl Grid {
         for item in items {
             match item {
                 Item::Reply(answer) => self.tell(alloc, conn, answer, out)?,
+                Item::Wait { request, .. } => {
+                    let correlation = request.correlation;
+                    drop(request);
+                    self.refuse(alloc, conn, correlation, out)?
+                }
+                Item::Register(registration) => {
+                    self.register(alloc, conn, member, registration, out)?
+                }
                 Item::Call(request) => self.ask(alloc, member, request, out)?,
             }
         }
@@ -265,18 +245,35 @@ impl Grid {
     }
 
     /// A session's own answer is appended to its connection.
-    fn tell(
+    pub(crate) fn tell(
         &mut self,
         alloc: Global,
         conn: u32,
         answer: Bytes,
         out: &mut Vec<u8>,
     ) -> Result<(), Memory>
-        ensures { (settings : Settings) (r : Run) (number : ℕ) → IsRun (partition_object settings) r → Holds (boxed form) settings self.old r → IsCounting self.old.connections r conn number
+        ensures { (settings : Settings) (r : Run) (number : ℕ) → Holds (boxed form) settings self.old r
+            → AreListening self.old.listeners.items r (Some conn) → IsCounting self.old.connections r conn number
             → OnOk result (HasTold (boxed form) settings self.new r conn number answer out.old.items out.new.items) }
     {
         self.connections.reply(conn)?;
         push_appended(alloc, out, self.lines, conn, answer.as_slice())
+    }
+
+    /// What isn't served yet, a call that waits, is answered on its connection as a message of an unknown type.
+    fn refuse(
+        &mut self,
+        alloc: Global,
+        conn: u32,
+        correlation: i64,
+        out: &mut Vec<u8>,
+    ) -> Result<(), Memory>
+        ensures { (settings : Settings) (r : Run) (number : ℕ) → Holds (boxed form) settings self.old r
+            → AreListening self.old.listeners.items r (Some conn) → IsCounting self.old.connections r conn number
+            → OnOk result (HasTold (boxed form) settings self.new r conn number (unserved correlation) out.old.items out.new.items) }
+    {
+        let error = write_error(alloc, correlation, UNKNOWN_TYPE, 0, 0)?;
+        self.tell(alloc, conn, error, out)
     }
 
     /// A call arrives at its connection's member. A full partition takes none.
@@ -290,33 +287,67 @@ impl Grid {
         requires limits { CallFits request.call }
         requires placed { request.partition < partitions }
         requires member { member < self.old.members }
-        requires stands { (settings : Settings) × (r : Run) × Holds (boxed form) settings self.old r × (length r.arrivals + most_line_events * r.lines + 1 < 2 ^ 32 - 1) × IsRun (partition_object settings) r × IsNext r request × AreFew r }
-        ensures ok { (settings : Settings) (r : Run) → IsRun (partition_object settings) r → Holds (boxed form) settings self.old r → IsNext r request → IsCounting self.old.connections r request.id.conn request.id.number
+        requires heard { vec_len self.old.listeners ≡ self.old.members }
+        requires stands { (settings : Settings) × (r : Run) × Holds (boxed form) settings self.old r × HasCallRoom r × IsRun (partition_object settings) r
+            × IsNext r request × AreFew r }
+        ensures ok { (settings : Settings) (r : Run) → IsRun (partition_object settings) r → Holds (boxed form) settings self.old r → IsNext r request
+            → AreListening self.old.listeners.items r (Some request.id.conn) → IsCounting self.old.connections r request.id.conn request.id.number
             → OnOk result (HasAsked (boxed form) settings self.new r member request out.old.items out.new.items) }
         ensures full { (settings : Settings) (r : Run) → Holds (boxed form) settings self.old r → IsErrOf result RunEnds.InFlight → is_full (world_at (partition_object settings) r request.partition) ≡ true }
     {
-        let conn = request.id.conn;
-        let world = &mut self.worlds[usize::from(request.partition)];
-        if world.has_crowded_link(MOST_IN_FLIGHT) {
+        if self.worlds[usize::from(request.partition)].has_crowded_link(MOST_IN_FLIGHT) {
             return Err(RunEnd::InFlight);
         }
+        let reception = self.reach(alloc, member, request, out)?;
+        self.tally.count(reception);
+        Ok(())
+    }
+
+    /// A call reaches its member in a partition that isn't full. What became of it as it arrived is told, and is yet to be
+    /// counted.
+    fn reach(
+        &mut self,
+        alloc: Global,
+        member: MemberId,
+        request: Request,
+        out: &mut Vec<u8>,
+    ) -> Result<Reception, Memory>
+        requires limits { CallFits request.call }
+        requires placed { request.partition < partitions }
+        requires member { member < self.old.members }
+        requires heard { vec_len self.old.listeners ≡ self.old.members }
+        requires stands { (settings : Settings) × (r : Run) × Holds (boxed form) settings self.old r × HasCallRoom r × IsRun (partition_object settings) r
+            × IsNext r request × AreFew r }
+        ensures ok { (settings : Settings) (r : Run) → IsRun (partition_object settings) r → Holds (boxed form) settings self.old r → IsNext r request
+            → AreListening self.old.listeners.items r (Some request.id.conn) → IsCounting self.old.connections r request.id.conn request.id.number
+            → is_full (world_at (partition_object settings) r request.partition) ≡ false
+            → IfOk result (λ reception. HasAsked (boxed form) settings (record self.new { tally = tallied reception self.old.tally }) r member request out.old.items out.new.items) }
+        ensures tally { self.new.tally ≡ self.old.tally }
+    {
+        let conn = request.id.conn;
+        let world = &mut self.worlds[usize::from(request.partition)];
         self.connections.arrive(conn, self.lines)?;
         let at = Arriving {
             line: self.lines,
             member,
             now: self.moments[usize::from(member)],
         };
-        let reception = call(alloc, world, &self.env, at, request, out)?;
-        self.tally.count(reception);
-        give_out(
-            alloc,
-            world,
+        let reaching = Reaching {
+            line: self.lines,
+            partition: request.partition,
             member,
+            known: version_known(world, self.members, member),
+            own: Some(conn),
+        };
+        let reception = call(alloc, world, &self.env, at, request, out)?;
+        append_reached(
+            alloc,
+            reaching,
+            world,
+            self.listeners.as_slice(),
             &mut self.connections,
-            Some(conn),
-            self.lines,
             out,
         )?;
-        Ok(())
+        Ok(reception)
     }
 }

@@ -29,7 +29,7 @@ pub struct Counts {
     pub waiting: u32,
     /// The entries of all partitions' histories, resets included: as many as the line `end` prints, and the lines `trail`
     /// of all partitions together.
-    pub entries: u64,
+    pub entries: u32,
     /// Partitions whose newest row is lost.
     pub lost: u32,
 }
@@ -39,13 +39,6 @@ fn as_field(count: u128) -> u32
     ensures { count < 2 ^ 32 → result ≡ count }
 {
     u32::try_from(count).unwrap_or(u32::MAX)
-}
-
-/// The count as a wide field has it. Larger ones don't come.
-fn as_wide_field(count: u128) -> u64
-    ensures { count < 2 ^ 64 → result ≡ count }
-{
-    u64::try_from(count).unwrap_or(u64::MAX)
 }
 
 /// The sum of two counts. Larger ones don't come.
@@ -79,7 +72,7 @@ impl Grid {
                 .saturating_sub(answered)
                 .saturating_sub(refused)
                 .saturating_sub(memory),
-            entries: as_wide_field(self.entries()),
+            entries: as_field(self.entries()),
             lost: self.lost(),
         }
     }

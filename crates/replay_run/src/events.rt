@@ -11,15 +11,15 @@ ghost use Rattle.call_engine.specs.Calls.{Settings};
 ghost use Rattle.call_engine.specs.Objects.{partition_object};
 ghost use Rattle.script_lang.specs.declared.line.Line.{Line as ScriptLine};
 ghost use Rattle.script_lang.specs.declared.line.Line.TheVariants as ScriptLines;
-ghost use Rattle.replay_run.specs.Runs.{Run, partitions, world_at, meets_full, event_by, delivery_on, flowed, flowed_in, takes_in, reopening_by};
+ghost use Rattle.replay_run.specs.Runs.{Run, partitions, taker_of, world_at, meets_full, event_by, delivery_on, flowed, flowed_in, takes_in, reopening_by};
 ghost use Rattle.replay_run.specs.Grids.{boxed, Stands, MayRun, HasRun, IsGivenUp};
-ghost use Rattle.replay_run.specs.WorldCalls.{HasRoomAt, IsAmid, HasTaken, HasFlowed, HasTakenInAll, taker_of, event_in_all, line_of_fate};
+ghost use Rattle.replay_run.specs.WorldCalls.{HasRoomAt, IsAmid, HasTaken, HasFlowed, HasTakenInAll, reaching_of, event_in_all, line_of_fate};
 ghost use Rattle.replay_run.specs.declared.run_end.RunEnd.TheVariants as RunEnds;
 
-use crate::calls::give_out;
 use crate::grid::Grid;
 use crate::links::MOST_IN_FLIGHT;
 use crate::outcomes::{done_word, push_fate, push_flow, push_happened};
+use crate::outgoing::{Reaching, append_reached, version_known};
 use crate::print::push_text;
 use crate::reopened::Reopened;
 use crate::run_end::RunEnd;
@@ -139,7 +139,7 @@ fn meets_full<S: Shelf, R: Records<S::Call>>(world: &World<S, R>, event: &Event<
     !matches!(event, Event::Lose { .. }) && world.has_crowded_link(MOST_IN_FLIGHT)
 }
 
-/// The member at which an event may release answers: the one that takes a message.
+/// The member that takes a message, or the table service.
 fn taker_of(event: &Event<Request>) -> Option<MemberId>
     ensures { result ≡ taker_of (event_of event.now) }
 {
@@ -150,8 +150,26 @@ fn taker_of(event: &Event<Request>) -> Option<MemberId>
 }
 
 impl Grid {
-    /// Runs an event of a partition that is no call, and appends the answers that it releases, where their connections
-    /// are open. A full partition takes no event but a loss. After an error the grid is given up.
+    /// Where an event that is no call reaches a member, if it does.
+    fn reaching(&self, partition: PartitionId, event: &Event<Request>) -> Option<Reaching>
+        requires placed { partition < partitions }
+        requires stands { (settings : Settings) × (r : Run) × IsAmid (boxed form) settings self.now r }
+        ensures { (settings : Settings) (r : Run) → IsAmid (boxed form) settings self.now r
+            → result ≡ option_map (reaching_of settings r partition) (taker_of (event_of event.now)) }
+    {
+        let member = taker_of(event)?;
+        let world = &self.worlds[usize::from(partition)];
+        Some(Reaching {
+            line: self.lines,
+            partition,
+            member,
+            known: version_known(world, self.members, member),
+            own: None,
+        })
+    }
+
+    /// Runs an event of a partition that is no call, and appends what it does at the member that it reaches. A full
+    /// partition takes no event but a loss. After an error the grid is given up.
     pub(crate) fn take(
         &mut self,
         alloc: Global,
@@ -165,21 +183,20 @@ impl Grid {
         ensures ok { (settings : Settings) (r : Run) → IsAmid (boxed form) settings self.old r → IfOk result (λ happened. HasTaken (boxed form) settings self.new r partition (event_of event) happened out.old.items out.new.items) }
         ensures full { (settings : Settings) (r : Run) → IsAmid (boxed form) settings self.old r → IsErrOf result RunEnds.InFlight → meets_full (world_at (partition_object settings) r partition) (event_of event) ≡ true }
     {
+        let reaching = self.reaching(partition, &event);
         let world = &mut self.worlds[usize::from(partition)];
         if meets_full(world, &event) {
             return Err(RunEnd::InFlight);
         }
         let reopens = matches!(event, Event::Reopen);
-        let taker = taker_of(&event);
         let happened = world.step(alloc, &self.env, event)?;
-        if let Some(member) = taker {
-            give_out(
+        if let Some(at) = reaching {
+            append_reached(
                 alloc,
+                at,
                 world,
-                member,
+                self.listeners.as_slice(),
                 &mut self.connections,
-                None,
-                self.lines,
                 out,
             )?;
         }

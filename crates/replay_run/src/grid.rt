@@ -1,9 +1,9 @@
-ghost use Rattle.std.specs.Prelude.{◌≡◌, true, false, ◌+◌, ◌-◌, ◌*◌, ◌<◌, ◌≤◌, ◌++◌, Some, map, IfOk, OnOk, IsErrOf, ◌||◌, length};
+ghost use Rattle.std.specs.Prelude.{◌≡◌, ℕ, true, false, ◌+◌, ◌-◌, ◌*◌, ◌<◌, ◌≤◌, ◌++◌, None, Some, map, IfOk, OnOk, IsErrOf, ◌||◌, length};
 ghost use Rattle.call_engine.specs.Calls.{Settings};
 ghost use Rattle.call_engine.specs.Objects.{partition_object};
 ghost use Rattle.replay_run.specs.Runs.{Run, partitions, begun, lives};
 ghost use Rattle.replay_run.specs.Printing.{ok_text, nothing_text};
-ghost use Rattle.replay_run.specs.Grids.{boxed, Stands, MayRun, HasRun, IsGivenUp};
+ghost use Rattle.replay_run.specs.Grids.{boxed, AreListening, Stands, MayRun, HasRun, IsGivenUp};
 ghost use Rattle.replay_run.specs.WorldCalls.{is_quiet};
 ghost use Rattle.replay_run.specs.declared.run_end.RunEnd.TheVariants as RunEnds;
 
@@ -17,11 +17,13 @@ use crate::tally::Tally;
 use call_engine::{GridEnv, GridShelf};
 use entry_processors::{Processor, Registry};
 use grid_base::{MemberId, Memory, Moment, PARTITIONS, Request};
+use listeners::Listeners;
 use partition_world::{Link, Recorder, World};
 use script_lang::Line;
 use std::alloc::Global;
 
-/// The worlds of all partitions, the connections to their members, each member's clock, and how many lines were run.
+/// The worlds of all partitions, the connections to their members and who listens on them, each member's clock, and how
+/// many lines were run.
 #[derive(Drop)]
 pub struct Grid {
     pub(crate) env: GridEnv,
@@ -29,6 +31,8 @@ pub struct Grid {
     pub(crate) lines: u32,
     pub(crate) moments: Vec<Moment>,
     pub(crate) connections: Connections,
+    /// Those of each member.
+    pub(crate) listeners: Vec<Listeners>,
     /// Of the calls that arrived.
     pub(crate) tally: Tally,
     /// In order.
@@ -36,6 +40,17 @@ pub struct Grid {
     /// Those of each partition.
     pub(crate) links: Vec<Link>,
     pub(crate) worlds: Vec<World<GridShelf, Recorder<Request>>>,
+}
+
+/// Nobody listens to any of the members.
+fn nobody(alloc: Global, members: u8) -> Result<Vec<Listeners>, Memory>
+    ensures { IfOk result (λ listeners. (backups : ℕ) → AreListening listeners.items (begun members backups) None) }
+{
+    let mut listeners = Vec::with_capacity(alloc, usize::from(members))?;
+    for _ in 0..members {
+        listeners.push(Listeners::new(alloc))?;
+    }
+    Ok(listeners)
 }
 
 impl Grid {
@@ -66,6 +81,7 @@ impl Grid {
             moments: vec![in alloc; 0; usize::from(members)]?,
             connections: Connections::new(alloc)?,
             tally: Tally::new(),
+            listeners: nobody(alloc, members)?,
             reopened: Vec::new(alloc),
             links: links_of(alloc, members)?,
             worlds,

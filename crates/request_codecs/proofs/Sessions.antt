@@ -1,5 +1,5 @@
 -- What a member's session makes of a request.
-use Rattle.std.proofs.Common.{◌≡◌, ℕ, ◌<◌, ◌^◌, ◌==◌, Bool, false, cond, ℤ, pos, List, [], ◌++◌, drop, Option, Some, None, Ok, Err, unwrap_or, refl, ap, sym, subst, ◌∙◌, append-nil, arith, lit<}
+use Rattle.std.proofs.Common.{◌≡◌, ℕ, ◌<◌, ◌^◌, ◌==◌, Bool, false, cond, ℤ, pos, List, [], ◌++◌, drop, Option, Some, None, Result, Ok, Err, unwrap_or, refl, ap, sym, subst, ◌∙◌, append-nil, arith, lit<}
 use Rattle.std.specs.Int.{w32, w64, to_le_bytes}
 use Rattle.std.specs.Int.RustNames.{FitsSigned}
 use Rattle.std.specs.Ordering.{int_eq}
@@ -16,6 +16,7 @@ use Rattle.grid_base.specs.declared.calls.QueueCall.{QueueCall}
 use Rattle.grid_base.specs.declared.calls.QueueCall.TheVariants.{Offer, Poll, Peek, Size, RemainingCapacity, Clear}
 use Rattle.grid_base.specs.declared.calls.GridCall.{GridCall}
 use Rattle.grid_base.specs.declared.calls.GridCall.TheVariants.{Map, Queue}
+use Rattle.grid_base.specs.declared.refusal.CallRefused.{CallRefused}
 use Rattle.grid_base.specs.declared.refusal.CallRefused.TheVariants.{UnknownType}
 use Rattle.fixed_fields.specs.Fields.{int32_at, int64_at, int32_bytes, int64_bytes}
 use Rattle.fixed_fields.specs.Requests.{kind_of as kind_in, reader_in}
@@ -31,7 +32,7 @@ use Rattle.map_codecs.proofs.Spelling.{sent_again as map_call_sent}
 use Rattle.queue_codecs.specs.Calls.{queue_call_of}
 use Rattle.queue_codecs.specs.SpelledCalls.{kind_of_call as kind_of_queue_call}
 use Rattle.queue_codecs.proofs.Spelling.{sent_again as queue_call_sent}
-use Rattle.session_core.specs.Items.{payload_of, kind_of, correlation_of, stated_partition, authentication_item, served, call_item, call_of, either_call, item_of, error_to}
+use Rattle.session_core.specs.Items.{payload_of, kind_of, correlation_of, stated_partition, authentication_item, served, asked, unless_unknown, wait_or_registration, call_item, call_of, either_call, item_of, error_to}
 use Rattle.session_core.specs.Places.{BelongsTo, partition_of_call}
 use Rattle.session_core.proofs.CallsAt.{below_partitions}
 use Rattle.session_core.specs.declared.item.Item.{Item}
@@ -148,8 +149,8 @@ item_is : (member : ℕ) (id : CallId) (client : ClientKey) (message : Message) 
     → item_of member id (Some client) message ≡ Call (record { id = id; correlation = correlation; kind = kind; partition = partition; call = call })
 item_is member id client message call kind partition correlation k c s is read own =
     ap (λ (b : Bool). cond b (authentication_item member message (authentication_of message)) (served id client message)) (ap (λ (n : ℕ). n == authentication_kind) k ∙ is.apart)
-    ∙ ap (λ (b : Bool). cond b (Reply (void_bytes ping_kind (correlation_of message))) (call_item id message (call_of client message))) (ap (λ (n : ℕ). n == ping_kind) k ∙ is.other)
-    ∙ ap (call_item id message) read
+    ∙ ap (λ (b : Bool). cond b (Reply (void_bytes ping_kind (correlation_of message))) (asked id client message)) (ap (λ (n : ℕ). n == ping_kind) k ∙ is.other)
+    ∙ ap (λ (said : Result GridCall CallRefused). unless_unknown said (call_item id message) (wait_or_registration id client message)) read
     ∙ ap (λ (stated : ℤ). cond (int_eq stated (pos (partition_of_call stated call))) (the_call (partition_of_call stated call)) (error_to message wrong_partition stated (pos (partition_of_call stated call)))) s
     ∙ ap (λ (p : ℕ). cond (int_eq (pos partition) (pos p)) (the_call p) (error_to message wrong_partition (pos partition) (pos p))) own
     ∙ ap (λ (b : Bool). cond b (the_call partition) (error_to message wrong_partition (pos partition) (pos partition))) ((Decides-int_eq (pos partition) (pos partition)).1 refl)

@@ -6,6 +6,7 @@ use Rattle.fixed_fields.specs.Responses.{unfragmented, final, single}
 use Rattle.fixed_fields.specs.Spelled.{request_head}
 use Rattle.message_frames.specs.Messages.{prefix_of}
 use Rattle.client_codecs.specs.SpelledAuthentications.{authentication_message}
+use Rattle.event_codecs.specs.Registrations.{invalidation_listener_kind, cluster_view_kind}
 
 abbrev pub authentication_correlation : ℤ
 authentication_correlation = pos 1
@@ -18,13 +19,6 @@ rows_correlation = pos 3
 
 abbrev pub first_correlation : ℤ
 first_correlation = pos 4
-
--- the types of the registrations
-abbrev pub invalidation_listener_kind : ℕ
-invalidation_listener_kind = 0x013f00
-
-abbrev pub cluster_view_kind : ℕ
-cluster_view_kind = 0x000300
 
 -- A registration is in no partition.
 abbrev pub registration_head : ℕ → ℤ → List ℕ

@@ -7,6 +7,7 @@ ghost use Rattle.request_codecs.specs.Openings.{authentication_frames, listener_
 
 use crate::parts::{begun, write_part};
 use client_codecs::AUTHENTICATION_KIND;
+use event_codecs::{CLUSTER_VIEW_KIND, INVALIDATION_LISTENER_KIND};
 use fixed_fields::write_uuid;
 use frame_codec::flags::{FINAL, UNFRAGMENTED};
 use grid_base::{Bytes, Memory};
@@ -20,12 +21,6 @@ const CLUSTER: &[u8] = b"dev";
 
 /// The version of the serialization.
 const SERIALIZATION: u8 = 1;
-
-/// The message type of a registration of an invalidation listener.
-const INVALIDATION_LISTENER_KIND: u32 = 0x01_3f_00;
-
-/// The message type of a registration for rows.
-const CLUSTER_VIEW_KIND: u32 = 0x00_03_00;
 
 /// The correlation of the authentication.
 pub const AUTHENTICATION_CORRELATION: i64 = 1;

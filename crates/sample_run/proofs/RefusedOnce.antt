@@ -1,5 +1,5 @@
 -- No call is refused twice, so that a run in which no call is counted for want of memory tells of no skip.
-use Rattle.std.proofs.Common.{◌≡◌, ◌≢◌, ℕ, Bool, true, false, cond, List, [], ◌∷◌, ◌++◌, map, filter, Some, None, pos, refl, ap, sym, ◌∙◌, ◌⊎◌, ⊎_elim, inl, inr, arith}
+use Rattle.std.proofs.Common.{◌≡◌, ◌≢◌, ℕ, Bool, true, false, cond, List, [], ◌∷◌, ◌++◌, Some, None, pos, refl, ap, sym, ◌∙◌, ◌⊎◌, ⊎_elim, inl, inr, arith}
 use Rattle.std.specs.Prelude.{count_by}
 use Rattle.std.specs.List.{find}
 use Rattle.std.proofs.lemmas.List.Sums.{sum_by-cons}
@@ -9,15 +9,15 @@ use Rattle.grid_base.specs.declared.names.CallId.{CallId}
 use Rattle.grid_base.specs.declared.calls.Request.{Request}
 use Rattle.grid_base.specs.Objects.{Object}
 use Rattle.object_store.specs.Partitions.{Partition}
-use Rattle.partition_protocol.specs.History.{Executed}
+use Rattle.partition_protocol.specs.World.{World}
 use Rattle.partition_protocol.specs.Execution.{Executes, PartitionLost, WrongTarget, Migrating}
 use Rattle.partition_protocol.specs.Events.{Outcome, Refused, NothingDone, Done, HeldAt, ReleasedAt, TookMessage, RowMadeAt, MoveIsRefused, ReopenIsRefused, happens}
 use Rattle.partition_protocol.proofs.Lists.{In, in_cases, in_contains, on_if}
-use Rattle.replay_run.specs.Runs.{Run, Arrival, Appended, arrival_at, own_answer, refusal, refused_by, answer_to, released_by, is_heard, is_heard_by, is_skipped, call_of, happening, world_at, arrived, asked, given_out}
-use Rattle.replay_run.specs.ScriptRuns.{IsRun, IsNext, grid_begun, line_counted, clock_was_set, connection_opened, bytes_taken, answer_told, event_occurred, call_arrived, run_given_up, call_asked}
+use Rattle.replay_run.specs.Runs.{Run, Arrival, Appended, arrival_at, own_answer, refusal, refused_by, is_skipped, call_of, messages_by, happening, world_at, arrived, asked, taker_of, given_out}
+use Rattle.replay_run.specs.ScriptRuns.{IsRun, IsNext, grid_begun, line_counted, clock_was_set, connection_opened, bytes_taken, listener_was_registered, answer_told, event_occurred, call_arrived, run_given_up, call_asked}
 use Rattle.replay_run.specs.SkippedCalls.{IsTold, TellsOfNoSkip}
 use Rattle.replay_run.specs.Counts.{is_refusal_of, has_number, is_of_memory, error_number, is_out_of_memory}
-use Rattle.replay_run.proofs.Parts.{in_mapped}
+use Rattle.replay_run.proofs.Releasing.{messages_refuse_none, given_refuse_none}
 use Rattle.replay_run.proofs.RunFacts.{RunOk, id_name}
 use Rattle.replay_run.proofs.Arriving.{fresh, its_event}
 use Rattle.replay_run.proofs.Refusals.{refusals_name_the_call}
@@ -47,9 +47,6 @@ with_more ms more old new apart m n id i j e f = go (in_cases m ms more i) (in_c
 with_quiet : (ms more : List Appended) → RefusedOnce ms → ((m : Appended) → In m more → m.refuses ≡ None) → RefusedOnce (ms ++ more)
 with_quiet ms more old none =
     with_more ms more old (λ m n id i j e f. absurd (refuses_none m id (none m i) e)) (λ m n id i j e. refuses_none n id (none n j))
-
-given_refuse_none : (line : ℕ) (xs : List (Executed Request)) (m : Appended) → In m (map (answer_to line) xs) → m.refuses ≡ None
-given_refuse_none line xs m i = let made = in_mapped (answer_to line) xs m i in ap (λ (n : Appended). n.refuses) (sym made.2)
 
 same_one : (x m n : Appended) → In m (x ∷ []) → In n (x ∷ []) → m ≡ n
 same_one x m n (inl e) (inl f) = sym e ∙ f
@@ -92,17 +89,24 @@ module _ {o : Object Request Partition} (r : Run) (run : IsRun o r) (old : Refus
       its n id (inl s) f = let whose : Some request.id ≡ Some id = ap (λ (x : Appended). x.refuses) s ∙ f in cc
       its n id (inr j) f = absurd j
 
-  abbrev outcome : Outcome
-  outcome = (happens o (world_at o r request.partition) (call_of a)).outcome
+  abbrev before : World Request
+  before = world_at o r request.partition
 
-  abbrev given : List (Executed Request)
-  given = filter (is_heard_by r request.id.conn) (released_by (world_at o r request.partition) (happens o (world_at o r request.partition) (call_of a)).world)
+  abbrev outcome : Outcome
+  outcome = (happens o before (call_of a)).outcome
+
+  -- what the call appends beside its refusal
+  abbrev given : List Appended
+  given = messages_by o r (Some request.id.conn) request.partition member before (happens o before (call_of a)).world
+
+  given_none : (n : Appended) → In n given → n.refuses ≡ None
+  given_none = messages_refuse_none o r request.partition (Some request.id.conn) member before (happens o before (call_of a)).world
 
   refused : RefusedOnce (r.appended ++ happening o r a)
   refused =
       with_its (happening o r a)
-      (with_quiet (refused_by r.lines request outcome) (map (answer_to r.lines) given) (λ m n id i j e f. one_refusal r.lines request outcome m n i j) (given_refuse_none r.lines given))
-      (λ n id j f. ⊎_elim (its n id f) (λ k. absurd (refuses_none n id (given_refuse_none r.lines given n k) f)) (in_cases n (refused_by r.lines request outcome) (map (answer_to r.lines) given) j))
+      (with_quiet (refused_by r.lines request outcome) given (λ m n id i j e f. one_refusal r.lines request outcome m n i j) given_none)
+      (λ n id j f. ⊎_elim (its n id f) (λ k. absurd (refuses_none n id (given_none n k) f)) (in_cases n (refused_by r.lines request outcome) given j))
     where
       its : (n : Appended) (id : CallId) → n.refuses ≡ Some id → In n (refused_by r.lines request outcome) → id ≡ request.id
       its n id f k = let whose : Some request.id ≡ Some id = sym (refusals_name_the_call r.lines request outcome n k) ∙ f in cc
@@ -117,13 +121,14 @@ refused_once {o} (line_counted r is) = refused_once is
 refused_once {o} (clock_was_set r member moment is) = refused_once is
 refused_once {o} (connection_opened r c member is free) = refused_once is
 refused_once {o} (bytes_taken r connection bytes is there) = refused_once is
+refused_once {o} (listener_was_registered r listener connection is there) = refused_once is
 refused_once {o} (answer_told r c bytes is) = with_quiet r.appended (own_answer r.lines c bytes ∷ []) (refused_once is) (own_refuses_none r.lines c bytes)
   where
     own_refuses_none : (line c : ℕ) (bytes : List ℕ) (m : Appended) → In m (own_answer line c bytes ∷ []) → m.refuses ≡ None
     own_refuses_none line c bytes m (inl s) = ap (λ (n : Appended). n.refuses) (sym s)
     own_refuses_none line c bytes m (inr i) = absurd i
 refused_once {o} (event_occurred r p event is quiet) =
-    with_quiet r.appended (given_out o r p event) (refused_once is) (given_refuse_none r.lines (filter (is_heard r) (released_by (world_at o r p) (happens o (world_at o r p) event).world)))
+    with_quiet r.appended (given_out o r p event) (refused_once is) (given_refuse_none o r p event (taker_of event))
 refused_once {o} (call_arrived r member request is next) = with_quiet r.appended [] (refused_once is) (λ m i. absurd i)
 refused_once {o} (run_given_up r is) = refused_once is
 refused_once {o} (call_asked skips r member request is next) = asked_once r is (refused_once is) member request next skips

@@ -16,7 +16,7 @@ pub struct Summary {
 }
 
 /// Appends a line of a word and a number.
-fn write_row(word: &[u8], number: u64, out: &mut Vec<u8>) -> Result<(), Memory>
+fn write_row(word: &[u8], number: u32, out: &mut Vec<u8>) -> Result<(), Memory>
     ensures { OnOk result (out.new.items ≡ out.old.items ++ row word.now number) }
 {
     out.extend_from_slice(word)?;
@@ -31,12 +31,12 @@ pub fn write_summary(summary: &Summary, out: &mut Vec<u8>) -> Result<(), Memory>
     ensures { OnOk result (out.new.items ≡ out.old.items ++ summary_text summary.now) }
 {
     let Summary { lines, counts } = *summary;
-    write_row(b"lines", u64::from(lines), out)?;
-    write_row(b"arrived", u64::from(counts.arrived), out)?;
-    write_row(b"answered", u64::from(counts.answered), out)?;
-    write_row(b"refused", u64::from(counts.refused), out)?;
-    write_row(b"memory", u64::from(counts.memory), out)?;
-    write_row(b"waiting", u64::from(counts.waiting), out)?;
+    write_row(b"lines", lines, out)?;
+    write_row(b"arrived", counts.arrived, out)?;
+    write_row(b"answered", counts.answered, out)?;
+    write_row(b"refused", counts.refused, out)?;
+    write_row(b"memory", counts.memory, out)?;
+    write_row(b"waiting", counts.waiting, out)?;
     write_row(b"entries", counts.entries, out)?;
-    write_row(b"lost", u64::from(counts.lost), out)
+    write_row(b"lost", counts.lost, out)
 }

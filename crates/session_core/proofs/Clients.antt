@@ -15,7 +15,7 @@ use Rattle.client_codecs.specs.declared.authentications.Authentication.{Authenti
 use Rattle.session_core.specs.Items.{kind_of, cluster_name, is_accepted, client_of, identity_by, identity_after, identity_after_all, authentication_item, error_to, item_of, items_from}
 use Rattle.session_core.specs.Laws.{Accepts, AcceptsNone, IsLastAccepted, IsOf, the_last_accepted_is_the_client, every_call_is_authenticated, nothing_else_is_served_before}
 use Rattle.session_core.proofs.ItemLists.{identity_after_all-append}
-use Rattle.session_core.proofs.CallsRead.{call_read}
+use Rattle.session_core.proofs.CallsRead.{asked_read}
 use Rattle.session_core.proofs.CallsAt.{call_at}
 
 same_kind : (a b : ℕ) → (a == b) ≡ true → a ≡ b
@@ -133,7 +133,7 @@ client_is_last conn messages client e = go (client_from conn None messages clien
 pub authenticated_call : every_call_is_authenticated
 authenticated_call conn member messages place request e =
     let at = call_at conn member messages place request e in
-    let read = call_read at.client at.message at.is.call at.is.read in
+    let read = asked_read at.client at.message at.is.call at.is.read in
     (at.client, client_is_last conn (take place messages) at.client at.known, subst (λ (r : Request). IsOf at.client r.call) at.is.request_is read.client_is)
 
 item_at : (conn member number : ℕ) (identity : Option ClientKey) (messages : List Message) (place : ℕ) (message : Message) → slice_get messages place ≡ Some message

@@ -1,4 +1,4 @@
--- What the messages of a connection give: answers of the session itself, and calls.
+-- What the messages of a connection give: answers of the session itself, calls, and registrations.
 use Rattle.std.specs.Prelude.{ℕ, ◌+◌, ◌==◌, Bool, if◌then◌else◌, ℤ, pos, List, [], ◌∷◌, Option, Some, None, Result, Ok, Err, unwrap_or, nat_eq, codes}
 use Rattle.std.specs.Cmp.Lexicographic.{pointwise}
 use Rattle.std.specs.Ordering.{int_eq}
@@ -20,11 +20,15 @@ use Rattle.message_frames.specs.declared.message.Message.{Message}
 use Rattle.client_codecs.specs.Authentications.{authentication_kind, ping_kind, authentication_of}
 use Rattle.client_codecs.specs.Replies.{authentication_reply}
 use Rattle.client_codecs.specs.declared.authentications.Authentication.{Authentication}
+use Rattle.event_codecs.specs.Registrations.{registration_of}
+use Rattle.event_codecs.specs.declared.registration.Registration.{Registration}
 use Rattle.map_codecs.specs.Calls.{map_call_of}
+use Rattle.map_codecs.specs.Waits.{map_wait_of}
 use Rattle.queue_codecs.specs.Calls.{queue_call_of}
+use Rattle.queue_codecs.specs.Waits.{queue_wait_of}
 use Rattle.session_core.specs.Places.{partition_of_call}
 use Rattle.session_core.specs.declared.item.Item.{Item}
-use Rattle.session_core.specs.declared.item.Item.TheVariants.{Call, Reply}
+use Rattle.session_core.specs.declared.item.Item.TheVariants.{Call, Wait, Register, Reply}
 
 -- The head of a message's first payload. Each message of a connection to a member has it whole.
 
@@ -105,11 +109,47 @@ call_item id message (Ok call) =
     Call (record { id = id; correlation = correlation_of message; kind = kind_of message; partition = partition; call = call })
     else error_to message wrong_partition (stated_partition message) (pos partition)
 
+-- The same of a call that may wait, with its timeout.
+abbrev pub either_wait : Result (MapCall × ℤ) CallRefused → Result (QueueCall × ℤ) CallRefused → Result (GridCall × ℤ) CallRefused
+either_wait (Ok wait) queue = Ok (Map wait.0, wait.1)
+either_wait (Err UnknownType) (Ok wait) = Ok (Queue wait.0, wait.1)
+either_wait (Err UnknownType) (Err why) = Err why
+either_wait (Err why) queue = Err why
+
+abbrev pub wait_of : ClientKey → Message → Result (GridCall × ℤ) CallRefused
+wait_of client message = either_wait (map_wait_of client message) (queue_wait_of message)
+
+-- a call, that may wait so long; what was refused stays refused
+abbrev pub waiting : ℤ → Item → Item
+waiting timeout (Call request) = Wait request timeout
+waiting timeout item = item
+
+-- A waiting call is refused as its plain call would be.
+abbrev pub wait_item : CallId → Message → Result (GridCall × ℤ) CallRefused → Item
+wait_item id message (Err why) = refused message why
+wait_item id message (Ok wait) = waiting wait.1 (call_item id message (Ok wait.0))
+
+abbrev pub registration_item : Message → Result Registration CallRefused → Item
+registration_item message (Err why) = refused message why
+registration_item message (Ok registration) = Register registration
+
+-- what is read, or where its types are others than the message's, something else
+abbrev pub unless_unknown : {A : Type 0} → Result A CallRefused → (Result A CallRefused → Item) → Item → Item
+unless_unknown (Err UnknownType) item other = other
+unless_unknown read item other = item read
+
+-- What isn't a call by its type may be one that waits, and what is neither a registration.
+abbrev pub wait_or_registration : CallId → ClientKey → Message → Item
+wait_or_registration id client message = unless_unknown (wait_of client message) (wait_item id message) (registration_item message (registration_of message))
+
+abbrev pub asked : CallId → ClientKey → Message → Item
+asked id client message = unless_unknown (call_of client message) (call_item id message) (wait_or_registration id client message)
+
 -- what a message of a known client gives that is no authentication
 abbrev pub served : CallId → ClientKey → Message → Item
 served id client message =
     if kind_of message == ping_kind then Reply (void_bytes ping_kind (correlation_of message))
-    else call_item id message (call_of client message)
+    else asked id client message
 
 -- An authentication is always looked at; before an accepted one nothing else is.
 abbrev pub item_of : ℕ → CallId → Option ClientKey → Message → Item

@@ -1,5 +1,5 @@
 -- What holds of the items of a connection.
-use Rattle.std.specs.Prelude.{◌≡◌, ◌≢◌, ℕ, ◌<◌, true, pos, List, ◌∷◌, ◌++◌, length, take, slice_get, All, Some, None, IfSome, Ok, ⊤}
+use Rattle.std.specs.Prelude.{◌≡◌, ◌≢◌, ℕ, ◌<◌, true, pos, List, ◌∷◌, ◌++◌, length, take, slice_get, All, Option, Some, None, option_and_then, IfSome, Ok, ⊤}
 use Rattle.grid_base.specs.Errors.{not_authenticated}
 use Rattle.grid_base.specs.Limits.{CallFits}
 use Rattle.grid_base.specs.declared.TheConstants.{PARTITIONS}
@@ -16,7 +16,7 @@ use Rattle.map_codecs.specs.SpelledCalls.{caller_of}
 use Rattle.session_core.specs.Items.{kind_of, stated_partition, cluster_name, client_of, identity_after_all, error_to, items_of}
 use Rattle.session_core.specs.Places.{BelongsTo}
 use Rattle.session_core.specs.declared.item.Item.{Item}
-use Rattle.session_core.specs.declared.item.Item.TheVariants.{Call}
+use Rattle.session_core.specs.declared.item.Item.TheVariants.{Call, Wait, Register, Reply}
 
 -- The items
 
@@ -62,9 +62,16 @@ the_last_accepted_is_the_client =
 
 -- The calls
 
+-- the call that an item is, at once or one that may wait
+abbrev pub request_in : Item → Option Request
+request_in (Call request) = Some request
+request_in (Wait request timeout) = Some request
+request_in (Register registration) = None
+request_in (Reply bytes) = None
+
 -- the item at this place, which the message at this place gives, is this call
 abbrev pub IsCallAt : ℕ → ℕ → List Message → ℕ → Request → Type 0
-IsCallAt conn member messages place request = slice_get (items_of conn member messages) place ≡ Some (Call request)
+IsCallAt conn member messages place request = option_and_then request_in (slice_get (items_of conn member messages) place) ≡ Some request
 
 -- A call that says who makes it is of this client.
 abbrev pub IsOf : ClientKey → GridCall → Type 0

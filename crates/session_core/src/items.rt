@@ -1,22 +1,24 @@
 ghost use Rattle.std.specs.Prelude.{◌≡◌, ◌+◌, ◌≤◌, ◌<◌, ◌^◌, length, IsErr, IfOk};
 ghost use Rattle.fixed_fields.specs.Responses.{error_bytes};
 ghost use Rattle.client_codecs.specs.Authentications.{authentication_of};
+ghost use Rattle.event_codecs.specs.Registrations.{registration_of};
 ghost use Rattle.fixed_fields.specs.Requests.{IsReadAs};
 ghost use Rattle.session_core.specs.Places.{partition_of_key, partition_of_call, SaysWhere};
-ghost use Rattle.session_core.specs.Items.{kind_of, correlation_of, stated_partition, is_accepted, client_of, identity_by, identity_after, identity_after_all, refused, authentication_item, call_of, call_item, served, item_of, items_from};
+ghost use Rattle.session_core.specs.Items.{kind_of, correlation_of, stated_partition, is_accepted, client_of, identity_by, identity_after, identity_after_all, refused, authentication_item, call_of, call_item, wait_of, waiting, registration_item, wait_or_registration, asked, served, item_of, items_from};
 
 use crate::item::Item;
 use client_codecs::{
     AUTHENTICATION_KIND, Authentication, PING_KIND, read_authentication, write_authentication,
     write_error, write_void,
 };
+use event_codecs::read_registration;
 use fixed_fields::{int32_at, int64_at};
 use grid_base::errors::{BAD_CALL, NOT_AUTHENTICATED, UNKNOWN_TYPE, WRONG_PARTITION};
 use grid_base::{CallId, CallRefused, ClientKey, GridCall, MemberId, Memory, PartitionId, Request};
-use map_codecs::read_map_call;
+use map_codecs::{read_map_call, read_map_wait};
 use message_frames::Message;
 use murmur_partition::{key_hash, partition_of};
-use queue_codecs::read_queue_call;
+use queue_codecs::{read_queue_call, read_queue_wait};
 use std::alloc::{AllocError, Global};
 
 /// The name of this grid's cluster.
@@ -171,21 +173,36 @@ fn read_call(alloc: Global, client: ClientKey, message: &Message) -> Result<Grid
     }
 }
 
-/// The call that a message of this type and client is, or the error that answers it.
+/// The call that a message of a client has wait, and its timeout.
+fn read_wait(
+    alloc: Global,
+    client: ClientKey,
+    message: &Message,
+) -> Result<(GridCall, i64), CallRefused>
+    ensures { IsReadAs result (wait_of client message.now) }
+{
+    match read_map_wait(alloc, message, client) {
+        Ok((call, timeout)) => Ok((GridCall::Map(call), timeout)),
+        Err(CallRefused::UnknownType) => {
+            let (call, timeout) = read_queue_wait(alloc, message)?;
+            Ok((GridCall::Queue(call), timeout))
+        }
+        Err(why) => Err(why),
+    }
+}
+
+/// The call of this type that was read of a message, or the error that answers one in another partition.
 fn call_item(
     alloc: Global,
     id: CallId,
-    client: ClientKey,
     kind: u32,
     message: &Message,
+    call: GridCall,
 ) -> Result<Item, Memory>
-    requires { kind ≡ kind_of message.now }
-    ensures { IfOk result (λ item. item ≡ call_item id message.now (call_of client message.now)) }
+    requires kind { kind ≡ kind_of message.now }
+    requires place { SaysWhere (stated_partition message.now) call }
+    ensures { IfOk result (λ item. item ≡ call_item id message.now (Ok call)) }
 {
-    let call = match read_call(alloc, client, message) {
-        Ok(call) => call,
-        Err(why) => return refused(alloc, message, why),
-    };
     let stated = stated_partition(message);
     let partition = partition_of_call(stated, &call);
     if stated != i32::from(partition) {
@@ -206,6 +223,65 @@ fn call_item(
     }))
 }
 
+/// A call, that may wait so long; what was refused stays refused.
+fn waiting(item: Item, timeout: i64) -> Item
+    ensures { result ≡ waiting timeout item }
+{
+    match item {
+        Item::Call(request) => Item::Wait { request, timeout },
+        item => item,
+    }
+}
+
+/// The registration that a message is, or the error that answers it.
+fn registration_item(alloc: Global, message: &Message) -> Result<Item, Memory>
+    ensures { IfOk result (λ item. item ≡ registration_item message.now (registration_of message.now)) }
+{
+    match read_registration(alloc, message) {
+        Ok(registration) => Ok(Item::Register(registration)),
+        Err(why) => refused(alloc, message, why),
+    }
+}
+
+/// What a message of this type and client gives that is no call by its type, unless one that waits.
+fn wait_or_registration(
+    alloc: Global,
+    id: CallId,
+    client: ClientKey,
+    kind: u32,
+    message: &Message,
+) -> Result<Item, Memory>
+    requires { kind ≡ kind_of message.now }
+    ensures { IfOk result (λ item. item ≡ wait_or_registration id client message.now) }
+{
+    match read_wait(alloc, client, message) {
+        Ok((call, timeout)) => {
+            let item = call_item(alloc, id, kind, message, call)?;
+            Ok(waiting(item, timeout))
+        }
+        Err(CallRefused::UnknownType) => registration_item(alloc, message),
+        Err(why) => refused(alloc, message, why),
+    }
+}
+
+/// What a message of this type and client gives that the session doesn't answer itself, unless by an error.
+fn asked(
+    alloc: Global,
+    id: CallId,
+    client: ClientKey,
+    kind: u32,
+    message: &Message,
+) -> Result<Item, Memory>
+    requires { kind ≡ kind_of message.now }
+    ensures { IfOk result (λ item. item ≡ asked id client message.now) }
+{
+    match read_call(alloc, client, message) {
+        Ok(call) => call_item(alloc, id, kind, message, call),
+        Err(CallRefused::UnknownType) => wait_or_registration(alloc, id, client, kind, message),
+        Err(why) => refused(alloc, message, why),
+    }
+}
+
 /// What a message of this type and client gives that is no authentication.
 fn served(
     alloc: Global,
@@ -221,7 +297,7 @@ fn served(
         let reply = write_void(alloc, PING_KIND, correlation_of(message))?;
         return Ok(Item::Reply(reply));
     }
-    call_item(alloc, id, client, kind, message)
+    asked(alloc, id, client, kind, message)
 }
 
 /// What the message of that id gives at a member, where the client is known or not.

@@ -55,6 +55,28 @@ const POLL_WITHOUT_NAME: &[u8] = b"\x16\0\0\0\0\xe0\0\x05\x03\0\x02\0\0\0\0\0\0\
 const UNKNOWN_TO_QUEUES: &[u8] =
     b"\x16\0\0\0\0\xc0\0\x02\x03\0\x02\0\0\0\0\0\0\0\0\0\0\0\x07\0\0\0\0\x20q";
 
+/// A put of a value that waits 5 milliseconds for the lock of a key, and one that states partition 6.
+const PUT_WAIT: &[u8] = b"\x2e\0\0\0\0\xc0\0\x81\x01\0\x02\0\0\0\0\0\0\0\x05\0\0\0\
+    \x01\0\0\0\0\0\0\0\0\0\0\0\0\0\0\0\x05\0\0\0\0\0\0\0\
+    \x07\0\0\0\0\0m\x0f\0\0\0\0\0\0\0\0\x05\xff\xff\xff\xf5k\x0f\0\0\0\0\x20\0\0\0\0\xff\xff\xff\xf5v";
+
+const PUT_WAIT_ELSEWHERE: &[u8] = b"\x2e\0\0\0\0\xc0\0\x81\x01\0\x02\0\0\0\0\0\0\0\x06\0\0\0\
+    \x01\0\0\0\0\0\0\0\0\0\0\0\0\0\0\0\x05\0\0\0\0\0\0\0\
+    \x07\0\0\0\0\0m\x0f\0\0\0\0\0\0\0\0\x05\xff\xff\xff\xf5k\x0f\0\0\0\0\x20\0\0\0\0\xff\xff\xff\xf5v";
+
+/// A poll that waits without an end, and one without its timeout.
+const POLL_WAIT: &[u8] = b"\x1e\0\0\0\0\xc0\0\x81\x03\0\x02\0\0\0\0\0\0\0\x0e\x01\0\0\
+    \xff\xff\xff\xff\xff\xff\xff\xff\x07\0\0\0\0\x20q";
+
+const POLL_WAIT_TIMELESS: &[u8] =
+    b"\x16\0\0\0\0\xc0\0\x81\x03\0\x02\0\0\0\0\0\0\0\x0e\x01\0\0\x07\0\0\0\0\x20q";
+
+/// A near cache of the map `m`, and one of no map.
+const NEAR: &[u8] =
+    b"\x16\0\0\0\0\xc0\0\x3f\x01\0\x06\0\0\0\0\0\0\0\xff\xff\xff\xff\x07\0\0\0\0\x20m";
+
+const NEAR_NOTHING: &[u8] = b"\x16\0\0\0\0\xe0\0\x3f\x01\0\x02\0\0\0\0\0\0\0\xff\xff\xff\xff";
+
 /// A ping, and a message of a type that no request has.
 const PING: &[u8] = b"\x16\0\0\0\0\xe0\0\x0b\0\0\x02\0\0\0\0\0\0\0\xff\xff\xff\xff";
 
@@ -109,6 +131,15 @@ fn tell(alloc: Global, items: &[Item], out: &mut Vec<u8>) -> Result<(), Memory> 
         match item {
             Item::Call(request) => {
                 let text = call_text(alloc, request)?;
+                out.extend_from_slice(text.as_bytes())?;
+            }
+            Item::Wait { request, timeout } => {
+                let text = call_text(alloc, request)?;
+                let wait = format!(in alloc; "wait {timeout} {}", text.as_str())?;
+                out.extend_from_slice(wait.as_bytes())?;
+            }
+            Item::Register(registration) => {
+                let text = format!(in alloc; "register {};", registration.correlation())?;
                 out.extend_from_slice(text.as_bytes())?;
             }
             Item::Reply(bytes) => {
@@ -232,6 +263,40 @@ fn refuses_calls_on_queues(rt: HostRuntime) -> Result<(), Fail> {
             b"call 3 5 0 2 poll;",
         ],
     )?;
+    assert_eq!(rt; told.as_slice(), wanted.as_slice());
+    Ok(())
+}
+
+#[test]
+fn has_calls_wait(rt: HostRuntime) -> Result<(), Fail> {
+    let told = told_of(
+        rt.alloc(),
+        &[
+            PREFIX,
+            AUTH,
+            PUT_WAIT,
+            POLL_WAIT,
+            PUT_WAIT_ELSEWHERE,
+            POLL_WAIT_TIMELESS,
+        ],
+    )?;
+    let wanted = joined(
+        rt.alloc(),
+        &[
+            ACCEPTED,
+            b"wait 5 call 3 1 5 2 Known(7);wait -1 call 3 2 270 2 poll;",
+            b"\x1f\0\0\0\0\xe0\0\0\0\0\x02\0\0\0\0\0\0\0\0\x05\0\0\0\x06\0\0\0\x05\0\0\0;",
+            BAD_CALL,
+        ],
+    )?;
+    assert_eq!(rt; told.as_slice(), wanted.as_slice());
+    Ok(())
+}
+
+#[test]
+fn gives_registrations(rt: HostRuntime) -> Result<(), Fail> {
+    let told = told_of(rt.alloc(), &[PREFIX, AUTH, NEAR, NEAR_NOTHING])?;
+    let wanted = joined(rt.alloc(), &[ACCEPTED, b"register 6;", BAD_CALL])?;
     assert_eq!(rt; told.as_slice(), wanted.as_slice());
     Ok(())
 }

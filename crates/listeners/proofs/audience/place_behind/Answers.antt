@@ -1,7 +1,7 @@
 use Rattle.std.proofs.Common.{nat_lt, sym, subst, ◌≤◌, length, refl, rules, tests, ◌∙◌}
 use Rattle.std.proofs.lemmas.Iterator.{YieldsList-from_slice}
 use Rattle.std.proofs.lemmas.Iterator.Search.{position_from_yields_List}
-use Rattle.listeners.specs.declared.registration.Listener.{Listener}
+use Rattle.listeners.specs.declared.listener.Listener.{Listener}
 use Rattle.listeners.proofs.Placing.{place-found, place-within}
 use Rattle.listeners.proofs.audience.place_behind.Goals as goal
 

@@ -1,8 +1,6 @@
-use Rattle.std.proofs.Common.{◌≡◌, ◌∙◌, ◌++◌, Err, ap, refl, sym, subst}
+use Rattle.std.proofs.Common.{Err, refl, subst}
 use Rattle.std.proofs.lemmas.Result.{on_ok_weaker}
-use Rattle.rebalance.specs.Plans.{Planned, NoMember, Unsettled, Gives}
-use Rattle.replay_run.specs.RebalancingTexts.{plan_text}
-use Rattle.replay_run.specs.WorldCalls.{HasNoSteps}
+use Rattle.rebalance.specs.Plans.{NoMember, Unsettled, Gives}
 use Rattle.replay_run.proofs.RebalanceLine.{refuses}
 use Rattle.replay_run.proofs.rebalancing.push_no_plan.Goals as goal
 

@@ -1,7 +1,8 @@
 use Rattle.std.proofs.Common.{◌≡◌, pos, rules}
 use Rattle.std.proofs.lemmas.Result.{on_ok_weaker}
 use Rattle.fixed_fields.specs.Responses.{single}
-use Rattle.request_codecs.specs.Openings.{registration_head, cluster_view_kind}
+use Rattle.event_codecs.specs.Registrations.{cluster_view_kind}
+use Rattle.request_codecs.specs.Openings.{registration_head}
 use Rattle.request_codecs.proofs.Writing.{one_written}
 use Rattle.request_codecs.proofs.opening.write_cluster_view.Goals as goal
 

@@ -3,7 +3,8 @@ use Rattle.std.specs.Option.{option_copied}
 use Rattle.std.proofs.lemmas.Result.{on_ok_weaker}
 use Rattle.frame_codec.specs.Laws.{spelled}
 use Rattle.fixed_fields.specs.Responses.{unfragmented, final}
-use Rattle.request_codecs.specs.Openings.{registration_head, invalidation_listener_kind, listener_frames}
+use Rattle.event_codecs.specs.Registrations.{invalidation_listener_kind}
+use Rattle.request_codecs.specs.Openings.{registration_head, listener_frames}
 use Rattle.request_codecs.proofs.Writing.{two_written}
 use Rattle.request_codecs.proofs.opening.write_listener.Goals as goal
 

@@ -1,27 +1,24 @@
-use Rattle.std.proofs.Common.{◌≡◌, rules, pos, ap, sym, ◌∙◌, subst}
+use Rattle.std.proofs.Common.{◌≡◌, rules, pos, Ok, refl, ap, sym, ◌∙◌, subst}
 use Rattle.std.specs.Int.{w32}
 use Rattle.std.specs.Int.RustNames.{FitsSigned}
 use Rattle.std.proofs.lemmas.Int.{to_z-of_z}
 use Rattle.grid_base.specs.Errors.{wrong_partition}
 use Rattle.fixed_fields.specs.Responses.{error_bytes}
-use Rattle.session_core.specs.Items.{correlation_of, stated_partition, call_of}
+use Rattle.session_core.specs.Items.{correlation_of, stated_partition}
 use Rattle.session_core.specs.Places.{partition_of_call, SaysWhere}
 use Rattle.session_core.specs.declared.item.Item.TheVariants.{Reply}
 use Rattle.session_core.proofs.CallItems.{different, ok_same, wrong_item}
-use Rattle.session_core.proofs.CallsRead.{call_read}
 use Rattle.session_core.proofs.items.call_item.Goals as goal
 
 pub partition_of_call-partition-requires : goal.partition_of_call-partition-requires
 partition_of_call-partition-requires c =
-    let call = c.in-Ok.call in
-    let read = call_read c.args.client c.args.message.now call c.in-Ok.ensures in
     let fits : FitsSigned w32 c.stated_partition-stated.result = search rules in
-    subst (λ stated. SaysWhere stated call) (sym (to_z-of_z w32 c.stated_partition-stated.result fits ∙ c.stated_partition-stated.ensures)) read.where_is
+    subst (λ stated. SaysWhere stated c.args.call) (sym (to_z-of_z w32 c.stated_partition-stated.result fits ∙ c.stated_partition-stated.ensures)) c.requires.place
 
 pub returns-then-stated-from : goal.returns-then-stated-from
 returns-then-stated-from c =
     let message = c.args.message.now in
-    let call = c.in-Ok.call in
+    let call = c.args.call in
     let stated = c.stated_partition-stated.ensures in
     let fits : FitsSigned w32 c.stated_partition-stated.result = search rules in
     let its = ap (λ z. partition_of_call z call) (to_z-of_z w32 c.stated_partition-stated.result fits ∙ stated) in
@@ -32,4 +29,4 @@ returns-then-stated-from c =
     ok_same c.error_to.result _ _
     (ap (λ z. Reply (error_bytes (correlation_of message) (pos wrong_partition) z c.from-then-stated-from.result)) stated
     ∙ ap (λ z. Reply (error_bytes (correlation_of message) (pos wrong_partition) (stated_partition message) z)) second
-    ∙ sym (wrong_item c.args.id message (call_of c.args.client message) call c.in-Ok.ensures apart)) (search rules)
+    ∙ sym (wrong_item c.args.id message (Ok call) call refl apart)) (search rules)

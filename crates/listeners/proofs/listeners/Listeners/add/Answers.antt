@@ -1,7 +1,7 @@
 use Rattle.std.proofs.Common.{◌≡◌, Some, None, ap, sym, ◌∙◌}
 use Rattle.std.specs.Option.{option_copied}
 use Rattle.std.proofs.lemmas.Result.{on_ok_weaker, on_err_weaker}
-use Rattle.listeners.specs.Registrations.{map_of}
+use Rattle.event_codecs.specs.SpelledRegistrations.{map_of}
 use Rattle.listeners.proofs.Keeping.{keep-added, keep-same, added_to_rows}
 use Rattle.listeners.proofs.listeners.Listeners.add.Goals as goal
 

@@ -2,7 +2,7 @@ use Rattle.std.proofs.Common.{◌≡◌, not, ap, ◌∙◌, [], List, unwrap_or
 use Rattle.partition_table.specs.Rows.{is_empty}
 use Rattle.listeners.specs.Tables.{kept_for}
 use Rattle.listeners.specs.Standing.{is_about}
-use Rattle.listeners.specs.declared.registration.Listener.{Listener}
+use Rattle.listeners.specs.declared.listener.Listener.{Listener}
 use Rattle.listeners.proofs.Keeping.{any-filter, emptiness}
 use Rattle.listeners.proofs.listeners.Listeners.is_heard.Goals as goal
 

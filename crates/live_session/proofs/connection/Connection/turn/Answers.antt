@@ -1,5 +1,10 @@
-use Rattle.std.proofs.Common.{rules, ◌≡◌, ◌∷◌, [], Some, None, refl, sym, ap, ◌∙◌}
+use Rattle.std.proofs.Common.{rules, to_z, of_z, ◌≡◌, ◌∷◌, [], Some, None, refl, sym, ap, ◌∙◌}
+use Rattle.std.specs.Int.{w64}
+use Rattle.std.specs.Int.RustNames.{FitsSigned}
+use Rattle.std.proofs.lemmas.Int.{to_z-of_z}
 use Rattle.session_core.specs.declared.item.Item.{Item}
+use Rattle.session_core.specs.declared.item.Item.TheVariants.{Register}
+use Rattle.live_session.specs.Replies.{unserved_in}
 use Rattle.live_session.proofs.Turning.{by_clock}
 use Rattle.live_session.proofs.Heard.{stands, was_closed}
 use Rattle.live_session.proofs.Choosing.{none_by, laid_out, laid_bare, since, at_moment}
@@ -66,6 +71,38 @@ returns-in-Some-Reply-clause-turned g c seen moments read written served =
     (record { from = record { bytes = g.F.ReadySource.left c.args.from.now; faults = g.F.ReadySource.faults c.args.from.now; unready = g.F.ReadySource.unready c.args.from.now }; to = record { bytes = g.K.ReadySink.taken c.args.to.now; faults = g.K.ReadySink.faults c.args.to.now; unready = g.K.ReadySink.unready c.args.to.now } })
     (record { from = record { bytes = g.F.ReadySource.left c.args.from.now; faults = g.F.ReadySource.faults c.args.from.now; unready = g.F.ReadySource.unready c.args.from.now }; to = record { bytes = g.K.ReadySink.taken c.reply.new.to; faults = g.K.ReadySink.faults c.reply.new.to; unready = g.K.ReadySink.unready c.reply.new.to } })
     (c.reply.ensures.turned c.args.place.now (record { bytes = g.F.ReadySource.left c.args.from.now; faults = g.F.ReadySource.faults c.args.from.now; unready = g.F.ReadySource.unready c.args.from.now }) seen moments read written
+    (laid_out g.T.Stands.key_of g.T.Served.tells g.T.Served.call_of c.args.place.now moments c.args.self.now (record c.args.self.now { items = c.pop_front.new.self; asked = c.take.new.self }) seen read written None _ (sym c.take.ensures.value ∙ none_by c.take.result c.in_default.not-Some) next served)))
+
+pub returns-in-Some-Wait-clause-turned : goal.returns-in-Some-Wait-clause-turned
+returns-in-Some-Wait-clause-turned g c seen moments read written served =
+    let fits : FitsSigned w64 c.in-Some-Wait.request.correlation = search rules in
+    let item : Item = c.in-Some-Wait.field-0 in
+    let its : unserved_in item ≡ Some (to_z w64 (of_z w64 c.in-Some-Wait.request.correlation)) = ap unserved_in c.in-Some-Wait.field-0-is ∙ ap Some (sym (to_z-of_z w64 c.in-Some-Wait.request.correlation fits)) in
+    let next = c.in-Some-Wait.ensures.items in
+    since g.T.Stands.key_of g.T.Served.tells g.T.Served.call_of c.args.place.now c.refuse.new.self
+    (record { from = record { bytes = g.F.ReadySource.left c.args.from.now; faults = g.F.ReadySource.faults c.args.from.now; unready = g.F.ReadySource.unready c.args.from.now }; to = record { bytes = g.K.ReadySink.taken c.args.to.now; faults = g.K.ReadySink.faults c.args.to.now; unready = g.K.ReadySink.unready c.args.to.now } })
+    (record { from = record { bytes = g.F.ReadySource.left c.args.from.now; faults = g.F.ReadySource.faults c.args.from.now; unready = g.F.ReadySource.unready c.args.from.now }; to = record { bytes = g.K.ReadySink.taken c.refuse.new.to; faults = g.K.ReadySink.faults c.refuse.new.to; unready = g.K.ReadySink.unready c.refuse.new.to } })
+    seen moments read written c.refuse.result (λ now. g.C.Clock.gives c.args.clock.now now) None c.args.self.now.asked (sym c.take.ensures.value ∙ none_by c.take.result c.in_default.not-Some)
+    (by_clock g.T.Stands.key_of g.T.Served.tells g.T.Served.call_of c.args.place.now None c.refuse.new.self seen moments read written c.refuse.result (λ now. g.C.Clock.gives c.args.clock.now now)
+    (record { from = record { bytes = g.F.ReadySource.left c.args.from.now; faults = g.F.ReadySource.faults c.args.from.now; unready = g.F.ReadySource.unready c.args.from.now }; to = record { bytes = g.K.ReadySink.taken c.args.to.now; faults = g.K.ReadySink.faults c.args.to.now; unready = g.K.ReadySink.unready c.args.to.now } })
+    (record { from = record { bytes = g.F.ReadySource.left c.args.from.now; faults = g.F.ReadySource.faults c.args.from.now; unready = g.F.ReadySource.unready c.args.from.now }; to = record { bytes = g.K.ReadySink.taken c.refuse.new.to; faults = g.K.ReadySink.faults c.refuse.new.to; unready = g.K.ReadySink.unready c.refuse.new.to } })
+    (c.refuse.ensures.turned c.args.place.now item (record { bytes = g.F.ReadySource.left c.args.from.now; faults = g.F.ReadySource.faults c.args.from.now; unready = g.F.ReadySource.unready c.args.from.now }) seen moments read written its
+    (laid_out g.T.Stands.key_of g.T.Served.tells g.T.Served.call_of c.args.place.now moments c.args.self.now (record c.args.self.now { items = c.pop_front.new.self; asked = c.take.new.self }) seen read written None _ (sym c.take.ensures.value ∙ none_by c.take.result c.in_default.not-Some) next served)))
+
+pub returns-in-Some-Register-clause-turned : goal.returns-in-Some-Register-clause-turned
+returns-in-Some-Register-clause-turned g c seen moments read written served =
+    let fits : FitsSigned w64 c.correlation-correlation.result = search rules in
+    let item : Item = Register c.in-Some-Register.registration in
+    let its : unserved_in item ≡ Some (to_z w64 (of_z w64 c.correlation-correlation.result)) = ap Some (sym (to_z-of_z w64 c.correlation-correlation.result fits ∙ c.correlation-correlation.ensures)) in
+    let next = c.in-Some-Register.ensures.items ∙ ap (λ (x : Item). x ∷ c.pop_front.new.self.items) c.in-Some-Register.field-0-is in
+    since g.T.Stands.key_of g.T.Served.tells g.T.Served.call_of c.args.place.now c.refuse-in-Some-Register.new.self
+    (record { from = record { bytes = g.F.ReadySource.left c.args.from.now; faults = g.F.ReadySource.faults c.args.from.now; unready = g.F.ReadySource.unready c.args.from.now }; to = record { bytes = g.K.ReadySink.taken c.args.to.now; faults = g.K.ReadySink.faults c.args.to.now; unready = g.K.ReadySink.unready c.args.to.now } })
+    (record { from = record { bytes = g.F.ReadySource.left c.args.from.now; faults = g.F.ReadySource.faults c.args.from.now; unready = g.F.ReadySource.unready c.args.from.now }; to = record { bytes = g.K.ReadySink.taken c.refuse-in-Some-Register.new.to; faults = g.K.ReadySink.faults c.refuse-in-Some-Register.new.to; unready = g.K.ReadySink.unready c.refuse-in-Some-Register.new.to } })
+    seen moments read written c.refuse-in-Some-Register.result (λ now. g.C.Clock.gives c.args.clock.now now) None c.args.self.now.asked (sym c.take.ensures.value ∙ none_by c.take.result c.in_default.not-Some)
+    (by_clock g.T.Stands.key_of g.T.Served.tells g.T.Served.call_of c.args.place.now None c.refuse-in-Some-Register.new.self seen moments read written c.refuse-in-Some-Register.result (λ now. g.C.Clock.gives c.args.clock.now now)
+    (record { from = record { bytes = g.F.ReadySource.left c.args.from.now; faults = g.F.ReadySource.faults c.args.from.now; unready = g.F.ReadySource.unready c.args.from.now }; to = record { bytes = g.K.ReadySink.taken c.args.to.now; faults = g.K.ReadySink.faults c.args.to.now; unready = g.K.ReadySink.unready c.args.to.now } })
+    (record { from = record { bytes = g.F.ReadySource.left c.args.from.now; faults = g.F.ReadySource.faults c.args.from.now; unready = g.F.ReadySource.unready c.args.from.now }; to = record { bytes = g.K.ReadySink.taken c.refuse-in-Some-Register.new.to; faults = g.K.ReadySink.faults c.refuse-in-Some-Register.new.to; unready = g.K.ReadySink.unready c.refuse-in-Some-Register.new.to } })
+    (c.refuse-in-Some-Register.ensures.turned c.args.place.now item (record { bytes = g.F.ReadySource.left c.args.from.now; faults = g.F.ReadySource.faults c.args.from.now; unready = g.F.ReadySource.unready c.args.from.now }) seen moments read written its
     (laid_out g.T.Stands.key_of g.T.Served.tells g.T.Served.call_of c.args.place.now moments c.args.self.now (record c.args.self.now { items = c.pop_front.new.self; asked = c.take.new.self }) seen read written None _ (sym c.take.ensures.value ∙ none_by c.take.result c.in_default.not-Some) next served)))
 
 pub returns-in-Some-closed-clause-turned : goal.returns-in-Some-closed-clause-turned

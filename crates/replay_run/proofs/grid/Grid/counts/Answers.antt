@@ -1,14 +1,14 @@
-use Rattle.std.proofs.Common.{◌≡◌, ◌+◌, ◌<◌, ◌^◌, ◌∙◌, List, length, ap, sym, subst, arith}
+use Rattle.std.proofs.Common.{◌≡◌, ◌<◌, ◌^◌, ◌∙◌, sym, subst, arith}
 use Rattle.std.specs.List.{sum_by}
 use Rattle.std.specs.Prelude.{count_by}
 use Rattle.std.proofs.lemmas.List.Sums.{count_by-le-length}
 use Rattle.partition_protocol.specs.Service.{numbers_below}
 use Rattle.call_engine.specs.Objects.{partition_object}
-use Rattle.replay_run.specs.Runs.{Run, Reopened, partitions}
-use Rattle.replay_run.specs.Counts.{is_answered, is_refused, is_out_of_memory, is_waiting}
+use Rattle.replay_run.specs.Runs.{partitions}
+use Rattle.replay_run.specs.Counts.{is_answered, is_waiting}
 use Rattle.replay_run.proofs.AnswerMarks.{answers_marked}
 use Rattle.replay_run.proofs.CallKinds.{kinds_of_all}
-use Rattle.replay_run.proofs.EntryCounts.{entries_at, all_entries_few, length-all_entries, below_wide, wide_below}
+use Rattle.replay_run.proofs.EntryCounts.{entries_at, length-all_entries, entries_fit, field_below}
 use Rattle.replay_run.proofs.RunFacts.{RunOk}
 use Rattle.replay_run.proofs.RunsOfLines.{run_ok}
 use Rattle.replay_run.proofs.grid.Grid.counts.Goals as goal
@@ -25,12 +25,9 @@ returns g c = λ settings r s.
     let all = kinds_of_all (partition_object settings) r ok in
     let waiting : c.saturating_sub-3.result ≡ count_by (is_waiting r) r.arrivals =
     omega (arith, c.saturating_sub.ensures, c.saturating_sub-2.ensures, c.saturating_sub-3.ensures, answered, all, tally.arrived, tally.refused, tally.memory) in
-    let calls : length r.arrivals < 2 ^ 32 = omega (arith, tally.arrived) in
-    let reopened = ap (λ (xs : List Reopened). length xs) s.holds.reopened in
-    let resets : length r.reopened < 2 ^ 63 = omega (arith, reopened, grid.reopened.ok.0, grid.reopened.ok.1, grid.reopened.small) in
-    let small = below_wide (sum_by (entries_at (partition_object settings) r) (numbers_below partitions)) (length r.arrivals) (length r.reopened) (all_entries_few (partition_object settings) r ok partitions) calls resets in
-    let told : c.entries.result ≡ sum_by (entries_at (partition_object settings) r) (numbers_below partitions) = c.entries.ensures settings r s (wide_below (sum_by (entries_at (partition_object settings) r) (numbers_below partitions)) small) in
-    let entries = c.as_wide_field.ensures (subst (λ n. n < 2 ^ 64) (sym told) small) ∙ told ∙ sym (length-all_entries (partition_object settings) r) in
+    let small = entries_fit (partition_object settings) r s.run s.small s.bounded in
+    let told : c.entries.result ≡ sum_by (entries_at (partition_object settings) r) (numbers_below partitions) = c.entries.ensures settings r s (field_below (sum_by (entries_at (partition_object settings) r) (numbers_below partitions)) small) in
+    let entries = c.as_field.ensures (subst (λ n. n < 2 ^ 32) (sym told) small) ∙ told ∙ sym (length-all_entries (partition_object settings) r) in
     let lost = c.lost.ensures settings r s in
     λ i. record {
       arrived = tally.arrived i;

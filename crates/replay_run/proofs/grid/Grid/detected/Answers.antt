@@ -1,4 +1,4 @@
-use Rattle.std.proofs.Common.{◌≡◌, ◌∙◌, ◌++◌, ◌∷◌, [], ℕ, filter, Vec, Global, ap, sym, add-one}
+use Rattle.std.proofs.Common.{◌∙◌, ◌++◌, ◌∷◌, [], ℕ, filter, Vec, Global, ap, sym, add-one}
 use Rattle.partition_protocol.specs.Service.{numbers_below}
 use Rattle.partition_protocol.proofs.Histories.{filter_keeps, filter_out}
 use Rattle.call_engine.specs.Objects.{partition_object}

@@ -39,7 +39,7 @@ returns g c = λ settings r s.
     let grid = c.args.self.now in
     let low : p < partitions = omega (arith, c.requires.read.0) in
     let at_line = next_number grid number (Dump p member) c.requires r s in
-    let stands = counted_stands grid r number s at_line in
+    let stands = counted_stands grid r number s at_line c.requires.within in
     let world = c.index.result.now in
     let is = world_is (counted grid number) (next_line r) stands.holds p c.from.result low c.from.ensures world c.index.ensures in
     let events = events_at p r.events in
@@ -52,7 +52,7 @@ returns g c = λ settings r s.
     let outcome = dump_text (r.lines + 1) (pair_at (world_at o (next_line r) p) member) in
     let dumped = dumped_text (r.lines + 1) (contents_at o (world_at o (next_line r) p) member) in
     on_ok_weaker c.push_dumped.result
-    (λ e. counted_line grid (counted grid number) r number (Dump p member) s at_line refl refl c.args.out.now.items c.push_dumped.new.out.items refl refl refl
+    (λ e. counted_line grid (counted grid number) r number (Dump p member) s at_line c.requires.within refl refl c.args.out.now.items c.push_dumped.new.out.items refl refl refl
     (both_texts c.args.out.now.items outcome dumped c.push_dump.new.out.items c.push_dumped.new.out.items
     (c.in_ok-push_dump.ensures ∙ (λ i. c.args.out.now.items ++ dump_text (at_line i) (pair i)))
     (e ∙ (λ i. c.push_dump.new.out.items ++ dumped_text (at_line i) (shown i)))

@@ -12,14 +12,14 @@ pub push_histories-requires : goal.push_histories-requires
 push_histories-requires g c =
     let r = c.requires.run in
     let at_line = next_number c.args.self.now c.args.number End c.requires r c.requires.stands in
-    (c.requires.settings, next_line r, stands_as c.count.ensures.grid (counted_stands c.args.self.now r c.args.number c.requires.stands at_line))
+    (c.requires.settings, next_line r, stands_as c.count.ensures.grid (counted_stands c.args.self.now r c.args.number c.requires.stands at_line c.requires.within))
 
 pub returns : goal.returns
 returns g c = λ settings r s.
     let at_line = next_number c.args.self.now c.args.number End c.requires r s in
-    let stands = stands_as c.count.ensures.grid (counted_stands c.args.self.now r c.args.number s at_line) in
+    let stands = stands_as c.count.ensures.grid (counted_stands c.args.self.now r c.args.number s at_line c.requires.within) in
     on_ok_weaker c.push_histories.result
-    (λ e. counted_line c.args.self.now c.count.new.self r c.args.number End s at_line refl c.count.ensures.grid c.args.out.now.items c.push_histories.new.out.items refl refl refl
+    (λ e. counted_line c.args.self.now c.count.new.self r c.args.number End s at_line c.requires.within refl c.count.ensures.grid c.args.out.now.items c.push_histories.new.out.items refl refl refl
     (both_texts c.args.out.now.items (ok_text (r.lines + 1) ++ [] ++ []) (flat_map (entry_text (next_line r).lines) (all_entries (partition_object settings) (next_line r))) c.count.new.out.items c.push_histories.new.out.items
     (c.in_ok-count.ensures.text ∙ ap (λ n. c.args.out.now.items ++ ok_text n) at_line ∙ ap (λ xs. c.args.out.now.items ++ xs) (sym (append-nil (ok_text (r.lines + 1) ++ []) ∙ append-nil (ok_text (r.lines + 1))))) e))
     (c.push_histories.ensures settings (next_line r) stands)

@@ -1,4 +1,4 @@
-use Rattle.std.proofs.Common.{◌≡◌, ℕ, ◌+◌, ◌<◌, ◌^◌, ◌∙◌, length, get_or, Some, ap, sym, subst, arith}
+use Rattle.std.proofs.Common.{◌≡◌, ◌+◌, ◌<◌, ◌^◌, ◌∙◌, length, get_or, ap, sym, subst, arith}
 use Rattle.std.specs.List.{sum_by}
 use Rattle.partition_protocol.specs.Service.{numbers_below}
 use Rattle.partition_protocol.specs.World.{trail}

@@ -38,7 +38,7 @@ returns-clause-ok g c = λ settings r s.
     let at_line = next_number grid number (Flow p most) c.requires r s in
     let did = c.in_ok-deliveries.ensures.ok settings (next_line r) (counted_amid grid r number s at_line) in
     let kept = flowed_kept o (next_line r) p most in
-    events_line grid c.deliver_first.new.self r next (Flow p most) s refl kept (flow_few o r s.few p most c.requires.read.2) (flow_prints settings r next p most)
+    events_line grid c.deliver_first.new.self r next (Flow p most) s (few_lines grid number (Flow p most) c.requires r s) refl kept (flow_few o r s.few p most c.requires.read.2) (flow_prints settings r next p most)
     c.new-messages.result.items c.deliver_first.new.out.items did.on
     (flow_text number c.in_ok-deliveries.deliveries) c.args.out.now.items c.push_flow.new.out.items c.push_text.new.out.items
     c.new-messages.ensures.items

@@ -38,7 +38,7 @@ returns-clause-ok g c = λ settings r s.
     let at_line = next_number grid number (FlowAll most) c.requires r s in
     let did = c.in_ok-deliveries.ensures.ok settings (next_line r) (counted_amid grid r number s at_line) in
     let kept = flowed_in_kept o (next_line r) most (numbers_below partitions) in
-    events_line grid c.deliver_in_all.new.self r next (FlowAll most) s refl kept (flow_all_few o r s.few most c.requires.read.1) (flow_all_prints settings r next most)
+    events_line grid c.deliver_in_all.new.self r next (FlowAll most) s (few_lines grid number (FlowAll most) c.requires r s) refl kept (flow_all_few o r s.few most c.requires.read.1) (flow_all_prints settings r next most)
     c.new-messages.result.items c.deliver_in_all.new.out.items did.on
     (flow_text number c.in_ok-deliveries.deliveries) c.args.out.now.items c.push_flow.new.out.items c.push_text.new.out.items
     c.new-messages.ensures.items

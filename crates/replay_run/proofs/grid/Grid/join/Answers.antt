@@ -1,4 +1,4 @@
-use Rattle.std.proofs.Common.{◌∙◌, Err, ap, arith}
+use Rattle.std.proofs.Common.{Err, ap, arith}
 use Rattle.partition_protocol.specs.Events.{BeginJoin}
 use Rattle.call_engine.specs.Objects.{partition_object}
 use Rattle.replay_run.specs.Runs.{takes, flowed}

@@ -1,6 +1,5 @@
-use Rattle.std.proofs.Common.{◌≡◌, ℕ, ◌+◌, ◌<◌, ◌∙◌, Bool, cond, true, false, length, get_or, Some, ap, sym, arith, add-zero}
+use Rattle.std.proofs.Common.{◌≡◌, ℕ, ◌+◌, ◌<◌, ◌∙◌, cond, true, false, length, get_or, ap, sym, arith, add-zero}
 use Rattle.std.specs.Prelude.{count_by}
-use Rattle.std.proofs.lemmas.Option.{slice_get_within}
 use Rattle.partition_table.specs.declared.Row.{Row}
 use Rattle.partition_protocol.specs.Service.{numbers_below}
 use Rattle.call_engine.specs.Objects.{partition_object}

@@ -27,7 +27,7 @@ returns-then-is_some g c = λ settings r s.
           can_once (partition_object settings) grid.connections r s.holds.table conn member closed ∙ sym (w.is_live.ensures settings r s) ∙ w.if-not-is_live.true)
     ] in
     on_ok_weaker c.pass.result
-    (λ e. unopened grid c.pass.new.self r c.args.number conn member c.args.out.now.items c.pass.new.out.items s at_line cannot c.pass.ensures.grid e)
+    (λ e. unopened grid c.pass.new.self r c.args.number conn member c.args.out.now.items c.pass.new.out.items s at_line c.requires.within cannot c.pass.ensures.grid e)
     c.pass.ensures.text
 
 pub returns : goal.returns
@@ -42,6 +42,6 @@ returns g c = λ settings r s.
     let can : can_open (partition_object settings) r conn member ≡ true =
     can_once (partition_object settings) grid.connections r s.holds.table conn member closed ∙ sym (c.is_live.ensures settings r s) ∙ c.if-not-is_live.false in
     on_ok_weaker c.count.result
-    (λ e. opened_line grid c.count.new.self r c.args.number conn member c.args.out.now.items c.count.new.out.items s at_line within there closed can
+    (λ e. opened_line grid c.count.new.self r c.args.number conn member c.args.out.now.items c.count.new.out.items s at_line c.requires.within within there closed can
     (c.count.ensures.grid ∙ ap (λ (t : Table). with_table grid c.args.number t) c.open.ensures) e)
     c.count.ensures.text

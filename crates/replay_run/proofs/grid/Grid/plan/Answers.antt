@@ -1,9 +1,9 @@
-use Rattle.std.proofs.Common.{◌≡◌, ◌∙◌, ◌≤◌, ◌^◌, length, ap, sym, subst, arith}
+use Rattle.std.proofs.Common.{◌∙◌, length, ap, sym, subst, arith}
 use Rattle.rebalance.specs.Rows.{primaries}
 use Rattle.rebalance.specs.Members.{AreUndetected}
 use Rattle.rebalance.specs.Plans.{Gives, plan_of}
 use Rattle.call_engine.specs.Objects.{partition_object}
-use Rattle.replay_run.specs.Rebalancing.{rows_in, marks_in, detected_in}
+use Rattle.replay_run.specs.Rebalancing.{rows_in, detected_in}
 use Rattle.replay_run.proofs.Planning.{all_rows, all_marks, primaries_undetected}
 use Rattle.replay_run.proofs.grid.Grid.plan.Goals as goal
 

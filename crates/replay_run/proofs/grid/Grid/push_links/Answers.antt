@@ -30,7 +30,7 @@ returns g c = λ settings r s.
     let grid = c.args.self.now in
     let low : p < partitions = omega (arith, c.requires.read) in
     let at_line = next_number grid number (Links p) c.requires r s in
-    let stands = counted_stands grid r number s at_line in
+    let stands = counted_stands grid r number s at_line c.requires.within in
     let world = c.index-world.result.now in
     let is = world_is (counted grid number) (next_line r) stands.holds p c.from.result low c.from.ensures world c.index-world.ensures in
     let events = events_at p r.events in
@@ -43,7 +43,7 @@ returns g c = λ settings r s.
     let shown = flat_map (link_text settings (r.lines + 1) (next_line r) p) (links_of r.members) in
     let texts = λ (x : Settings) (n : ℕ). flat_map (λ (l : Link). link_text_from n l 0 (link_of x (run_of (grid_meaning x) world events) l)) links in
     on_ok_weaker c.push_in_flight.result
-    (λ e. counted_line grid (counted grid number) r number (Links p) s at_line refl refl c.args.out.now.items c.push_in_flight.new.out.items refl refl refl
+    (λ e. counted_line grid (counted grid number) r number (Links p) s at_line c.requires.within refl refl c.args.out.now.items c.push_in_flight.new.out.items refl refl refl
     (both_texts c.args.out.now.items outcome shown c.push_links.new.out.items c.push_in_flight.new.out.items
     (c.in_ok-push_links.ensures ∙ (λ i. c.args.out.now.items ++ links_text (at_line i) (messages i)))
     (e ∙ ap (λ xs. c.push_links.new.out.items ++ xs) (ap (texts settings) at_line ∙ links_shown world (next_line r) p is links all (r.lines + 1)))

@@ -46,7 +46,7 @@ returns-in_ok-push_plan-in-Ok-clause-ok g c = λ settings r s.
     on_ok_weaker c.run_steps.result
     (λ ran.
     let did = stepped_as steps ran in
-    planned_line grid c.run_steps.new.self r most s (Balanced plan) planned did.amid number start c.run_steps.new.out.items at_line
+    planned_line grid c.run_steps.new.self r most s (Balanced plan) planned did.amid number start c.run_steps.new.out.items at_line (few_lines grid number (Rebalance most) c.requires r s)
     (did.added ∙ ap (λ xs. xs ++ ran_texts o (next_line r) (take most plan.steps)) printed))
     (c.run_steps.ensures.ok settings (next_line r) amid)
 
@@ -70,4 +70,4 @@ returns-in_ok-push_no_plan-in-Err-clause-ok g c = λ settings r s.
     let amid = counted_amid grid r number s at_line in
     let planned = plan_in o (next_line r) in
     let none = c.in_ok-push_no_plan-in-Err.ensures planned (subst (λ x. Gives x planned) c.in-Err.is (c.plan.ensures settings (next_line r) amid)) in
-    refused_line grid r c.args.most s planned refl (none.0 c.args.most) amid number c.args.out.now.items c.push_no_plan.new.out.items at_line none.1
+    refused_line grid r c.args.most s planned refl (none.0 c.args.most) amid number c.args.out.now.items c.push_no_plan.new.out.items at_line (few_lines grid number (Rebalance c.args.most) c.requires r s) none.1

@@ -1,4 +1,4 @@
-use Rattle.std.proofs.Common.{◌∙◌, Err, Some, ap, sym, arith}
+use Rattle.std.proofs.Common.{◌∙◌, Err, ap, sym, arith}
 use Rattle.partition_table.specs.Rows.{first_of}
 use Rattle.partition_protocol.specs.Events.{Resend}
 use Rattle.call_engine.specs.Objects.{partition_object}

@@ -1,5 +1,4 @@
-use Rattle.std.proofs.Common.{◌≡◌, ◌∙◌, ◌++◌, ◌∷◌, [], List, map, ap, sym, arith}
-use Rattle.partition_table.specs.declared.Row.{Row}
+use Rattle.std.proofs.Common.{◌≡◌, ◌∙◌, ◌++◌, ◌∷◌, [], map, ap, sym, arith}
 use Rattle.partition_protocol.specs.Service.{numbers_below}
 use Rattle.call_engine.specs.Objects.{partition_object}
 use Rattle.call_engine.specs.Env.{settings_of}

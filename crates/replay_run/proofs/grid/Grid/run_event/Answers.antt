@@ -49,7 +49,7 @@ returns-clause-ok g c = λ settings r line s is.
     let at_line = next_number grid number c.requires.0 c.requires.1 r s in
     let taken = c.in_ok-happened.ensures.ok settings (next_line r) (counted_amid grid r number s at_line) in
     let here = takes_here o (next_line r) p event taken.goes in
-    events_line grid c.take.new.self r next line s (its.after ∙ here) (occurred_kept o (next_line r) p event) (subst AreFew here (event_line_few o r s.few (Some e))) (its.prints next)
+    events_line grid c.take.new.self r next line s (few_lines grid number c.requires.0 c.requires.1 r s) (its.after ∙ here) (occurred_kept o (next_line r) p event) (subst AreFew here (event_line_few o r s.few (Some e))) (its.prints next)
     c.new-messages.result.items c.take.new.out.items taken.on
     (words_line number (words_of c.done_word-done.result.now (happened_of c.in_ok-happened.happened))) c.args.out.now.items c.push_happened.new.out.items c.push_text.new.out.items
     c.new-messages.ensures.items

@@ -39,7 +39,7 @@ returns-clause-ok g c = λ settings r s.
     let at_line = next_number grid number line c.requires r s in
     let did = c.in_ok-first.ensures.ok settings (next_line r) (counted_amid grid r number s at_line) in
     let kept = takes_in_kept o (next_line r) event (numbers_below partitions) in
-    events_line grid c.take_in_all.new.self r next line s its.after kept (in_all_few o r s.few event) (its.prints next)
+    events_line grid c.take_in_all.new.self r next line s (few_lines grid number line c.requires r s) its.after kept (in_all_few o r s.few event) (its.prints next)
     c.new-messages.result.items c.take_in_all.new.out.items did.on
     (words_line number (fate_words (happened_of c.in_ok-first.first))) c.args.out.now.items c.push_fate.new.out.items c.push_text.new.out.items
     c.new-messages.ensures.items

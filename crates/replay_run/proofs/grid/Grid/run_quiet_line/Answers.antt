@@ -11,7 +11,7 @@ returns-in-Comment g c = λ settings r s.
     let at_line = next_number c.args.self.now c.args.number c.args.line.now c.requires.may r s in
     on_ok_weaker c.count.result
     (λ e. has_run_as c.in-Comment.is
-    (counted_line c.args.self.now c.count.new.self r c.args.number Comment s at_line refl c.count.ensures.grid c.args.out.now.items c.count.new.out.items refl refl refl
+    (counted_line c.args.self.now c.count.new.self r c.args.number Comment s at_line c.requires.may.within refl c.count.ensures.grid c.args.out.now.items c.count.new.out.items refl refl refl
     (e ∙ ap (λ n. c.args.out.now.items ++ ok_text n) at_line ∙ ap (λ xs. c.args.out.now.items ++ xs) (sym (append-nil (ok_text (r.lines + 1) ++ [] ++ []) ∙ append-nil (ok_text (r.lines + 1) ++ []) ∙ append-nil (ok_text (r.lines + 1)))))))
     c.count.ensures.text
 
@@ -55,5 +55,5 @@ returns-in_default g c = λ settings r s.
     let at_line = next_number c.args.self.now c.args.number line c.requires.may r s in
     let begins = begins_again settings r line c.requires.quiet c.in_default.not-OpenConn c.in_default.not-Clock c.in_default.not-Dump c.in_default.not-Links c.in_default.not-Trail c.in_default.not-Comment c.in_default.not-End in
     on_ok_weaker c.pass.result
-    (λ e. passed_line c.args.self.now c.pass.new.self r c.args.number line s at_line begins.after c.pass.ensures.grid c.args.out.now.items c.pass.new.out.items begins.nothing e)
+    (λ e. passed_line c.args.self.now c.pass.new.self r c.args.number line s at_line c.requires.may.within begins.after c.pass.ensures.grid c.args.out.now.items c.pass.new.out.items begins.nothing e)
     c.pass.ensures.text

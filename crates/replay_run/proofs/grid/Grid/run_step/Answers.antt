@@ -2,7 +2,7 @@ use Rattle.std.proofs.Common.{◌∙◌, Err, ap, sym, arith}
 use Rattle.std.proofs.lemmas.Result.{on_ok_weaker}
 use Rattle.partition_protocol.specs.Arrivals.{asked_by}
 use Rattle.call_engine.specs.Objects.{partition_object}
-use Rattle.replay_run.specs.Runs.{Run, meets_full, takes, world_at}
+use Rattle.replay_run.specs.Runs.{meets_full, takes, world_at}
 use Rattle.replay_run.specs.Rebalancing.{event_begun, turned_on, rejoined}
 use Rattle.replay_run.specs.declared.run_end.RunEnd.TheVariants.{InFlight}
 use Rattle.replay_run.proofs.Asking.{handed_on}

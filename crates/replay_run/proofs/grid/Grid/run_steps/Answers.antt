@@ -1,4 +1,4 @@
-use Rattle.std.proofs.Common.{◌∙◌, ◌+◌, ◌++◌, ◌∷◌, Err, drop, take, get_or, refl, ap, sym, subst, arith}
+use Rattle.std.proofs.Common.{◌∙◌, ◌+◌, Err, drop, take, get_or, ap, sym, subst, arith}
 use Rattle.rebalance.specs.declared.Step.{Step}
 use Rattle.rebalance.specs.declared.StepKind.TheVariants.{Move}
 use Rattle.std.proofs.lemmas.List.{take_all}

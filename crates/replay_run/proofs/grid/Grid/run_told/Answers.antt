@@ -1,5 +1,4 @@
 use Rattle.std.proofs.Common.{◌∙◌, Err, [], ap}
-use Rattle.std.proofs.lemmas.Result.{on_ok_weaker}
 use Rattle.call_engine.specs.Objects.{partition_object}
 use Rattle.replay_run.specs.Rebalancing.{stepped}
 use Rattle.replay_run.specs.declared.run_end.RunEnd.TheVariants.{InFlight}

@@ -18,7 +18,7 @@ returns g c = λ settings r s.
     let at_line = next_number grid c.args.number (Clock c.args.member c.args.moment) c.requires r s in
     let made = c.count.ensures.grid in
     on_ok_weaker c.count.result
-    (λ e. clock_line grid c.count.new.self r c.args.number c.args.member c.args.moment s at_line
+    (λ e. clock_line grid c.count.new.self r c.args.number c.args.member c.args.moment s at_line c.requires.within
     (record {
       env = ap (λ (x : Grid _ _). x.env) made;
       lines = ap (λ (x : Grid _ _). x.lines) made;
@@ -27,6 +27,7 @@ returns g c = λ settings r s.
       moments = ap (λ (x : Grid _ _). x.moments.items) made ∙ (λ i. set grid.moments.items (c.from.ensures i) c.args.moment);
       connections = ap (λ (x : Grid _ _). x.connections) made;
       tally = ap (λ (x : Grid _ _). x.tally) made;
+      listeners = ap (λ (x : Grid _ _). x.listeners.items) made;
       reopened = ap (λ (x : Grid _ _). x.reopened.items) made;
       worlds = ap (λ (x : Grid _ _). x.worlds.items) made;
     })

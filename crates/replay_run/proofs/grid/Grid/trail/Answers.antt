@@ -25,12 +25,12 @@ returns g c = λ settings r s.
     let number = c.args.number in
     let low : p < partitions = omega (arith, c.requires.read) in
     let at_line = next_number c.args.self.now number (Trail p) c.requires r s in
-    let stands = counted_stands c.args.self.now r number s at_line in
+    let stands = counted_stands c.args.self.now r number s at_line c.requires.within in
     let es = trail (world_at (partition_object settings) (next_line r) p) in
     let told : map entry_of c.in_ok-trail.trail ≡ es = told_history _ (counted c.args.self.now number) (next_line r) stands p c.from.result low c.from.ensures c.index.result.now c.index.ensures c.in_ok-trail.trail (c.in_ok-trail.ensures (settings_of _ c.args.self.now.env)) in
     let count : c.len.result ≡ length es = c.len.ensures ∙ sym (length-map c.in_ok-trail.trail entry_of) ∙ ap length told in
     on_ok_weaker c.push_entries.result
-    (λ e. counted_line c.args.self.now (counted c.args.self.now number) r number (Trail p) s at_line refl refl c.args.out.now.items c.push_entries.new.out.items refl refl refl
+    (λ e. counted_line c.args.self.now (counted c.args.self.now number) r number (Trail p) s at_line c.requires.within refl refl c.args.out.now.items c.push_entries.new.out.items refl refl refl
     (both_texts c.args.out.now.items (trail_text (r.lines + 1) (length es) ++ [] ++ []) (flat_map (entry_text (next_line r).lines) (entries_of (partition_object settings) (next_line r) p)) c.push_trail.new.out.items c.push_entries.new.out.items
     (c.in_ok-push_trail.ensures ∙ (λ i. c.args.out.now.items ++ trail_text (at_line i) (count i)) ∙ ap (λ xs. c.args.out.now.items ++ xs) (sym (append-nil (trail_text (r.lines + 1) (length es) ++ []) ∙ append-nil (trail_text (r.lines + 1) (length es))))) e))
     (c.push_entries.ensures settings (next_line r) stands told)

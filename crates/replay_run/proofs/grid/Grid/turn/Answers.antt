@@ -1,8 +1,8 @@
-use Rattle.std.proofs.Common.{◌∙◌, Err, ap, arith}
+use Rattle.std.proofs.Common.{Err, ap, arith}
 use Rattle.partition_protocol.specs.Events.{Resend, Advance}
 use Rattle.call_engine.specs.Objects.{partition_object}
-use Rattle.replay_run.specs.Runs.{Run, takes, flowed}
-use Rattle.replay_run.specs.Rebalancing.{first_resends, turned}
+use Rattle.replay_run.specs.Runs.{takes, flowed}
+use Rattle.replay_run.specs.Rebalancing.{first_resends}
 use Rattle.replay_run.specs.declared.run_end.RunEnd.TheVariants.{InFlight}
 use Rattle.replay_run.proofs.Asking.{handed_on}
 use Rattle.replay_run.proofs.EventRuns.{takes_few, takes_full, flowed_full}

@@ -1,5 +1,4 @@
 use Rattle.std.proofs.Common.{Err, ap, sym, arith}
-use Rattle.call_engine.specs.Objects.{partition_object}
 use Rattle.replay_run.specs.declared.run_end.RunEnd.TheVariants.{InFlight}
 use Rattle.replay_run.proofs.Asking.{handed_on}
 use Rattle.replay_run.proofs.RebalanceLine.{none_turned, turn_room, one_turned, turn_ends, none_moving, four_turned}
