@@ -6,6 +6,3 @@ mod steps;
 
 pub use contents::ContentsChange;
 pub use steps::{BackupStep, take_bridge, take_effect, take_sync};
-
-#[cfg(test)]
-mod tests;

@@ -131,6 +131,3 @@ impl Executes<GridEnv> for GridShelf {
         }
     }
 }
-
-#[cfg(test)]
-mod tests;

@@ -53,6 +53,3 @@ fn run_boxed(
         .run(alloc, old, argument)
         .map_err(|_| ProcessorRefused::Memory)
 }
-
-#[cfg(test)]
-mod tests;

@@ -25,6 +25,3 @@ pub use registering::read_registration;
 pub use registration::Registration;
 pub use seen::{SeenMembers, SeenRow, SeenRows};
 pub use writing::{write_entry_event, write_invalidation, write_rows};
-
-#[cfg(test)]
-mod tests;

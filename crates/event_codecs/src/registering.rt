@@ -97,6 +97,3 @@ pub fn read_registration(alloc: Global, message: &Message) -> Result<Registratio
         None => Err(CallRefused::UnknownType),
     }
 }
-
-#[cfg(test)]
-mod tests;

@@ -76,6 +76,3 @@ pub fn write_reply(
         Answer::UnknownProcessor => write_object_error(alloc, correlation, UNKNOWN_PROCESSOR),
     }
 }
-
-#[cfg(test)]
-mod tests;

@@ -65,24 +65,3 @@ pub fn write_error(
     write_int32(second, &mut payload)?;
     write_single(alloc, payload.as_slice())
 }
-
-#[cfg(test)]
-mod tests {
-    use super::*;
-    use std::test::Fail;
-
-    #[test]
-    fn writes_an_error_and_a_void(rt: HostRuntime) -> Result<(), Fail> {
-        let error = write_error(rt.alloc(), 2, 9, 2, 0)?;
-        assert_eq!(rt;
-            error.as_slice(),
-            b"\x1f\0\0\0\0\xe0\0\0\0\0\x02\0\0\0\0\0\0\0\0\x09\0\0\0\x02\0\0\0\0\0\0\0".as_slice()
-        );
-        let void = write_void(rt.alloc(), 0x0b00, 1)?;
-        assert_eq!(rt;
-            void.as_slice(),
-            b"\x13\0\0\0\0\xe0\x01\x0b\0\0\x01\0\0\0\0\0\0\0\0".as_slice()
-        );
-        Ok(())
-    }
-}

@@ -46,23 +46,3 @@ pub fn write_uuid(uuid: Option<u128>, out: &mut Vec<u8>) -> Result<(), Memory>
     }
     Ok(())
 }
-
-#[cfg(test)]
-mod tests {
-    use super::*;
-    use std::test::Fail;
-
-    #[test]
-    fn writes_fields_with_their_low_bytes_first(rt: HostRuntime) -> Result<(), Fail> {
-        let mut out = Vec::new(rt.alloc());
-        write_int32(271, &mut out)?;
-        write_int64(-2, &mut out)?;
-        write_uuid(Some((2 << 64) + 7), &mut out)?;
-        write_uuid(None, &mut out)?;
-        assert_eq!(rt;
-            out.as_slice(),
-            b"\x0f\x01\0\0\xfe\xff\xff\xff\xff\xff\xff\xff\0\x02\0\0\0\0\0\0\0\x07\0\0\0\0\0\0\0\x01\0\0\0\0\0\0\0\0\0\0\0\0\0\0\0\0".as_slice()
-        );
-        Ok(())
-    }
-}

@@ -68,26 +68,3 @@ pub fn write_payload(flags: u16, payload: &[u8], out: &mut Vec<u8>) -> Result<()
     out.extend_from_slice(payload).unwrap();
     Ok(())
 }
-
-#[cfg(test)]
-mod tests {
-    use super::*;
-    use crate::flags;
-    use std::test::Fail;
-
-    #[test]
-    fn writes_the_length_the_flags_and_the_payload(rt: HostRuntime) -> Result<(), Fail> {
-        let mut out = Vec::new(rt.alloc());
-        let name = Frame {
-            flags: 0,
-            payload: Bytes::copied_from(rt.alloc(), b"m")?,
-        };
-        write_frame(&name, &mut out)?;
-        write_payload(flags::FINAL, b"dev", &mut out)?;
-        assert_eq!(rt;
-            out.as_slice(),
-            b"\x07\0\0\0\0\0m\x09\0\0\0\0\x20dev".as_slice()
-        );
-        Ok(())
-    }
-}

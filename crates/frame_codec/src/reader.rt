@@ -189,6 +189,3 @@ fn first_of(frames: Vec<PlacedFrame>) -> Option<Frame>
     let first = frames.into_iter().next()?;
     Some(first.frame)
 }
-
-#[cfg(test)]
-mod tests;

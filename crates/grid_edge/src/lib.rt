@@ -32,6 +32,3 @@ pub use ready::{Ready, ReadySink, ReadySource};
 pub use sink::{Sink, WriteFault, write_all};
 pub use source::{ReadFault, Source};
 pub use standard::{StdSink, StdSource};
-
-#[cfg(test)]
-mod tests;

@@ -88,6 +88,3 @@ pub fn cleaned(lock: Option<Lock>, now: Moment) -> Option<Lock>
 {
     lock.filter(|held| !has_ended(held.until, now))
 }
-
-#[cfg(test)]
-mod tests;

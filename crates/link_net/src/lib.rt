@@ -8,6 +8,3 @@ mod tally;
 
 pub use link::Link;
 pub use links::Links;
-
-#[cfg(test)]
-mod tests;

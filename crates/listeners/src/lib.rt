@@ -11,6 +11,3 @@ mod telling;
 
 pub use listener::Listener;
 pub use listeners::Listeners;
-
-#[cfg(test)]
-mod tests;

@@ -73,6 +73,3 @@ pub fn read_map_call(
         None => Err(CallRefused::UnknownType),
     }
 }
-
-#[cfg(test)]
-mod tests;

@@ -90,6 +90,3 @@ pub fn read_map_wait(
         None => Err(CallRefused::UnknownType),
     }
 }
-
-#[cfg(test)]
-mod tests;

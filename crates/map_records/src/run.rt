@@ -189,6 +189,3 @@ fn processed(
         }
     }
 }
-
-#[cfg(test)]
-mod tests;

@@ -16,6 +16,3 @@ pub use kinds::{DecisionKind, MessageKind};
 pub use message::MasterMessage;
 pub use reading::{log_length, read_master};
 pub use writing::{write_ask, write_store, write_store_with, write_stored, write_tell};
-
-#[cfg(test)]
-mod tests;

@@ -15,6 +15,3 @@ pub use outbox::Outbox;
 pub use reading::read_member;
 pub use took::Took;
 pub use writing::write_member;
-
-#[cfg(test)]
-mod tests;

@@ -183,6 +183,3 @@ impl MessageReader {
         self.stand_with(heard);
     }
 }
-
-#[cfg(test)]
-mod tests;

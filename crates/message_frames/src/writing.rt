@@ -141,6 +141,3 @@ fn write_frames(frames: &[Frame], out: &mut Vec<u8>) -> Result<(), Memory>
     }
     Ok(())
 }
-
-#[cfg(test)]
-mod tests;

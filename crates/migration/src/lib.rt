@@ -19,6 +19,3 @@ pub use joined::{Joined, JoinedRefused, JoinedStep};
 pub use joining::Joining;
 pub use ongoing::{Arrived, Ongoing};
 pub use replacing::{Replacing, Underway};
-
-#[cfg(test)]
-mod tests;

@@ -40,28 +40,3 @@ pub fn partition_of(hash: i32) -> PartitionId
         Some(_) => (hash.unsigned_abs() % u32::from(PARTITIONS)) as u16,
     }
 }
-
-#[cfg(test)]
-mod tests {
-    use super::*;
-    use std::test::Fail;
-
-    #[test]
-    fn takes_the_stated_hash_or_that_of_the_content(rt: HostRuntime) -> Result<(), Fail> {
-        let cases: [(&[u8], i32, PartitionId); 7] = [
-            (b"\x00\x00\x01\x0f\0\0\0\0", 271, 0),
-            (b"\x00\x00\x01\x0e\0\0\0\0", 270, 270),
-            (b"\x00\x00\x01\x10\0\0\0\0k", 272, 1),
-            (b"\xff\xff\xff\xff\0\0\0\0k", -1, 1),
-            (b"\x80\x00\x00\x00\0\0\0\0", i32::MIN, 0),
-            (b"\x00\x00\x00\x00\xff\xff\xff\xf5", -1_585_187_909, 238),
-            (b"\x00\x00\x00\x00\xff\xff\xff\xf5k", 510_919_511, 230),
-        ];
-        for (bytes, hash, partition) in cases {
-            assert_eq!(rt; key_hash(bytes)?, hash);
-            assert_eq!(rt; partition_of(hash), partition);
-        }
-        assert_eq!(rt; key_hash(b"\0\0\0\0\0\0\0"), Err(ShortData));
-        Ok(())
-    }
-}

@@ -14,6 +14,3 @@ mod scope;
 
 pub use cache::NearCache;
 pub use look_up::{Filled, Reservation};
-
-#[cfg(test)]
-mod tests;

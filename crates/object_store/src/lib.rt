@@ -21,6 +21,3 @@ pub use store::ObjectStore;
 pub use writing::{
     write_clear, write_drop_entry, write_effect, write_pop, write_push, write_set_entry,
 };
-
-#[cfg(test)]
-mod tests;

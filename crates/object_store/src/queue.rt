@@ -93,6 +93,3 @@ impl Queue {
         }
     }
 }
-
-#[cfg(test)]
-mod tests;

@@ -169,6 +169,3 @@ impl ObjectStore {
         queues::clear(&mut self.queues, name);
     }
 }
-
-#[cfg(test)]
-mod tests;

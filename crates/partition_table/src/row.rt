@@ -201,6 +201,3 @@ impl Row {
         }
     }
 }
-
-#[cfg(test)]
-mod tests;

@@ -18,6 +18,3 @@ pub use answers::Answers;
 pub use facts::Facts;
 pub use room::Room;
 pub use view::{CatchUp, View};
-
-#[cfg(test)]
-mod tests;

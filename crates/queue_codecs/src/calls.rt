@@ -129,6 +129,3 @@ pub fn read_queue_call(alloc: Global, message: &Message) -> Result<QueueCall, Ca
         None => Err(CallRefused::UnknownType),
     }
 }
-
-#[cfg(test)]
-mod tests;

@@ -83,6 +83,3 @@ pub fn read_queue_wait(alloc: Global, message: &Message) -> Result<(QueueCall, i
         None => Err(CallRefused::UnknownType),
     }
 }
-
-#[cfg(test)]
-mod tests;

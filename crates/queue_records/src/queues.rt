@@ -82,6 +82,3 @@ fn length(list: &[Bytes]) -> u32
 {
     u32::try_from(list.len()).unwrap_or(u32::MAX)
 }
-
-#[cfg(test)]
-mod tests;

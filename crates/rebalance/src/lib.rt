@@ -100,6 +100,3 @@ pub fn plan(
         excess,
     })
 }
-
-#[cfg(test)]
-mod tests;

@@ -13,6 +13,3 @@ pub use opening::{
 };
 pub use readdressing::readdressed;
 pub use requests::{kind_of, write_request};
-
-#[cfg(test)]
-mod tests;

@@ -13,5 +13,6 @@ mod words;
 
 pub use limits::{MOST_BYTES, MOST_LINE_BYTES, MOST_LINES};
 pub use line::Line;
+pub use numbers::number_within;
 pub use reading::read_line;
 pub use refusal::{LineRefused, LineWhy};

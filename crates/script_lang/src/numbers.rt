@@ -42,7 +42,7 @@ fn value_of_digits(word: &[u8]) -> Option<u64>
 }
 
 /// The number that a word of decimal digits spells, where it is neither below `least` nor above `most`.
-pub(crate) fn number_within(word: &[u8], least: u64, most: u64) -> Option<u64>
+pub fn number_within(word: &[u8], least: u64, most: u64) -> Option<u64>
     ensures { result ≡ within least most word.now }
 {
     if !is_decimal(word) {

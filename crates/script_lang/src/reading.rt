@@ -261,6 +261,3 @@ pub fn read_line(alloc: Global, text: &[u8], first: bool, members: u8) -> Result
     }
     read_words(alloc, Words::of(text), first, members)
 }
-
-#[cfg(test)]
-mod tests;

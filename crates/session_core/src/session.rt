@@ -102,6 +102,3 @@ impl Session {
         }
     }
 }
-
-#[cfg(test)]
-mod tests;

@@ -14,6 +14,3 @@ mod waker;
 pub use doors::TcpDoors;
 pub use stream::{TcpSink, TcpSource};
 pub use waker::TcpWaker;
-
-#[cfg(test)]
-mod tests;

@@ -118,6 +118,3 @@ impl Executes<()> for Journal {
         })
     }
 }
-
-#[cfg(test)]
-mod tests;

@@ -18,6 +18,3 @@ mod waiter;
 
 pub use set::WaitSet;
 pub use waiter::{Waiter, deadline_of};
-
-#[cfg(test)]
-mod tests;

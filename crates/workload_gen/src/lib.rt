@@ -9,6 +9,3 @@ mod script;
 mod steps;
 
 pub use script::make;
-
-#[cfg(test)]
-mod tests;

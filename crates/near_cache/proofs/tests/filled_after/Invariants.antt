@@ -1,5 +1,0 @@
-use Rattle.near_cache.specs.Caches.{IsOpen}
-use Rattle.near_cache.proofs.tests.filled_after.Given as goal
-
-abbrev pub invariant-loop-told : goal.invariant-loop-told
-invariant-loop-told l = IsOpen l.reservation l.cache

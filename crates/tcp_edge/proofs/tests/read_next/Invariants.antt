@@ -1,6 +1,0 @@
-use Rattle.std.proofs.Common.{◌≡◌}
-use Rattle.tcp_edge.proofs.tests.read_next.Given as goal
-
--- nobody came so far
-abbrev pub invariant-loop : goal.invariant-loop
-invariant-loop l = l.doors.accepted ≡ l.fn.doors.accepted

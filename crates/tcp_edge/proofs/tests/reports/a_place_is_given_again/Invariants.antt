@@ -1,6 +1,0 @@
-use Rattle.std.proofs.Common.{◌≡◌}
-use Rattle.tcp_edge.proofs.tests.reports.a_place_is_given_again.Given as goal
-
--- so many came
-abbrev pub invariant-loop-number : goal.invariant-loop-number
-invariant-loop-number g l = l.doors.accepted ≡ l.number-counter
