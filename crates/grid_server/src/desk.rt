@@ -4,8 +4,8 @@ ghost use Rattle.live_control.specs.Running.{MayServe};
 ghost use Rattle.grid_server.specs.Serving.{operator};
 ghost use Rattle.grid_server.specs.Tasks.{HasOperated};
 
-use crate::environment::Environment;
 use crate::stage::Stage;
+use call_environment::Environment;
 use grid_cli::Status;
 use grid_edge::{Sink, Source, Wakes};
 use live_control::serve_control;

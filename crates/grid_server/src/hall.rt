@@ -7,8 +7,8 @@ ghost use Rattle.live_session.specs.Connections.{ServesCalls};
 ghost use Rattle.grid_server.specs.Serving.{at_doors};
 ghost use Rattle.grid_server.specs.Tasks.{HasServedClients};
 
-use crate::environment::Environment;
 use crate::stage::Stage;
+use call_environment::Environment;
 use grid_edge::{Clock, DoorFault, Doors};
 use live_grid::LiveWorld;
 use live_server::{Connections, serve};

@@ -3,7 +3,6 @@
 
 mod desk;
 mod ended;
-mod environment;
 mod hall;
 mod serve;
 mod setting;
@@ -14,6 +13,5 @@ mod waking;
 mod working;
 
 pub use ended::Ended;
-pub use environment::{Environment, Shared};
 pub use serve::{serve_command, serve_gated};
 pub use top::grid_top;

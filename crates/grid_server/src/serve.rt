@@ -12,12 +12,12 @@ ghost use Rattle.grid_server.specs.Settings.{IsSetting};
 ghost use Rattle.serve_options.specs.Options.{Words, IsRefusedFor, faults};
 
 use crate::ended::Ended;
-use crate::environment::{Environment, Shared};
 use crate::setting::Setting;
 use crate::stage::Stage;
 use crate::threads::run_threads;
 use crate::waking::WakingGate;
 use call_engine::GridEnv;
+use call_environment::{Environment, Shared};
 use entry_processors::{Form, Processor, Registry};
 use grid_cli::Status;
 use grid_edge::{Clock, DoorFault, Doors, Sink, Source};

@@ -11,10 +11,10 @@ ghost use Rattle.grid_server.specs.Serving.{operator, at_doors};
 ghost use Rattle.grid_server.specs.Tasks.{MayMeet, HasServedClients, HasOperated};
 
 use crate::desk::operate;
-use crate::environment::Environment;
 use crate::hall::serve_hall;
 use crate::stage::Stage;
 use crate::working::run_workers;
+use call_environment::Environment;
 use grid_cli::Status;
 use grid_edge::{Clock, DoorFault, Doors, Sink, Source};
 use live_grid::{GridPass, LiveWorld};

@@ -2,8 +2,8 @@
 ghost use Rattle.live_grid.specs.Grids.{place_of};
 ghost use Rattle.grid_server.specs.Settings.{IsWorker, AreWorkers};
 
-use crate::environment::Environment;
 use crate::stage::Stage;
+use call_environment::Environment;
 use live_grid::LiveWorld;
 use partition_threads::{Gate, WorkerTokens, worker};
 use std::sync::Wait;

@@ -1,4 +1,4 @@
-//! What a grid's calls are run in, as threads share it.
+//! An environment that any thread may use, and the form in which a grid's shelves take it.
 use call_engine::{GridEnv, GridShelf};
 use entry_processors::Processor;
 use grid_base::{Executed, Executes, Memory, Moment, Request};

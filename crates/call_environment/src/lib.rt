@@ -1,0 +1,6 @@
+//! What a grid's calls are run in, as threads share it.
+#![tactic(auto)]
+
+mod environment;
+
+pub use environment::{Environment, Shared};
