@@ -2,10 +2,6 @@
 #![tactic(auto)]
 
 #[cfg(test)]
-mod controls;
-#[cfg(test)]
-mod grids;
-#[cfg(test)]
 mod requests;
 #[cfg(test)]
 mod stored;

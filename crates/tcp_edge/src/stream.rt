@@ -167,7 +167,9 @@ pub(crate) fn close(from: TcpSource, to: TcpSink) {
 }
 
 impl TcpSource {
-    pub(crate) fn place(&self) -> usize {
+    /// The place of the connection at its doors. Of those that stand at once no two have the same, and a place is given
+    /// again once its connection was given back.
+    pub fn place(&self) -> usize {
         self.place
     }
 }
