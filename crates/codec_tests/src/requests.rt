@@ -45,40 +45,12 @@ fn thread_1() -> Owner {
     }
 }
 
-/// A put of the value with no time to live.
-fn put(alloc: Global) -> Result<GridCall, Memory> {
-    Ok(GridCall::Map(MapCall::Put {
-        name: Bytes::copied_from(alloc, b"m")?,
-        key: Bytes::copied_from(alloc, KEY)?,
-        owner: thread_1(),
-        value: Bytes::copied_from(alloc, VALUE)?,
-        ttl: 0,
-    }))
-}
-
-/// A run of the processor 1 with the argument 2.
-fn execute(alloc: Global) -> Result<GridCall, Memory> {
-    Ok(GridCall::Map(MapCall::ExecuteOnKey {
-        name: Bytes::copied_from(alloc, b"m")?,
-        key: Bytes::copied_from(alloc, KEY)?,
-        owner: thread_1(),
-        number: 1,
-        argument: Bytes::copied_from(alloc, &[2])?,
-    }))
-}
-
-fn poll(alloc: Global) -> Result<GridCall, Memory> {
-    Ok(GridCall::Queue(QueueCall::Poll {
-        name: Bytes::copied_from(alloc, b"q")?,
-    }))
-}
-
 /// The put in partition 5. Each request has the correlation 4.
 const PUT: &[u8] = b"\x26\0\0\0\0\xc0\0\x01\x01\0\x04\0\0\0\0\0\0\0\x05\0\0\0\
     \x01\0\0\0\0\0\0\0\0\0\0\0\0\0\0\0\x07\0\0\0\0\0m\
     \x0f\0\0\0\0\0\0\0\0\x05\xff\xff\xff\xf5k\x0f\0\0\0\0\x20\0\0\0\0\xff\xff\xff\xf5v";
 
-/// The run of the processor there.
+/// The run of the processor with the argument 2 there.
 const EXECUTE: &[u8] = b"\x1e\0\0\0\0\xc0\0\x2e\x01\0\x04\0\0\0\0\0\0\0\x05\0\0\0\
     \x01\0\0\0\0\0\0\0\x07\0\0\0\0\0m\x0b\0\0\0\0\0\x01\0\0\0\x02\
     \x0f\0\0\0\0\x20\0\0\0\x05\xff\xff\xff\xf5k";
@@ -86,19 +58,49 @@ const EXECUTE: &[u8] = b"\x1e\0\0\0\0\xc0\0\x2e\x01\0\x04\0\0\0\0\0\0\0\x05\0\0\
 /// The poll of the queue `q` in partition 100.
 const POLL: &[u8] = b"\x16\0\0\0\0\xc0\0\x05\x03\0\x04\0\0\0\0\0\0\0\x64\0\0\0\x07\0\0\0\0\x20q";
 
+/// The request of a put with no time to live.
+fn put(alloc: Global, name: Bytes, key: Bytes, value: Bytes) -> Result<Bytes, Memory> {
+    let call = GridCall::Map(MapCall::Put {
+        name,
+        key,
+        owner: thread_1(),
+        value,
+        ttl: 0,
+    });
+    write_request(alloc, FIRST_CORRELATION, 5, &call)
+}
+
 fn put_request(alloc: Global) -> Result<Bytes, Memory> {
-    let call = put(alloc)?;
+    let name = Bytes::copied_from(alloc, b"m")?;
+    let key = Bytes::copied_from(alloc, KEY)?;
+    put(alloc, name, key, Bytes::copied_from(alloc, VALUE)?)
+}
+
+/// The request of a run of the processor 1.
+fn execute(alloc: Global, name: Bytes, key: Bytes, argument: Bytes) -> Result<Bytes, Memory> {
+    let call = GridCall::Map(MapCall::ExecuteOnKey {
+        name,
+        key,
+        owner: thread_1(),
+        number: 1,
+        argument,
+    });
     write_request(alloc, FIRST_CORRELATION, 5, &call)
 }
 
 fn execute_request(alloc: Global) -> Result<Bytes, Memory> {
-    let call = execute(alloc)?;
-    write_request(alloc, FIRST_CORRELATION, 5, &call)
+    let name = Bytes::copied_from(alloc, b"m")?;
+    let key = Bytes::copied_from(alloc, KEY)?;
+    execute(alloc, name, key, Bytes::copied_from(alloc, b"\x02")?)
+}
+
+fn poll(alloc: Global, name: Bytes) -> Result<Bytes, Memory> {
+    let call = GridCall::Queue(QueueCall::Poll { name });
+    write_request(alloc, FIRST_CORRELATION, 100, &call)
 }
 
 fn poll_request(alloc: Global) -> Result<Bytes, Memory> {
-    let call = poll(alloc)?;
-    write_request(alloc, FIRST_CORRELATION, 100, &call)
+    poll(alloc, Bytes::copied_from(alloc, b"q")?)
 }
 
 #[test]
