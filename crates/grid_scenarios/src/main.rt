@@ -4,16 +4,12 @@
 ghost use Rattle.std.specs.Prelude.{◌<◌};
 
 mod codec;
-mod difference;
-mod fronts;
 mod long_scripts;
 mod scenarios;
 mod tables;
 
 use codec::count_messages;
-use difference::{first_difference, told_difference};
 use entry_processors::{Add, AddUpTo, Append, Clear, Processor, SetIfGreater};
-use fronts::{SMALL_READ, SMALL_WRITE, text_of_reads, text_of_writes};
 use grid_cli::{Status, replay_command};
 use grid_edge::{MemorySink, MemorySource};
 use long_scripts::{LONG_SCRIPTS, LongScript};
@@ -22,6 +18,9 @@ use std::alloc::Global;
 use std::process::ExitCode;
 use std::{env, fs, io};
 use tables::{Place, Row};
+use transcript_checks::{
+    SMALL_READ, SMALL_WRITE, first_difference, text_of_reads, text_of_writes, told_difference,
+};
 
 /// Words that are no command.
 const OTHER_WORDS: [&[&str]; 6] = [

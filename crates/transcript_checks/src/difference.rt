@@ -1,7 +1,7 @@
 ghost use Rattle.std.specs.Prelude.{◌≡◌, ◌↔◌, ◌<◌, ◌∷◌, length, IsNone, IfSome};
 ghost use Rattle.std.specs.Option.{option_map};
 ghost use Rattle.script_lang.specs.Words.{pieces_at, newline};
-ghost use Rattle.grid_scenarios.specs.Differences.{first_difference, differs_as, rest_lines, nth_line};
+ghost use Rattle.transcript_checks.specs.Differences.{first_difference, differs_as, rest_lines, nth_line};
 
 use memchr::memchr;
 use std::alloc::Global;
@@ -9,13 +9,13 @@ use std::io;
 
 /// A line that was printed in place of the one that is wanted.
 #[derive(Clone, Copy, Debug, PartialEq, Eq)]
-pub(crate) struct Difference<'a> {
+pub struct Difference<'a> {
     /// From 1.
-    pub(crate) number: usize,
+    pub number: usize,
     /// Nothing where the text has ended.
-    pub(crate) printed: &'a [u8],
+    pub printed: &'a [u8],
     /// Nothing where the text has ended.
-    pub(crate) wanted: &'a [u8],
+    pub wanted: &'a [u8],
 }
 
 /// The first line of a text, and what follows its newline, if it has one.
@@ -30,7 +30,7 @@ fn first_line(text: &[u8]) -> (&[u8], Option<&[u8]>)
 }
 
 /// The first line in which a printed text differs from the wanted one, if they aren't the same.
-pub(crate) fn first_difference<'a>(printed: &'a [u8], wanted: &'a [u8]) -> Option<Difference<'a>>
+pub fn first_difference<'a>(printed: &'a [u8], wanted: &'a [u8]) -> Option<Difference<'a>>
     ensures exact { option_map differs_as result ≡ first_difference printed.now wanted.now }
     ensures same { IsNone result ↔ (printed.now ≡ wanted.now) }
 {
@@ -137,7 +137,7 @@ fn of_the_script(alloc: Global, script: &[u8], before: usize) -> io::Result<Stri
 }
 
 /// What is told of a scenario whose transcript differs: the first line in which it does, and the script's line of it.
-pub(crate) fn told_difference(
+pub fn told_difference(
     alloc: Global,
     name: &str,
     script: &[u8],

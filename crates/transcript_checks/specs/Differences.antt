@@ -2,7 +2,7 @@
 use Rattle.std.specs.Prelude.{◌≡◌, ℕ, zero, suc, ◌+◌, if◌then◌else◌, List, [], ◌∷◌, Option, Some, None, codes, refl}
 use Rattle.std.specs.Borrow.{Bor}
 use Rattle.script_lang.specs.Words.{are_same, newline, pieces_at}
-use Rattle.grid_scenarios.specs.declared.difference.Difference.{Difference}
+use Rattle.transcript_checks.specs.declared.difference.Difference.{Difference}
 
 -- a line by its number from 1: what was printed there, and what is wanted there; nothing where the text has ended
 pub record Differs : Type 0 where

@@ -1,7 +1,7 @@
 use Rattle.std.proofs.Common.{◌≡◌, ◌+◌, ◌≤◌, length}
 use Rattle.script_lang.specs.Words.{pieces_at, newline}
-use Rattle.grid_scenarios.specs.Differences.{difference_from, first_difference}
-use Rattle.grid_scenarios.proofs.difference.compare_lines.Given as goal
+use Rattle.transcript_checks.specs.Differences.{difference_from, first_difference}
+use Rattle.transcript_checks.proofs.difference.compare_lines.Given as goal
 
 -- The lines before these are the same.
 abbrev pub invariant-lines : goal.invariant-lines

@@ -1,9 +1,10 @@
 //! Fronts of a transcript: what is written of it before a call of the source or of the sink fails.
 
-/// The most bytes that a call of the source gives, and that one of the sink takes, in small pieces.
-pub(crate) const SMALL_READ: usize = 64;
+/// The most bytes that a call of the source gives in small pieces.
+pub const SMALL_READ: usize = 64;
 
-pub(crate) const SMALL_WRITE: usize = 16;
+/// The most bytes that a call of the sink takes in small pieces.
+pub const SMALL_WRITE: usize = 16;
 
 /// The line of the script that a line of its transcript is of, by which that begins.
 fn number_of(printed: &str) -> u64 {
@@ -49,7 +50,7 @@ fn front(text: &str, end: usize) -> &[u8] {
 
 /// What is written once that many calls gave a script's bytes in small pieces: the text of the lines that are whole in
 /// them.
-pub(crate) fn text_of_reads<'a>(script: &str, transcript: &'a str, calls: usize) -> &'a [u8] {
+pub fn text_of_reads<'a>(script: &str, transcript: &'a str, calls: usize) -> &'a [u8] {
     let read = front(script, calls.saturating_mul(SMALL_READ));
     let mut lines = 0u64;
     for byte in read {
@@ -62,7 +63,7 @@ pub(crate) fn text_of_reads<'a>(script: &str, transcript: &'a str, calls: usize)
 
 /// What that many calls have taken of a transcript in small pieces, of which none goes past the text of a line of the
 /// script.
-pub(crate) fn text_of_writes(transcript: &str, calls: usize) -> &[u8] {
+pub fn text_of_writes(transcript: &str, calls: usize) -> &[u8] {
     let mut end = 0usize;
     for _ in 0..calls {
         let line_end = end_of_lines(transcript, line_at(transcript, end));

@@ -6,8 +6,8 @@ use Rattle.std.proofs.lemmas.Bool.Decides.{nat_tests}
 use Rattle.std.proofs.lemmas.Slice.Eq.{bytes_eq-Decides}
 use Rattle.script_lang.specs.Words.{newline, pieces_at, onto_first, are_same}
 use Rattle.script_lang.proofs.Pieces.{first_piece}
-use Rattle.grid_scenarios.specs.declared.difference.Difference.{Difference}
-use Rattle.grid_scenarios.specs.Differences.{difference_from, first_difference, differs_as}
+use Rattle.transcript_checks.specs.declared.difference.Difference.{Difference}
+use Rattle.transcript_checks.specs.Differences.{difference_from, first_difference, differs_as}
 
 -- Texts that compare as the same are the same.
 

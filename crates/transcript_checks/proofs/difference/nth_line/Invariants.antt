@@ -1,7 +1,7 @@
 use Rattle.std.proofs.Common.{◌≡◌}
 use Rattle.script_lang.specs.Words.{pieces_at, newline}
-use Rattle.grid_scenarios.specs.Differences.{nth_line}
-use Rattle.grid_scenarios.proofs.difference.nth_line.Given as goal
+use Rattle.transcript_checks.specs.Differences.{nth_line}
+use Rattle.transcript_checks.proofs.difference.nth_line.Given as goal
 
 -- The line is that of what is left, with the lines before it that are left.
 abbrev pub invariant-lines : goal.invariant-lines

@@ -3,7 +3,7 @@ use Rattle.std.proofs.Math.Seq.{take-length}
 use Rattle.std.proofs.lemmas.List.{length-drop}
 use Rattle.script_lang.specs.Words.{newline, pieces_at}
 use Rattle.script_lang.proofs.Pieces.{uncut, cut}
-use Rattle.grid_scenarios.proofs.difference.first_line.Goals as goal
+use Rattle.transcript_checks.proofs.difference.first_line.Goals as goal
 
 -- a text from a place on is all that is left of it
 rest_whole : (xs : List ℕ) (k : ℕ) → take (length xs - k) (drop k xs) ≡ drop k xs
