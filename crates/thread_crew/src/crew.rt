@@ -1,6 +1,7 @@
 //! A crew: threads that each have work, and one that runs beside them.
-ghost use Rattle.std.specs.Prelude.{◌≡◌, All, Bool};
+ghost use Rattle.std.specs.Prelude.{All, Bool};
 
+use crate::task::{Lent, Task, take_back};
 use std::alloc::Global;
 use std::sync::Wait;
 use std::thread::{self, JoinHandle, Scope, Threads};
@@ -27,41 +28,6 @@ fn start_all<'s, E, T: Send + Drop + 's, W: Fn(T) + Sync>(
         let _ = made.push(thread);
     }
     made
-}
-
-/// Work for the thread that the crew runs beside. It is told whether the crew is whole.
-///
-/// `scope` says nothing of a `&mut` that its closure holds, so that closure holds a value of a type parameter.
-trait Task {
-    type Output;
-
-    ghost can_run: { Self → Type 0 };
-
-    ghost run_gives: { Self → Bool → Self.Output → Type 0 };
-
-    fn run(self, is_whole: bool) -> Self::Output
-        requires { can_run self }
-        ensures { run_gives self is_whole result };
-}
-
-/// A closure that is given back once it was called.
-#[derive(Drop)]
-struct Lent<'a, F> {
-    f: &'a mut F,
-}
-
-impl<'a, F: FnMut(bool) -> X, X> Task for Lent<'a, F> {
-    type Output = (&'a mut F, X);
-
-    ghost can_run = { λ t. (is_whole : Bool) → F.pre t.f.now is_whole };
-
-    ghost run_gives = { λ t is_whole r. (r.0.ghost_name ≡ t.f.ghost_name) × F.step t.f.now is_whole r.1 r.0.now };
-
-    fn run(self, is_whole: bool) -> (&'a mut F, X) {
-        let Lent { f } = self;
-        let x = f(is_whole);
-        (f, x)
-    }
 }
 
 /// Runs the task beside the crew. Tells whether the crew was whole, and what the task gave.
@@ -95,11 +61,6 @@ fn run_beside<R: Threads + Wait, T: Send + Drop, W: Fn(T) + Sync, S: Task + Drop
         },
     )
 }
-
-/// Does nothing, but this use of a reference that was given back ties it to the one that was lent.
-fn take_back<T>(x: &mut T)
-    ensures { x.new ≡ x.old }
-{}
 
 /// Calls `work` with each worker, each on a thread of its own, and `front` on this one, once, with whether
 /// each of them got a thread. Where one didn't, or memory is wanting, those behind it have none either and aren't called. It comes

@@ -1,11 +1,19 @@
 //! Whether there is room for threads.
+ghost use Rattle.std.specs.Prelude.{◌≡◌, IfSome};
+
 use std::alloc::Global;
 use std::sync::{Mutex, Wait};
 use std::thread::{self, Threads};
 
+/// So many threads were there together a while ago.
+#[derive(Drop)]
+pub struct Room {
+    pub(crate) threads: usize,
+}
+
 /// Asks for so many threads, which stay until all were asked for, and tells whether each was made. All have ended when it returns.
 /// Where memory is wanting none was made.
-pub fn has_room<R: Threads + Wait + Sync>(rt: &R, alloc: Global, threads: usize) -> bool {
+fn has_room<R: Threads + Wait + Sync>(rt: &R, alloc: Global, threads: usize) -> bool {
     let Ok(mut made) = Vec::with_capacity(alloc, threads) else {
         return false;
     };
@@ -26,4 +34,15 @@ pub fn has_room<R: Threads + Wait + Sync>(rt: &R, alloc: Global, threads: usize)
         }
         is_whole
     })
+}
+
+/// Room for so many threads beside this one, if there is. Each was made once, and has ended when it returns.
+pub fn room_for<R: Threads + Wait + Sync>(rt: &R, alloc: Global, threads: usize) -> Option<Room>
+    ensures { IfSome result (λ room. room.threads ≡ threads) }
+{
+    if has_room(rt, alloc, threads) {
+        Some(Room { threads })
+    } else {
+        None
+    }
 }
