@@ -12,11 +12,11 @@ from __future__ import annotations
 import os
 import sys
 
-from hostile_tests import clients, closes, consoles, crashes
+from hostile_tests import clients, closes, consoles, crashes, threads
 from serving.checks import Test, run_tests
 from serving.server import end_when_told, program, raise_descriptor_limit
 
-MODULES = (crashes, closes, clients, consoles)
+MODULES = (crashes, closes, clients, consoles, threads)
 
 TESTS: list[Test] = [test for module in MODULES for test in module.TESTS]
 

@@ -15,11 +15,12 @@ from dataclasses import dataclass
 from pathlib import Path
 
 from serving.client import PATIENCE, Client, Ended, Silence, known_client
+from serving.limits import Limits
 
 TOP = Path(__file__).resolve().parents[2]
 
 # The statuses with which the program ends.
-DONE, USAGE, REFUSED, READ_FAULT, WRITE_FAULT, LIMIT, DOOR_FAULT = range(7)
+DONE, USAGE, REFUSED, READ_FAULT, WRITE_FAULT, LIMIT, DOOR_FAULT, MEMORY = range(8)
 
 # Below the ports that the system gives to clients.
 LEAST_PORT, MOST_PORT = 10_000, 32_000
@@ -107,17 +108,27 @@ class Run:
     err: str
 
 
-def run_program(words: Sequence[str | bytes], script: bytes = b"") -> Run:
+def run_program(words: Sequence[str | bytes], script: bytes = b"", limits: Limits | None = None) -> Run:
     """Runs the program with these words and this standard input to its end."""
-    done = subprocess.run([program(), *words], input=script, capture_output=True, timeout=2 * PATIENCE, check=False)
+    done = subprocess.run(
+        [program(), *words],
+        input=script,
+        capture_output=True,
+        timeout=2 * PATIENCE,
+        check=False,
+        preexec_fn=limits.set if limits else None,
+    )
     return Run(done.returncode, done.stdout.decode(errors="backslashreplace"), done.stderr.decode(errors="backslashreplace"))
 
 
 class Server:
     """A server that runs. Standard input is its console. It is killed at the end of its `with`, if it still runs then."""
 
-    def __init__(self, *, members: int = 3, backups: int = 1, capacity: int = 1000, stay: bool = True) -> None:
+    def __init__(
+        self, *, members: int = 3, backups: int = 1, capacity: int = 1000, stay: bool = True, limits: Limits | None = None
+    ) -> None:
         self.members = members
+        self.limits = limits
         self.options = ["--members", str(members), "--backups", str(backups), "--capacity", str(capacity)]
         self.options += ["--stay"] if stay else []
         self.start()
@@ -153,6 +164,7 @@ class Server:
             stdout=subprocess.PIPE,
             stderr=subprocess.PIPE,
             bufsize=0,
+            preexec_fn=self.limits.set if self.limits else None,
         )
         assert self.process.stdin and self.process.stdout and self.process.stderr
         self.console = self.process.stdin

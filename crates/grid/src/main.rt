@@ -175,6 +175,9 @@ fn cause(status: Status) -> Option<&'static str> {
     }
 }
 
+/// What standard error is told where a server ended for want of memory, which a thread takes too.
+const WANT_OF_SERVER: &str = "grid: out of memory or of threads";
+
 /// Tells standard error why the program ended so. Where it takes nothing, the exit status alone tells it.
 fn tell_cause(rt: &HostRuntime, words: &[String], status: Status) {
     if status == Status::Usage
@@ -182,6 +185,8 @@ fn tell_cause(rt: &HostRuntime, words: &[String], status: Status) {
         && let Ok(Some(why)) = why_refused(rt.alloc(), words)
     {
         let _ = rt.eprintln(why.as_str().trim_end());
+    } else if status == Status::Memory && is_serve(words) {
+        let _ = rt.eprintln(WANT_OF_SERVER);
     } else if let Some(cause) = cause(status) {
         let _ = rt.eprintln(cause);
     }

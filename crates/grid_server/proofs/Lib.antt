@@ -1,6 +1,7 @@
 mod Beginning
 mod Ending
 mod Handing
+mod Heard
 mod Opening
 mod Regained
 mod Replayed

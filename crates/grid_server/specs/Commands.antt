@@ -39,6 +39,12 @@ IsNoGridFor DoorFault words outside closed = Rose outside.faults closed.faults
 IsNoGridFor Memory words outside closed = Unit {0}
 IsNoGridFor _ words outside closed = ⊥
 
+-- Why doors weren't opened: there was no room for the threads of a server, and nobody touched the doors, or the doors had a fault
+abbrev pub IsShut : Status → (outside closed : AtDoors) → Type 0
+IsShut Memory outside closed = closed ≡ outside
+IsShut DoorFault outside closed = Rose outside.faults closed.faults
+IsShut _ outside closed = ⊥
+
 -- No grid was made: the words are no options, or the doors had a fault when they were opened, or there was no memory. No script was read
 pub record IsNotBegun (words : Words) (status : Status) (before after : Operator) (outside closed : AtDoors) : Type 0 where
   pub untouched : after ≡ before

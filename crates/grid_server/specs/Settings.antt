@@ -1,10 +1,9 @@
 -- What a server is made of before anything has happened.
-use Rattle.std.specs.Prelude.{◌≡◌, ℕ, ◌*◌, ◌≤◌, List, [], length, Option, Some, None, slice_get}
+use Rattle.std.specs.Prelude.{◌≡◌, ℕ, ◌*◌, ◌≤◌, All, List, [], length, Some, slice_get}
 use Rattle.std.specs.Vec.{vec_capacity}
 use Rattle.entry_processors.specs.declared.form.Form.{Form}
 use Rattle.grid_base.specs.declared.calls.Request.{Request}
 use Rattle.hand_cell.specs.Told.{Told}
-use Rattle.partition_threads.specs.declared.workers.WorkerTokens.{WorkerTokens}
 use Rattle.partition_threads.specs.declared.workplace.Workplace.{Workplace}
 use Rattle.partition_threads.specs.Workplaces.{IsTokenAt, AreTokensAt}
 use Rattle.partition_world.specs.declared.event.Event.{Event}
@@ -19,16 +18,14 @@ use Rattle.live_server.specs.declared.connections.Connections.{Connections}
 use Rattle.live_server.specs.declared.connections.TheConstants.{ROOM}
 use Rattle.serve_options.specs.declared.options.ServeOptions.{ServeOptions}
 use Rattle.grid_server.specs.declared.setting.Setting.{Setting}
+use Rattle.grid_server.specs.declared.setting.Worker.{Worker}
 
-module _ {T P E O : Type 0} (place : Workplace T P E O) where
-  -- the worker's tokens, if they are there, are those of its number, and it holds no call
-  abbrev pub IsWorker : ℕ → Option (WorkerTokens T P E O) → Type 0
-  IsWorker number None = Unit {0}
-  IsWorker number (Some tokens) = IsTokenAt place number tokens.queue × (tokens.held.items ≡ [])
+-- the worker has a token of the queue of its number, and holds no call
+abbrev pub IsWorker : Workplace LiveWorld GridPlan (Event Request) Happened → Worker → Type 0
+IsWorker place worker = IsTokenAt place worker.number worker.tokens.queue × (worker.tokens.held.items ≡ [])
 
-  -- each worker's are those of its place
-  abbrev pub AreWorkers : List (Option (WorkerTokens T P E O)) → Type 0
-  AreWorkers workers = (number : ℕ) (slot : Option (WorkerTokens T P E O)) → slice_get workers number ≡ Some slot → IsWorker number slot
+abbrev pub AreWorkers : Workplace LiveWorld GridPlan (Event Request) Happened → List Worker → Type 0
+AreWorkers place workers = All (λ (worker : Worker). IsWorker place worker) workers
 
 -- none of the passes has seen an event
 abbrev pub AreNew : List (Told (Event Request)) → Type 0

@@ -1,5 +1,5 @@
 -- What the tasks of a server do.
-use Rattle.std.specs.Prelude.{◌≡◌, ℕ, ◌≤◌, Result, OnOk}
+use Rattle.std.specs.Prelude.{◌≡◌, ℕ, ◌≤◌, Option, IfSome, IfNone, Result, OnOk}
 use Rattle.grid_base.specs.declared.calls.Request.{Request}
 use Rattle.call_engine.specs.Limits.{RequestFits}
 use Rattle.grid_cli.specs.declared.status.Status.{Status}
@@ -47,3 +47,14 @@ pub record HasOperated (grid : LiveGrid) (members : ℕ) (status : Status) (befo
   pub read_fault : status ≡ ReadFault → Rose before.script.faults after.script.faults
   pub write_fault : status ≡ WriteFault → Rose before.out.faults after.out.faults
   pub kept : MayControl grid new
+
+-- The operator was heard, and the control script run, or else nothing was read or written
+pub record HasHeard (grid : LiveGrid) (members : ℕ) (before after : Operator) (old new : GridPass) (told : Option Status) : Type 0 where
+  pub operated : IfSome told (λ status. HasOperated grid members status before after old new)
+  pub untouched : IfNone told (after ≡ before)
+
+-- Clients were served and the operator heard, or else there were too few threads and the operator wasn't heard
+pub record HasMet {F K : Type 0} (grid : LiveGrid) (gives : ℕ → Type 0) (members : ℕ) (connections : Connections LiveWorld F K GridPlan (Event Request) Happened) (opened closed : AtDoors) (before after : Operator) (old new : GridPass) (met : Option (Result (Unit {0}) DoorFault × Status)) : Type 0 where
+  pub served : IfSome met (λ ended. HasServedClients grid gives connections opened closed ended.0)
+  pub operated : IfSome met (λ ended. HasOperated grid members ended.1 before after old new)
+  pub untouched : IfNone met (after ≡ before)

@@ -1,12 +1,12 @@
 //! The command `serve`.
-ghost use Rattle.std.specs.Prelude.{◌≡◌, ◌≤◌, All, List, map, OnOk};
+ghost use Rattle.std.specs.Prelude.{◌≡◌, ◌≤◌, ◌+◌, ◌*◌, All, List, map, OnOk, IfErr, IfSome, IfNone};
 ghost use Rattle.entry_processors.specs.Forms.{form_of};
 ghost use Rattle.entry_processors.specs.declared.form.Form.{Form as FormOf};
 ghost use Rattle.grid_edge.specs.Faults.{Rose, HasCause};
 ghost use Rattle.hand_cell.specs.Calls.{plan_of};
 ghost use Rattle.live_grid.specs.Grids.{place_of};
 ghost use Rattle.live_grid.specs.Plans.{settings_for};
-ghost use Rattle.grid_server.specs.Commands.{HasEnded, IsNoGridFor};
+ghost use Rattle.grid_server.specs.Commands.{HasEnded, IsNoGridFor, IsShut};
 ghost use Rattle.grid_server.specs.Serving.{AtDoors, HasServed, IsOpened, operator, at_doors};
 ghost use Rattle.grid_server.specs.Settings.{IsSetting};
 ghost use Rattle.serve_options.specs.Options.{Words, IsRefusedFor, faults};
@@ -22,13 +22,15 @@ use entry_processors::{Form, Processor, Registry};
 use grid_cli::Status;
 use grid_edge::{Clock, DoorFault, Doors, Sink, Source};
 use live_grid::{GridPass, LiveGrid};
-use partition_threads::{Gate, OpenGate};
+use partition_threads::{Gate, OpenGate, THREADS};
 use serve_options::{OptionsRefused, ServeOptions, read_options};
 use std::alloc::Global;
 use std::sync::Wait;
 use std::thread::Threads;
+use thread_crew::{Room, room_for};
 
-/// Runs a server on its threads to its end, in a setting in which nothing has happened. The doors were just opened.
+/// Runs a server on its threads to its end, in a setting in which nothing has happened. The doors were just opened. Where a thread
+/// can't be made it doesn't look at the script.
 fn run<N, R, S, K, C, D, G>(
     rt: &R,
     alloc: Global,
@@ -41,7 +43,7 @@ fn run<N, R, S, K, C, D, G>(
     doors: &mut D,
     gate: &G,
     waker: D::Waker,
-) -> (Status, LiveGrid, GridPass)
+) -> Option<(Status, LiveGrid, GridPass)>
 where
     N: Environment,
     R: Threads + Wait + Sync,
@@ -55,17 +57,19 @@ where
     requires env { All (λ cell. N.settings env.env ≡ settings_for (plan_of cell)) (place_of setting.grid).cells.items }
     requires setting { (forms : List FormOf) × IsSetting options forms setting }
     requires doors { IsOpened options (D.book doors.old) }
-    ensures served { (forms : List FormOf) → IsSetting options forms setting → HasServed options forms (C.gives clock.now)
+    ensures served { IfSome result (λ ended. (forms : List FormOf) → IsSetting options forms setting → HasServed options forms (C.gives clock.now)
         (operator (S.left script.old) (S.faults script.old) (K.taken out.old) (K.faults out.old))
         (operator (S.left script.new) (S.faults script.new) (K.taken out.new) (K.faults out.new))
         (at_doors (D.book doors.old) (D.empty_looks doors.old) (D.faults doors.old))
         (at_doors (D.book doors.new) (D.empty_looks doors.new) (D.faults doors.new))
-        result.0 result.1 result.2 }
+        ended.0 ended.1 ended.2) }
+    ensures untouched { IfNone result (operator (S.left script.new) (S.faults script.new) (K.taken out.new) (K.faults out.new)
+        ≡ operator (S.left script.old) (S.faults script.old) (K.taken out.old) (K.faults out.old)) }
 {
     let Setting {
         grid,
         pass: GridPass { passes, tokens },
-        mut workers,
+        workers,
         mut connections,
     } = setting;
     let mut pass = GridPass {
@@ -77,18 +81,21 @@ where
         gate,
         waker: &stage.waker,
     };
-    let (ended, told) = run_threads(
+    let ran = run_threads(
         rt,
         &stage,
         clock,
         &waking,
-        &mut workers,
+        workers,
         &mut connections,
         doors,
         &mut pass,
         script,
         out,
     );
+    let Some((ended, told)) = ran else {
+        return None;
+    };
     let grid = stage.into_grid();
     let GridPass { passes, .. } = pass;
     let mut pass = GridPass { passes, tokens };
@@ -98,11 +105,12 @@ where
         Ok(()) => told,
         Err(DoorFault) => Status::DoorFault,
     };
-    (status, grid, pass)
+    Some((status, grid, pass))
 }
 
-/// Opens the doors for the members, and gives what wakes who waits there.
-fn open<D: Doors>(doors: &mut D, options: ServeOptions) -> Result<D::Waker, DoorFault>
+/// Opens the doors for the members, and gives what wakes who waits there. There is room for the server's threads.
+fn open<D: Doors>(doors: &mut D, options: ServeOptions, _room: &Room) -> Result<D::Waker, DoorFault>
+    requires room { _room.now.threads ≡ 4 * options.members + 1 }
     requires some { 1 ≤ options.members }
     requires most { options.members ≤ 8 }
     requires port { options.port ≤ 65528 }
@@ -112,6 +120,34 @@ fn open<D: Doors>(doors: &mut D, options: ServeOptions) -> Result<D::Waker, Door
 {
     doors.open(options.members, options.port)?;
     doors.waker()
+}
+
+/// Opens the doors as `open` does, if there is room for the threads of a server beside the one that it begins with: those of its
+/// workers, and one for its clients.
+fn open_with_room<R: Threads + Wait + Sync, D: Doors>(
+    rt: &R,
+    alloc: Global,
+    doors: &mut D,
+    options: ServeOptions,
+) -> Result<D::Waker, Status>
+    requires some { 1 ≤ options.members }
+    requires most { options.members ≤ 8 }
+    requires port { options.port ≤ 65528 }
+    ensures ok { OnOk result (IsOpened options (D.book doors.new)) }
+    ensures looks { D.empty_looks doors.new ≡ D.empty_looks doors.old }
+    ensures never_falls { D.faults doors.old ≤ D.faults doors.new }
+    ensures err { IfErr result (λ status. IsShut status
+        (at_doors (D.book doors.old) (D.empty_looks doors.old) (D.faults doors.old))
+        (at_doors (D.book doors.new) (D.empty_looks doors.new) (D.faults doors.new))) }
+{
+    let threads = THREADS * usize::from(options.members) + 1;
+    let Some(room) = room_for(rt, alloc, threads) else {
+        return Err(Status::Memory);
+    };
+    match open(doors, options, &room) {
+        Ok(waker) => Ok(waker),
+        Err(DoorFault) => Err(Status::DoorFault),
+    }
 }
 
 /// How a command ends whose words are no options. Who asks for help is to have it before.
@@ -164,12 +200,16 @@ where
     let Ok(setting) = Setting::new(alloc, options, &env, forms) else {
         return Ended::without_grid(Status::Memory);
     };
-    let Ok(waker) = open(doors, options) else {
-        return Ended::without_grid(Status::DoorFault);
+    let waker = match open_with_room(rt, alloc, doors, options) {
+        Ok(waker) => waker,
+        Err(status) => return Ended::without_grid(status),
     };
-    let (status, grid, pass) = run(
+    let ran = run(
         rt, alloc, options, env, setting, script, out, clock, doors, gate, waker,
     );
+    let Some((status, grid, pass)) = ran else {
+        return Ended::without_grid(Status::Memory);
+    };
     Ended {
         status,
         grid: Some((grid, pass)),

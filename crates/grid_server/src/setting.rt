@@ -17,34 +17,45 @@ use std::alloc::{AllocError, Global};
 /// How many workers a member has.
 const THREADS: u8 = partition_threads::THREADS as u8;
 
+/// What one worker of a grid needs: its number, and what it holds.
+#[derive(Drop)]
+pub(crate) struct Worker {
+    pub(crate) number: usize,
+    pub(crate) tokens: WorkerTokens<LiveWorld>,
+}
+
 /// A grid with all that its threads need: what each worker holds, the operator's pass, and the connections with theirs.
 #[derive(Drop)]
 pub(crate) struct Setting<F, K> {
     pub(crate) grid: LiveGrid,
     pub(crate) pass: GridPass,
-    pub(crate) workers: Vec<Option<WorkerTokens<LiveWorld>>>,
+    pub(crate) workers: Vec<Worker>,
     pub(crate) connections: Connections<LiveWorld, F, K>,
 }
 
-/// What each worker of the grid holds, in their order.
-fn tokens_of(
+/// The grid's workers, in their order.
+fn workers_of(
     alloc: Global,
     grid: &LiveGrid,
     pass: &mut GridPass,
     workers: u8,
-) -> Result<Vec<Option<WorkerTokens<LiveWorld>>>, Memory>
+) -> Result<Vec<Worker>, Memory>
     requires pass { IsGridPassOf grid.now pass.old }
     requires workers { length pass.old.tokens.items ≡ workers }
     ensures workers { IfOk result (λ made. AreWorkers (place_of grid.now) made.items) }
     ensures passes_stay { pass.new.passes.items ≡ pass.old.passes.items }
     ensures tokens_stay { pass.new.tokens.items ≡ pass.old.tokens.items }
 {
-    let mut slots = Vec::with_capacity(alloc, usize::from(workers))?;
+    let mut made = Vec::with_capacity(alloc, usize::from(workers))?;
     for number in 0..workers {
         let (member, thread) = (number / THREADS, number % THREADS);
-        slots.push(Some(grid.tokens(alloc, pass, member, thread)?))?;
+        let tokens = grid.tokens(alloc, pass, member, thread)?;
+        made.push(Worker {
+            number: usize::from(number),
+            tokens,
+        })?;
     }
-    Ok(slots)
+    Ok(made)
 }
 
 impl<F, K> Setting<F, K> {
@@ -69,7 +80,7 @@ impl<F, K> Setting<F, K> {
             ..
         } = options;
         let (grid, mut pass) = LiveGrid::new(alloc, members, backups, env, forms, capacity)?;
-        let workers = tokens_of(alloc, &grid, &mut pass, THREADS * members)?;
+        let workers = workers_of(alloc, &grid, &mut pass, THREADS * members)?;
         let GridPass { passes, tokens } = grid.split(alloc, &mut pass)?;
         let connections = match Connections::new(alloc, passes, tokens) {
             Ok(connections) => connections,

@@ -1,29 +1,32 @@
 //! The threads of a server.
-ghost use Rattle.std.specs.Prelude.{◌≡◌, ◌≤◌};
+ghost use Rattle.std.specs.Prelude.{◌≡◌, ◌≤◌, IfSome, IfNone};
 ghost use Rattle.call_engine.specs.Limits.{RequestFits};
 ghost use Rattle.live_grid.specs.Grids.{place_of};
 ghost use Rattle.live_grid.specs.Histories.{live_key};
 ghost use Rattle.live_control.specs.Running.{MayServe as MayControl};
 ghost use Rattle.live_server.specs.Standing.{MayServe};
 ghost use Rattle.live_session.specs.Connections.{ServesCalls};
-ghost use Rattle.grid_server.specs.Settings.{AreWorkers};
+ghost use Rattle.grid_server.specs.Settings.{IsWorker, AreWorkers};
 ghost use Rattle.grid_server.specs.Serving.{operator, at_doors};
-ghost use Rattle.grid_server.specs.Tasks.{MayMeet, HasServedClients, HasOperated};
+ghost use Rattle.grid_server.specs.Tasks.{MayMeet, HasServedClients, HasOperated, HasHeard, HasMet};
 
 use crate::desk::operate;
 use crate::hall::serve_hall;
+use crate::setting::Worker;
 use crate::stage::Stage;
-use crate::working::run_workers;
+use crate::working::run_worker;
 use call_environment::Environment;
 use grid_cli::Status;
 use grid_edge::{Clock, DoorFault, Doors, Sink, Source};
 use live_grid::{GridPass, LiveWorld};
 use live_server::Connections;
-use partition_threads::{Gate, WorkerTokens};
+use partition_threads::Gate;
 use std::sync::Wait;
-use std::thread::{Threads, join_mut};
+use std::thread::Threads;
+use thread_crew::{join_told, with_crew};
 
-/// Serves clients on one thread, and the operator on this one.
+/// Serves clients on a thread of its own, and the operator on this one. Where no such thread can be made the operator isn't heard, and
+/// those clients alone are served that have come by then.
 fn serve_both<N, R, S, K, C, D>(
     rt: &R,
     stage: &Stage<N, D::Waker>,
@@ -33,7 +36,7 @@ fn serve_both<N, R, S, K, C, D>(
     pass: &mut GridPass,
     script: &mut S,
     out: &mut K,
-) -> (Result<(), DoorFault>, Status)
+) -> (Result<(), DoorFault>, Option<Status>)
 where
     N: Environment,
     R: Threads + Wait + Sync,
@@ -45,21 +48,59 @@ where
     ensures served { HasServedClients stage.now.grid (C.gives clock.now) connections.new
         (at_doors (D.book doors.old) (D.empty_looks doors.old) (D.faults doors.old))
         (at_doors (D.book doors.new) (D.empty_looks doors.new) (D.faults doors.new)) result.0 }
-    ensures operated { HasOperated stage.now.grid stage.now.options.members result.1
+    ensures heard { HasHeard stage.now.grid stage.now.options.members
         (operator (S.left script.old) (S.faults script.old) (K.taken out.old) (K.faults out.old))
         (operator (S.left script.new) (S.faults script.new) (K.taken out.new) (K.faults out.new))
-        pass.old pass.new }
+        pass.old pass.new result.1 }
 {
     let mut serving = || -> Result<(), DoorFault>
         requires { ServesCalls RequestFits (place_of stage.now.grid) × MayServe live_key (place_of stage.now.grid) connections.now (D.book doors.now) }
     { serve_hall(rt, stage, clock, connections, doors) };
-    let mut operating = || -> Status
+    let mut operating = |is_served: bool| -> Option<Status>
         requires { (1 ≤ stage.now.options.members) × (stage.now.options.members ≤ 8) × MayControl stage.now.grid pass.now }
-    { operate(rt, stage, pass, script, out) };
-    join_mut(rt, &mut serving, &mut operating)
+    { operate(rt, stage, pass, script, out, is_served) };
+    let (_, ended, told) = join_told(rt, &mut serving, &mut operating);
+    (ended, told)
 }
 
-/// Serves clients and the operator, and then has the workers end.
+/// Serves clients and the operator, if each worker runs.
+fn serve_if_whole<N, R, S, K, C, D>(
+    rt: &R,
+    stage: &Stage<N, D::Waker>,
+    clock: &C,
+    connections: &mut Connections<LiveWorld, D::From, D::To>,
+    doors: &mut D,
+    pass: &mut GridPass,
+    script: &mut S,
+    out: &mut K,
+    is_whole: bool,
+) -> Option<(Result<(), DoorFault>, Status)>
+where
+    N: Environment,
+    R: Threads + Wait + Sync,
+    S: Source,
+    K: Sink,
+    C: Clock,
+    D: Doors,
+    requires { MayMeet stage.now.options stage.now.grid (D.book doors.old) connections.old pass.old }
+    ensures { HasMet stage.now.grid (C.gives clock.now) stage.now.options.members connections.new
+        (at_doors (D.book doors.old) (D.empty_looks doors.old) (D.faults doors.old))
+        (at_doors (D.book doors.new) (D.empty_looks doors.new) (D.faults doors.new))
+        (operator (S.left script.old) (S.faults script.old) (K.taken out.old) (K.faults out.old))
+        (operator (S.left script.new) (S.faults script.new) (K.taken out.new) (K.faults out.new))
+        pass.old pass.new result }
+{
+    if !is_whole {
+        return None;
+    }
+    let (ended, told) = serve_both(rt, stage, clock, connections, doors, pass, script, out);
+    match told {
+        Some(told) => Some((ended, told)),
+        None => None,
+    }
+}
+
+/// Serves clients and the operator, if each worker runs, and then has the workers end.
 fn serve_front<N, R, S, K, C, D>(
     rt: &R,
     stage: &Stage<N, D::Waker>,
@@ -69,7 +110,8 @@ fn serve_front<N, R, S, K, C, D>(
     pass: &mut GridPass,
     script: &mut S,
     out: &mut K,
-) -> (Result<(), DoorFault>, Status)
+    is_whole: bool,
+) -> Option<(Result<(), DoorFault>, Status)>
 where
     N: Environment,
     R: Threads + Wait + Sync,
@@ -78,32 +120,41 @@ where
     C: Clock,
     D: Doors,
     requires { MayMeet stage.now.options stage.now.grid (D.book doors.old) connections.old pass.old }
-    ensures served { HasServedClients stage.now.grid (C.gives clock.now) connections.new
+    ensures { HasMet stage.now.grid (C.gives clock.now) stage.now.options.members connections.new
         (at_doors (D.book doors.old) (D.empty_looks doors.old) (D.faults doors.old))
-        (at_doors (D.book doors.new) (D.empty_looks doors.new) (D.faults doors.new)) result.0 }
-    ensures operated { HasOperated stage.now.grid stage.now.options.members result.1
+        (at_doors (D.book doors.new) (D.empty_looks doors.new) (D.faults doors.new))
         (operator (S.left script.old) (S.faults script.old) (K.taken out.old) (K.faults out.old))
         (operator (S.left script.new) (S.faults script.new) (K.taken out.new) (K.faults out.new))
-        pass.old pass.new }
+        pass.old pass.new result }
 {
-    let ended = serve_both(rt, stage, clock, connections, doors, pass, script, out);
+    let ended = serve_if_whole(
+        rt,
+        stage,
+        clock,
+        connections,
+        doors,
+        pass,
+        script,
+        out,
+        is_whole,
+    );
     stage.grid.workplace().stop();
     ended
 }
 
 /// Runs the workers beside all that meets the outside.
-pub(crate) fn run_threads<N, R, S, K, C, D, G>(
+fn run_crew<N, R, S, K, C, D, G>(
     rt: &R,
     stage: &Stage<N, D::Waker>,
     clock: &C,
     gate: &G,
-    workers: &mut Vec<Option<WorkerTokens<LiveWorld>>>,
+    workers: Vec<Worker>,
     connections: &mut Connections<LiveWorld, D::From, D::To>,
     doors: &mut D,
     pass: &mut GridPass,
     script: &mut S,
     out: &mut K,
-) -> (Result<(), DoorFault>, Status)
+) -> Option<(Result<(), DoorFault>, Status)>
 where
     N: Environment,
     R: Threads + Wait + Sync,
@@ -112,22 +163,81 @@ where
     C: Clock,
     D: Doors,
     G: Gate,
-    requires workers { AreWorkers (place_of stage.now.grid) workers.old.items }
+    requires workers { AreWorkers (place_of stage.now.grid) workers.items }
     requires front { MayMeet stage.now.options stage.now.grid (D.book doors.old) connections.old pass.old }
-    ensures served { HasServedClients stage.now.grid (C.gives clock.now) connections.new
+    ensures { HasMet stage.now.grid (C.gives clock.now) stage.now.options.members connections.new
         (at_doors (D.book doors.old) (D.empty_looks doors.old) (D.faults doors.old))
-        (at_doors (D.book doors.new) (D.empty_looks doors.new) (D.faults doors.new)) result.0 }
-    ensures operated { HasOperated stage.now.grid stage.now.options.members result.1
+        (at_doors (D.book doors.new) (D.empty_looks doors.new) (D.faults doors.new))
         (operator (S.left script.old) (S.faults script.old) (K.taken out.old) (K.faults out.old))
         (operator (S.left script.new) (S.faults script.new) (K.taken out.new) (K.faults out.new))
-        pass.old pass.new }
+        pass.old pass.new result }
 {
-    let mut working = ||
-        requires { AreWorkers (place_of stage.now.grid) workers.now.items }
-    { run_workers(rt, stage, gate, workers) };
-    let mut meeting = || -> (Result<(), DoorFault>, Status)
+    let work = |worker: Worker|
+        requires { IsWorker (place_of stage.now.grid) worker }
+    { run_worker(rt, stage, gate, worker) };
+    let mut meeting = |is_whole: bool| -> Option<(Result<(), DoorFault>, Status)>
         requires { MayMeet stage.now.options stage.now.grid (D.book doors.now) connections.now pass.now }
-    { serve_front(rt, stage, clock, connections, doors, pass, script, out) };
-    let (_, ended) = join_mut(rt, &mut working, &mut meeting);
+    {
+        serve_front(
+            rt,
+            stage,
+            clock,
+            connections,
+            doors,
+            pass,
+            script,
+            out,
+            is_whole,
+        )
+    };
+    let (_, ended) = with_crew(rt, stage.alloc, workers, &work, &mut meeting);
     ended
+}
+
+/// Runs the workers beside all that meets the outside. Where a thread can't be made the operator isn't heard, and if it's one of a worker
+/// no client is served.
+pub(crate) fn run_threads<N, R, S, K, C, D, G>(
+    rt: &R,
+    stage: &Stage<N, D::Waker>,
+    clock: &C,
+    gate: &G,
+    workers: Vec<Worker>,
+    connections: &mut Connections<LiveWorld, D::From, D::To>,
+    doors: &mut D,
+    pass: &mut GridPass,
+    script: &mut S,
+    out: &mut K,
+) -> Option<(Result<(), DoorFault>, Status)>
+where
+    N: Environment,
+    R: Threads + Wait + Sync,
+    S: Source,
+    K: Sink,
+    C: Clock,
+    D: Doors,
+    G: Gate,
+    requires workers { AreWorkers (place_of stage.now.grid) workers.items }
+    requires front { MayMeet stage.now.options stage.now.grid (D.book doors.old) connections.old pass.old }
+    ensures served { IfSome result (λ ended. HasServedClients stage.now.grid (C.gives clock.now) connections.new
+        (at_doors (D.book doors.old) (D.empty_looks doors.old) (D.faults doors.old))
+        (at_doors (D.book doors.new) (D.empty_looks doors.new) (D.faults doors.new)) ended.0) }
+    ensures operated { IfSome result (λ ended. HasOperated stage.now.grid stage.now.options.members ended.1
+        (operator (S.left script.old) (S.faults script.old) (K.taken out.old) (K.faults out.old))
+        (operator (S.left script.new) (S.faults script.new) (K.taken out.new) (K.faults out.new))
+        pass.old pass.new) }
+    ensures untouched { IfNone result (operator (S.left script.new) (S.faults script.new) (K.taken out.new) (K.faults out.new)
+        ≡ operator (S.left script.old) (S.faults script.old) (K.taken out.old) (K.faults out.old)) }
+{
+    run_crew(
+        rt,
+        stage,
+        clock,
+        gate,
+        workers,
+        connections,
+        doors,
+        pass,
+        script,
+        out,
+    )
 }

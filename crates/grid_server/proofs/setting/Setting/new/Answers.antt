@@ -10,7 +10,7 @@ use Rattle.grid_server.proofs.setting.Setting.new.Goals as goal
 pub returns-clause-setting : goal.returns-clause-setting
 returns-clause-setting g c =
     let cells = (place_of c.in_ok-grid.grid).cells.items in
-    let before = c.tokens_of.ensures.passes_stay ∙ c.in_ok-grid.ensures.passes in
+    let before = c.workers_of.ensures.passes_stay ∙ c.in_ok-grid.ensures.passes in
     let left = c.in_ok-passes.ensures.left ∙ ap (map (giving_up Every)) before in
     let theirs = c.in-Ok.ensures.passes ∙ (c.in_ok-passes.ensures.parts ∙ ap (map (given Every)) before) in
     let long = c.in_ok-grid.pass.tokens.ok.0 in
@@ -32,6 +32,6 @@ returns-clause-setting g c =
         };
         named = λ number. subst (HaveNumber number) (sym theirs) (second_named cells number);
         unseen = subst AreNew (sym theirs) (second_new cells);
-        workers = ap length c.in-Ok.ensures.tokens ∙ (c.in_ok-passes.ensures.workers ∙ (ap length c.tokens_of.ensures.tokens_stay ∙ as_many));
+        workers = ap length c.in-Ok.ensures.tokens ∙ (c.in_ok-passes.ensures.workers ∙ (ap length c.workers_of.ensures.tokens_stay ∙ as_many));
       };
     }

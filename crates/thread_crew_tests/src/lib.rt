@@ -1,0 +1,5 @@
+//! Tests of crews of threads.
+#![tactic(auto)]
+
+#[cfg(test)]
+mod crews;
