@@ -1,0 +1,4 @@
+pub mod Lists
+pub mod Nears
+pub mod Ties
+pub mod Connections
