@@ -1,5 +1,5 @@
 -- Lists of which the first element that passes a test goes, or is changed; and lists whose elements are changed each.
-use Rattle.std.proofs.Common.{◌≡◌, ℕ, zero, suc, ◌+◌, ◌<◌, Bool, true, false, not, cond, nat_lt, List, [], ◌∷◌, ◌++◌, map, filter, take, length, get_or, Option, Some, None, option_map, refl, ap, sym, ◌∙◌, arith}
+use Rattle.std.proofs.Common.{◌≡◌, ℕ, zero, suc, ◌+◌, ◌<◌, Bool, true, false, not, cond, ◌||◌, nat_lt, List, [], ◌∷◌, ◌++◌, map, filter, take, length, get_or, Option, Some, None, option_map, refl, ap, sym, ◌∙◌, arith}
 use Rattle.std.specs.Prelude.{slice_get, slice_set}
 use Rattle.std.specs.List.{find, list_any, position, position_or_len, remove}
 use Rattle.std.specs.Option.{option_map_or}
@@ -44,7 +44,7 @@ module _ {X : Type 0} (test : X → Bool) where
   any_found (x ∷ xs) = by (test x) (any_found xs)
     where
       by : (b : Bool) → list_any test xs ≡ nat_lt (position_or_len test xs) (length xs)
-          → cond b true (list_any test xs) ≡ nat_lt (cond (not b) (1 + position_or_len test xs) 0) (suc (length xs))
+          → (b || list_any test xs) ≡ nat_lt (cond (not b) (1 + position_or_len test xs) 0) (suc (length xs))
       by true ih = grind (arith, nat_tests)
       by false ih = ih ∙ (let e : nat_lt (position_or_len test xs) (length xs) ≡ nat_lt (1 + position_or_len test xs) (suc (length xs)) = grind (arith, nat_tests) in e)
 
@@ -69,7 +69,7 @@ module _ {X : Type 0} (test : X → Bool) where
   none_any [] none = refl
   none_any (x ∷ xs) none = by (test x) none (none_any xs)
     where
-      by : (b : Bool) → cond b true (list_any test xs) ≡ false → (list_any test xs ≡ false → find test xs ≡ None) → cond b (Some x) (find test xs) ≡ None
+      by : (b : Bool) → (b || list_any test xs) ≡ false → (list_any test xs ≡ false → find test xs ≡ None) → cond b (Some x) (find test xs) ≡ None
       by true h ih = absurd cc
       by false h ih = ih h
 
@@ -88,6 +88,13 @@ module _ {X : Type 0} (test : X → Bool) where
       by : (b : Bool) → nat_lt (position_or_len test xs) (length xs) ≡ b → None ≡ cond b (Some (position_or_len test xs)) None → find test xs ≡ None
       by true t is = absurd cc
       by false t is = none_any xs (any_found xs ∙ t)
+
+  pub position_not_any : (xs : List X) → None ≡ position test xs → list_any test xs ≡ false
+  position_not_any xs none = by (nat_lt (position_or_len test xs) (length xs)) refl none
+    where
+      by : (b : Bool) → nat_lt (position_or_len test xs) (length xs) ≡ b → None ≡ cond b (Some (position_or_len test xs)) None → list_any test xs ≡ false
+      by true t is = absurd cc
+      by false t is = any_found xs ∙ t
 
   -- it is what `find` finds, and what `remove` leaves is what is left without it
   pub position_found : (xs : List X) (i : ℕ) (x : X) → Some i ≡ position test xs → x ≡ get_or xs i x → find test xs ≡ Some x

@@ -14,7 +14,7 @@ use Rattle.near_cache.proofs.Waiting.{ties, tie_not, get_overtaken}
 use Rattle.grid_client.specs.Lists.{erased_by}
 use Rattle.grid_client.specs.Nears.{Near, Value, Entry, Look, is_for, hit, others, used, opened, has_number, look_up, closed, kept, filled, answered, outcome_of, outcome, overtaking, dropping, invalidated, cleared, entry_of, overtaking_of, look_of, seen, near_of, AreOpen}
 use Rattle.grid_client.specs.declared.near.Awaited.{Awaited}
-use Rattle.grid_client.proofs.Lists.{find_map, filter_map_each, take_map}
+use Rattle.grid_client.proofs.Lists.{find_map, filter_map_each, take_map, none_erased}
 
 -- ---- entries
 
@@ -63,7 +63,7 @@ dropped_entries test es = sym (filter_map_each entry_of (λ (e : Entry). not (te
 
 -- ---- look-ups
 
-abbrev has : ℕ → Awaited → Bool
+abbrev pub has : ℕ → Awaited → Bool
 has number a = a.number == number
 
 get_insert_other : (w : LookUps) (n m : ℕ) (r : kept_look_up.LookUp) → m ≢ n → get (insert w n r) m ≡ get w m
@@ -82,7 +82,6 @@ apart w n m some none same = absurd (let it = ap (λ (k : ℕ). is_some (get w k
 -- what is seen of the same look-ups
 seen_alike : (v w : LookUps) (a : Awaited) → get v a.reservation ≡ get w a.reservation → seen v a ≡ seen w a
 seen_alike v w a same = ap (option_map (look_of a.number)) same
-
 
 some_is : {X : Type 0} (o : Option X) → IsSome o → (x : X) × (o ≡ Some x)
 some_is None some = absurd cc
@@ -145,12 +144,13 @@ opened_seen number n key name c as_ none are =
 
 pub opened_open : (number n : ℕ) (r : kept_look_up.LookUp) (w : LookUps) (as_ : List Awaited) → get w n ≡ None → AreOpen w as_
     → AreOpen (insert w n r) (as_ ++ record { number = number; reservation = n } ∷ [])
-opened_open number n r w [] none are = (subst (λ (o : Option kept_look_up.LookUp). IsSome o) (sym (get_insert_same w n r)) refl, (tt, tt))
+opened_open number n r w [] none are = (subst (λ (o : Option kept_look_up.LookUp). IsSome o) (sym (get_insert_same w n r)) refl, tt, tt)
 opened_open number n r w (a ∷ as_) none are =
-    let ne = apart w n a.reservation are.0 none in
-    (subst (λ (o : Option kept_look_up.LookUp). IsSome o) (sym (get_insert_other w n a.reservation r ne)) are.0,
-     All-more (λ (b : Awaited). b.reservation ≢ a.reservation) as_ (record { number = number; reservation = n }) are.1 (λ e. ne (sym e)),
-     opened_open number n r w as_ none are.2)
+    let ne = apart w n a.reservation are.0 none in (
+      subst (λ (o : Option kept_look_up.LookUp). IsSome o) (sym (get_insert_other w n a.reservation r ne)) are.0,
+      All-more (λ (b : Awaited). b.reservation ≢ a.reservation) as_ (record { number = number; reservation = n }) are.1 (λ e. ne (sym e)),
+      opened_open number n r w as_ none are.2,
+    )
 
 -- ---- one that is closed
 
@@ -234,9 +234,11 @@ open_closed w number (x ∷ as_) a are found = by (has number x) found (open_clo
         → AreOpen (remove w a.reservation) (cond b as_ (x ∷ erased_by (has number) as_))
     by true is ih = let same : x ≡ a = cc in subst (λ (y : Awaited). AreOpen (remove w y.reservation) as_) same (open_left w x.reservation as_ are.1 are.2)
     by false is ih =
-        let ne : a.reservation ≢ x.reservation = All-found (λ (b : Awaited). b.reservation ≢ x.reservation) (has number) as_ a are.1 is in
-        (subst (λ (o : Option kept_look_up.LookUp). IsSome o) (sym (get_remove_other w a.reservation x.reservation (λ e. ne (sym e)))) are.0,
-         All-erased (λ (b : Awaited). b.reservation ≢ x.reservation) (has number) as_ are.1, ih is)
+        let ne : a.reservation ≢ x.reservation = All-found (λ (b : Awaited). b.reservation ≢ x.reservation) (has number) as_ a are.1 is in (
+          subst (λ (o : Option kept_look_up.LookUp). IsSome o) (sym (get_remove_other w a.reservation x.reservation (λ e. ne (sym e)))) are.0,
+          All-erased (λ (b : Awaited). b.reservation ≢ x.reservation) (has number) as_ are.1,
+          ih is,
+        )
 
 -- the look-up of a number is closed, where one is open
 
@@ -352,3 +354,72 @@ pub dropping_open : (test : List ℕ → Bool) (by : kept_overtaking.Overtaking)
 dropping_open test by w [] are = tt
 dropping_open test by w (a ∷ as_) are =
     (subst (λ (o : Option kept_look_up.LookUp). IsSome o) (sym (get_overtaken test by w a.reservation)) (still_open (get w a.reservation) (cache_overtaking test by) are.0), are.1, dropping_open test by w as_ are.2)
+
+-- what was taken out under a number
+pub taken_is : (number : ℕ) (as_ : List Awaited) (n : ℕ) → Some n ≡ option_map (λ (a : Awaited). a.reservation) (find (has number) as_)
+    → (a : Awaited) × ((find (has number) as_ ≡ Some a) × (a.reservation ≡ n))
+taken_is number as_ n taken = by (find (has number) as_) refl taken
+  where
+    by : (o : Option Awaited) → find (has number) as_ ≡ o → Some n ≡ option_map (λ (a : Awaited). a.reservation) o → (a : Awaited) × ((find (has number) as_ ≡ Some a) × (a.reservation ≡ n))
+    by None is h = absurd cc
+    by (Some a) is h = let same : a.reservation ≡ n = cc in (a, (is, same))
+
+pub taken_none : (number : ℕ) (as_ : List Awaited) → None ≡ option_map (λ (a : Awaited). a.reservation) (find (has number) as_) → find (has number) as_ ≡ None
+taken_none number as_ taken = by (find (has number) as_) refl taken
+  where
+    by : (o : Option Awaited) → find (has number) as_ ≡ o → None ≡ option_map (λ (a : Awaited). a.reservation) o → find (has number) as_ ≡ None
+    by None is h = is
+    by (Some a) is h = absurd cc
+
+pub is_open_taken : (w : LookUps) (number : ℕ) (as_ : List Awaited) (n : ℕ) → AreOpen w as_ → Some n ≡ option_map (λ (a : Awaited). a.reservation) (find (has number) as_) → IsSome (get w n)
+is_open_taken w number as_ n are taken =
+    let it = taken_is number as_ n taken in
+    subst (λ (m : ℕ). IsSome (get w m)) it.1.1 (open_found w (has number) as_ it.0 are it.1.0)
+
+-- those that are left are open, also where the one that was taken out is closed
+pub open_after : (w : LookUps) (number : ℕ) (as_ : List Awaited) (n : ℕ) → AreOpen w as_ → Some n ≡ option_map (λ (a : Awaited). a.reservation) (find (has number) as_)
+    → AreOpen (remove w n) (erased_by (has number) as_)
+open_after w number as_ n are taken =
+    let it = taken_is number as_ n taken in
+    subst (λ (m : ℕ). AreOpen (remove w m) (erased_by (has number) as_)) it.1.1 (open_closed w number as_ it.0 are it.1.0)
+
+waiting_after : (c : Cache) (n : ℕ) (value : Value) → IsSome (get c.waiting n) → (cache.answered n value c).waiting ≡ remove c.waiting n
+waiting_after c n value some = waiting_answered n value c ∙ ap (λ (b : Bool). cond b (remove c.waiting n) c.waiting) some
+
+pub open_answered : (c : Cache) (number : ℕ) (as_ : List Awaited) (n : ℕ) (value : Value) → AreOpen c.waiting as_ → Some n ≡ option_map (λ (a : Awaited). a.reservation) (find (has number) as_)
+    → AreOpen (cache.answered n value c).waiting (erased_by (has number) as_)
+open_answered c number as_ n value are taken =
+    subst (λ (w : LookUps). AreOpen w (erased_by (has number) as_)) (sym (waiting_after c n value (is_open_taken c.waiting number as_ n are taken))) (open_after c.waiting number as_ n are taken)
+
+pub filled_after : (number : ℕ) (name : List ℕ) (value : Value) (c : Cache) (as_ : List Awaited) (n : ℕ) → AreOpen c.waiting as_ → Some n ≡ option_map (λ (a : Awaited). a.reservation) (find (has number) as_)
+    → near_of name (cache.answered n value c) (erased_by (has number) as_) ≡ answered number (Some value) (near_of name c as_)
+filled_after number name value c as_ n are taken =
+    let it = taken_is number as_ n taken in
+    subst (λ (m : ℕ). near_of name (cache.answered m value c) (erased_by (has number) as_) ≡ answered number (Some value) (near_of name c as_)) it.1.1 (answered_seen number name value c as_ it.0 are it.1.0)
+
+pub outcome_after : (number : ℕ) (name : List ℕ) (value : Value) (c : Cache) (as_ : List Awaited) (n : ℕ) → AreOpen c.waiting as_ → Some n ≡ option_map (λ (a : Awaited). a.reservation) (find (has number) as_)
+    → Some (cache.outcome_of (cache.overtaken n c)) ≡ outcome number (Some value) (near_of name c as_)
+outcome_after number name value c as_ n are taken =
+    let it = taken_is number as_ n taken in
+    subst (λ (m : ℕ). Some (cache.outcome_of (cache.overtaken m c)) ≡ outcome number (Some value) (near_of name c as_)) it.1.1 (outcome_seen number name value c as_ it.0 are it.1.0)
+
+pub closed_after : (number : ℕ) (name : List ℕ) (c : Cache) (as_ : List Awaited) (n : ℕ) → AreOpen c.waiting as_ → Some n ≡ option_map (λ (a : Awaited). a.reservation) (find (has number) as_)
+    → near_of name (cache.closed n c) (erased_by (has number) as_) ≡ closed number (near_of name c as_)
+closed_after number name c as_ n are taken =
+    let it = taken_is number as_ n taken in
+    subst (λ (m : ℕ). near_of name (cache.closed m c) (erased_by (has number) as_) ≡ closed number (near_of name c as_)) it.1.1 (closed_seen number name c as_ it.0 are it.1.0)
+
+-- where nothing waits under the number
+pub nothing_after : (number : ℕ) (name : List ℕ) (value : Value) (c : Cache) (as_ : List Awaited) → AreOpen c.waiting as_ → None ≡ option_map (λ (a : Awaited). a.reservation) (find (has number) as_)
+    → near_of name c (erased_by (has number) as_) ≡ answered number (Some value) (near_of name c as_)
+nothing_after number name value c as_ are taken =
+    let none = taken_none number as_ taken in
+    ap (near_of name c) (none_erased (has number) as_ none) ∙ sym (answered_none number name value c as_ are none)
+
+pub no_outcome : (number : ℕ) (name : List ℕ) (value : Value) (c : Cache) (as_ : List Awaited) → AreOpen c.waiting as_ → None ≡ option_map (λ (a : Awaited). a.reservation) (find (has number) as_)
+    → None ≡ outcome number (Some value) (near_of name c as_)
+no_outcome number name value c as_ are taken = sym (outcome_none number name value c as_ are (taken_none number as_ taken))
+
+pub nothing_closed : (number : ℕ) (name : List ℕ) (c : Cache) (as_ : List Awaited) → AreOpen c.waiting as_ → None ≡ option_map (λ (a : Awaited). a.reservation) (find (has number) as_)
+    → near_of name c (erased_by (has number) as_) ≡ closed number (near_of name c as_)
+nothing_closed number name c as_ are taken = closed_none number name c as_ are (taken_none number as_ taken)

@@ -104,10 +104,11 @@ apart_dropped test by n (r ∷ rs) all = (λ e. all.0 (sym (overtaking_number te
 
 below_dropped : (test : List ℕ → Bool) (by : Overtaking) (next : ℕ) (rs : List Look) → AreBelow next rs → AreBelow next (map (overtaking test by) rs)
 below_dropped test by next [] are = tt
-below_dropped test by next (r ∷ rs) are =
-    (subst (λ n. n < next) (sym (overtaking_number test by r)) are.0,
-     subst (λ n. AllByRecursion (λ (q : Look). q.number ≢ n) (map (overtaking test by) rs)) (sym (overtaking_number test by r)) (apart_dropped test by r.number rs are.1),
-     below_dropped test by next rs are.2)
+below_dropped test by next (r ∷ rs) are = (
+  subst (λ n. n < next) (sym (overtaking_number test by r)) are.0,
+  subst (λ n. AllByRecursion (λ (q : Look). q.number ≢ n) (map (overtaking test by) rs)) (sym (overtaking_number test by r)) (apart_dropped test by r.number rs are.1),
+  below_dropped test by next rs are.2,
+)
 
 keys_dropped : (test : List ℕ → Bool) (by : Overtaking) (rs : List Look) → AllByRecursion (λ (r : Look). IsKey r.key) rs → AllByRecursion (λ (r : Look). IsKey r.key) (map (overtaking test by) rs)
 keys_dropped test by [] all = tt
@@ -316,7 +317,7 @@ module _ {C State' : Type 0} (l : Keyed C State' (List ℕ) Value) (goes : GoesB
     where
       go : (o : Option Overtaking) → new.near ≡ Some (closed n (option_map_or (λ (by : Overtaking). near) o (kept r.key v near)))
           → IsTied new (closed n (option_map_or (λ (by : Overtaking). near) o (kept r.key v near)))
-            (machine.closed n (elim o as (λ _. Client (List ℕ) Value) [ None ↦ machine.kept l r.key v c | Some by ↦ c ]))
+          (machine.closed n (elim o as (λ _. Client (List ℕ) Value) [ None ↦ machine.kept l r.key v c | Some by ↦ c ]))
       go None its = kept_tied s new near c n r.key v t (All-found (λ (q : Look). IsKey q.key) (has_number n) near.waiting r t.asked is) its rows next
       go (Some by) its = closed_tied s new near c n t its rows next
 
@@ -419,22 +420,22 @@ module _ {C State' : Type 0} (l : Keyed C State' (List ℕ) Value) (goes : GoesB
       later v false = tied
 
       ours : (o : Option ℕ) → IsTiedTo (elim o as (λ _. Told) [
-              | None ↦ nothing (knowing_row row s)
-              | Some version ↦ cond (nat_lt version row.version) (record { after = knowing_row row (clearing row s); heard = cleared_by row s.near }) (nothing s)
-            ]).after
+        | None ↦ nothing (knowing_row row s)
+        | Some version ↦ cond (nat_lt version row.version) (record { after = knowing_row row (clearing row s); heard = cleared_by row s.near }) (nothing s)
+      ]).after
           (elim o as (λ _. Client (List ℕ) Value) [
-              | None ↦ machine.knowing (row_heard row) c
-              | Some version ↦ cond (nat_lt version row.version) (machine.knowing (row_heard row) (machine.cleared l (row_heard row) c)) c
-            ])
+            | None ↦ machine.knowing (row_heard row) c
+            | Some version ↦ cond (nat_lt version row.version) (machine.knowing (row_heard row) (machine.cleared l (row_heard row) c)) c
+          ])
       ours None = record { near = tied.near; tied = know_tied s tied.near c row tied.tied }
       ours (Some v) = later v (nat_lt v row.version)
 
       go : (o : Option ℕ) → version_in row.partition s.rows ≡ o → IsTiedTo (told_by_row row s).after (machine_row l c (row_heard row))
       go o is =
           subst (λ (k : Option ℕ). IsTiedTo (told_by_row row s).after (elim k as (λ _. Client (List ℕ) Value) [
-              | None ↦ machine.knowing (row_heard row) c
-              | Some version ↦ cond (nat_lt version row.version) (machine.knowing (row_heard row) (machine.cleared l (row_heard row) c)) c
-            ])) (sym (tied.tied.rows row.partition)) (ours (version_in row.partition s.rows))
+            | None ↦ machine.knowing (row_heard row) c
+            | Some version ↦ cond (nat_lt version row.version) (machine.knowing (row_heard row) (machine.cleared l (row_heard row) c)) c
+          ])) (sym (tied.tied.rows row.partition)) (ours (version_in row.partition s.rows))
 
   rows_tied : (seen : List SeenRow) (s : State) (c : Client (List ℕ) Value) → IsTiedTo s c → IsTiedTo (told_by_rows seen s).after (rows_heard l c (map row_heard seen))
   rows_tied [] s c tied = tied
@@ -457,11 +458,11 @@ module _ {C State' : Type 0} (l : Keyed C State' (List ℕ) Value) (goes : GoesB
       let a = said.0 in
       let new = (told_by_answer conn n a.head message s).after in
       let near_is : new.near ≡ Some (our_answer n (value_of message) near (look_up n near)) =
-          ap (λ (o : Option ℤ). option_map (near_answered n o (value_of message)) s.near) said.1 ∙ ap (option_map (near_answered n None (value_of message))) t.listens ∙ answer_is (value_of message) in
+      ap (λ (o : Option ℤ). option_map (near_answered n o (value_of message)) s.near) said.1 ∙ ap (option_map (near_answered n None (value_of message))) t.listens ∙ answer_is (value_of message) in
       let its = answer_tied s new near c n t refl refl (value_of message) (look_up n near) refl near_is in
       let machine_is : machine_answer n (value_of message) c (look_up n near) ≡ machine.answered l n reply c =
-          ap (λ (ws : List Look). machine_answer n (value_of message) c (find (has_number n) ws)) (sym t.waiting)
-          ∙ ap (λ (o : Option Value). machine_answer n o c (find (has_number n) c.waiting)) (sym said.2) in
+      ap (λ (ws : List Look). machine_answer n (value_of message) c (find (has_number n) ws)) (sym t.waiting)
+      ∙ ap (λ (o : Option Value). machine_answer n o c (find (has_number n) c.waiting)) (sym said.2) in
       subst (λ (x : State). IsTiedTo x (machine.answered l n reply c)) (sym (answer_after conn s message n a))
       (subst (λ (x : Client (List ℕ) Value). IsTiedTo new x) machine_is (record { near = our_answer n (value_of message) near (look_up n near); tied = its }))
     where
@@ -472,15 +473,15 @@ module _ {C State' : Type 0} (l : Keyed C State' (List ℕ) Value) (goes : GoesB
       let a = said.0 in
       let new = (told_by_answer conn n a.head message s).after in
       let near_is : new.near ≡ Some (closed n near) =
-          ap (λ (o : Option ℤ). option_map (near_answered n o (value_of message)) s.near) said.1.1 ∙ ap (option_map (near_answered n (Some said.1.0) (value_of message))) t.listens in
+      ap (λ (o : Option ℤ). option_map (near_answered n o (value_of message)) s.near) said.1.1 ∙ ap (option_map (near_answered n (Some said.1.0) (value_of message))) t.listens in
       subst (λ (x : State). IsTiedTo x (machine.closed n c)) (sym (answer_after conn s message n a)) (record { near = closed n near; tied = closed_tied s new near c n t near_is refl refl })
   every_message_is_the_machines conn s near c message (Invalidation key version number) goes_ t said =
       let a = said.0 in
       let its_map : is_near_map near.name s.near ≡ true = ap (is_near_map near.name) t.listens ∙ (bytes_eq-Decides near.name near.name).1 refl in
       let after : (told_by_message conn message s).after ≡ record s { near = option_map (invalidated key version number) s.near } =
-          event_after conn s message a
-          ∙ ap (λ r. (told_by_event (result_ok r) s).after) said.1.1.1
-          ∙ ap (λ (b : Bool). (cond b (record { after = record s { near = option_map (invalidated key version number) s.near }; heard = heard.Invalidated ∷ [] }) (nothing s)).after) its_map in
+      event_after conn s message a
+      ∙ ap (λ r. (told_by_event (result_ok r) s).after) said.1.1.1
+      ∙ ap (λ (b : Bool). (cond b (record { after = record s { near = option_map (invalidated key version number) s.near }; heard = heard.Invalidated ∷ [] }) (nothing s)).after) its_map in
       let by : Overtaking = record { version = version; number = number } in
       let new : State = record s { near = option_map (invalidated key version number) s.near } in
       subst (λ (x : State). IsTiedTo x (machine.invalidated l key by c)) (sym after)
@@ -492,7 +493,7 @@ module _ {C State' : Type 0} (l : Keyed C State' (List ℕ) Value) (goes : GoesB
       let a = said.0 in
       let seen = said.1.1.0 in
       let after : (told_by_message conn message s).after ≡ (told_by_rows seen s).after =
-          event_after conn s message a ∙ ap (λ r. (told_by_event (result_ok r) s).after) said.1.1.1.0 in
+      event_after conn s message a ∙ ap (λ r. (told_by_event (result_ok r) s).after) said.1.1.1.0 in
       subst (λ (x : State). IsTiedTo x (rows_heard l c rows)) (sym after)
       (subst (λ (rs : List RowHeard). IsTiedTo (told_by_rows seen s).after (rows_heard l c rs)) (sym said.1.1.1.1) (rows_tied seen s c (record { near = near; tied = t })))
 

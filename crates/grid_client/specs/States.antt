@@ -67,7 +67,7 @@ asking call s = record s { calls = s.calls ++ call ∷ []; next = s.next + 1 }
 -- A call was sent on its connection under the next number, and waits there.
 pub record HasAsked (partition : ℕ) (call : GridCall) (old new : State) (sending : Sending) : Type 0 where
   pub conn : ℕ
-  pub target : target partition old ≡ Some conn
+  pub goes : target partition old ≡ Some conn
   pub sent : sending ≡ sending_of (asked_call old.next conn partition call)
   pub after : new ≡ asking (asked_call old.next conn partition call) old
 
@@ -91,6 +91,10 @@ pub record HasMissed (key : List ℕ) (sending : Sending) (old new : State) : Ty
   pub none : hit key near ≡ None
   pub asked : HasAsked (partition_of_key key) (get_of near.name key old.client) (record old { near = Some (opened old.next key near) }) new sending
 
+-- a look-up is open under the number of the next call
+abbrev pub opening_look_up : List ℕ → State → State
+opening_look_up key s = record s { near = option_map (opened s.next key) s.near }
+
 -- A get was sent on that connection, and a look-up opened under its number.
 pub record HasOpened (conn partition : ℕ) (key : List ℕ) (old new : State) (sending : Sending) : Type 0 where
   pub near : Near
@@ -101,10 +105,6 @@ pub record HasOpened (conn partition : ℕ) (key : List ℕ) (old new : State) (
 abbrev pub HasLookedUp : List ℕ → State → State → NearLook → Type 0
 HasLookedUp key old new (Hit value) = HasHit key value old new
 HasLookedUp key old new (Miss sending) = HasMissed key sending old new
-
--- a look-up is open under the number of the next call
-abbrev pub opening_look_up : List ℕ → State → State
-opening_look_up key s = record s { near = option_map (opened s.next key) s.near }
 
 abbrev pub is_empty : {X : Type 0} → List X → Bool
 is_empty [] = true
@@ -132,7 +132,7 @@ pub record HasRetried (number : ℕ) (old new : State) (sending : Sending) : Typ
   pub call : Call
   pub refused : find (is_refused number) old.calls ≡ Some call
   pub conn : ℕ
-  pub target : target call.partition old ≡ Some conn
+  pub goes : target call.partition old ≡ Some conn
   pub sent : sending ≡ sending_of (again old.next conn call)
   pub after : new ≡ trying_again number (again old.next conn call) old
 
@@ -141,7 +141,7 @@ pub record HasRetriedAt (place : ℕ) (old new : State) (sending : Sending) : Ty
   pub call : Call
   pub at : slice_get old.calls place ≡ Some call
   pub conn : ℕ
-  pub target : target call.partition old ≡ Some conn
+  pub goes : target call.partition old ≡ Some conn
   pub sent : sending ≡ sending_of (again old.next conn call)
   pub after : new ≡ record old { calls = slice_set old.calls place (again old.next conn call); next = old.next + 1 }
 

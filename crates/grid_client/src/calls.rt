@@ -80,7 +80,7 @@ fn correlation_of(number: u64) -> Result<i64, Memory>
     if number >= i64::MAX as u64 {
         return Err(AllocError);
     }
-    Ok(number as i64 + 1)
+    Ok((number + 1) as i64)
 }
 
 /// The number of a correlation, if it may be a call's.
@@ -195,19 +195,20 @@ fn settle_at(calls: &mut Vec<Call>, place: usize, code: Option<i32>)
 
 /// Ends the call that a message answers, or has it wait to be tried again, by the answer's code; and gives its number.
 /// Costs the calls that wait.
-pub(crate) fn settle(
-    calls: &mut Vec<Call>,
-    conn: u32,
-    head: Head,
-    code: Option<i32>,
-) -> Option<u64>
+pub(crate) fn settle(calls: &mut Vec<Call>, conn: u32, head: Head, code: Option<i32>) -> Option<u64>
     ensures number { result ≡ answered_number conn head calls.old.items }
     ensures calls { calls.new.items ≡ settled_by conn head code result calls.old.items }
 {
-    let number = number_in(head.correlation)?;
-    let place = answered_place(calls, conn, number, head.kind)?;
-    settle_at(calls, place, code);
-    Some(number)
+    let Some(number) = number_in(head.correlation) else {
+        return None;
+    };
+    match answered_place(calls.as_slice(), conn, number, head.kind) {
+        Some(place) => {
+            settle_at(calls, place, code);
+            Some(number)
+        }
+        None => None,
+    }
 }
 
 /// The place of the first call that was refused under that number.

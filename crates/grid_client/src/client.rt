@@ -1,6 +1,6 @@
 //! The client, and what it is asked.
 
-ghost use Rattle.std.specs.Prelude.{◌≡◌, ◌≢◌, ◌↔◌, ◌⊎◌, ◌+◌, ◌<◌, ◌^◌, ◌≤◌, [], List, ℕ, length, option_map, option_copied, option_and_then, ForSome, true, vec_len, Contains,  Some, None, Err, IfOk, IfErr, OnOk, OnErr, IsSome};
+ghost use Rattle.std.specs.Prelude.{◌≡◌, ◌≢◌, ◌↔◌, ◌⊎◌, ◌+◌, ◌<◌, ◌^◌, ◌≤◌, [], List, ℕ, length, option_map, option_copied, option_and_then, ForSome, true, vec_len, Contains, Some, None, Err, IfOk, IfErr, OnOk, OnErr, IsSome};
 ghost use Rattle.std.specs.List.{list_any};
 ghost use Rattle.request_codecs.specs.Openings.{opening};
 ghost use Rattle.grid_client.specs.Nears.{Near, hit};

@@ -13,7 +13,7 @@ use crate::client::GridClient;
 use crate::connections::{read, welcome};
 use crate::heard::{ClientRefused, FedClient, Heard};
 use crate::messages::{Head, accepted_of, bytes_of, code_of, value_of};
-use crate::near::NearMap;
+use crate::near::{NearMap, value_copied};
 use crate::rows::{know, version_in};
 use event_codecs::{ClientEvent, SeenMembers, SeenRow, read_event};
 use grid_base::{Bytes, CallRefused, Memory};
@@ -38,7 +38,8 @@ fn answer_near(
     if code.is_none()
         && let Some(value) = value_of(message)
     {
-        return near.fill(alloc, number, value);
+        let value = value_copied(alloc, value)?;
+        return near.fill(number, value);
     }
     near.give_up(number);
     Ok(None)
@@ -147,13 +148,7 @@ impl GridClient {
         ensures { OnOk result (HasAnswered correlation number code message.now self.old self.new heard.old.items heard.new.items) }
     {
         let filled = answer_near(&mut self.near, self.alloc, number, code, message)?;
-        heard.push(answer_told(
-            self.alloc,
-            correlation,
-            code,
-            filled,
-            message,
-        )?)?;
+        heard.push(answer_told(self.alloc, correlation, code, filled, message)?)?;
         Ok(())
     }
 

@@ -43,6 +43,16 @@ pub(crate) fn value_copied(alloc: Global, value: Option<&Bytes>) -> Result<Optio
     }
 }
 
+/// A copy of a value that is kept.
+fn kept_copied(alloc: Global, value: &Option<Bytes>) -> Result<Option<Bytes>, Memory>
+    ensures { IfOk result (λ copy. copy ≡ value.now) }
+{
+    match value {
+        Some(value) => Ok(Some(value.copied(alloc)?)),
+        None => Ok(None),
+    }
+}
+
 /// The place of what waits first under a number.
 fn awaited_place(awaited: &[Awaited], number: u64) -> Option<usize>
     ensures { result ≡ position (λ a. a.number == number) awaited.now }
@@ -87,7 +97,10 @@ impl NearMap {
         ensures missed { result ≡ Ok None → self.new ≡ self.old }
     {
         match self.cache.hit(key) {
-            Some(value) => Ok(Some(value_copied(alloc, value.as_ref())?)),
+            Some(value) => {
+                let copy = kept_copied(alloc, value)?;
+                Ok(Some(copy))
+            }
             None => Ok(None),
         }
     }
@@ -107,21 +120,13 @@ impl NearMap {
     }
 
     /// Closes the look-up of that number, where one is open, with the value of its answer, which is kept unless the
-    /// look-up was overtaken. Copies the value where there is such a look-up.
-    pub fn fill(
-        &mut self,
-        alloc: Global,
-        number: u64,
-        value: Option<&Bytes>,
-    ) -> Result<Option<Filled>, Memory>
-        ensures ok { OnOk result (self.new ≡ answered number (Some (option_copied value.entry)) self.old) }
-        ensures outcome { IfOk result (λ filled. filled ≡ outcome number (Some (option_copied value.entry)) self.old) }
+    /// look-up was overtaken.
+    pub fn fill(&mut self, number: u64, value: Option<Bytes>) -> Result<Option<Filled>, Memory>
+        ensures ok { OnOk result (self.new ≡ answered number (Some value) self.old) }
+        ensures outcome { IfOk result (λ filled. filled ≡ outcome number (Some value) self.old) }
     {
         match take_out(&mut self.awaited, number) {
-            Some(reservation) => {
-                let value = value_copied(alloc, value)?;
-                Ok(Some(self.cache.fill(reservation, value)?))
-            }
+            Some(reservation) => Ok(Some(self.cache.fill(reservation, value)?)),
             None => Ok(None),
         }
     }
@@ -130,8 +135,9 @@ impl NearMap {
     pub fn give_up(&mut self, number: u64)
         ensures { self.new ≡ closed number self.old }
     {
-        if let Some(reservation) = take_out(&mut self.awaited, number) {
-            self.cache.give_up(reservation);
+        match take_out(&mut self.awaited, number) {
+            Some(reservation) => self.cache.give_up(reservation),
+            None => {}
         }
     }
 
@@ -147,6 +153,7 @@ impl NearMap {
         ensures ok { OnOk result (self.new ≡ cleared partition version self.old) }
         ensures err { OnErr result (self.new ≡ self.old) }
     {
-        self.cache.clear_partition(partition, version)
+        self.cache.clear_partition(partition, version)?;
+        Ok(())
     }
 }
