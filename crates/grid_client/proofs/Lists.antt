@@ -1,5 +1,5 @@
 -- Lists of which the first element that passes a test goes, or is changed; and lists whose elements are changed each.
-use Rattle.std.proofs.Common.{◌≡◌, ℕ, zero, suc, ◌+◌, ◌<◌, Bool, true, false, not, cond, ◌||◌, nat_lt, List, [], ◌∷◌, ◌++◌, map, filter, take, length, get_or, Option, Some, None, option_map, refl, ap, sym, ◌∙◌, arith}
+use Rattle.std.proofs.Common.{◌≡◌, ℕ, zero, suc, ◌+◌, ◌<◌, Bool, true, false, not, cond, ◌||◌, nat_lt, List, [], ◌∷◌, ◌++◌, map, filter, take, drop, length, get_or, Option, Some, None, option_map, refl, ap, sym, ◌∙◌, arith}
 use Rattle.std.specs.Prelude.{slice_get, slice_set}
 use Rattle.std.specs.List.{find, list_any, position, position_or_len, remove}
 use Rattle.std.specs.Option.{option_map_or}
@@ -102,6 +102,9 @@ module _ {X : Type 0} (test : X → Bool) where
       let p = position_is xs i found in
       find_at test xs ∙ ap (slice_get xs) (sym p.0) ∙ slice_get-get_or xs i x p.1 ∙ ap Some (sym is)
 
+  pub position_finds : (xs : List X) (i : ℕ) (x : X) → Some i ≡ position test xs → slice_get xs i ≡ Some x → find test xs ≡ Some x
+  position_finds xs i x found at = find_at test xs ∙ ap (slice_get xs) (sym (position_is xs i found).0) ∙ at
+
   pub position_erased : (xs : List X) (i : ℕ) → Some i ≡ position test xs → remove xs i ≡ erased_by test xs
   position_erased xs i found = ap (remove xs) ((position_is xs i found).0) ∙ removed xs
 
@@ -139,3 +142,11 @@ module _ {X Y : Type 0} (f : X → Y) where
   take_map zero xs = refl
   take_map (suc n) [] = refl
   take_map (suc n) (x ∷ xs) = ap (λ l. f x ∷ l) (take_map n xs)
+
+-- what stands behind the front
+dropped : {X : Type 0} (xs ys : List X) → drop (length xs) (xs ++ ys) ≡ ys
+dropped [] ys = refl
+dropped (x ∷ xs) ys = dropped xs ys
+
+pub behind : {X : Type 0} (front rest all : List X) → front ++ rest ≡ all → rest ≡ drop (length front) all
+behind front rest all is = sym (dropped front rest) ∙ ap (drop (length front)) is

@@ -5,7 +5,7 @@ use Rattle.std.specs.List.{find, AllByRecursion}
 use Rattle.std.specs.Option.{option_map_or}
 use Rattle.std.specs.Result.{result_ok}
 use Rattle.std.proofs.lemmas.Bool.Decides.{nat_tests, same_from_decides}
-use Rattle.std.specs.Str.{bytes_eq-Decides}
+use Rattle.std.proofs.lemmas.Slice.Eq.{bytes_eq-Decides}
 use Rattle.grid_base.specs.Objects.{Object}
 use Rattle.message_frames.specs.declared.message.Message.{Message}
 use Rattle.near_protocol.specs.Keyed.{Keyed}

@@ -1,6 +1,7 @@
 //! The client, and what it is asked.
 
-ghost use Rattle.std.specs.Prelude.{◌≡◌, ◌≢◌, ◌↔◌, ◌⊎◌, ◌+◌, ◌<◌, ◌^◌, ◌≤◌, [], List, ℕ, length, option_map, option_copied, option_and_then, ForSome, true, vec_len, Contains, Some, None, Err, IfOk, IfErr, OnOk, OnErr, IsSome};
+ghost use Rattle.std.specs.Prelude.{◌≡◌, ◌≢◌, ◌↔◌, ◌⊎◌, ◌+◌, ◌<◌, ◌^◌, ◌≤◌, [], List, ℕ, length, option_map, option_copied, option_and_then, true, Some, None, Err, IfOk, IfErr, OnOk, OnErr, IsSome};
+ghost use Rattle.std.specs.Option.{ForSome};
 ghost use Rattle.std.specs.List.{list_any};
 ghost use Rattle.request_codecs.specs.Openings.{opening};
 ghost use Rattle.grid_client.specs.Nears.{Near, hit};
@@ -268,10 +269,14 @@ impl GridClient {
         ensures why { IfErr result (λ why. (refusal_of key.now self.old ≡ Some why) ⊎ (why ≡ ClientRefused.Memory)) }
         ensures err { OnErr result ((self.new ≡ self.old) ⊎ (self.new ≡ looked key.now self.old)) }
     {
-        let (conn, partition) = self.place_of(key)?;
-        match self.look(key)? {
+        let place = self.place_of(key)?;
+        let found = self.look(key)?;
+        match found {
             Some(value) => Ok(NearLook::Hit(value)),
-            None => Ok(NearLook::Miss(self.miss(conn, partition, key)?)),
+            None => {
+                let sending = self.miss(place.0, place.1, key)?;
+                Ok(NearLook::Miss(sending))
+            }
         }
     }
 

@@ -2,6 +2,7 @@
 
 ghost use Rattle.std.specs.Prelude.{◌≡◌, option_map, option_copied, IfOk, OnOk, ◌++◌};
 ghost use Rattle.frame_codec.specs.Frames.{frame_bytes};
+ghost use Rattle.frame_codec.specs.Laws.{spelled};
 ghost use Rattle.grid_client.specs.Messages.{head_of, code_of, value_of, bytes_of, accepted_of};
 ghost use Rattle.grid_client.specs.Hearing.{is_welcome};
 
@@ -98,13 +99,20 @@ fn write_frame(frame: &Frame, out: &mut Vec<u8>) -> Result<(), Memory>
     write_payload(frame.flags, payload, out)
 }
 
+/// Frames as they came, one after the other.
+fn frames_bytes(alloc: Global, frames: &[Frame]) -> Result<Bytes, Memory>
+    ensures { IfOk result (λ bytes. bytes ≡ spelled frames.now) }
+{
+    let mut bytes = Vec::new(alloc);
+    for frame in frames {
+        write_frame(frame, &mut bytes)?;
+    }
+    Ok(Bytes::from_vec(bytes))
+}
+
 /// The frames of a message as they came, one after the other, at the cost of their bytes.
 pub(crate) fn bytes_of(alloc: Global, message: &Message) -> Result<Bytes, Memory>
     ensures { IfOk result (λ bytes. bytes ≡ bytes_of message.now) }
 {
-    let mut bytes = Vec::new(alloc);
-    for frame in message.frames.as_slice() {
-        write_frame(frame, &mut bytes)?;
-    }
-    Ok(Bytes::from_vec(bytes))
+    frames_bytes(alloc, message.frames.as_slice())
 }

@@ -1,7 +1,7 @@
 use Rattle.std.proofs.Common.{ap, ◌∙◌}
 use Rattle.std.specs.List.{insert, position_or_len}
 use Rattle.grid_client.specs.Connections.{new_connection, placed}
-use Rattle.grid_client.proofs.Connections.{is_later, insert-placed}
+use Rattle.grid_client.proofs.Placing.{is_later, insert-placed}
 use Rattle.grid_client.proofs.connections.attach.Goals as goal
 
 pub returns-clause-ok : goal.returns-clause-ok

@@ -1,7 +1,7 @@
 use Rattle.std.proofs.Common.{sym, subst, ◌≤◌, length, refl, rules, tests, ◌∙◌}
 use Rattle.std.proofs.lemmas.Iterator.{YieldsList-from_slice}
 use Rattle.std.proofs.lemmas.Iterator.Search.{position_from_yields_List}
-use Rattle.grid_client.proofs.Connections.{is_later, place-found, place-within}
+use Rattle.grid_client.proofs.Placing.{is_later, place-found, place-within}
 use Rattle.grid_client.proofs.connections.place_before.Goals as goal
 
 pub returns : goal.returns

@@ -18,11 +18,11 @@ module _ {X : Type 0} (one : X → State → Told) (all : List X → State → T
       record {
         state = ap (λ (n : State). (all rest n).after) told.state ∙ sym (ap (λ (u : Told). u.after) split) ∙ was.state;
         said =
-          ap (λ (h : List Heard). h ++ (all rest new).heard) told.heard
-          ∙ ap (λ (n : State). (before ++ t.heard) ++ (all rest n).heard) told.state
-          ∙ append_assoc before t.heard (all rest t.after).heard
-          ∙ sym (ap (λ (u : Told). before ++ u.heard) split)
-          ∙ was.said;
+            ap (λ (h : List Heard). h ++ (all rest new).heard) told.heard
+            ∙ ap (λ (n : State). (before ++ t.heard) ++ (all rest n).heard) told.state
+            ∙ append_assoc before t.heard (all rest t.after).heard
+            ∙ sym (ap (λ (u : Told). before ++ u.heard) split)
+            ∙ was.said;
       }
 
   pub none_left : (whole : Told) (start : List Heard) (left : List X) (s : State) (heard : List Heard)
