@@ -1,20 +1,16 @@
 -- What a client's calls come to.
-use Rattle.std.proofs.Common.{◌≡◌, ℕ, ◌+◌, ◌<◌, ◌≤◌, Bool, true, false, cond, nat_lt, List, [], ◌∷◌, length, Option, Some, None, IsSome, option_map, option_and_then, refl, ap, sym, ◌∙◌, subst, arith}
-use Rattle.std.specs.Prelude.{slice_get, slice_set}
+use Rattle.std.proofs.Common.{◌≡◌, ℕ, ◌+◌, ◌<◌, true, nat_lt, List, [], ◌∷◌, length, Option, Some, None, IsSome, option_map, option_and_then, refl, ap, sym, ◌∙◌, subst, arith}
 use Rattle.std.specs.List.{find, position}
 use Rattle.std.specs.Option.{option_or}
 use Rattle.std.proofs.lemmas.Bool.Decides.{nat_tests}
-use Rattle.grid_base.specs.declared.calls.GridCall.{GridCall}
 use Rattle.session_core.specs.Places.{partition_of_key}
-use Rattle.grid_client.specs.Lists.{changed_by}
 use Rattle.grid_client.specs.Nears.{Near, Value, hit, used, opened}
 use Rattle.grid_client.specs.Calls.{is_refused, asked_call, again, sending_of}
 use Rattle.grid_client.specs.Connections.{is_to, target_of}
-use Rattle.grid_client.specs.States.{State, target, asking, looked, opening_look_up, is_empty, refusal_of, get_of, trying_again, HasAsked, HasHit, HasMissed, HasOpened, HasRetried, HasRetriedAt}
+use Rattle.grid_client.specs.States.{State, target, asking, looked, opening_look_up, refusal_of, get_of, HasHit, HasMissed, HasOpened, HasRetried, HasRetriedAt}
 use Rattle.grid_client.specs.declared.calls.Call.{Call}
 use Rattle.grid_client.specs.declared.connections.Connection.{Connection}
-use Rattle.grid_client.specs.declared.heard.ClientRefused.{ClientRefused}
-use Rattle.grid_client.specs.declared.heard.ClientRefused.TheVariants.{ShortKey, NoNear, NoConnection}
+use Rattle.grid_client.specs.declared.heard.ClientRefused.TheVariants.{ShortKey}
 use Rattle.grid_client.specs.declared.heard.Sending.{Sending}
 use Rattle.grid_client.proofs.Lists.{position_finds, position_changed}
 

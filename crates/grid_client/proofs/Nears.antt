@@ -1,5 +1,5 @@
 -- What a client keeps of a map, as it is kept: the entries of a near cache, and its look-ups by the numbers of their gets.
-use Rattle.std.proofs.Common.{◌≡◌, ◌≢◌, ℕ, Bool, true, false, not, cond, ◌==◌, bytes_eq, List, [], ◌∷◌, ◌++◌, map, filter, take, Option, Some, None, IsSome, option_map, option_and_then, refl, ap, sym, ◌∙◌, subst}
+use Rattle.std.proofs.Common.{◌≡◌, ◌≢◌, ℕ, Bool, true, false, not, cond, ◌==◌, List, [], ◌∷◌, ◌++◌, map, filter, take, Option, Some, None, IsSome, option_map, option_and_then, refl, ap, sym, ◌∙◌, subst}
 use Rattle.std.specs.List.{find, filter_map, cons_option, AllByRecursion}
 use Rattle.std.specs.Option.{option_map_or, is_some}
 use Rattle.std.specs.Cmp.{nat_cmp_total}
@@ -12,7 +12,7 @@ use Rattle.near_cache.specs.declared.look_up.LookUp as kept_look_up
 use Rattle.near_cache.specs.declared.look_up.Overtaking as kept_overtaking
 use Rattle.near_cache.proofs.Waiting.{ties, tie_not, get_overtaken}
 use Rattle.grid_client.specs.Lists.{erased_by}
-use Rattle.grid_client.specs.Nears.{Near, Value, Entry, Look, is_for, hit, others, used, opened, has_number, look_up, closed, kept, filled, answered, outcome_of, outcome, overtaking, dropping, invalidated, cleared, entry_of, overtaking_of, look_of, seen, near_of, AreOpen}
+use Rattle.grid_client.specs.Nears.{Near, Value, Entry, Look, is_for, hit, others, used, opened, has_number, look_up, closed, kept, filled, answered, outcome_of, outcome, overtaking, dropping, entry_of, overtaking_of, look_of, seen, near_of, AreOpen}
 use Rattle.grid_client.specs.declared.near.Awaited.{Awaited}
 use Rattle.grid_client.proofs.Lists.{find_map, filter_map_each, take_map, none_erased}
 

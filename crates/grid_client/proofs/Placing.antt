@@ -1,6 +1,6 @@
 -- A connection among others in order.
-use Rattle.std.proofs.Common.{◌≡◌, ℕ, suc, ◌+◌, ◌<◌, ◌≤◌, Bool, true, false, not, cond, ◌||◌, nat_lt, List, [], ◌∷◌, ◌++◌, length, drop, Option, Some, None, option_map, unwrap_or, ap, sym, ◌∙◌, refl, arith, eq-eqb}
-use Rattle.std.specs.List.{find, list_any, position, position_or_len, insert}
+use Rattle.std.proofs.Common.{◌≡◌, ℕ, suc, ◌+◌, ◌≤◌, Bool, true, false, not, cond, ◌||◌, nat_lt, List, [], ◌∷◌, length, Option, Some, None, unwrap_or, ap, ◌∙◌, refl, arith, eq-eqb}
+use Rattle.std.specs.List.{list_any, position, position_or_len, insert}
 use Rattle.std.proofs.lemmas.Bool.{ltb-false}
 use Rattle.std.proofs.lemmas.List.Sums.{prefix_len-le-length}
 use Rattle.grid_client.specs.Connections.{is_conn, new_connection, placed}

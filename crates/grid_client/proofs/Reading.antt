@@ -1,5 +1,5 @@
 -- The first frame of a message.
-use Rattle.std.proofs.Common.{◌≡◌, ℕ, List, [], ◌∷◌, Option, Some, None, refl, ap, sym}
+use Rattle.std.proofs.Common.{◌≡◌, List, [], ◌∷◌, Some, None, refl, ap, sym}
 use Rattle.std.specs.Prelude.{slice_get}
 use Rattle.frame_codec.specs.declared.frames.Frame.{Frame}
 use Rattle.message_frames.specs.Assembly.{first_payload}

@@ -1,7 +1,7 @@
 -- The bytes of a request are long enough to have a correlation; and what becomes of calls.
-use Rattle.std.proofs.Common.{◌≡◌, ℕ, suc, ◌+◌, ◌<◌, ◌≤◌, Bool, true, false, cond, ◌==◌, ℤ, pos, List, [], ◌∷◌, ◌++◌, length, take, drop, get_or, Option, Some, None, refl, ap, sym, ◌∙◌, subst, arith, length-append, length-take, length-drop}
+use Rattle.std.proofs.Common.{◌≡◌, ℕ, ◌<◌, ◌≤◌, Bool, true, false, cond, ℤ, List, [], ◌∷◌, ◌++◌, length, take, drop, get_or, Option, Some, None, ap, sym, ◌∙◌, arith, length-append, length-take, length-drop}
 use Rattle.std.specs.Prelude.{slice_get, slice_set}
-use Rattle.std.specs.List.{list_any, position, remove}
+use Rattle.std.specs.List.{position, remove}
 use Rattle.std.specs.Option.{option_map_or}
 use Rattle.std.proofs.lemmas.Option.{slice_get-get_or}
 use Rattle.grid_base.specs.declared.calls.GridCall.{GridCall}
@@ -10,10 +10,10 @@ use Rattle.request_codecs.specs.Requests.{request_bytes}
 use Rattle.request_codecs.specs.Readdressing.{readdressed}
 use Rattle.request_codecs.proofs.Addresses.{every_request_is_readdressed}
 use Rattle.grid_client.specs.Lists.{erased_by, changed_by}
-use Rattle.grid_client.specs.Calls.{number_in, is_answered_by, is_elsewhere, refusing, settled, settled_at, settled_by, awaited_number, answered_number}
+use Rattle.grid_client.specs.Calls.{number_in, is_answered_by, is_elsewhere, refusing, settled, settled_at, awaited_number, answered_number}
 use Rattle.grid_client.specs.declared.calls.Call.{Call}
 use Rattle.grid_client.specs.declared.messages.Head.{Head}
-use Rattle.grid_client.proofs.Lists.{position_is, position_any, position_erased, position_changed, position_none, position_not_any}
+use Rattle.grid_client.proofs.Lists.{position_is, position_any, position_erased, position_changed, position_not_any}
 
 pub asked_is_long : (correlation : ℤ) (partition : ℕ) (call : GridCall) → 18 ≤ length (request_bytes correlation partition call)
 asked_is_long correlation partition call = (every_request_is_readdressed correlation correlation partition call).0

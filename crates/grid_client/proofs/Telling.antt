@@ -1,5 +1,5 @@
 -- One thing told after another.
-use Rattle.std.proofs.Common.{◌≡◌, ℕ, List, [], ◌∷◌, ◌++◌, refl, ap, sym, ◌∙◌, append_assoc, append-nil}
+use Rattle.std.proofs.Common.{◌≡◌, List, [], ◌∷◌, ◌++◌, ap, sym, ◌∙◌, append_assoc, append-nil}
 use Rattle.grid_client.specs.States.{State}
 use Rattle.grid_client.specs.Hearing.{Told, nothing, followed, HasTold}
 use Rattle.grid_client.specs.declared.heard.Heard.{Heard}

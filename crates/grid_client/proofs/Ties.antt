@@ -1,5 +1,5 @@
 -- A client goes with the near cache's machine.
-use Rattle.std.proofs.Common.{◌≡◌, ◌≢◌, ℕ, zero, suc, ◌+◌, ◌<◌, ◌≤◌, Bool, true, false, not, cond, ◌&&◌, ◌==◌, nat_lt, bytes_eq, List, [], ◌∷◌, ◌++◌, map, filter, take, length, Option, Some, None, option_map, Ok, refl, ap, sym, ◌∙◌, subst, arith, Decides}
+use Rattle.std.proofs.Common.{◌≡◌, ◌≢◌, ℕ, zero, suc, ◌+◌, ◌<◌, Bool, true, false, not, cond, ◌&&◌, ◌==◌, nat_lt, bytes_eq, List, [], ◌∷◌, ◌++◌, map, filter, take, length, Option, Some, None, option_map, refl, ap, sym, ◌∙◌, subst, arith}
 use Rattle.std.specs.Prelude.{nat_le, ℤ}
 use Rattle.std.specs.List.{find, AllByRecursion}
 use Rattle.std.specs.Option.{option_map_or}
@@ -17,14 +17,13 @@ use Rattle.near_cache.specs.Scopes.{is_in_partition}
 use Rattle.event_codecs.specs.declared.seen.SeenRow.{SeenRow}
 use Rattle.event_codecs.specs.Events.{event_of}
 use Rattle.grid_client.specs.Lists.{erased_by}
-use Rattle.grid_client.specs.Nears.{Near, Value, Entry, Look, is_for, hit, others, used, opened, has_number, look_up, closed, kept, filled, answered, overtaking, dropping, invalidated, cleared}
-use Rattle.grid_client.specs.Rows.{version_in, known_in as seen_in, knowing}
-use Rattle.grid_client.specs.Calls.{answered_number}
-use Rattle.grid_client.specs.Messages.{code_of, value_of, head_of, accepted_of}
-use Rattle.grid_client.specs.States.{State, HasHit, HasMissed, HasAsked}
-use Rattle.grid_client.specs.Hearing.{told_by_message, told_by_head, told_by_number, told_by_answer, told_otherwise, told_by_event, told_by_invalidation, told_by_rows, told_by_row, near_answered, clearing, cleared_by, knowing_row, is_near_map, welcomed, nothing, Told}
+use Rattle.grid_client.specs.Nears.{Near, Value, Entry, Look, is_for, hit, others, used, opened, has_number, look_up, closed, kept, filled, overtaking, dropping, invalidated, cleared}
+use Rattle.grid_client.specs.Rows.{version_in, knowing}
+use Rattle.grid_client.specs.Messages.{value_of, accepted_of}
+use Rattle.grid_client.specs.States.{State}
+use Rattle.grid_client.specs.Hearing.{told_by_message, told_by_head, told_by_number, told_by_answer, told_by_event, told_by_rows, told_by_row, near_answered, clearing, cleared_by, knowing_row, is_near_map, welcomed, nothing, Told}
 use Rattle.grid_client.specs.declared.heard.Heard.TheVariants as heard
-use Rattle.grid_client.specs.Ties.{GoesByKeys, AreBelow, IsKey, IsTied, IsTiedTo, row_heard, IsAnswerTo, IsNoAnswer, IsSaid, EveryLookIsTheMachines, EveryHitIsTheMachines, EveryMissIsTheMachines, EveryMessageIsTheMachines, EveryCallKeepsTheTie, EveryHitOfAClientStands}
+use Rattle.grid_client.specs.Ties.{GoesByKeys, AreBelow, IsKey, IsTied, IsTiedTo, row_heard, IsAnswerTo, IsNoAnswer, EveryLookIsTheMachines, EveryHitIsTheMachines, EveryMissIsTheMachines, EveryMessageIsTheMachines, EveryCallKeepsTheTie, EveryHitOfAClientStands}
 use Rattle.grid_client.specs.declared.messages.Head.{Head}
 use Rattle.grid_client.proofs.Lists.{none_erased}
 

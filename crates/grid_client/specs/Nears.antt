@@ -1,5 +1,5 @@
 -- What a client keeps of the map that it listens to, and its look-ups that wait for answers.
-use Rattle.std.specs.Prelude.{◌≢◌, ℕ, Bool, not, ◌==◌, bytes_eq, if◌then◌else◌, List, [], ◌∷◌, ◌++◌, filter, map, take, Option, Some, None, option_map, option_and_then, IsSome, ⊤}
+use Rattle.std.specs.Prelude.{◌≢◌, ℕ, Bool, not, ◌==◌, bytes_eq, if◌then◌else◌, List, [], ◌∷◌, ◌++◌, filter, map, take, Option, Some, None, option_map, IsSome, ⊤}
 use Rattle.std.specs.List.{find, filter_map, AllByRecursion}
 use Rattle.std.specs.Option.{option_map_or}
 use Rattle.std.specs.FinMap.{get}

@@ -1,5 +1,5 @@
 -- How a client goes with the near cache's machine, in which it is proved what a hit is worth.
-use Rattle.std.specs.Prelude.{◌≡◌, ◌≢◌, ℕ, ◌+◌, ◌<◌, ◌≤◌, false, ℤ, List, [], ◌∷◌, length, map, Option, Some, None, Ok, ⊤}
+use Rattle.std.specs.Prelude.{◌≡◌, ◌≢◌, ℕ, ◌<◌, ◌≤◌, false, ℤ, List, [], ◌∷◌, length, map, Some, None, Ok, ⊤}
 use Rattle.std.specs.Bool.{Decides}
 use Rattle.std.specs.List.{AllByRecursion}
 use Rattle.grid_base.specs.Objects.{Object}

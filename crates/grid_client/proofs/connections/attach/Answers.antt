@@ -1,6 +1,6 @@
 use Rattle.std.proofs.Common.{ap, ◌∙◌}
 use Rattle.std.specs.List.{insert, position_or_len}
-use Rattle.grid_client.specs.Connections.{new_connection, placed}
+use Rattle.grid_client.specs.Connections.{new_connection}
 use Rattle.grid_client.proofs.Placing.{is_later, insert-placed}
 use Rattle.grid_client.proofs.connections.attach.Goals as goal
 

@@ -1,12 +1,11 @@
-use Rattle.std.proofs.Common.{◌≡◌, ◌<◌, true, false, Some, List, ℕ, ◌++◌, length, option_map, refl, sym, ap, ◌∙◌, subst, arith}
+use Rattle.std.proofs.Common.{◌≡◌, true, false, Some, ◌++◌, option_map, sym, ap, ◌∙◌}
 use Rattle.std.specs.Prelude.{slice_get, slice_set}
-use Rattle.std.specs.List.{find, position}
+use Rattle.std.specs.List.{position}
 use Rattle.std.proofs.lemmas.Option.{slice_get-get_or}
 use Rattle.std.proofs.lemmas.Result.{on_ok_weaker, IfOk-weaker}
 use Rattle.message_frames.specs.MessageReaders.{Hearing, standing}
-use Rattle.message_frames.specs.Messages.{messages_of, fault_of}
+use Rattle.message_frames.specs.Messages.{messages_of}
 use Rattle.grid_client.specs.Connections.{is_conn}
-use Rattle.grid_client.specs.Hearing.{messages_by}
 use Rattle.grid_client.specs.declared.connections.Connection.{Connection}
 use Rattle.grid_client.proofs.Lists.{position_is, position_finds, position_changed, position_not_any, behind}
 use Rattle.grid_client.proofs.connections.read.Goals as goal

@@ -1,7 +1,7 @@
-use Rattle.std.proofs.Common.{◌==◌, Some, None, option_map, ap, sym, ◌∙◌}
+use Rattle.std.proofs.Common.{◌==◌, option_map, ap, sym, ◌∙◌}
 use Rattle.std.specs.List.{position}
 use Rattle.grid_client.specs.declared.near.Awaited.{Awaited}
-use Rattle.grid_client.proofs.Lists.{position_is, position_found, position_erased, position_none, none_erased}
+use Rattle.grid_client.proofs.Lists.{position_found, position_erased, position_none, none_erased}
 use Rattle.grid_client.proofs.near.take_out.Goals as goal
 
 pub returns-in-Some-clause-value : goal.returns-in-Some-clause-value

@@ -1,8 +1,8 @@
-use Rattle.std.proofs.Common.{◌≡◌, Ok, Some, None, IfOk, sym, ap, ◌∙◌, subst}
+use Rattle.std.proofs.Common.{◌≡◌, Some, IfOk, sym, ap, ◌∙◌, subst}
 use Rattle.near_cache.specs.Caches.{Cache}
 use Rattle.grid_client.specs.Nears.{near_of, hit, used}
 use Rattle.grid_client.specs.contracts.near.NearMap.{the_view}
-use Rattle.grid_client.proofs.Nears.{hit_seen, used_seen, used_missed}
+use Rattle.grid_client.proofs.Nears.{hit_seen, used_seen}
 use Rattle.grid_client.proofs.near.NearMap.look.Goals as goal
 use Rattle.grid_client.proofs.near.NearMap.look.Goals.{in-Some+in_ok-copy-in-Some, in-None}
 
