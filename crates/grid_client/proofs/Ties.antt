@@ -20,10 +20,10 @@ use Rattle.grid_client.specs.Lists.{erased_by}
 use Rattle.grid_client.specs.Nears.{Near, Value, Entry, Look, is_for, hit, others, used, opened, has_number, look_up, closed, kept, filled, overtaking, dropping, invalidated, cleared}
 use Rattle.grid_client.specs.Rows.{version_in, knowing}
 use Rattle.grid_client.specs.Messages.{value_of, accepted_of}
-use Rattle.grid_client.specs.States.{State}
+use Rattle.grid_client.specs.States.{State, attached as attaching}
 use Rattle.grid_client.specs.Hearing.{told_by_message, told_by_head, told_by_number, told_by_answer, told_by_event, told_by_rows, told_by_row, near_answered, clearing, cleared_by, knowing_row, is_near_map, welcomed, nothing, Told}
 use Rattle.grid_client.specs.declared.heard.Heard.TheVariants as heard
-use Rattle.grid_client.specs.Ties.{GoesByKeys, AreBelow, IsKey, IsTied, IsTiedTo, row_heard, IsAnswerTo, IsNoAnswer, EveryLookIsTheMachines, EveryHitIsTheMachines, EveryMissIsTheMachines, EveryMessageIsTheMachines, EveryCallKeepsTheTie, EveryHitOfAClientStands}
+use Rattle.grid_client.specs.Ties.{GoesByKeys, AreBelow, IsKey, IsTied, IsTiedTo, row_heard, IsAnswerTo, IsNoAnswer, EveryLookIsTheMachines, EveryHitIsTheMachines, EveryMissIsTheMachines, EveryMessageIsTheMachines, EveryCallKeepsTheTie, EveryRetryKeepsTheTie, EveryConnectionKeepsTheTie, EveryHitOfAClientStands}
 use Rattle.grid_client.specs.declared.messages.Head.{Head}
 use Rattle.grid_client.proofs.Lists.{none_erased}
 
@@ -162,6 +162,25 @@ every_call_keeps_the_tie s new c partition call sending tied asked =
       near = near;
       tied = goes_on s near c t new near c (ap (λ (x : State). x.near) asked.after ∙ t.listens) (ap (λ (x : State). x.rows) asked.after) refl t.capacity t.entries t.waiting t.kept t.asked
           (subst (λ n. AreBelow n near.waiting) (sym (ap (λ (x : State). x.next) asked.after)) (below_next s.next near.waiting t.numbers));
+    }
+
+pub every_retry_keeps_the_tie : EveryRetryKeepsTheTie
+every_retry_keeps_the_tie s new c number sending tied retried =
+    let near = tied.near in
+    let t = tied.tied in
+    record {
+      near = near;
+      tied = goes_on s near c t new near c (ap (λ (x : State). x.near) retried.after ∙ t.listens) (ap (λ (x : State). x.rows) retried.after) refl t.capacity t.entries t.waiting t.kept t.asked
+          (subst (λ n. AreBelow n near.waiting) (sym (ap (λ (x : State). x.next) retried.after)) (below_next s.next near.waiting t.numbers));
+    }
+
+pub every_connection_keeps_the_tie : EveryConnectionKeepsTheTie
+every_connection_keeps_the_tie s c conn tied =
+    let near = tied.near in
+    let t = tied.tied in
+    record {
+      near = near;
+      tied = goes_on s near c t (attaching conn s) near c t.listens refl refl t.capacity t.entries t.waiting t.kept t.asked t.numbers;
     }
 
 -- misses

@@ -18,7 +18,7 @@ use Rattle.grid_client.specs.Nears.{Near, Value, Entry, Look, hit}
 use Rattle.grid_client.specs.Calls.{answered_number}
 use Rattle.grid_client.specs.Messages.{head_of, code_of, value_of}
 use Rattle.grid_client.specs.Rows.{version_in}
-use Rattle.grid_client.specs.States.{State, HasHit, HasMissed, HasAsked}
+use Rattle.grid_client.specs.States.{State, HasHit, HasMissed, HasAsked, HasRetried, attached as attaching}
 use Rattle.grid_client.specs.Hearing.{told_by_message, is_welcome}
 use Rattle.grid_client.specs.declared.heard.Sending.{Sending}
 use Rattle.grid_client.specs.declared.messages.Head.{Head}
@@ -108,6 +108,13 @@ abbrev pub EveryCallKeepsTheTie : Type 0
 EveryCallKeepsTheTie =
     (s new : State) (c : Client (List ℕ) Value) (partition : ℕ) (call : GridCall) (sending : Sending)
     → IsTiedTo s c → HasAsked partition call s new sending → IsTiedTo new c
+
+abbrev pub EveryRetryKeepsTheTie : Type 0
+EveryRetryKeepsTheTie =
+    (s new : State) (c : Client (List ℕ) Value) (number : ℕ) (sending : Sending) → IsTiedTo s c → HasRetried number s new sending → IsTiedTo new c
+
+abbrev pub EveryConnectionKeepsTheTie : Type 0
+EveryConnectionKeepsTheTie = (s : State) (c : Client (List ℕ) Value) (conn : ℕ) → IsTiedTo s c → IsTiedTo (attaching conn s) c
 
 -- ---- what a hit is worth
 

@@ -5,7 +5,7 @@ ghost use Rattle.std.specs.Prelude.{List, ℕ};
 ghost use Rattle.grid_base.specs.Objects.{Object};
 ghost use Rattle.near_protocol.specs.Keyed.{Keyed};
 ghost use Rattle.grid_client.specs.Nears.{Value};
-ghost use Rattle.grid_client.specs.Ties.{EveryLookIsTheMachines, EveryHitIsTheMachines, EveryMissIsTheMachines, EveryMessageIsTheMachines, EveryCallKeepsTheTie, EveryHitOfAClientStands};
+ghost use Rattle.grid_client.specs.Ties.{EveryLookIsTheMachines, EveryHitIsTheMachines, EveryMissIsTheMachines, EveryMessageIsTheMachines, EveryCallKeepsTheTie, EveryRetryKeepsTheTie, EveryConnectionKeepsTheTie, EveryHitOfAClientStands};
 
 /// A look-up hits what the machine's does, and brings the entry to the front as it does.
 pub fn every_hit_is_the_machines<C, S>()
@@ -13,10 +13,13 @@ pub fn every_hit_is_the_machines<C, S>()
     ensures hit { (l : Keyed C S (List ℕ) Value) → EveryHitIsTheMachines l }
 {}
 
-/// A miss opens a look-up of the machine's, and a plain call changes nothing of it.
+/// A miss opens a look-up of the machine's. A plain call, a call that is sent again and a further connection change nothing
+/// of it.
 pub fn every_call_is_the_machines()
     ensures miss { EveryMissIsTheMachines }
     ensures call { EveryCallKeepsTheTie }
+    ensures retry { EveryRetryKeepsTheTie }
+    ensures connection { EveryConnectionKeepsTheTie }
 {}
 
 /// What a client makes of a message is what the machine makes of it.
