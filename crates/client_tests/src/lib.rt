@@ -1,0 +1,5 @@
+//! Tests of `grid_client` over its public calls.
+#![tactic(auto)]
+
+#[cfg(test)]
+mod clients;

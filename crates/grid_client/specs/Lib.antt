@@ -1,0 +1,9 @@
+pub mod Lists
+pub mod Nears
+pub mod Calls
+pub mod Messages
+pub mod Rows
+pub mod Connections
+pub mod States
+pub mod Hearing
+pub mod Ties
