@@ -1,0 +1,15 @@
+mod Adding
+mod Ended
+mod Gathering
+mod Lasting
+mod Joined
+mod Later
+mod Lists
+mod Making
+mod Numbers
+mod Opened
+mod Regained
+mod Replied
+mod Starting
+mod Theorem
+mod Trails

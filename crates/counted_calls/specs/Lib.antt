@@ -1,0 +1,5 @@
+pub mod Calls
+pub mod Sessions
+pub mod Callers
+pub mod Gathered
+pub mod Counts

@@ -1,0 +1,102 @@
+//! The threads of the count: one for each session, and the worker that runs their calls.
+ghost use Rattle.std.specs.Prelude.{◌≡◌, ℕ, length};
+ghost use Rattle.grid_base.specs.Limits.{FitsFrame};
+ghost use Rattle.live_grid.specs.Grids.{place_of};
+ghost use Rattle.counted_calls.specs.Callers.{MayMake, HasMadeAll, MayAllMake, HaveAllMade, IsWorker};
+
+use crate::calling::make_calls;
+use crate::requests::{LEADER, SESSIONS, THREAD};
+use crate::stage::Stage;
+use call_environment::Environment;
+use grid_base::Memory;
+use live_grid::LiveWorld;
+use partition_threads::{OpenGate, THREADS, WorkerTokens, worker};
+use session_calls::SessionPass;
+use std::sync::Wait;
+use std::thread::{self, Threads, join_mut};
+
+/// A session that makes calls, and how many of them were answered by their object.
+#[derive(Drop)]
+pub(crate) struct Caller {
+    pub(crate) session: SessionPass<LiveWorld>,
+    pub(crate) came: Result<u32, Memory>,
+}
+
+/// Makes the calls of one session.
+fn call_one<N: Environment, R: Wait>(rt: &R, stage: &Stage<N>, caller: &mut Caller)
+    requires key { FitsFrame stage.now.key }
+    requires made { (conn : ℕ) × MayMake stage.now.grid stage.now.key conn caller.old }
+    ensures { (conn : ℕ) → MayMake stage.now.grid stage.now.key conn caller.old → HasMadeAll stage.now.grid stage.now.key conn caller.new }
+{
+    caller.came = make_calls(
+        rt,
+        stage.alloc,
+        &stage.grid,
+        &mut caller.session,
+        &stage.key,
+    );
+}
+
+/// Has each session make its calls on a thread of its own, and then the worker end.
+fn call_all<N: Environment, R: Threads + Wait + Sync>(
+    rt: &R,
+    stage: &Stage<N>,
+    callers: &mut Vec<Caller>,
+)
+    requires key { FitsFrame stage.now.key }
+    requires callers { MayAllMake stage.now.grid stage.now.key callers.old.items }
+    ensures made { HaveAllMade stage.now.grid stage.now.key callers.new.items }
+    ensures many { length callers.new.items ≡ length callers.old.items }
+{
+    let call = |conn: usize, caller: &mut Caller|
+        requires { FitsFrame stage.now.key × MayMake stage.now.grid stage.now.key conn caller.now }
+        ensures { HasMadeAll stage.entry.now.grid stage.entry.now.key conn caller.exit.now }
+    { call_one(rt, stage, caller) };
+    thread::for_each_mut(rt, callers.as_mut_slice(), SESSIONS as usize, &call);
+    stage.grid.workplace().stop();
+}
+
+/// Runs the worker of the calls' partition at its leader until the grid is stopped, if its tokens are there.
+fn run_worker<N: Environment, R: Wait>(
+    rt: &R,
+    stage: &Stage<N>,
+    slot: &mut Option<WorkerTokens<LiveWorld>>,
+)
+    requires { IsWorker (place_of stage.now.grid) 9 slot.old }
+{
+    if let Some(tokens) = slot.take() {
+        let number = THREADS * usize::from(LEADER) + usize::from(THREAD);
+        let place = stage.grid.workplace();
+        worker(
+            rt,
+            stage.alloc,
+            number,
+            place,
+            &stage.env,
+            &OpenGate,
+            tokens,
+        );
+    }
+}
+
+/// Runs the worker beside the sessions.
+pub(crate) fn run_threads<N: Environment, R: Threads + Wait + Sync>(
+    rt: &R,
+    stage: &Stage<N>,
+    slot: &mut Option<WorkerTokens<LiveWorld>>,
+    callers: &mut Vec<Caller>,
+)
+    requires key { FitsFrame stage.now.key }
+    requires worker { IsWorker (place_of stage.now.grid) 9 slot.old }
+    requires callers { MayAllMake stage.now.grid stage.now.key callers.old.items }
+    ensures made { HaveAllMade stage.now.grid stage.now.key callers.new.items }
+    ensures many { length callers.new.items ≡ length callers.old.items }
+{
+    let mut working = ||
+        requires { IsWorker (place_of stage.now.grid) 9 slot.now }
+    { run_worker(rt, stage, slot) };
+    let mut calling = ||
+        requires { FitsFrame stage.now.key × MayAllMake stage.now.grid stage.now.key callers.now.items }
+    { call_all(rt, stage, callers) };
+    join_mut(rt, &mut working, &mut calling);
+}
