@@ -4,3 +4,4 @@ mod Handing
 mod Opening
 mod Regained
 mod Replayed
+mod SampleWords
