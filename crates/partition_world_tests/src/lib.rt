@@ -1,7 +1,5 @@
-//! Tests of `partition_world` over its public calls.
+//! Tests of `partition_world` over its public calls. The examples in `specs/` are what its definitions compute.
 #![tactic(auto)]
 
-#[cfg(test)]
-mod recorders;
 #[cfg(test)]
 mod worlds;

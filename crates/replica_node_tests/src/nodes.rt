@@ -21,10 +21,6 @@ const EFFECT_1_1: &[u8] = b"\x03\x01\0\0\0\x01\0\0\0\x01\0\0\0\x07";
 
 const ACK_1_1: &[u8] = b"\x04\x01\0\0\0\x01\0\0\0";
 
-const FROZEN: &[u8] = b"\x07\x01\0\0\0";
-
-const JOINED: &[u8] = b"\x05\x02\0\0\0\x02";
-
 /// A member at the start: 0 leads, and 1 is its backup.
 fn node(alloc: Global, member: MemberId) -> Result<Node<Journal>, Memory> {
     let row = Row::initial(alloc, 0, 3, 1)?;
@@ -127,39 +123,5 @@ fn a_backup_takes_an_effect_and_refuses_a_call(rt: HostRuntime) -> Result<(), Fa
     let called = append(alloc, &mut backup)?;
     let elsewhere = PartitionRefused::WrongTarget { version: 1 };
     assert_eq!(rt; refused(&called), Some(elsewhere));
-    Ok(())
-}
-
-#[test]
-fn a_frozen_primary_says_that_it_is_drained(rt: HostRuntime) -> Result<(), Fail> {
-    let alloc = rt.alloc();
-    let mut leader = node(alloc, 0)?;
-    let freeze = MemberMessage::Freeze { version: 1 };
-    let sent = hand(&rt, alloc, &mut leader, SERVICE, &freeze, Took::Frozen)?;
-    assert_sent(&rt, &sent, SERVICE, FROZEN);
-    let again = leader.resend(alloc)?.ok_or("it leads")?;
-    assert_sent(&rt, &again, SERVICE, FROZEN);
-    Ok(())
-}
-
-#[test]
-fn a_joiner_is_told_of_once(rt: HostRuntime) -> Result<(), Fail> {
-    let alloc = rt.alloc();
-    let mut leader = node(alloc, 0)?;
-    if leader.known().version > 9 {
-        return Err("it knows the initial row".into());
-    }
-    let row = leader.known().with_joiner(alloc, 2)?;
-    let message = MemberMessage::NewRow { row };
-    let sent = hand(&rt, alloc, &mut leader, SERVICE, &message, Took::Adopted)?;
-    assert_eq!(rt; (sent.len(), leader.known().version), (2, 2));
-    let ack = MemberMessage::Ack {
-        version: 2,
-        count: 0,
-    };
-    let joined = hand(&rt, alloc, &mut leader, 2, &ack, Took::Acked)?;
-    assert_sent(&rt, &joined, SERVICE, JOINED);
-    let silent = hand(&rt, alloc, &mut leader, 2, &ack, Took::Acked)?;
-    assert!(rt; silent.is_empty());
     Ok(())
 }

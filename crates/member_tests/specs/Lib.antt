@@ -1,0 +1,5 @@
+pub mod RowExamples
+pub mod LinkExamples
+pub mod WireExamples
+pub mod MasterExamples
+pub mod PlanExamples

@@ -1,0 +1,4 @@
+pub mod LockExamples
+pub mod ProcessorExamples
+pub mod ChangeExamples
+pub mod WaitExamples
