@@ -1,4 +1,4 @@
-use grid_base::{Bytes, ClientKey, GridCall, MapCall, Memory, Owner, QueueCall};
+use grid_base::{Bytes, ClientKey, GridCall, MapCall, Memory, Owner, PartitionId, QueueCall};
 use request_codecs::{FIRST_CORRELATION, write_opening, write_request};
 use std::alloc::Global;
 use std::test::Fail;
@@ -58,6 +58,11 @@ const EXECUTE: &[u8] = b"\x1e\0\0\0\0\xc0\0\x2e\x01\0\x04\0\0\0\0\0\0\0\x05\0\0\
 /// The poll of the queue `q` in partition 100.
 const POLL: &[u8] = b"\x16\0\0\0\0\xc0\0\x05\x03\0\x04\0\0\0\0\0\0\0\x64\0\0\0\x07\0\0\0\0\x20q";
 
+/// The request of a call, under the first correlation.
+fn request(alloc: Global, partition: PartitionId, call: &GridCall) -> Result<Bytes, Memory> {
+    write_request(alloc, FIRST_CORRELATION, partition, call)
+}
+
 /// The request of a put with no time to live.
 fn put(alloc: Global, name: Bytes, key: Bytes, value: Bytes) -> Result<Bytes, Memory> {
     let call = GridCall::Map(MapCall::Put {
@@ -67,7 +72,7 @@ fn put(alloc: Global, name: Bytes, key: Bytes, value: Bytes) -> Result<Bytes, Me
         value,
         ttl: 0,
     });
-    write_request(alloc, FIRST_CORRELATION, 5, &call)
+    request(alloc, 5, &call)
 }
 
 fn put_request(alloc: Global) -> Result<Bytes, Memory> {
@@ -85,7 +90,7 @@ fn execute(alloc: Global, name: Bytes, key: Bytes, argument: Bytes) -> Result<By
         number: 1,
         argument,
     });
-    write_request(alloc, FIRST_CORRELATION, 5, &call)
+    request(alloc, 5, &call)
 }
 
 fn execute_request(alloc: Global) -> Result<Bytes, Memory> {
@@ -96,7 +101,7 @@ fn execute_request(alloc: Global) -> Result<Bytes, Memory> {
 
 fn poll(alloc: Global, name: Bytes) -> Result<Bytes, Memory> {
     let call = GridCall::Queue(QueueCall::Poll { name });
-    write_request(alloc, FIRST_CORRELATION, 100, &call)
+    request(alloc, 100, &call)
 }
 
 fn poll_request(alloc: Global) -> Result<Bytes, Memory> {
