@@ -1,4 +1,4 @@
-use grid_base::{Bytes, MemberId};
+use grid_base::MemberId;
 use member_wire::{MemberMessage, Outbox, Took, read_member};
 use partition_table::Row;
 use std::alloc::Global;
@@ -43,7 +43,8 @@ const DRAINED: Outcome = Outcome::Took(Took::Drained);
 const STALE: Outcome = Outcome::Took(Took::Stale);
 
 /// A call, what it came to, to whom something was sent, and the row then: its version and members, a star for each that
-/// may lead, and whether a move is under way. What is sent is the row, if it isn't said to be a freeze.
+/// may lead, its reset where it was reopened, and whether a move is under way. What is sent is the row, if it isn't said
+/// to be a freeze.
 type Line = (Call, Outcome, &'static str, &'static str);
 
 fn made(alloc: Global, answer: Result<Told<u32>, MoveRefused>) -> Told<Outcome> {
@@ -140,6 +141,9 @@ fn standing_text(alloc: Global, service: &Service) -> Result<String, Fail> {
         let star = if listed.eligible { "*" } else { "" };
         write!(text, " {}{star}", listed.member)?;
     }
+    if row.reset != 0 {
+        write!(text, " since {}", row.reset)?;
+    }
     if service.moving() {
         text.push_str(" moving")?;
     }
@@ -216,23 +220,11 @@ const A_PRIMARY_MOVES: &[Line] = &[
     (Advance, NothingDue, "", "3: 3* 2*"),
 ];
 
-#[test]
-fn a_primary_moves_step_by_step(rt: HostRuntime) -> Result<(), Fail> {
-    let mut service = service(rt.alloc())?;
-    assert_calls(&rt, rt.alloc(), &mut service, A_PRIMARY_MOVES)
-}
-
 const A_BACKUP_MOVES: &[Line] = &[
     (Move(2, 0), Made(2), "0 1 2 3", "2: 1* 2* 0 moving"),
     (Joined(2, 0), JOINED, "", "2: 1* 2* 0* moving"),
     (Advance, Made(3), "0 1 2 3", "3: 1* 0*"),
 ];
-
-#[test]
-fn a_backup_leaves_at_once(rt: HostRuntime) -> Result<(), Fail> {
-    let mut service = service(rt.alloc())?;
-    assert_calls(&rt, rt.alloc(), &mut service, A_BACKUP_MOVES)
-}
 
 const A_JOIN: &[Line] = &[
     (Join(3), Made(2), "0 1 2 3", "2: 1* 2* 3 moving"),
@@ -240,24 +232,12 @@ const A_JOIN: &[Line] = &[
     (Joined(2, 3), JOINED, "", "2: 1* 2* 3*"),
 ];
 
-#[test]
-fn a_joiner_takes_nobodys_place(rt: HostRuntime) -> Result<(), Fail> {
-    let mut service = service(rt.alloc())?;
-    assert_calls(&rt, rt.alloc(), &mut service, A_JOIN)
-}
-
 const A_HANDOVER: &[Line] = &[
     (Handover(1, 2), Done, "", "1: 1* 2* moving"),
     (Advance, Froze, "1 freezes", "1: 1* 2* moving"),
     (Frozen(1), DRAINED, "", "1: 1* 2* moving"),
     (Advance, Made(2), "0 1 2 3", "2: 2*"),
 ];
-
-#[test]
-fn a_handover_makes_no_row_at_first(rt: HostRuntime) -> Result<(), Fail> {
-    let mut service = service(rt.alloc())?;
-    assert_calls(&rt, rt.alloc(), &mut service, A_HANDOVER)
-}
 
 const LOST: Outcome = Refused(MoveRefused::Lost);
 
@@ -303,12 +283,6 @@ const REFUSALS: &[Line] = &[
     (Handover(2, 3), LOST, "", "4:"),
 ];
 
-#[test]
-fn the_first_reason_is_told(rt: HostRuntime) -> Result<(), Fail> {
-    let mut service = service(rt.alloc())?;
-    assert_calls(&rt, rt.alloc(), &mut service, REFUSALS)
-}
-
 /// Partition 6 of five members: member 1 leads, with 2 and 3 as backups, and 4 takes its place by so many steps.
 fn moved_by(rt: &impl Abort, alloc: Global, steps: usize) -> Result<Service, Fail> {
     let mut service = Service::new(alloc, 6, 5, 2)?;
@@ -336,18 +310,6 @@ const FREEZES_AGAIN: &[Line] = &[
     (Advance, Made(4), "0 1 2 4", "4: 4* 2*"),
 ];
 
-#[test]
-fn a_move_begins_again_without_a_backup(rt: HostRuntime) -> Result<(), Fail> {
-    let mut joining = moved_by(&rt, rt.alloc(), 1)?;
-    assert_calls(&rt, rt.alloc(), &mut joining, WAITS_AGAIN)?;
-    assert!(rt; joining.is_detected(3) && !joining.is_detected(2));
-    for steps in 2..5 {
-        let mut service = moved_by(&rt, rt.alloc(), steps)?;
-        assert_calls(&rt, rt.alloc(), &mut service, FREEZES_AGAIN)?;
-    }
-    Ok(())
-}
-
 const ENDS_WITHOUT_A_JOINER: &[Line] = &[
     (Detect(4), Made(3), "0 1 2 3", "3: 1* 2* 3*"),
     (Advance, NothingDue, "", "3: 1* 2* 3*"),
@@ -364,80 +326,86 @@ const ENDS_WITHOUT_A_SOURCE: &[Line] = &[
     (Frozen(3), STALE, "", "3: 2* 3* 4*"),
 ];
 
-#[test]
-fn a_move_ends_without_its_source_or_target(rt: HostRuntime) -> Result<(), Fail> {
-    for steps in 1..5 {
-        let mut service = moved_by(&rt, rt.alloc(), steps)?;
-        assert_calls(&rt, rt.alloc(), &mut service, ENDS_WITHOUT_A_JOINER)?;
-    }
-    let mut joining = moved_by(&rt, rt.alloc(), 1)?;
-    assert_calls(&rt, rt.alloc(), &mut joining, ENDS_AS_IT_JOINS)?;
-    for steps in 2..5 {
-        let mut service = moved_by(&rt, rt.alloc(), steps)?;
-        assert_calls(&rt, rt.alloc(), &mut service, ENDS_WITHOUT_A_SOURCE)?;
-    }
-    Ok(())
-}
-
 const A_LOSS: &[Line] = &[
     (Reopen, NOT_LOST, "", "1: 1* 2*"),
     (Detect(1), Made(2), "0 2 3", "2: 2*"),
     (Detect(2), Made(3), "0 3", "3:"),
     (Resend, Done, "0 3", "3:"),
     // From member 1 on, those that are left: the first leads.
-    (Reopen, Made(4), "0 3", "4: 3* 0"),
-    (Detect(0), Made(5), "3", "5: 3*"),
-    (Detect(3), Made(6), "", "6:"),
-    (Reopen, NO_MEMBER, "", "6:"),
-    (Detect(3), Done, "", "6:"),
+    (Reopen, Made(4), "0 3", "4: 3* 0 since 4"),
+    (Detect(0), Made(5), "3", "5: 3* since 4"),
+    (Detect(3), Made(6), "", "6: since 4"),
+    (Reopen, NO_MEMBER, "", "6: since 4"),
+    (Detect(3), Done, "", "6: since 4"),
 ];
-
-#[test]
-fn a_lost_partition_is_reopened(rt: HostRuntime) -> Result<(), Fail> {
-    let mut service = service(rt.alloc())?;
-    assert_calls(&rt, rt.alloc(), &mut service, A_LOSS)?;
-    assert_eq!(rt; service.row().reset, 4);
-    Ok(())
-}
 
 const A_STRANGER_CRASHES: &[Line] = &[
     (Detect(0), Done, "", "1: 1* 2*"),
     (Resend, Done, "1 2 3", "1: 1* 2*"),
 ];
 
+/// What happens from the start on, in each of these.
+const FROM_THE_START: [&[Line]; 7] = [
+    A_PRIMARY_MOVES,
+    A_BACKUP_MOVES,
+    A_JOIN,
+    A_HANDOVER,
+    REFUSALS,
+    A_LOSS,
+    A_STRANGER_CRASHES,
+];
+
 #[test]
-fn one_outside_the_row_makes_no_row(rt: HostRuntime) -> Result<(), Fail> {
-    let mut service = service(rt.alloc())?;
-    assert_calls(&rt, rt.alloc(), &mut service, A_STRANGER_CRASHES)?;
-    assert!(rt; service.is_detected(0));
+fn calls_lead_from_row_to_row(rt: HostRuntime) -> Result<(), Fail> {
+    for lines in FROM_THE_START {
+        assert_calls(&rt, rt.alloc(), &mut service(rt.alloc())?, lines)?;
+    }
     Ok(())
 }
 
-fn assert_other(rt: &impl Abort, service: &mut Service, message: &MemberMessage) {
-    assert_eq!(rt; service.take(message), Took::Other);
+/// What happens after so many steps of a move.
+const WITHIN_A_MOVE: [(usize, &[Line]); 12] = [
+    (1, WAITS_AGAIN),
+    (2, FREEZES_AGAIN),
+    (3, FREEZES_AGAIN),
+    (4, FREEZES_AGAIN),
+    (1, ENDS_WITHOUT_A_JOINER),
+    (2, ENDS_WITHOUT_A_JOINER),
+    (3, ENDS_WITHOUT_A_JOINER),
+    (4, ENDS_WITHOUT_A_JOINER),
+    (1, ENDS_AS_IT_JOINS),
+    (2, ENDS_WITHOUT_A_SOURCE),
+    (3, ENDS_WITHOUT_A_SOURCE),
+    (4, ENDS_WITHOUT_A_SOURCE),
+];
+
+#[test]
+fn a_move_goes_on_or_ends_in_a_new_row(rt: HostRuntime) -> Result<(), Fail> {
+    for (steps, lines) in WITHIN_A_MOVE {
+        let mut service = moved_by(&rt, rt.alloc(), steps)?;
+        assert_calls(&rt, rt.alloc(), &mut service, lines)?;
+    }
+    Ok(())
 }
+
+/// What is said to members: a row, whole contents, an effect, an acknowledgement, a freeze and a bridge.
+const TO_MEMBERS: [&[u8]; 6] = [
+    b"\x01\x02\0\0\0\0\0\0\0\0\x01\x01\x01",
+    b"\x02\x02\0\0\0\0\0\0\0\0\x01\x01\x01\x01\0\0\0\0\0\0\0",
+    b"\x03\x02\0\0\0\x01\0\0\0\0\0\0\0",
+    b"\x04\x02\0\0\0\x01\0\0\0",
+    b"\x06\x02\0\0\0",
+    b"\x08\x02\0\0\0\0\0\0\0\0\x01\x01\x01\x01\0\0\0\x01\0\0\0",
+];
 
 #[test]
 fn what_is_said_to_members_is_for_others(rt: HostRuntime) -> Result<(), Fail> {
-    let alloc = rt.alloc();
-    let mut service = moved_by(&rt, alloc, 3)?;
-    let version = 2;
-    let (number, count) = (1, 1);
-    let effect = Bytes::new(alloc);
-    let row = Row::initial(alloc, 6, 5, 2)?;
-    assert_other(&rt, &mut service, &MemberMessage::NewRow { row });
-    assert_other(
-        &rt,
-        &mut service,
-        &MemberMessage::Effect {
-            version,
-            number,
-            effect,
-        },
-    );
-    assert_other(&rt, &mut service, &MemberMessage::Ack { version, count });
-    assert_other(&rt, &mut service, &MemberMessage::Freeze { version });
-    let stands = standing_text(alloc, &service)?;
+    let mut service = moved_by(&rt, rt.alloc(), 3)?;
+    for bytes in TO_MEMBERS {
+        let message = read_member(rt.alloc(), bytes)?;
+        assert_eq!(rt; service.take(&message), Took::Other);
+    }
+    let stands = standing_text(rt.alloc(), &service)?;
     assert_eq!(rt; stands.as_str(), "2: 1* 2* 3* 4* moving");
     Ok(())
 }
