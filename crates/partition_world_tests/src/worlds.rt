@@ -104,6 +104,17 @@ fn resend<R: Records<JournalCall>>(
     happen(rt, alloc, world, Event::Resend { end }, Happened::Done)
 }
 
+/// So many messages are on a link.
+fn assert_in_flight<R: Records<JournalCall>>(
+    rt: &impl Abort,
+    world: &World<Journal, R>,
+    from: u8,
+    to: u8,
+    messages: usize,
+) {
+    assert_eq!(rt; world.in_flight(from, to).len(), messages);
+}
+
 #[test]
 fn an_answer_waits_for_its_backup(rt: HostRuntime) -> Result<(), Fail> {
     let alloc = rt.alloc();
@@ -126,9 +137,9 @@ fn what_was_lost_is_sent_again(rt: HostRuntime) -> Result<(), Fail> {
     let mut world: World<Journal, StandingRow> = World::new(alloc, 5, 3, 1)?;
     call(&rt, alloc, &mut world, 2, CallOutcome::Held { seen: 1 })?;
     lose(&rt, alloc, &mut world, 2, 0)?;
-    assert_eq!(rt; world.in_flight(2, 0).len(), 0);
+    assert_in_flight(&rt, &world, 2, 0, 0);
     resend(&rt, alloc, &mut world, 2)?;
     deliver(&rt, alloc, &mut world, 2, 0, Took::Applied)?;
-    assert_eq!(rt; world.in_flight(0, 2).len(), 1);
+    assert_in_flight(&rt, &world, 0, 2, 1);
     Ok(())
 }
