@@ -16,4 +16,6 @@ mod ports;
 #[cfg(test)]
 mod standard;
 #[cfg(test)]
+mod streams;
+#[cfg(test)]
 mod wakes;

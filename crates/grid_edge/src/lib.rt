@@ -31,4 +31,4 @@ pub use memory_source::{MemorySource, SteadySource};
 pub use ready::{Ready, ReadySink, ReadySource};
 pub use sink::{Sink, WriteFault, write_all};
 pub use source::{ReadFault, Source};
-pub use standard::{StdSink, StdSource};
+pub use standard::{StdSink, StdSource, read_again, write_again};

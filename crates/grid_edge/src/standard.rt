@@ -86,9 +86,9 @@ impl Sink for StdSink {
     }
 }
 
-// Reads once, and again where the read was interrupted.
+/// Reads once, and again where the read was interrupted.
 #[tactic(auto, using(crate::proofs::Streams::Consumes_since))]
-fn read_again<R: Read>(reader: &mut R, into: &mut [u8]) -> Result<usize, ReadFault>
+pub fn read_again<R: Read>(reader: &mut R, into: &mut [u8]) -> Result<usize, ReadFault>
     ensures within { IfOk result (λ n. n ≤ length into.new) }
     ensures bytes { ReadConsumes (R.remaining reader.old) (R.remaining reader.new) result into.new }
 {
@@ -102,9 +102,9 @@ fn read_again<R: Read>(reader: &mut R, into: &mut [u8]) -> Result<usize, ReadFau
     Err(ReadFault)
 }
 
-// Writes once, and again where the write was interrupted. It fails where nothing of a piece was taken.
+/// Writes once, and again where the write was interrupted. It fails where nothing of a piece was taken.
 #[tactic(auto, using(crate::proofs::Streams::Appends_since))]
-fn write_again<W: Write>(writer: &mut W, from: &[u8]) -> Result<usize, WriteFault>
+pub fn write_again<W: Write>(writer: &mut W, from: &[u8]) -> Result<usize, WriteFault>
     ensures within { IfOk result (λ n. n ≤ length from.now) }
     ensures progress { IfOk result (λ n. 0 < length from.now → 0 < n) }
     ensures bytes { WriteAppends (W.contents writer.old) (W.contents writer.new) result from.now }
