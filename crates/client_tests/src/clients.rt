@@ -11,46 +11,58 @@ const KEY: &[u8] = b"\0\0\0\x05\xff\xff\xff\xf5k";
 const VALUE: &[u8] = b"\0\0\0\0\xff\xff\xff\xf5v";
 
 /// What client 7 of the map `m` sends first.
-const OPENING: &[u8] = b"CP2(\0\0\0\0\xc0\0\x01\0\0\x01\0\0\0\0\0\0\0\xff\xff\xff\xff\0\0\0\0\0\0\0\0\0\x07\0\0\0\0\0\0\0\x01\x09\0\0\0\0 dev\x16\0\0\0\0\xc0\0?\x01\0\x02\0\0\0\0\0\0\0\xff\xff\xff\xff\x07\0\0\0\0 m\x16\0\0\0\0\xe0\0\x03\0\0\x03\0\0\0\0\0\0\0\xff\xff\xff\xff";
+const OPENING: &[u8] =
+    b"CP2(\0\0\0\0\xc0\0\x01\0\0\x01\0\0\0\0\0\0\0\xff\xff\xff\xff\0\0\0\0\0\0\0\0\0\x07\0\0\0\0\0\0\0\x01\x09\0\0\0\0 dev\x16\0\0\0\0\xc0\0?\x01\0\x02\0\0\0\0\0\0\0\xff\xff\xff\xff\x07\0\0\0\0 m\x16\0\0\0\0\xe0\0\x03\0\0\x03\0\0\0\0\0\0\0\xff\xff\xff\xff";
 
 /// The get of the key under the correlation 4, by no thread.
-const GET_4: &[u8] = b"\x1e\0\0\0\0\xc0\0\x02\x01\0\x04\0\0\0\0\0\0\0\x05\0\0\0\0\0\0\0\0\0\0\0\x07\0\0\0\0\0m\x0f\0\0\0\0 \0\0\0\x05\xff\xff\xff\xf5k";
+const GET_4: &[u8] =
+    b"\x1e\0\0\0\0\xc0\0\x02\x01\0\x04\0\0\0\0\0\0\0\x05\0\0\0\0\0\0\0\0\0\0\0\x07\0\0\0\0\0m\x0f\0\0\0\0 \0\0\0\x05\xff\xff\xff\xf5k";
 
 /// The same under the correlation 5.
-const GET_5: &[u8] = b"\x1e\0\0\0\0\xc0\0\x02\x01\0\x05\0\0\0\0\0\0\0\x05\0\0\0\0\0\0\0\0\0\0\0\x07\0\0\0\0\0m\x0f\0\0\0\0 \0\0\0\x05\xff\xff\xff\xf5k";
+const GET_5: &[u8] =
+    b"\x1e\0\0\0\0\xc0\0\x02\x01\0\x05\0\0\0\0\0\0\0\x05\0\0\0\0\0\0\0\0\0\0\0\x07\0\0\0\0\0m\x0f\0\0\0\0 \0\0\0\x05\xff\xff\xff\xf5k";
 
 /// Member 0 accepts the client.
-const WELCOME_0: &[u8] = b")\0\0\0\0\xe0\x01\x01\0\0\x01\0\0\0\0\0\0\0\0\0\0\0\0\0\0\0\0\0\0\x01\0\0\0\0\0\0\0\x0f\x01\0\0";
+const WELCOME_0: &[u8] =
+    b")\0\0\0\0\xe0\x01\x01\0\0\x01\0\0\0\0\0\0\0\0\0\0\0\0\0\0\0\0\0\0\x01\0\0\0\0\0\0\0\x0f\x01\0\0";
 
 /// Member 1 does.
-const WELCOME_1: &[u8] = b")\0\0\0\0\xe0\x01\x01\0\0\x01\0\0\0\0\0\0\0\0\0\0\0\0\0\0\0\0\0\0\x02\0\0\0\0\0\0\0\x0f\x01\0\0";
+const WELCOME_1: &[u8] =
+    b")\0\0\0\0\xe0\x01\x01\0\0\x01\0\0\0\0\0\0\0\0\0\0\0\0\0\0\0\0\0\0\x02\0\0\0\0\0\0\0\x0f\x01\0\0";
 
 /// The value answers the get of the correlation 4.
-const VALUE_4: &[u8] = b"\x13\0\0\0\0\xc0\x01\x02\x01\0\x04\0\0\0\0\0\0\0\0\x0f\0\0\0\0 \0\0\0\0\xff\xff\xff\xf5v";
+const VALUE_4: &[u8] =
+    b"\x13\0\0\0\0\xc0\x01\x02\x01\0\x04\0\0\0\0\0\0\0\0\x0f\0\0\0\0 \0\0\0\0\xff\xff\xff\xf5v";
 
 /// It answers that of the correlation 5.
-const VALUE_5: &[u8] = b"\x13\0\0\0\0\xc0\x01\x02\x01\0\x05\0\0\0\0\0\0\0\0\x0f\0\0\0\0 \0\0\0\0\xff\xff\xff\xf5v";
+const VALUE_5: &[u8] =
+    b"\x13\0\0\0\0\xc0\x01\x02\x01\0\x05\0\0\0\0\0\0\0\0\x0f\0\0\0\0 \0\0\0\0\xff\xff\xff\xf5v";
 
 /// There is no value, says the answer of the correlation 5.
 const NULL_5: &[u8] = b"\x13\0\0\0\0\xc0\x01\x02\x01\0\x05\0\0\0\0\0\0\0\0\x06\0\0\0\0$";
 
 /// Another member leads the partition, says the answer of the correlation 4.
-const ELSEWHERE_4: &[u8] = b"\x1f\0\0\0\0\xe0\0\0\0\0\x04\0\0\0\0\0\0\0\0\x08\0\0\0\x02\0\0\0\0\0\0\0";
+const ELSEWHERE_4: &[u8] =
+    b"\x1f\0\0\0\0\xe0\0\0\0\0\x04\0\0\0\0\0\0\0\0\x08\0\0\0\x02\0\0\0\0\0\0\0";
 
 /// The partition is lost, says the answer of the correlation 4.
 const LOST_4: &[u8] = b"\x1f\0\0\0\0\xe0\0\0\0\0\x04\0\0\0\0\0\0\0\0\x07\0\0\0\x02\0\0\0\0\0\0\0";
 
 /// The key of the map `m` was changed, in version 1 with the number 3.
-const INVALIDATION: &[u8] = b"\x1e\0\0\0\0\xc2\x02?\x01\0\x02\0\0\0\0\0\0\0\x05\0\0\0\x01\0\0\0\x03\0\0\0\x07\0\0\0\0\0m\x0f\0\0\0\0 \0\0\0\x05\xff\xff\xff\xf5k";
+const INVALIDATION: &[u8] =
+    b"\x1e\0\0\0\0\xc2\x02?\x01\0\x02\0\0\0\0\0\0\0\x05\0\0\0\x01\0\0\0\x03\0\0\0\x07\0\0\0\0\0m\x0f\0\0\0\0 \0\0\0\x05\xff\xff\xff\xf5k";
 
 /// That of the map `n` was.
-const OTHER_MAP: &[u8] = b"\x1e\0\0\0\0\xc2\x02?\x01\0\x02\0\0\0\0\0\0\0\x05\0\0\0\x01\0\0\0\x03\0\0\0\x07\0\0\0\0\0n\x0f\0\0\0\0 \0\0\0\x05\xff\xff\xff\xf5k";
+const OTHER_MAP: &[u8] =
+    b"\x1e\0\0\0\0\xc2\x02?\x01\0\x02\0\0\0\0\0\0\0\x05\0\0\0\x01\0\0\0\x03\0\0\0\x07\0\0\0\0\0n\x0f\0\0\0\0 \0\0\0\x05\xff\xff\xff\xf5k";
 
 /// Partition 5 has the members 0 and 1, in version 1.
-const ROW_1: &[u8] = b"\x16\0\0\0\0\xc2\x03\x03\0\0\x03\0\0\0\0\0\0\0\xff\xff\xff\xff\x06\0\0\0\0\x10\x12\0\0\0\0\0\x05\0\0\0\x01\0\0\0\0\x02\0\x01\x06\0\0\0\0(";
+const ROW_1: &[u8] =
+    b"\x16\0\0\0\0\xc2\x03\x03\0\0\x03\0\0\0\0\0\0\0\xff\xff\xff\xff\x06\0\0\0\0\x10\x12\0\0\0\0\0\x05\0\0\0\x01\0\0\0\0\x02\0\x01\x06\0\0\0\0(";
 
 /// It has the members 1 and 0, in version 2.
-const ROW_2: &[u8] = b"\x16\0\0\0\0\xc2\x03\x03\0\0\x03\0\0\0\0\0\0\0\xff\xff\xff\xff\x06\0\0\0\0\x10\x12\0\0\0\0\0\x05\0\0\0\x02\0\0\0\0\x02\x01\0\x06\0\0\0\0(";
+const ROW_2: &[u8] =
+    b"\x16\0\0\0\0\xc2\x03\x03\0\0\x03\0\0\0\0\0\0\0\xff\xff\xff\xff\x06\0\0\0\0\x10\x12\0\0\0\0\0\x05\0\0\0\x02\0\0\0\0\x02\x01\0\x06\0\0\0\0(";
 
 /// A word for what was heard.
 fn word(heard: &Heard) -> &'static str {
