@@ -5,4 +5,3 @@ mod Heard
 mod Opening
 mod Regained
 mod Replayed
-mod SampleWords

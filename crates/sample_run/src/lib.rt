@@ -4,8 +4,6 @@
 mod lines;
 mod sample;
 mod summary;
-mod watch;
 
-pub use sample::{Sampled, replay_sample, replay_watched};
+pub use sample::{Sampled, replay_sample};
 pub use summary::{Summary, write_summary};
-pub use watch::{LineWatch, Unwatched};
