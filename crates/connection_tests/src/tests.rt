@@ -20,125 +20,74 @@ use partition_threads::{OpenGate, WorkerTokens, Workplace, worker};
 use session_calls::SessionPass;
 use std::alloc::Global;
 use std::sync::Wait;
+use std::test::Fail;
 use std::thread;
 use std::thread::{Threads, join};
+
+type Unready = (MemoryReady<MemorySource>, MemoryReady<MemorySink>);
 
 /// More than the calls of the source, and of the sink, that serve the client.
 const CALLS: usize = 32;
 
-/// The streams of the client.
-#[derive(Drop)]
-enum Streams {
-    /// They may be unready.
-    Polled(MemoryReady<MemorySource>, MemoryReady<MemorySink>),
-    /// They wait.
-    Waiting(Blocking<MemorySource>, Blocking<MemorySink>),
+/// What the client says, over streams that are unready at every other call and move few bytes at a time.
+fn unready_streams(alloc: Global) -> Result<Unready, Memory> {
+    let said = MemorySource::in_pieces(put_and_get(alloc)?, Vec::new(alloc), MOST_SAID);
+    let heard = MemorySink::in_pieces(Vec::new(alloc), MOST_HEARD);
+    Ok((
+        MemoryReady::new(said, Vec::new(alloc), every_other(alloc)?),
+        MemoryReady::new(heard, Vec::new(alloc), every_other(alloc)?),
+    ))
 }
 
-/// What calls fail.
-#[derive(Clone, Copy)]
-enum Side {
-    Reads,
-    Writes,
+/// The same over streams that are always ready, of which these calls fail.
+fn failing_streams(alloc: Global, reads: Vec<u64>, writes: Vec<u64>) -> Result<Unready, Memory> {
+    let said = MemorySource::in_pieces(put_and_get(alloc)?, Vec::new(alloc), MOST_SAID);
+    let heard = MemorySink::in_pieces(Vec::new(alloc), MOST_HEARD);
+    Ok((
+        MemoryReady::new(said, reads, Vec::new(alloc)),
+        MemoryReady::new(heard, writes, Vec::new(alloc)),
+    ))
 }
 
-/// What the client says, by a few bytes a call.
-fn said(alloc: Global) -> Result<MemorySource, Memory> {
-    let bytes = put_and_get(alloc)?;
-    Ok(MemorySource::in_pieces(bytes, Vec::new(alloc), MOST_SAID))
-}
-
-fn heard(alloc: Global) -> MemorySink {
-    MemorySink::in_pieces(Vec::new(alloc), MOST_HEARD)
-}
-
-/// Streams that are unready at every other call.
-fn unready_streams(alloc: Global) -> Result<Streams, Memory> {
-    let from = MemoryReady::new(said(alloc)?, Vec::new(alloc), every_other(alloc)?);
-    let to = MemoryReady::new(heard(alloc), Vec::new(alloc), every_other(alloc)?);
-    Ok(Streams::Polled(from, to))
-}
-
-fn waiting_streams(alloc: Global) -> Result<Streams, Memory> {
-    Ok(Streams::Waiting(Blocking::new(said(alloc)?), Blocking::new(heard(alloc))))
-}
-
-/// Streams that are always ready, of which the call with this number fails.
-fn failing_streams(alloc: Global, side: Side, call: usize) -> Result<Streams, Memory> {
-    let fails = vec![in alloc; call as u64]?;
-    let (reads, writes) = match side {
-        Side::Reads => (fails, Vec::new(alloc)),
-        Side::Writes => (Vec::new(alloc), fails),
-    };
-    let from = MemoryReady::new(said(alloc)?, reads, Vec::new(alloc));
-    let to = MemoryReady::new(heard(alloc), writes, Vec::new(alloc));
-    Ok(Streams::Polled(from, to))
-}
-
-/// Gives a connection turns to its end, and says how it ended.
+/// Gives a connection turns to its end, and then stops the workers. The streams come back.
 fn take_turns<R: Wait>(
     rt: &R,
     alloc: Global,
     place: &Workplace<LiveWorld>,
     session: SessionPass<LiveWorld>,
-    from: &mut MemoryReady<MemorySource>,
-    to: &mut MemoryReady<MemorySink>,
-) -> ConnectionEnd
+    streams: Unready,
+) -> (ConnectionEnd, Unready)
     requires fresh { IsFresh live_key place.now session none_seen }
     requires serves { ServesCalls RequestFits place.now }
 {
+    let (mut from, mut to) = streams;
     let clock = FixedClock::new(7);
     let mut connection = Connection::new(alloc, session);
     for _ in rt.forever() {
-        match connection.turn(rt, alloc, place, from, to, &clock) {
+        match connection.turn(rt, alloc, place, &mut from, &mut to, &clock) {
             Turned::Moved => {}
             Turned::NotYet => thread::yield_now(),
-            Turned::Ended(end) => return end,
+            Turned::Ended(end) => {
+                place.stop();
+                return (end, (from, to));
+            }
         }
     }
     unreachable!()
 }
 
-/// Serves the client, and then stops the workers. Says how its connection ended, and whether it heard this.
-fn serve<R: Wait>(
-    rt: &R,
-    alloc: Global,
-    place: &Workplace<LiveWorld>,
-    session: SessionPass<LiveWorld>,
-    streams: Streams,
-    wanted: &[u8],
-) -> (ConnectionEnd, bool)
-    requires fresh { IsFresh live_key place.now session none_seen }
-    requires serves { ServesCalls RequestFits place.now }
-{
-    let served = match streams {
-        Streams::Polled(mut from, mut to) => {
-            let end = take_turns(rt, alloc, place, session, &mut from, &mut to);
-            (end, to.stream().bytes() == wanted)
-        }
-        Streams::Waiting(mut from, mut to) => {
-            let clock = FixedClock::new(7);
-            let (end, _) = serve_connection(rt, alloc, place, session, &mut from, &mut to, &clock);
-            (end, to.stream().bytes() == wanted)
-        }
-    };
-    place.stop();
-    served
-}
-
-/// Serves a client of the grid.
-fn serve_at<R: Wait>(
+/// Serves a client of the grid by turns.
+fn serve_by_turns<R: Wait>(
     rt: &R,
     alloc: Global,
     grid: &LiveGrid,
     session: SessionPass<LiveWorld>,
-    streams: Streams,
-    wanted: &[u8],
-) -> (ConnectionEnd, bool)
+    streams: Unready,
+) -> (ConnectionEnd, Unready)
     requires fresh { IsFresh live_key (place_of grid.now) session none_seen }
     requires serves { ServesCalls RequestFits (place_of grid.now) }
 {
-    serve(rt, alloc, grid.workplace(), session, streams, wanted)
+    take_turns(rt, alloc, grid.workplace(), session, streams)
 }
 
 /// Runs the worker of the session's calls.
@@ -152,13 +101,12 @@ fn work<R: Wait>(rt: &R, alloc: Global, grid: &LiveGrid, tokens: WorkerTokens<Li
     worker(rt, alloc, WORKER, place, &env, &OpenGate, tokens);
 }
 
-/// Serves the client beside a worker on another thread.
-fn serve_client<R: Threads + Wait + Sync>(
+/// Serves a client by turns, beside a worker on another thread.
+fn by_turns<R: Threads + Wait + Sync>(
     rt: &R,
     alloc: Global,
-    streams: Streams,
-    wanted: &[u8],
-) -> Result<(ConnectionEnd, bool), Memory> {
+    streams: Unready,
+) -> Result<(ConnectionEnd, Unready), Memory> {
     let Live {
         grid,
         session,
@@ -166,7 +114,7 @@ fn serve_client<R: Threads + Wait + Sync>(
     } = Live::open(alloc)?;
     let (served, ()) = join(
         rt,
-        || serve_at(rt, alloc, &grid, session, streams, wanted),
+        || serve_by_turns(rt, alloc, &grid, session, streams),
         || -> ()
             requires { IsTokenAt (place_of grid) 9 tokens.queue × (tokens.held.items ≡ []) × All (λ cell. settings_for (plan_of cell) ≡ settings_in [] 10) (place_of grid).cells.items }
         { work(rt, alloc, &grid, tokens) },
@@ -174,71 +122,99 @@ fn serve_client<R: Threads + Wait + Sync>(
     Ok(served)
 }
 
-/// Whether the client has all its answers, and its connection then ends.
-fn is_answered<R: Threads + Wait + Sync>(
-    rt: &R,
-    alloc: Global,
-    streams: Result<Streams, Memory>,
-) -> bool {
-    let Ok(streams) = streams else {
-        return false;
-    };
-    match serve_client(rt, alloc, streams, ANSWERS) {
-        Ok((ConnectionEnd::Ended, heard)) => heard,
-        _ => false,
-    }
-}
-
 #[test]
-fn a_put_and_a_get_over_streams_that_are_often_unready(rt: HostRuntime) {
-    assert!(rt; is_answered(&rt, rt.alloc(), unready_streams(rt.alloc())));
+fn a_put_and_a_get_over_streams_that_are_often_unready(rt: HostRuntime) -> Result<(), Fail> {
+    let (end, (_, to)) = by_turns(&rt, rt.alloc(), unready_streams(rt.alloc())?)?;
+    assert!(rt; matches!(end, ConnectionEnd::Ended));
+    assert_eq!(rt; to.stream().bytes(), ANSWERS);
+    Ok(())
 }
 
-#[test]
-fn a_put_and_a_get_over_streams_that_wait(rt: HostRuntime) {
-    assert!(rt; is_answered(&rt, rt.alloc(), waiting_streams(rt.alloc())));
-}
-
-/// What the client has heard where this call fails: exactly the answers to what was read before it, or what the calls before it
-/// took.
-fn heard_before(side: Side, call: usize) -> &'static [u8] {
-    match side {
-        Side::Reads => answers_to(call),
-        Side::Writes => answers_in(call),
-    }
-}
-
-fn is_fault(end: &ConnectionEnd, side: Side) -> bool {
-    match side {
-        Side::Reads => matches!(end, ConnectionEnd::ReadFault),
-        Side::Writes => matches!(end, ConnectionEnd::WriteFault),
-    }
-}
-
-/// Serves the client with each call of a stream failing in turn, up to the last: does each connection end for that, and has the
-/// client heard what it should? And does it have all answers behind these, where no call fails?
-fn each_call_fails<R: Threads + Wait + Sync>(
-    rt: &R,
-    alloc: Global,
-    side: Side,
-) -> Result<bool, Memory> {
+/// Serves the client by turns with each call of the source failing in turn, up to the last: does each connection end for that,
+/// with exactly the answers to what was read before it? And does the client have all of them behind these, where no call fails?
+fn each_read_fails<R: Threads + Wait + Sync>(rt: &R, alloc: Global) -> Result<bool, Memory> {
     let mut held = true;
     for call in 0..CALLS {
-        let streams = failing_streams(alloc, side, call)?;
-        let wanted = heard_before(side, call);
-        let (end, heard) = serve_client(rt, alloc, streams, wanted)?;
-        held &= heard;
-        if !is_fault(&end, side) {
-            let whole = matches!(end, ConnectionEnd::Ended) && wanted == ANSWERS;
+        let reads = vec![in alloc; call as u64]?;
+        let streams = failing_streams(alloc, reads, Vec::new(alloc))?;
+        let (end, (_, to)) = by_turns(rt, alloc, streams)?;
+        if !matches!(end, ConnectionEnd::ReadFault) {
+            let whole = matches!(end, ConnectionEnd::Ended) && to.stream().bytes() == ANSWERS;
             return Ok(held && whole && 0 < call);
         }
+        held &= to.stream().bytes() == answers_to(call);
+    }
+    Ok(false)
+}
+
+/// The same with each call of the sink failing in turn, where exactly what the calls before it took is written.
+fn each_write_fails<R: Threads + Wait + Sync>(rt: &R, alloc: Global) -> Result<bool, Memory> {
+    let mut held = true;
+    for call in 0..CALLS {
+        let writes = vec![in alloc; call as u64]?;
+        let streams = failing_streams(alloc, Vec::new(alloc), writes)?;
+        let (end, (_, to)) = by_turns(rt, alloc, streams)?;
+        if !matches!(end, ConnectionEnd::WriteFault) {
+            let whole = matches!(end, ConnectionEnd::Ended) && to.stream().bytes() == ANSWERS;
+            return Ok(held && whole && 0 < call);
+        }
+        held &= to.stream().bytes() == answers_in(call);
     }
     Ok(false)
 }
 
 #[test]
-fn a_connection_ends_at_each_call_that_fails(rt: HostRuntime) {
-    let reads = each_call_fails(&rt, rt.alloc(), Side::Reads);
-    let writes = each_call_fails(&rt, rt.alloc(), Side::Writes);
-    assert_eq!(rt; (reads, writes), (Ok(true), Ok(true)));
+fn a_connection_ends_at_each_call_that_fails(rt: HostRuntime) -> Result<(), Fail> {
+    assert!(rt; each_read_fails(&rt, rt.alloc())?);
+    assert!(rt; each_write_fails(&rt, rt.alloc())?);
+    Ok(())
+}
+
+/// Serves a connection over streams that wait, and then stops the workers. The sink comes back.
+fn serve<R: Wait>(
+    rt: &R,
+    alloc: Global,
+    grid: &LiveGrid,
+    session: SessionPass<LiveWorld>,
+    said: MemorySource,
+) -> (ConnectionEnd, Blocking<MemorySink>)
+    requires fresh { IsFresh live_key (place_of grid.now) session none_seen }
+    requires serves { ServesCalls RequestFits (place_of grid.now) }
+{
+    let mut from = Blocking::new(said);
+    let mut to = Blocking::new(MemorySink::in_pieces(Vec::new(alloc), MOST_HEARD));
+    let place = grid.workplace();
+    let clock = FixedClock::new(7);
+    let (end, _) = serve_connection(rt, alloc, place, session, &mut from, &mut to, &clock);
+    place.stop();
+    (end, to)
+}
+
+/// Serves a connection over streams that wait, beside a worker on another thread.
+fn serve_waiting<R: Threads + Wait + Sync>(
+    rt: &R,
+    alloc: Global,
+) -> Result<(ConnectionEnd, Blocking<MemorySink>), Memory> {
+    let Live {
+        grid,
+        session,
+        tokens,
+    } = Live::open(alloc)?;
+    let said = MemorySource::in_pieces(put_and_get(alloc)?, Vec::new(alloc), MOST_SAID);
+    let (served, ()) = join(
+        rt,
+        || serve(rt, alloc, &grid, session, said),
+        || -> ()
+            requires { IsTokenAt (place_of grid) 9 tokens.queue × (tokens.held.items ≡ []) × All (λ cell. settings_for (plan_of cell) ≡ settings_in [] 10) (place_of grid).cells.items }
+        { work(rt, alloc, &grid, tokens) },
+    );
+    Ok(served)
+}
+
+#[test]
+fn a_put_and_a_get_over_streams_that_wait(rt: HostRuntime) -> Result<(), Fail> {
+    let (end, to) = serve_waiting(&rt, rt.alloc())?;
+    assert!(rt; matches!(end, ConnectionEnd::Ended));
+    assert_eq!(rt; to.stream().bytes(), ANSWERS);
+    Ok(())
 }

@@ -26,16 +26,6 @@ pub(crate) fn guest(alloc: Global, member: MemberId, says: Vec<u8>) -> (MemberId
     )
 }
 
-/// Whether the connection with this number was given back, and not for want of memory, and had heard this.
-pub(crate) fn has_heard(doors: &Guests, number: u32, bytes: &[u8]) -> bool {
-    for given in doors.returned() {
-        if given.number == number {
-            return !given.memory && given.to.stream().bytes() == bytes;
-        }
-    }
-    false
-}
-
 /// How a server ended, what its operator was told, and the doors.
 #[derive(Drop)]
 pub(crate) struct Ran {
@@ -45,76 +35,37 @@ pub(crate) struct Ran {
     pub(crate) doors: Guests,
 }
 
-impl Ran {
-    /// Whether it ended so, with this told, and made a grid or not.
-    pub(crate) fn ended_so(&self, status: Status, told: &str, has_grid: bool) -> bool {
-        self.status == status
-            && self.told.as_slice() == told.as_bytes()
-            && self.has_grid == has_grid
-    }
-}
-
-/// Runs a server by the words of a line, with a control script.
+/// Runs a server by these words, with a control script.
 pub(crate) fn run<G: Gate, R: Threads + Wait + Sync>(
     rt: &R,
     alloc: Global,
-    line: &str,
-    script: &str,
+    words: &[&str],
+    script: &[u8],
     mut doors: Guests,
     gate: &G,
 ) -> Result<Ran, Memory> {
-    let words = words_of(alloc, line)?;
-    let mut script = MemorySource::new(script.as_bytes().to_vec(alloc)?, Vec::new(alloc));
+    let mut texts = Vec::new(alloc);
+    for word in words {
+        texts.push(String::from_str(alloc, word)?)?;
+    }
+    let mut script = MemorySource::new(Vec::from_slice(alloc, script)?, Vec::new(alloc));
     let mut out = MemorySink::new(Vec::new(alloc));
-    let (status, has_grid) = serve(
+    let ended = serve_gated(
         rt,
         alloc,
-        words.as_slice(),
+        texts.as_slice(),
+        Vec::new(alloc),
+        &[],
         &mut script,
         &mut out,
+        &FixedClock::new(7),
         &mut doors,
         gate,
     );
     Ok(Ran {
-        status,
+        status: ended.status,
         told: out.into_bytes(),
-        has_grid,
+        has_grid: ended.grid.is_some(),
         doors,
     })
-}
-
-/// The words of a line, which single spaces part.
-fn words_of(alloc: Global, line: &str) -> Result<Vec<String>, Memory> {
-    let mut words = Vec::new(alloc);
-    for word in line.split(' ') {
-        words.push(String::from_str(alloc, word)?)?;
-    }
-    Ok(words)
-}
-
-/// How the server ended, and whether it made a grid.
-fn serve<G: Gate, R: Threads + Wait + Sync>(
-    rt: &R,
-    alloc: Global,
-    words: &[String],
-    script: &mut MemorySource,
-    out: &mut MemorySink,
-    doors: &mut Guests,
-    gate: &G,
-) -> (Status, bool) {
-    let clock = FixedClock::new(7);
-    let none = Vec::new(alloc);
-    let ended = serve_gated(
-        rt,
-        alloc,
-        words,
-        none,
-        &[],
-        script,
-        out,
-        &clock,
-        doors,
-        gate,
-    );
-    (ended.status, ended.grid.is_some())
 }

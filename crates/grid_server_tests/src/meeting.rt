@@ -1,12 +1,12 @@
 //! Calls in two partitions, each inside its turn at once.
 use crate::client::{gets, gets_elsewhere};
-use crate::hall::{Guests, guest, run};
-use grid_base::{CallId, MemberId, Memory, PartitionId};
+use crate::hall::{guest, run};
+use grid_base::{CallId, MemberId, PartitionId};
 use grid_cli::Status;
 use grid_edge::MemoryDoors;
 use partition_threads::Gate;
-use std::alloc::Global;
 use std::sync::atomic::{AtomicU64, Ordering};
+use std::test::Fail;
 use std::thread;
 
 /// How often a call looks for the other one.
@@ -34,23 +34,20 @@ impl Gate for Meeting {
     fn answered(&self, _id: CallId) {}
 }
 
-/// Doors for two who get at member 2, each in another partition.
-fn two_guests(alloc: Global) -> Result<Guests, Memory> {
-    let first = guest(alloc, 2, gets(alloc)?);
-    let second = guest(alloc, 2, gets_elsewhere(alloc)?);
-    MemoryDoors::new(vec![in alloc; first, second]?, Vec::new(alloc))
-}
-
 #[test]
-fn calls_in_two_partitions_are_in_their_turns_at_once(rt: HostRuntime) -> Result<(), Memory> {
+fn calls_in_two_partitions_are_in_their_turns_at_once(rt: HostRuntime) -> Result<(), Fail> {
+    let alloc = rt.alloc();
+    let mut guests = Vec::new(alloc);
+    guests.push(guest(alloc, 2, gets(alloc)?))?;
+    guests.push(guest(alloc, 2, gets_elsewhere(alloc)?))?;
+    let doors = MemoryDoors::new(guests, Vec::new(alloc))?;
     let gate = Meeting {
         inside: AtomicU64::new(0),
         given_up: AtomicU64::new(0),
     };
-    let doors = two_guests(rt.alloc())?;
-    let ran = run(&rt, rt.alloc(), "serve", "end\n", doors, &gate)?;
-    let inside = gate.inside.load(Ordering::SeqCst);
-    let given_up = gate.given_up.load(Ordering::SeqCst);
-    assert_eq!(rt; (ran.status, inside, given_up), (Status::Done, 2, 0));
+    let ran = run(&rt, alloc, &["serve"], b"end\n", doors, &gate)?;
+    assert_eq!(rt; ran.status, Status::Done);
+    assert_eq!(rt; gate.inside.load(Ordering::SeqCst), 2);
+    assert_eq!(rt; gate.given_up.load(Ordering::SeqCst), 0);
     Ok(())
 }

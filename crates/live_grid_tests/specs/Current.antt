@@ -8,7 +8,6 @@ use Rattle.live_grid.specs.declared.plan.GridPlan.{GridPlan}
 use Rattle.live_grid.specs.declared.world.LiveWorld.{LiveWorld}
 use Rattle.live_grid.specs.Histories.{live_key}
 use Rattle.live_grid.specs.Lives.{LiveStands}
-use Rattle.live_grid.specs.Plans.{settings_in, settings_for}
 
 -- of no call, or of one with a number below this one
 abbrev pub IsBelow : ℕ → Key → Type 0
@@ -24,10 +23,9 @@ abbrev pub AreBelow : ℕ → List (Event Request) → Type 0
 AreBelow number [] = Unit {0}
 AreBelow number (e ∷ es) = IsBelow number (live_key e) × AreBelow number es
 
--- The world stands for so many events of the plan, whose settings are those of the tests, and each call's number is that of the events before it
+-- The world stands for so many events of the plan, and each call's number is that of the events before it
 pub record IsCurrent (live : LiveWorld) (plan : GridPlan) (events : ℕ) : Type 0 where
   pub history : List (Event Request)
   pub stands : LiveStands live plan history
   pub size : length history ≡ events
   pub below : AreBelow events history
-  pub meant : settings_in [] 2 ≡ settings_for plan

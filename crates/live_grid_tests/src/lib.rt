@@ -2,6 +2,10 @@
 #![tactic(auto)]
 
 #[cfg(test)]
+mod controls;
+#[cfg(test)]
+mod grids;
+#[cfg(test)]
 mod requests;
 #[cfg(test)]
 mod stored;

@@ -3,7 +3,7 @@ ghost use Rattle.std.specs.Prelude.{◌≡◌, [], IfOk, OnOk};
 ghost use Rattle.partition_world.specs.Events.{IsWithinLimits};
 ghost use Rattle.call_engine.specs.Limits.{RequestFits};
 ghost use Rattle.live_grid.specs.Histories.{live_key};
-ghost use Rattle.live_grid.specs.Plans.{settings_in};
+ghost use Rattle.live_grid.specs.Plans.{settings_in, settings_for};
 ghost use Rattle.live_grid_tests.specs.Current.{IsAt, IsCurrent};
 
 use crate::requests::{CONN, get, put};
@@ -15,6 +15,8 @@ use live_grid::{GridPlan, LiveWorld};
 use member_wire::Took;
 use partition_world::{Event, Happened};
 use std::alloc::Global;
+use std::process::Abort;
+use std::test::Fail;
 
 /// The environment of the tests: calls may name no processor, and queues have two values at most.
 pub(crate) fn environment(alloc: Global) -> GridEnv
@@ -26,43 +28,18 @@ pub(crate) fn environment(alloc: Global) -> GridEnv
     }
 }
 
-/// What is told of a call.
-#[derive(Clone, Copy)]
-pub(crate) enum Told {
-    Nothing,
-    Reply(&'static [u8]),
-    Gone,
-    /// It was refused by a row of that version, whose primary is another member.
-    WrongTarget(u32),
-}
-
-/// An event, with what it comes to, or a look at what events left.
-#[derive(Clone, Copy)]
-pub(crate) enum Step {
-    /// A put reaches a member. Its number is how many events came before. It comes to that, and this is told of it at once.
-    Put(MemberId, Happened, Told),
-    /// And a get.
-    Get(MemberId, Happened, Told),
-    /// The next message is delivered, and taken this way.
-    Deliver(Took),
-    Crash(MemberId),
-    /// This is told at a member of the call with that number.
-    Tells(MemberId, u32, Told),
-    /// No message is in flight.
-    Quiet,
-}
-
 /// A live world of partition 5 of three members with one backup. Member 2 leads, and 0 is its backup.
 #[derive(Drop)]
-struct Trial {
+pub(crate) struct Trial {
     live: LiveWorld,
     plan: GridPlan,
     events: u32,
 }
 
 impl Trial {
-    fn new(alloc: Global) -> Result<Trial, Memory>
-        ensures { IfOk result (λ trial. IsCurrent trial.live trial.plan trial.events) }
+    pub(crate) fn new(alloc: Global) -> Result<Trial, Memory>
+        ensures current { IfOk result (λ trial. IsCurrent trial.live trial.plan trial.events) }
+        ensures settings { IfOk result (λ trial. settings_for trial.plan ≡ settings_in [] 2) }
     {
         let plan = GridPlan {
             partition: 5,
@@ -79,132 +56,107 @@ impl Trial {
         })
     }
 
-    /// Takes steps, and says which one came out otherwise, if one did.
-    fn play(
-        &mut self,
-        alloc: Global,
-        env: &GridEnv,
-        steps: &[Step],
-    ) -> Result<Option<usize>, Memory>
+    fn run(&mut self, alloc: Global, env: &GridEnv, event: Event<Request>) -> Result<Happened, Fail>
         requires current { IsCurrent self.old.live self.old.plan self.old.events }
-        requires env { ⟦<GridShelf as Executes<GridEnv>>⟧.plan_of env.now ≡ settings_in [] 2 }
-    {
-        for number in 0..steps.len() {
-            if !self.take(alloc, env, steps[number])? {
-                return Ok(Some(number));
-            }
-        }
-        Ok(None)
-    }
-
-    /// Takes a step, and says whether it came out so.
-    fn take(&mut self, alloc: Global, env: &GridEnv, step: Step) -> Result<bool, Memory>
-        requires current { IsCurrent self.old.live self.old.plan self.old.events }
-        requires env { ⟦<GridShelf as Executes<GridEnv>>⟧.plan_of env.now ≡ settings_in [] 2 }
-        ensures current { OnOk result (IsCurrent self.new.live self.new.plan self.new.events) }
-    {
-        match step {
-            Step::Put(member, wanted, told) => {
-                let request = put(alloc, self.events)?;
-                self.call(alloc, env, member, request, wanted, told)
-            }
-            Step::Get(member, wanted, told) => {
-                let request = get(alloc, self.events)?;
-                self.call(alloc, env, member, request, wanted, told)
-            }
-            Step::Deliver(took) => self.deliver(alloc, env, took),
-            Step::Crash(member) => {
-                let happened = self.run(alloc, env, Event::Crash { member })?;
-                Ok(happened == Happened::Done)
-            }
-            Step::Tells(member, number, told) => Ok(self.tells(member, number, told)),
-            Step::Quiet => Ok(self.live.next_event().is_none()),
-        }
-    }
-
-    /// An event, if fewer than a thousand came before.
-    fn run(
-        &mut self,
-        alloc: Global,
-        env: &GridEnv,
-        event: Event<Request>,
-    ) -> Result<Happened, Memory>
-        requires current { IsCurrent self.old.live self.old.plan self.old.events }
+        requires settings { settings_for self.old.plan ≡ settings_in [] 2 }
         requires env { ⟦<GridShelf as Executes<GridEnv>>⟧.plan_of env.now ≡ settings_in [] 2 }
         requires next { IsAt self.old.events (live_key event) }
         requires within { IsWithinLimits RequestFits event }
         ensures current { OnOk result (IsCurrent self.new.live self.new.plan self.new.events) }
+        ensures settings { OnOk result (settings_for self.new.plan ≡ settings_in [] 2) }
     {
         if self.events >= 1000 {
-            return Ok(Happened::Nothing);
+            return Err(Fail::from("there are too many events"));
         }
         let happened = self.live.run(alloc, env, event)?;
         self.events += 1;
         Ok(happened)
     }
 
-    /// A call reaches a member: whether it comes to that, and this is told of it at once.
-    fn call(
+    /// A put reaches a member. Its number is how many events came before.
+    pub(crate) fn put(
         &mut self,
         alloc: Global,
         env: &GridEnv,
         member: MemberId,
-        request: Request,
-        wanted: Happened,
-        told: Told,
-    ) -> Result<bool, Memory>
+    ) -> Result<Happened, Fail>
         requires current { IsCurrent self.old.live self.old.plan self.old.events }
-        requires env { ⟦<GridShelf as Executes<GridEnv>>⟧.plan_of env.now ≡ settings_in [] 2 }
-        requires fits { RequestFits request }
-        requires number { request.id.number ≡ self.old.events }
-        ensures current { OnOk result (IsCurrent self.new.live self.new.plan self.new.events) }
-    {
-        let happened = self.run(alloc, env, LiveWorld::call_event(member, request, 10))?;
-        Ok(happened == wanted && is_told(LiveWorld::settled(&happened), told))
-    }
-
-    /// The next message is delivered: whether there was one, and it was taken this way.
-    fn deliver(&mut self, alloc: Global, env: &GridEnv, took: Took) -> Result<bool, Memory>
-        requires current { IsCurrent self.old.live self.old.plan self.old.events }
+        requires settings { settings_for self.old.plan ≡ settings_in [] 2 }
         requires env { ⟦<GridShelf as Executes<GridEnv>>⟧.plan_of env.now ≡ settings_in [] 2 }
         ensures current { OnOk result (IsCurrent self.new.live self.new.plan self.new.events) }
+        ensures settings { OnOk result (settings_for self.new.plan ≡ settings_in [] 2) }
     {
-        match self.live.next_event() {
-            Some(event) => Ok(self.run(alloc, env, event)? == Happened::Took(took)),
-            None => Ok(false),
-        }
+        let request = put(alloc, self.events)?;
+        self.run(alloc, env, LiveWorld::call_event(member, request, 10))
     }
 
-    /// Whether this is told at a member of the call with that number.
-    fn tells(&mut self, member: MemberId, number: u32, told: Told) -> bool
+    /// And a get.
+    pub(crate) fn get(
+        &mut self,
+        alloc: Global,
+        env: &GridEnv,
+        member: MemberId,
+    ) -> Result<Happened, Fail>
         requires current { IsCurrent self.old.live self.old.plan self.old.events }
+        requires settings { settings_for self.old.plan ≡ settings_in [] 2 }
+        requires env { ⟦<GridShelf as Executes<GridEnv>>⟧.plan_of env.now ≡ settings_in [] 2 }
+        ensures current { OnOk result (IsCurrent self.new.live self.new.plan self.new.events) }
+        ensures settings { OnOk result (settings_for self.new.plan ≡ settings_in [] 2) }
+    {
+        let request = get(alloc, self.events)?;
+        self.run(alloc, env, LiveWorld::call_event(member, request, 10))
+    }
+
+    /// The next message is delivered, and taken this way.
+    pub(crate) fn deliver(
+        &mut self,
+        rt: &impl Abort,
+        alloc: Global,
+        env: &GridEnv,
+        took: Took,
+    ) -> Result<(), Fail>
+        requires current { IsCurrent self.old.live self.old.plan self.old.events }
+        requires settings { settings_for self.old.plan ≡ settings_in [] 2 }
+        requires env { ⟦<GridShelf as Executes<GridEnv>>⟧.plan_of env.now ≡ settings_in [] 2 }
+        ensures current { OnOk result (IsCurrent self.new.live self.new.plan self.new.events) }
+        ensures settings { OnOk result (settings_for self.new.plan ≡ settings_in [] 2) }
+    {
+        let event = self.live.next_event().ok_or("a message is in flight")?;
+        let happened = self.run(alloc, env, event)?;
+        assert_eq!(rt; happened, Happened::Took(took));
+        Ok(())
+    }
+
+    pub(crate) fn crash(
+        &mut self,
+        rt: &impl Abort,
+        alloc: Global,
+        env: &GridEnv,
+        member: MemberId,
+    ) -> Result<(), Fail>
+        requires current { IsCurrent self.old.live self.old.plan self.old.events }
+        requires settings { settings_for self.old.plan ≡ settings_in [] 2 }
+        requires env { ⟦<GridShelf as Executes<GridEnv>>⟧.plan_of env.now ≡ settings_in [] 2 }
+        ensures current { OnOk result (IsCurrent self.new.live self.new.plan self.new.events) }
+        ensures settings { OnOk result (settings_for self.new.plan ≡ settings_in [] 2) }
+    {
+        let happened = self.run(alloc, env, Event::Crash { member })?;
+        assert_eq!(rt; happened, Happened::Done);
+        Ok(())
+    }
+
+    /// What became of the call with that number.
+    pub(crate) fn outcome_of(&mut self, member: MemberId, number: u32) -> Option<LiveOutcome>
+        requires current { IsCurrent self.old.live self.old.plan self.old.events }
+        requires settings { settings_for self.old.plan ≡ settings_in [] 2 }
         ensures current { IsCurrent self.new.live self.new.plan self.new.events }
+        ensures settings { settings_for self.new.plan ≡ settings_in [] 2 }
     {
-        let id = CallId { conn: CONN, number };
-        is_told(self.live.outcome_of(member, id), told)
+        self.live.outcome_of(member, CallId { conn: CONN, number })
     }
-}
 
-/// Takes steps in a new world, and says which one came out otherwise, if one did.
-pub(crate) fn play(alloc: Global, steps: &[Step]) -> Result<Option<usize>, Memory> {
-    let env = environment(alloc);
-    let mut trial = Trial::new(alloc)?;
-    trial.play(alloc, &env, steps)
-}
-
-/// Whether this is told of a call.
-fn is_told(outcome: Option<LiveOutcome>, told: Told) -> bool {
-    match outcome {
-        None => matches!(told, Told::Nothing),
-        Some(LiveOutcome::Replied(reply)) => match told {
-            Told::Reply(bytes) => reply.as_slice() == bytes,
-            _ => false,
-        },
-        Some(LiveOutcome::MemberGone) => matches!(told, Told::Gone),
-        Some(LiveOutcome::WrongTarget { version }) => match told {
-            Told::WrongTarget(wanted) => version == wanted,
-            _ => false,
-        },
-        Some(_) => false,
+    /// Whether no message is in flight.
+    pub(crate) fn is_quiet(&self) -> bool {
+        self.live.next_event().is_none()
     }
 }

@@ -1,4 +1,4 @@
-use Rattle.std.proofs.Common.{◌+◌, ◌++◌, ◌∷◌, [], ◌∙◌, ap, arith}
+use Rattle.std.proofs.Common.{◌+◌, ◌++◌, ◌∷◌, [], ◌∙◌, sym, ap, arith}
 use Rattle.std.proofs.lemmas.List.{length-append}
 use Rattle.live_grid_tests.proofs.Numbered.{new_call, all_below}
 use Rattle.live_grid_tests.proofs.trial.Trial.run.Goals as goal
@@ -8,7 +8,7 @@ run-requires g c =
     let now = c.requires.current in (
       c.args.self.now.plan,
       now.history,
-      c.requires.env ∙ now.meant,
+      c.requires.env ∙ sym c.requires.settings,
       record {
         stand = now.stands;
         room = let few = c.if-self-ge1000.false in let size = now.size in omega (arith, few, size);
@@ -22,7 +22,7 @@ returns-clause-current g c =
     let now = c.requires.current in
     let few = c.if-self-ge1000.false in
     let size = now.size in
-    let done = c.in_ok-happened.ensures.done c.args.self.now.plan now.history (c.requires.env ∙ now.meant) (record {
+    let done = c.in_ok-happened.ensures.done c.args.self.now.plan now.history (c.requires.env ∙ sym c.requires.settings) (record {
       stand = now.stands;
       room = omega (arith, few, size);
       fresh = new_call _ now.history c.args.event now.below c.requires.next;
@@ -32,5 +32,4 @@ returns-clause-current g c =
       stands = done.0;
       size = length-append now.history (c.args.event ∷ []) ∙ ap (λ n. n + 1) size;
       below = all_below _ now.history c.args.event now.below c.requires.next;
-      meant = now.meant;
     }

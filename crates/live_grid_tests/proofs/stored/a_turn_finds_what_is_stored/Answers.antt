@@ -4,7 +4,7 @@ use Rattle.live_grid.specs.Grids.{place_of}
 use Rattle.live_grid.proofs.PassPlaces.{whole_of_grid}
 use Rattle.session_calls.specs.Passes.{given}
 use Rattle.live_grid_tests.proofs.Parted.{part_there}
-use Rattle.live_grid_tests.proofs.stored.is_stored.Goals as goal
+use Rattle.live_grid_tests.proofs.stored.a_turn_finds_what_is_stored.Goals as goal
 
 pub put_there-requires-clause-named : goal.put_there-requires-clause-named
 put_there-requires-clause-named g c =
