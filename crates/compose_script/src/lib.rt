@@ -4,3 +4,6 @@
 mod command;
 
 pub use command::compose_command;
+
+#[cfg(test)]
+mod tests;

@@ -7,3 +7,6 @@ mod running;
 mod serving;
 
 pub use serving::serve_control;
+
+#[cfg(test)]
+mod tests;

@@ -7,3 +7,6 @@ mod summary;
 
 pub use sample::{Sampled, replay_sample};
 pub use summary::{Summary, write_summary};
+
+#[cfg(test)]
+mod tests;

@@ -1,9 +1,9 @@
-use grid_base::Memory;
-use serve_options::{OptionsRefused, ServeOptions, help_of_serve, read_options, why_refused};
+use crate::{OptionsRefused, ServeOptions, help_of_serve, read_options, why_refused};
 use std::alloc::Global;
+use std::test::Fail;
 
 /// The words of a line, which single spaces part.
-fn words_of(alloc: Global, line: &str) -> Result<Vec<String>, Memory> {
+fn words_of(alloc: Global, line: &str) -> Result<Vec<String>, Fail> {
     let mut words = Vec::new(alloc);
     for word in line.split(' ') {
         words.push(String::from_str(alloc, word)?)?;
@@ -11,27 +11,9 @@ fn words_of(alloc: Global, line: &str) -> Result<Vec<String>, Memory> {
     Ok(words)
 }
 
-/// Whether they are read as this.
-fn are(alloc: Global, line: &str, wanted: Result<ServeOptions, OptionsRefused>) -> bool {
-    match words_of(alloc, line) {
-        Ok(words) => read_options(alloc, words.as_slice()) == wanted,
-        Err(_) => false,
-    }
-}
-
-/// Whether a person is told this of them.
-fn are_told(alloc: Global, line: &str, wanted: &str) -> bool {
-    let Ok(words) = words_of(alloc, line) else {
-        return false;
-    };
-    match why_refused(alloc, words.as_slice()) {
-        Ok(Some(text)) => text.as_str() == wanted,
-        _ => false,
-    }
-}
-
 #[test]
-fn an_option_sets_its_field(rt: HostRuntime) {
+fn an_option_sets_its_field(rt: HostRuntime) -> Result<(), Fail> {
+    let alloc = rt.alloc();
     for (line, members, backups, capacity, port, stays) in [
         ("serve", 3, 1, 1000, 5701, false),
         ("serve --members 1", 1, 1, 1000, 5701, false),
@@ -54,6 +36,7 @@ fn an_option_sets_its_field(rt: HostRuntime) {
         ("serve --stay --port 7 --members 5", 5, 1, 1000, 7, true),
         ("serve --members 2 --backups 5", 2, 5, 1000, 5701, false),
     ] {
+        let words = words_of(alloc, line)?;
         let options = ServeOptions {
             members,
             backups,
@@ -61,12 +44,18 @@ fn an_option_sets_its_field(rt: HostRuntime) {
             port,
             stays,
         };
-        assert!(rt; are(rt.alloc(), line, Ok(options)), "{line}");
+        assert!(rt;
+            read_options(alloc, words.as_slice()) == Ok(options),
+            "{line}"
+        );
+        assert!(rt; why_refused(alloc, words.as_slice())?.is_none(), "{line}");
     }
+    Ok(())
 }
 
 #[test]
-fn words_that_are_no_options_are_refused(rt: HostRuntime) {
+fn words_that_are_no_options_are_refused(rt: HostRuntime) -> Result<(), Fail> {
+    let alloc = rt.alloc();
     for line in [
         "serve --members 0",
         "serve --members 9",
@@ -84,11 +73,32 @@ fn words_that_are_no_options_are_refused(rt: HostRuntime) {
         "serve --stay --stay",
         "serve --members 9 --help",
     ] {
-        assert!(rt; are(rt.alloc(), line, Err(OptionsRefused::Usage)), "{line}");
+        let words = words_of(alloc, line)?;
+        assert!(rt;
+            read_options(alloc, words.as_slice()) == Err(OptionsRefused::Usage),
+            "{line}"
+        );
+        assert!(rt; why_refused(alloc, words.as_slice())?.is_some(), "{line}");
     }
+    Ok(())
 }
 
-const HELP: &str = "\
+#[test]
+fn help_names_each_option(rt: HostRuntime) -> Result<(), Fail> {
+    let alloc = rt.alloc();
+    let help = help_of_serve(alloc)?;
+    for line in ["serve --help", "serve --port 1 -h"] {
+        let words = words_of(alloc, line)?;
+        assert!(rt;
+            read_options(alloc, words.as_slice()) == Err(OptionsRefused::Help),
+            "{line}"
+        );
+        let told = why_refused(alloc, words.as_slice())?.ok_or("a text")?;
+        assert_eq!(rt; told.as_str(), help.as_str());
+    }
+    assert_eq!(rt;
+        help.as_str(),
+        "\
 Serves clients on 127.0.0.1, and reads a control script from standard input
 
 Usage: grid serve [OPTIONS]
@@ -100,35 +110,35 @@ Options:
       --port <NUMBER>      The port of member 0; member M listens at this port plus M [default: 5701]
       --stay               Goes on serving once the control script has ended
   -h, --help               Print help
-";
-
-#[test]
-fn help_names_each_option(rt: HostRuntime) {
-    let alloc = rt.alloc();
-    for line in ["serve --help", "serve --port 1 -h"] {
-        let refused = are(alloc, line, Err(OptionsRefused::Help));
-        assert!(rt; refused && are_told(alloc, line, HELP), "{line}");
-    }
-    assert!(rt; help_of_serve(alloc).is_ok_and(|help| help.as_str() == HELP));
+"
+    );
+    Ok(())
 }
 
-const NINE: &str = "\
+#[test]
+fn a_person_is_told_what_is_wrong(rt: HostRuntime) -> Result<(), Fail> {
+    let alloc = rt.alloc();
+    let words = words_of(alloc, "serve --members 9")?;
+    let told = why_refused(alloc, words.as_slice())?.ok_or("a text")?;
+    assert_eq!(rt;
+        told.as_str(),
+        "\
 error: invalid value '9' for '--members <NUMBER>': 9 is not in 1..=8
 
 For more information, try '--help'.
-";
-
-const VERBOSE: &str = "\
+"
+    );
+    let words = words_of(alloc, "serve --verbose")?;
+    let told = why_refused(alloc, words.as_slice())?.ok_or("a text")?;
+    assert_eq!(rt;
+        told.as_str(),
+        "\
 error: unexpected argument '--verbose' found
 
 Usage: grid serve [OPTIONS]
 
 For more information, try '--help'.
-";
-
-#[test]
-fn a_person_is_told_what_is_wrong(rt: HostRuntime) {
-    for (line, wanted) in [("serve --members 9", NINE), ("serve --verbose", VERBOSE)] {
-        assert!(rt; are_told(rt.alloc(), line, wanted), "{line}");
-    }
+"
+    );
+    Ok(())
 }

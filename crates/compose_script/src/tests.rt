@@ -1,8 +1,9 @@
-use compose_script::compose_command;
+use crate::command::compose_command;
 use grid_cli::Status;
 use grid_edge::{MemorySink, MemorySource};
 use script_lang::LineWhy;
 use std::alloc::Global;
+use std::test::Fail;
 
 /// Each message that has words, as some script of the grid's scenarios has it.
 const WORDS: &[u8] = b"\
@@ -104,68 +105,70 @@ bytes 0 1600000000c0003f01000700000000000000ffffffff0700000000206d\n\
 bytes 0 1600000000e0000300000800000000000000ffffffff\n\
 end\n";
 
-/// Whether words end so, and this script is written for them.
-fn stand_for(alloc: Global, words: &[u8], status: Status, script: &[u8]) -> bool {
-    let Ok(words) = words.to_vec(alloc) else {
-        return false;
-    };
-    let mut source = MemorySource::new(words, Vec::new(alloc));
+/// How words end, and the script that is written for them.
+fn composed(alloc: Global, words: &[u8]) -> Result<(Status, Vec<u8>), Fail> {
+    let mut source = MemorySource::new(Vec::from_slice(alloc, words)?, Vec::new(alloc));
     let mut sink = MemorySink::new(Vec::new(alloc));
-    compose_command(alloc, &mut source, &mut sink) == status && sink.bytes() == script
+    let status = compose_command(alloc, &mut source, &mut sink);
+    Ok((status, sink.into_bytes()))
 }
 
 #[test]
-fn each_message_has_the_bytes_of_the_scenarios(rt: HostRuntime) {
-    assert!(rt; stand_for(rt.alloc(), WORDS, Status::Done, SCRIPT));
+fn each_message_has_the_bytes_of_the_scenarios(rt: HostRuntime) -> Result<(), Fail> {
+    let (status, script) = composed(rt.alloc(), WORDS)?;
+    assert_eq!(rt; status, Status::Done);
+    assert_eq!(rt; script.as_slice(), SCRIPT);
+    Ok(())
 }
 
 #[test]
-fn each_wait_and_registration_has_its_bytes(rt: HostRuntime) {
-    assert!(rt; stand_for(rt.alloc(), WAITING_WORDS, Status::Done, WAITING_SCRIPT));
-}
-
-/// Words of which most is left unsaid, and others behind the end.
-const FEW_WORDS: &[u8] = b"\
-grid 1 0 10\n\
-open 0 0\n\
-say 0 hello\n\
-say 0 put m at:5:k text:v\n\
-open 0 0\n\
-say 0 get m at:5:k as -1\n\
-say 0 ping\n\
-end\n\
-say";
-
-const DEFAULT_SCRIPT: &[u8] = b"\
-grid 1 0 10\n\
-open 0 0\n\
-bytes 0 4350322800000000c0000100000000000000000000ffffffff010000000000000000000000000000000001090000000020646576\n\
-bytes 0 2600000000c000010100010000000000000005000000010000000000000000000000000000000700000000006d0f000000000000000005fffffff56b0f0000000020\
-00000000fffffff576\n\
-open 0 0\n\
-bytes 0 1e00000000c000020100ffffffffffffffff0500000001000000000000000700000000006d0f000000002000000005fffffff56b\n\
-bytes 0 1600000000e0000b00000000000000000000ffffffff\n\
-end\n";
-
-#[test]
-fn what_is_not_said_has_its_default(rt: HostRuntime) {
-    assert!(rt; stand_for(rt.alloc(), FEW_WORDS, Status::Done, DEFAULT_SCRIPT));
+fn each_wait_and_registration_has_its_bytes(rt: HostRuntime) -> Result<(), Fail> {
+    let (status, script) = composed(rt.alloc(), WAITING_WORDS)?;
+    assert_eq!(rt; status, Status::Done);
+    assert_eq!(rt; script.as_slice(), WAITING_SCRIPT);
+    Ok(())
 }
 
 #[test]
-fn words_outside_the_language_are_told(rt: HostRuntime) {
-    let words = b"grid 1 0 10\nsay 0 put m text:k\nend\n";
-    let (line, why) = (2, LineWhy::Count);
-    let refused = Status::ScriptRefused { line, why };
-    let script = b"grid 1 0 10\nrefused 2 count\n";
-    assert!(rt; stand_for(rt.alloc(), words, refused, script));
+fn what_is_not_said_has_its_default(rt: HostRuntime) -> Result<(), Fail> {
+    let (_, script) = composed(
+        rt.alloc(),
+        b"grid 1 0 10\nopen 0 0\nsay 0 hello\nsay 0 put m at:5:k text:v\nopen 0 0\nsay 0 get m at:5:k as -1\nsay 0 ping\nend\nsay",
+    )?;
+    assert_eq!(rt;
+        script.as_slice(),
+        b"grid 1 0 10\nopen 0 0\n\
+        bytes 0 4350322800000000c0000100000000000000000000ffffffff010000000000000000000000000000000001090000000020646576\n\
+        bytes 0 2600000000c000010100010000000000000005000000010000000000000000000000000000000700000000006d0f000000000000000005fffffff56b0f000000002000000000fffffff576\n\
+        open 0 0\n\
+        bytes 0 1e00000000c000020100ffffffffffffffff0500000001000000000000000700000000006d0f000000002000000005fffffff56b\n\
+        bytes 0 1600000000e0000b00000000000000000000ffffffff\nend\n"
+            .as_slice()
+    );
+    Ok(())
 }
 
-const RAW_SCRIPT: &[u8] =
-    b"grid 1 0 10\nbytes 1 4350aa\nbytes 1 1600000000e0000b00000000000000000000ffffffff\nend\n";
+#[test]
+fn words_outside_the_language_are_told(rt: HostRuntime) -> Result<(), Fail> {
+    let (status, script) = composed(rt.alloc(), b"grid 1 0 10\nsay 0 put m text:k\nend\n")?;
+    let why = LineWhy::Count;
+    assert_eq!(rt; status, Status::ScriptRefused { line: 2, why });
+    assert_eq!(rt;
+        script.as_slice(),
+        b"grid 1 0 10\nrefused 2 count\n".as_slice()
+    );
+    Ok(())
+}
 
 #[test]
-fn bytes_said_raw_stand_as_they_are(rt: HostRuntime) {
-    let words = b"grid 1 0 10\nsay 1 raw 4350AA\nsay 1 ping\nend";
-    assert!(rt; stand_for(rt.alloc(), words, Status::Done, RAW_SCRIPT));
+fn bytes_said_raw_stand_as_they_are(rt: HostRuntime) -> Result<(), Fail> {
+    let (_, script) = composed(
+        rt.alloc(),
+        b"grid 1 0 10\nsay 1 raw 4350AA\nsay 1 ping\nend",
+    )?;
+    assert_eq!(rt;
+        script.as_slice(),
+        b"grid 1 0 10\nbytes 1 4350aa\nbytes 1 1600000000e0000b00000000000000000000ffffffff\nend\n".as_slice()
+    );
+    Ok(())
 }
