@@ -149,21 +149,43 @@ fn get(alloc: Global) -> Result<GridCall, Memory> {
     }))
 }
 
+/// An answer is kept and hit, until the key is invalidated in its map.
+fn try_an_answer_is_kept_until_it_is_invalidated(
+    rt: &impl Abort,
+    alloc: Global,
+    client: &mut GridClient,
+) -> Result<(), Fail> {
+    let sending = miss(rt, alloc, client)?;
+    assert_eq!(rt; sending.conn, 0);
+    assert_eq!(rt; sending.correlation, 4);
+    assert_eq!(rt; sending.bytes.as_slice(), GET_4);
+    hear(rt, client, 0, VALUE_4, "kept")?;
+    hit(rt, alloc, client)?;
+    hear_nothing(rt, client, 0, OTHER_MAP)?;
+    hit(rt, alloc, client)?;
+    hear(rt, client, 0, INVALIDATION, "invalidated")?;
+    let again = miss(rt, alloc, client)?;
+    assert_eq!(rt; again.bytes.as_slice(), GET_5);
+    Ok(())
+}
+
 #[test]
 fn an_answer_is_kept_until_it_is_invalidated(rt: HostRuntime) -> Result<(), Fail> {
     let alloc = rt.alloc();
     let mut client = client(&rt, alloc)?;
-    let sending = miss(&rt, alloc, &mut client)?;
-    assert_eq!(rt; sending.conn, 0);
-    assert_eq!(rt; sending.correlation, 4);
-    assert_eq!(rt; sending.bytes.as_slice(), GET_4);
-    hear(&rt, &mut client, 0, VALUE_4, "kept")?;
-    hit(&rt, alloc, &mut client)?;
-    hear_nothing(&rt, &mut client, 0, OTHER_MAP)?;
-    hit(&rt, alloc, &mut client)?;
-    hear(&rt, &mut client, 0, INVALIDATION, "invalidated")?;
-    let again = miss(&rt, alloc, &mut client)?;
-    assert_eq!(rt; again.bytes.as_slice(), GET_5);
+    try_an_answer_is_kept_until_it_is_invalidated(&rt, alloc, &mut client)
+}
+
+/// The invalidation comes before the answer.
+fn try_an_overtaken_answer_is_not_kept(
+    rt: &impl Abort,
+    alloc: Global,
+    client: &mut GridClient,
+) -> Result<(), Fail> {
+    miss(rt, alloc, client)?;
+    hear(rt, client, 0, INVALIDATION, "invalidated")?;
+    hear(rt, client, 0, VALUE_4, "overtaken")?;
+    miss(rt, alloc, client)?;
     Ok(())
 }
 
@@ -171,10 +193,22 @@ fn an_answer_is_kept_until_it_is_invalidated(rt: HostRuntime) -> Result<(), Fail
 fn an_overtaken_answer_is_not_kept(rt: HostRuntime) -> Result<(), Fail> {
     let alloc = rt.alloc();
     let mut client = client(&rt, alloc)?;
-    miss(&rt, alloc, &mut client)?;
-    hear(&rt, &mut client, 0, INVALIDATION, "invalidated")?;
-    hear(&rt, &mut client, 0, VALUE_4, "overtaken")?;
-    miss(&rt, alloc, &mut client)?;
+    try_an_overtaken_answer_is_not_kept(&rt, alloc, &mut client)
+}
+
+/// The same row again clears nothing, and a later one does.
+fn try_a_later_row_clears_its_partition(
+    rt: &impl Abort,
+    alloc: Global,
+    client: &mut GridClient,
+) -> Result<(), Fail> {
+    hear_nothing(rt, client, 0, ROW_1)?;
+    miss(rt, alloc, client)?;
+    hear(rt, client, 0, VALUE_4, "kept")?;
+    hear_nothing(rt, client, 0, ROW_1)?;
+    hit(rt, alloc, client)?;
+    hear(rt, client, 0, ROW_2, "cleared")?;
+    miss(rt, alloc, client)?;
     Ok(())
 }
 
@@ -182,13 +216,21 @@ fn an_overtaken_answer_is_not_kept(rt: HostRuntime) -> Result<(), Fail> {
 fn a_later_row_clears_its_partition(rt: HostRuntime) -> Result<(), Fail> {
     let alloc = rt.alloc();
     let mut client = client(&rt, alloc)?;
-    hear_nothing(&rt, &mut client, 0, ROW_1)?;
-    miss(&rt, alloc, &mut client)?;
-    hear(&rt, &mut client, 0, VALUE_4, "kept")?;
-    hear_nothing(&rt, &mut client, 0, ROW_1)?;
-    hit(&rt, alloc, &mut client)?;
-    hear(&rt, &mut client, 0, ROW_2, "cleared")?;
-    miss(&rt, alloc, &mut client)?;
+    try_a_later_row_clears_its_partition(&rt, alloc, &mut client)
+}
+
+/// Two calls on one connection: the second is answered first, and nothing counts on another connection, or twice.
+fn try_answers_go_to_their_calls_in_any_order(
+    rt: &impl Abort,
+    alloc: Global,
+    client: &mut GridClient,
+) -> Result<(), Fail> {
+    client.request(5, &get(alloc)?)?;
+    client.request(5, &get(alloc)?)?;
+    hear_nothing(rt, client, 1, VALUE_4)?;
+    hear(rt, client, 0, NULL_5, "answered")?;
+    hear(rt, client, 0, VALUE_4, "answered")?;
+    hear_nothing(rt, client, 0, VALUE_4)?;
     Ok(())
 }
 
@@ -196,12 +238,28 @@ fn a_later_row_clears_its_partition(rt: HostRuntime) -> Result<(), Fail> {
 fn answers_go_to_their_calls_in_any_order(rt: HostRuntime) -> Result<(), Fail> {
     let alloc = rt.alloc();
     let mut client = client(&rt, alloc)?;
-    client.request(5, &get(alloc)?)?;
-    client.request(5, &get(alloc)?)?;
-    hear_nothing(&rt, &mut client, 1, VALUE_4)?;
-    hear(&rt, &mut client, 0, NULL_5, "answered")?;
-    hear(&rt, &mut client, 0, VALUE_4, "answered")?;
-    hear_nothing(&rt, &mut client, 0, VALUE_4)?;
+    try_answers_go_to_their_calls_in_any_order(&rt, alloc, &mut client)
+}
+
+/// The call goes to member 0, which leads no more, and then to member 1.
+fn try_a_call_is_sent_again_to_the_member_that_leads(
+    rt: &impl Abort,
+    alloc: Global,
+    client: &mut GridClient,
+) -> Result<(), Fail> {
+    hear_nothing(rt, client, 0, WELCOME_0)?;
+    hear_nothing(rt, client, 1, WELCOME_1)?;
+    hear_nothing(rt, client, 0, ROW_1)?;
+    let first = client.request(5, &get(alloc)?)?;
+    assert_eq!(rt; first.conn, 0);
+    hear(rt, client, 0, ELSEWHERE_4, "refused")?;
+    hear(rt, client, 1, ROW_2, "cleared")?;
+    let again = client.retry(4)?.ok_or("it may be sent again")?;
+    assert_eq!(rt; again.conn, 1);
+    assert_eq!(rt; again.correlation, 5);
+    assert_eq!(rt; again.bytes.as_slice(), GET_5);
+    assert!(rt; client.retry(4)?.is_none());
+    hear(rt, client, 1, VALUE_5, "answered")?;
     Ok(())
 }
 
@@ -209,19 +267,18 @@ fn answers_go_to_their_calls_in_any_order(rt: HostRuntime) -> Result<(), Fail> {
 fn a_call_is_sent_again_to_the_member_that_leads(rt: HostRuntime) -> Result<(), Fail> {
     let alloc = rt.alloc();
     let mut client = client(&rt, alloc)?;
-    hear_nothing(&rt, &mut client, 0, WELCOME_0)?;
-    hear_nothing(&rt, &mut client, 1, WELCOME_1)?;
-    hear_nothing(&rt, &mut client, 0, ROW_1)?;
-    let first = client.request(5, &get(alloc)?)?;
-    assert_eq!(rt; first.conn, 0);
-    hear(&rt, &mut client, 0, ELSEWHERE_4, "refused")?;
-    hear(&rt, &mut client, 1, ROW_2, "cleared")?;
-    let again = client.retry(4)?.ok_or("it may be sent again")?;
-    assert_eq!(rt; again.conn, 1);
-    assert_eq!(rt; again.correlation, 5);
-    assert_eq!(rt; again.bytes.as_slice(), GET_5);
+    try_a_call_is_sent_again_to_the_member_that_leads(&rt, alloc, &mut client)
+}
+
+/// Nobody leads the partition.
+fn try_a_call_to_a_lost_partition_is_not_sent_again(
+    rt: &impl Abort,
+    alloc: Global,
+    client: &mut GridClient,
+) -> Result<(), Fail> {
+    client.request(5, &get(alloc)?)?;
+    hear(rt, client, 0, LOST_4, "refused")?;
     assert!(rt; client.retry(4)?.is_none());
-    hear(&rt, &mut client, 1, VALUE_5, "answered")?;
     Ok(())
 }
 
@@ -229,16 +286,15 @@ fn a_call_is_sent_again_to_the_member_that_leads(rt: HostRuntime) -> Result<(), 
 fn a_call_to_a_lost_partition_is_not_sent_again(rt: HostRuntime) -> Result<(), Fail> {
     let alloc = rt.alloc();
     let mut client = client(&rt, alloc)?;
-    client.request(5, &get(alloc)?)?;
-    hear(&rt, &mut client, 0, LOST_4, "refused")?;
-    assert!(rt; client.retry(4)?.is_none());
-    Ok(())
+    try_a_call_to_a_lost_partition_is_not_sent_again(&rt, alloc, &mut client)
 }
 
-#[test]
-fn what_cannot_be_asked_is_refused(rt: HostRuntime) -> Result<(), Fail> {
-    let alloc = rt.alloc();
-    let mut nowhere = GridClient::new(alloc, 7, None)?;
+/// Of a client without a near map, at first without a connection.
+fn try_what_cannot_be_asked_is_refused(
+    rt: &impl Abort,
+    alloc: Global,
+    nowhere: &mut GridClient,
+) -> Result<(), Fail> {
     let refused = nowhere.request(5, &get(alloc)?).err();
     assert!(rt; refused == Some(ClientRefused::NoConnection));
     let unheard = nowhere.near_get(&copied(alloc, KEY)?).err();
@@ -248,4 +304,11 @@ fn what_cannot_be_asked_is_refused(rt: HostRuntime) -> Result<(), Fail> {
     nowhere.attach(0)?;
     assert!(rt; nowhere.attach(0).err() == Some(ClientRefused::Known));
     Ok(())
+}
+
+#[test]
+fn what_cannot_be_asked_is_refused(rt: HostRuntime) -> Result<(), Fail> {
+    let alloc = rt.alloc();
+    let mut nowhere = GridClient::new(alloc, 7, None)?;
+    try_what_cannot_be_asked_is_refused(&rt, alloc, &mut nowhere)
 }
