@@ -64,6 +64,7 @@ class PageServer(Server):
         options = dict(zip(words[::2], words[1::2], strict=True))
         options.pop("--port", None)
         self.members = int(options.get("--members", "3"))
+        self.limits = None
         self.options = [word for option in options.items() for word in option]
         self.start()
 
