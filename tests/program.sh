@@ -29,6 +29,12 @@ run() {
     status=$?
 }
 
+# Runs the program with these words, with a terminal for its standard error.
+run_at_terminal() {
+    python3 tests/terminal.py "$room/err" timeout 60 "$grid" "$@" >"$room/out"
+    status=$?
+}
+
 # Did the last run of this name end with this status, print this, and write this as the first line of standard error?
 ended() {
     compare "$1, exit status" "$2" "$status"
@@ -45,7 +51,8 @@ fi
 # Words that are no command, one of them no text.
 run <"$script"
 ended 'no words' 1 '' "$usage"
-for words in 'Serve' 'Replay' 'replay x' '--help x' '--version x' $'\xff'; do
+for words in 'Serve' 'Replay' 'replay x' 'Sample 0' 'sample' 'sample x' 'sample 01' 'sample -1' 'sample 4294967296' \
+    'sample 0 0' '--help x' '--version x' $'\xff'; do
     # shellcheck disable=SC2086
     run $words <"$script"
     ended "the words $words" 1 '' "$usage"
@@ -54,12 +61,12 @@ done
 # The usage and the version are asked for.
 run
 help=$(cat "$room/err")
-for words in '--help' 'replay --help' 'compose --help'; do
+for words in '--help' 'replay --help' 'compose --help' 'sample --help'; do
     # shellcheck disable=SC2086
     run $words <"$script"
     ended "the words $words" 0 "$help" ''
 done
-for words in '--version' 'replay --version' 'compose --version' 'serve --version'; do
+for words in '--version' 'replay --version' 'compose --version' 'sample --version' 'serve --version'; do
     # shellcheck disable=SC2086
     run $words <"$script"
     ended "the words $words" 0 'grid 0.1.0' ''
@@ -69,6 +76,7 @@ done
 for command in 'grid replay' 'grid compose' 'grid serve'; do
     compare "the usage of $command" 1 "$(grep -c "$command .*<" <<<"$help")"
 done
+compare 'the usage of grid sample' 1 "$(grep -c 'grid sample NUMBER ' <<<"$help")"
 run serve --help <"$script"
 compare 'the options, exit status' 0 "$status"
 compare 'the options, standard error' '' "$(cat "$room/err")"
@@ -129,10 +137,24 @@ done
 run compose <<<$'grid 1 0 10\nsay 0 fly'
 ended 'words that nobody says' 2 $'grid 1 0 10\nrefused 2 word' ''
 
+# Samples: the summaries are those of another program, twice the same. Nothing is told of how far they are, since no one looks.
+for summary in tests/samples/*.summary; do
+    number=${summary#tests/samples/}
+    number=${number%.summary}
+    run sample "$number" <"$script"
+    ended "the sample of $number" 0 "$(cat "$summary")" ''
+done
+run sample 0 <.
+ended 'the sample of 0 again, which reads nothing' 0 "$(cat tests/samples/0.summary)" ''
+run_at_terminal sample 0
+compare 'a sample at a terminal, exit status' 0 "$status"
+compare 'a sample at a terminal, how far it is' $'grid: 2000 lines run\ngrid: 1000 calls made' \
+    "$(grep -E 'grid: (2000 lines run|1000 calls made)' "$room/err")"
+
 # Standard input that can't be read, and standard output that can't be written.
 run replay <.
 ended 'a directory' 3 '' "grid: standard input can't be read"
-for words in 'replay' 'compose' '--help' 'serve --help' '--version'; do
+for words in 'replay' 'compose' 'sample 0' '--help' 'serve --help' '--version'; do
     # shellcheck disable=SC2086
     timeout 60 "$grid" $words <"$script" >/dev/full 2>"$room/err"
     compare "a full disk and $words, exit status" 4 $?

@@ -1,18 +1,21 @@
-//! The program: `grid replay` runs a script and prints its transcript, `grid compose` writes a script of words, and
-//! `grid serve` serves clients.
+//! The program: `grid replay` runs a script and prints its transcript, `grid compose` writes a script of words, `grid sample`
+//! runs a script that is made from a number, and `grid serve` serves clients.
 #![tactic(auto)]
 
 ghost use Rattle.std.specs.Prelude.{◌≡◌, map, IfOk};
 ghost use Rattle.entry_processors.specs.Forms.{form_of};
 
+mod progress;
 mod telling_doors;
 
+use crate::progress::Progress;
 use crate::telling_doors::TellingDoors;
 use compose_script::compose_command;
 use entry_processors::{Add, AddUpTo, Append, Clear, Form, Processor, SetIfGreater};
 use grid_base::Memory;
 use grid_cli::Status;
 use grid_edge::{Clock, Doors, StdClock, StdSink, StdSource};
+use grid_sample::Watch;
 use grid_server::grid_top;
 use serve_options::{OptionsRefused, help_of_serve, read_options, why_refused};
 use std::alloc::Global;
@@ -27,6 +30,7 @@ use tcp_edge::TcpDoors;
 const USAGE: &str = "\
 usage: grid replay < SCRIPT             runs a script and prints its transcript
        grid compose < WORDS             writes the script that words stand for
+       grid sample NUMBER               runs a large script that is made from the number, and counts calls
        grid serve [OPTIONS] < CONTROL   serves clients; grid serve --help has the options
        grid --help                      prints this
        grid --version                   prints the version";
@@ -72,8 +76,8 @@ impl Request {
             _ => return Request::Command,
         };
         match (command, word) {
-            ("" | "replay" | "compose", "--help" | "-h") => Request::Help,
-            ("" | "replay" | "compose" | "serve", "--version") => Request::Version,
+            ("" | "replay" | "compose" | "sample", "--help" | "-h") => Request::Help,
+            ("" | "replay" | "compose" | "sample" | "serve", "--version") => Request::Version,
             ("", "compose") => Request::Compose,
             _ => Request::Command,
         }
@@ -106,7 +110,7 @@ fn enrol(
 }
 
 /// Carries out the command of these words with the grid's processors, whose numbers go from 1.
-fn carry_out<R, C, D>(
+fn carry_out<R, C, D, W>(
     rt: &R,
     alloc: Global,
     words: &[String],
@@ -114,11 +118,13 @@ fn carry_out<R, C, D>(
     out: &mut StdSink,
     clock: &C,
     doors: &mut D,
+    watch: &W,
 ) -> Result<Status, Memory>
 where
     R: Threads + Wait + Sync,
     C: Clock,
     D: Doors<From: Drop, To: Drop, Waker: Drop>,
+    W: Watch,
 {
     let mut list: Vec<Box<dyn Processor>> = Vec::new(alloc);
     let mut forms = Vec::new(alloc);
@@ -143,7 +149,9 @@ where
     )?;
     enrol(&mut list, &mut forms, Box::new(alloc, Clear)?, Form::Clear)?;
     let forms = forms.as_slice();
-    let ended = grid_top(rt, alloc, words, list, forms, script, out, clock, doors);
+    let ended = grid_top(
+        rt, alloc, words, list, forms, script, out, clock, doors, watch,
+    );
     Ok(ended.status)
 }
 
@@ -213,6 +221,7 @@ fn main(rt: HostRuntime) -> ExitCode {
     let (mut script, mut out) = (StdSource::new(rt.stdin()), StdSink::new(rt.stdout()));
     let clock = StdClock::new(&rt);
     let mut doors = TellingDoors::new(TcpDoors::new(&rt), &rt);
+    let progress = Progress::new(rt.stderr());
     let status = match request {
         Ok(Request::Help) => print(&rt, USAGE),
         Ok(Request::ServeHelp) => print_options(&rt),
@@ -226,7 +235,9 @@ fn main(rt: HostRuntime) -> ExitCode {
             &mut out,
             &clock,
             &mut doors,
-        ).unwrap_or(Status::Memory),
+            &progress,
+        )
+        .unwrap_or(Status::Memory),
         Err(status) => status,
     };
     tell_cause(&rt, words, status);

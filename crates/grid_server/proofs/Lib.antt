@@ -5,3 +5,4 @@ mod Heard
 mod Opening
 mod Regained
 mod Replayed
+mod SampleWords

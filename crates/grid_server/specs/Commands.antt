@@ -1,8 +1,8 @@
 -- The program's commands, and what each comes to.
-use Rattle.std.specs.Prelude.{◌≡◌, ◌≢◌, ◌↔◌, ℕ, Bool, false, List, [], ◌∷◌, IfSome, IfNone, codes, string_bytes}
+use Rattle.std.specs.Prelude.{◌≡◌, ◌≢◌, ◌↔◌, ℕ, Bool, false, if◌then◌else◌, List, [], ◌∷◌, Option, Some, None, IfSome, IfNone, codes, string_bytes}
 use Rattle.entry_processors.specs.declared.form.Form.{Form}
 use Rattle.entry_processors.specs.Processors.{ProcessorForm}
-use Rattle.script_lang.specs.Words.{are_same}
+use Rattle.script_lang.specs.Words.{are_same, number_within}
 use Rattle.grid_cli.specs.Commands.{is_replay}
 use Rattle.grid_cli.specs.Statuses.{ReadsAndWrites}
 use Rattle.grid_cli.specs.declared.status.Status.{Status}
@@ -12,6 +12,7 @@ use Rattle.live_grid.specs.declared.grid.GridPass.{GridPass}
 use Rattle.live_grid.specs.declared.grid.LiveGrid.{LiveGrid}
 use Rattle.serve_options.specs.declared.options.ServeOptions.{ServeOptions}
 use Rattle.serve_options.specs.Options.{Words, AreOptions, faults}
+use Rattle.grid_sample.specs.Samples.{HasSampled}
 use Rattle.grid_server.specs.declared.ended.Ended.{Ended}
 use Rattle.grid_server.specs.Serving.{Operator, AtDoors, HasServed}
 
@@ -20,7 +21,14 @@ abbrev pub is_serve : Words → Bool
 is_serve [] = false
 is_serve (word ∷ words) = are_same (string_bytes word) (codes "serve")
 
--- What a command other than `serve` comes to
+-- The words are `sample` and a number, which is this one.
+abbrev pub sample_of : Words → Option ℕ
+sample_of [] = None
+sample_of (command ∷ []) = None
+sample_of (command ∷ word ∷ []) = if are_same (string_bytes command) (codes "sample") then number_within 0 4294967295 (string_bytes word) else None
+sample_of (command ∷ word ∷ other ∷ words) = None
+
+-- What a command other than `serve` and `sample` comes to
 pub record HasReplayedBy (words : Words) (forms : List ProcessorForm) (status : Status) (before after : Operator) : Type 0 where
   -- the words are no command exactly then, and nothing was read or written
   pub usage : (status ≡ Usage) ↔ (is_replay words ≡ false)
@@ -60,3 +68,9 @@ pub record HasServedFrom (words : Words) (forms : List Form) (gives : ℕ → Ty
 pub record HasEnded (words : Words) (forms : List Form) (gives : ℕ → Type 0) (before after : Operator) (outside closed : AtDoors) (ended : Ended) : Type 0 where
   pub served : IfSome ended.grid (λ held. HasServedFrom words forms gives before after outside closed ended.status held.0 held.1)
   pub not_begun : IfNone ended.grid (IsNotBegun words ended.status before after outside closed)
+
+-- What a sample of this number comes to: no script is read, and no door is opened
+pub record HasSampledBy (number : ℕ) (forms : List Form) (before after : Operator) (outside closed : AtDoors) (ended : Ended) : Type 0 where
+  pub unread : after.script ≡ before.script
+  pub unopened : closed ≡ outside
+  pub sampled : HasSampled number forms ended.status ended.grid before.out.bytes after.out.bytes before.out.faults after.out.faults

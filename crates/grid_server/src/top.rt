@@ -1,15 +1,17 @@
 //! The program's top call.
-ghost use Rattle.std.specs.Prelude.{◌≡◌, map, false, true};
+ghost use Rattle.std.specs.Prelude.{◌≡◌, ℕ, map, false, true, None, Some};
 ghost use Rattle.entry_processors.specs.Forms.{form_of};
 ghost use Rattle.grid_cli.specs.Commands.{PrintsHistories};
-ghost use Rattle.grid_server.specs.Commands.{is_serve, HasReplayedBy, HasEnded};
+ghost use Rattle.grid_server.specs.Commands.{is_serve, sample_of, HasReplayedBy, HasSampledBy, HasEnded};
 ghost use Rattle.grid_server.specs.Serving.{operator, at_doors};
 
 use crate::ended::Ended;
+use crate::sampling::{sample_command, sample_number};
 use crate::serve::serve_command;
 use entry_processors::{Form, Processor};
 use grid_cli::replay_command;
 use grid_edge::{Clock, Doors, Sink, Source};
+use grid_sample::Watch;
 use std::alloc::Global;
 use std::sync::Wait;
 use std::thread::Threads;
@@ -26,9 +28,10 @@ fn is_serve_command(words: &[String]) -> bool
 
 /// Carries out the command that the words after the program's name give. `replay` reads a script from `script` and writes its
 /// transcript to `out`, as `docs/SCRIPTS.md` has them. `serve` and its options serve clients that come through the doors, and
-/// read a control script meanwhile, as `docs/SERVER.md` has it. Calls on maps may name the processors by their numbers, which
-/// go from 1; `forms` are their forms.
-pub fn grid_top<R, S, K, C, D>(
+/// read a control script meanwhile, as `docs/SERVER.md` has it. `sample` and a number print what became of the number's script
+/// and of counted calls, as `docs/SAMPLE.md` has it, and tell the watch how far they are. Calls on maps may name the processors
+/// by their numbers, which go from 1; `forms` are their forms.
+pub fn grid_top<R, S, K, C, D, W>(
     rt: &R,
     alloc: Global,
     words: &[String],
@@ -38,6 +41,7 @@ pub fn grid_top<R, S, K, C, D>(
     out: &mut K,
     clock: &C,
     doors: &mut D,
+    watch: &W,
 ) -> Ended
 where
     R: Threads + Wait + Sync,
@@ -45,14 +49,15 @@ where
     K: Sink,
     C: Clock,
     D: Doors<From: Drop, To: Drop, Waker: Drop>,
+    W: Watch,
     requires forms { map form processors.items ≡ map form_of forms.now }
-    ensures replayed { is_serve words.now ≡ false → HasReplayedBy words.now (map form processors.items) result.status
+    ensures replayed { is_serve words.now ≡ false → sample_of words.now ≡ None → HasReplayedBy words.now (map form processors.items) result.status
         (operator (S.left script.old) (S.faults script.old) (K.taken out.old) (K.faults out.old))
         (operator (S.left script.new) (S.faults script.new) (K.taken out.new) (K.faults out.new)) }
     // What is printed for each entry of a map and each queue is the history of one that one thread used, with every answered
     // call in it once.
     // Whatever the status, and whichever line prints it.
-    ensures headline { is_serve words.now ≡ false → PrintsHistories (map form processors.items) result.status (S.left script.old) (S.left script.new) (K.taken out.old) (K.taken out.new) }
+    ensures headline { is_serve words.now ≡ false → sample_of words.now ≡ None → PrintsHistories (map form processors.items) result.status (S.left script.old) (S.left script.new) (K.taken out.old) (K.taken out.new) }
     // The control script was run on the grid that is handed back, in the histories that its pass has seen; and each client that
     // came was answered by these. Where no grid was made, the words, the doors or memory are the cause.
     ensures served { is_serve words.now ≡ true → HasEnded words.now forms.now (C.gives clock.now)
@@ -60,7 +65,17 @@ where
         (operator (S.left script.new) (S.faults script.new) (K.taken out.new) (K.faults out.new))
         (at_doors (D.book doors.old) (D.empty_looks doors.old) (D.faults doors.old))
         (at_doors (D.book doors.new) (D.empty_looks doors.new) (D.faults doors.new)) result }
+    // The summary of the number's script was printed, and behind it what was counted on the grid that is handed back; or as much
+    // of it as the status says. No script was read, and no door was opened.
+    ensures sampled { (number : ℕ) → sample_of words.now ≡ Some number → HasSampledBy number forms.now
+        (operator (S.left script.old) (S.faults script.old) (K.taken out.old) (K.faults out.old))
+        (operator (S.left script.new) (S.faults script.new) (K.taken out.new) (K.faults out.new))
+        (at_doors (D.book doors.old) (D.empty_looks doors.old) (D.faults doors.old))
+        (at_doors (D.book doors.new) (D.empty_looks doors.new) (D.faults doors.new)) result }
 {
+    if let Some(number) = sample_number(words) {
+        return sample_command(rt, alloc, number, processors, forms, out, watch);
+    }
     if is_serve_command(words) {
         return serve_command(
             rt, alloc, words, processors, forms, script, out, clock, doors,

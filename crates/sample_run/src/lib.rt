@@ -4,9 +4,8 @@
 mod lines;
 mod sample;
 mod summary;
+mod watch;
 
-pub use sample::{Sampled, replay_sample};
+pub use sample::{Sampled, replay_sample, replay_watched};
 pub use summary::{Summary, write_summary};
-
-#[cfg(test)]
-mod tests;
+pub use watch::{LineWatch, Unwatched};

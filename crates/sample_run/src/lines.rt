@@ -9,6 +9,7 @@ ghost use Rattle.replay_run.specs.declared.run_end.RunEnd.TheVariants as RunEnds
 ghost use Rattle.replay_run.specs.Grids.{boxed};
 ghost use Rattle.sample_run.specs.SampleRuns.{StopsBehind, IsTextOf, StandsAfter, IsNext, EndsAs};
 
+use crate::watch::LineWatch;
 use entry_processors::Processor;
 use grid_base::Memory;
 use memchr::memchr;
@@ -67,8 +68,13 @@ fn run_line(
 }
 
 /// Runs the lines of a text on a grid whose script begins with another line. Tells the line at which the run is given up,
-/// if one is.
-pub(crate) fn run_lines(alloc: Global, text: &[u8], grid: &mut Grid) -> Result<Option<u32>, Memory>
+/// if one is, and the watch of each line that has run.
+pub(crate) fn run_lines<W: LineWatch>(
+    alloc: Global,
+    text: &[u8],
+    grid: &mut Grid,
+    watch: &W,
+) -> Result<Option<u32>, Memory>
     requires { (lines : List Line) × IsTextOf text.now lines × (length lines < most_lines) × StandsAfter (boxed form) grid.old [] }
     ensures { (lines : List Line) → IsTextOf text.now lines → IfOk result (λ stop. EndsAs (boxed form) grid.new lines stop) }
 {
@@ -77,7 +83,7 @@ pub(crate) fn run_lines(alloc: Global, text: &[u8], grid: &mut Grid) -> Result<O
     'texts: while let Some(at) = memchr(b'\n', rest) {
         let number = grid.lines() + 1;
         match run_line(alloc, number, &rest[..at], grid, &mut out) {
-            Ok(()) => {}
+            Ok(()) => watch.ran_lines(number),
             Err(RunEnd::InFlight) => return Ok(Some(number)),
             Err(RunEnd::Memory) => return Err(AllocError),
         }

@@ -7,6 +7,7 @@ ghost use Rattle.sample_run.specs.Summaries.{EndsSo, IsCertain};
 
 use crate::lines::{behind_first, run_lines};
 use crate::summary::Summary;
+use crate::watch::{LineWatch, Unwatched};
 use entry_processors::Processor;
 use grid_base::Memory;
 use replay_run::Grid;
@@ -44,9 +45,21 @@ pub fn replay_sample(alloc: Global, number: u32) -> Result<Sampled, Memory>
     ensures ends { IfOk result (EndsSo number) }
     ensures certain { IfOk result (IsCertain number) }
 {
+    replay_watched(alloc, number, &Unwatched)
+}
+
+/// Runs the script of a number as `replay_sample` does, and tells the watch of each line that has run, from line 2 on.
+pub fn replay_watched<W: LineWatch>(
+    alloc: Global,
+    number: u32,
+    watch: &W,
+) -> Result<Sampled, Memory>
+    ensures ends { IfOk result (EndsSo number) }
+    ensures certain { IfOk result (IsCertain number) }
+{
     let script = make(alloc, number)?;
     let mut grid = begin(alloc)?;
-    match run_lines(alloc, behind_first(script.as_slice()), &mut grid)? {
+    match run_lines(alloc, behind_first(script.as_slice()), &mut grid, watch)? {
         None => Ok(Sampled::Done(Summary {
             lines: grid.lines(),
             counts: grid.counts(),

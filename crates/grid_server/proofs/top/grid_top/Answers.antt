@@ -1,10 +1,28 @@
-use Rattle.std.proofs.Common.{ap, ◌∙◌}
+use Rattle.std.proofs.Common.{ap, ◌∙◌, sym, refl, subst}
+use Rattle.grid_server.specs.Commands.{HasSampledBy}
 use Rattle.grid_server.specs.Serving.{operator}
 use Rattle.grid_server.proofs.Replayed.{replayed_as, printed_as}
+use Rattle.grid_server.proofs.SampleWords.{sample_is_no_server, some_none, same_some}
 use Rattle.grid_server.proofs.top.grid_top.Goals as goal
 
+pub returns-in-Some-clause-replayed : goal.returns-in-Some-clause-replayed
+returns-in-Some-clause-replayed g c = λ no_server no_sample. absurd (some_none _ (c.in-Some.ensures ∙ no_sample))
+
+pub returns-in-Some-clause-headline : goal.returns-in-Some-clause-headline
+returns-in-Some-clause-headline g c = λ no_server no_sample. absurd (some_none _ (c.in-Some.ensures ∙ no_sample))
+
+pub returns-in-Some-clause-served : goal.returns-in-Some-clause-served
+returns-in-Some-clause-served g c = λ server. absurd (sample_is_no_server _ _ (sym c.in-Some.ensures) server)
+
+pub returns-in-Some-clause-sampled : goal.returns-in-Some-clause-sampled
+returns-in-Some-clause-sampled g c = λ number asked.
+    subst (λ n. HasSampledBy n _ _ _ _ _ _) (same_some _ _ (c.in-Some.ensures ∙ asked)) (record { unread = refl; unopened = refl; sampled = c.sample_command.ensures })
+
+pub returns-then-is_serve_command-clause-sampled : goal.returns-then-is_serve_command-clause-sampled
+returns-then-is_serve_command-clause-sampled g c = λ number asked. absurd (some_none _ (sym asked ∙ sym c.in_default.ensures))
+
 pub returns-clause-replayed : goal.returns-clause-replayed
-returns-clause-replayed g c = λ no_server. replayed_as _ _ _ _ _ _ c.without_grid.ensures.status (record {
+returns-clause-replayed g c = λ no_server no_sample. replayed_as _ _ _ _ _ _ c.without_grid.ensures.status (record {
   usage = c.replay_command.ensures.usage;
   untouched = λ idle.
       ap (λ s. operator (g.S.Source.left s) (g.S.Source.faults s) (g.K.Sink.taken c.replay_command.new.out) (g.K.Sink.faults c.replay_command.new.out)) (c.replay_command.ensures.unread idle)
@@ -16,4 +34,7 @@ returns-clause-replayed g c = λ no_server. replayed_as _ _ _ _ _ _ c.without_gr
 })
 
 pub returns-clause-headline : goal.returns-clause-headline
-returns-clause-headline g c = λ no_server. printed_as _ _ _ _ _ _ _ c.without_grid.ensures.status c.replay_command.ensures.headline
+returns-clause-headline g c = λ no_server no_sample. printed_as _ _ _ _ _ _ _ c.without_grid.ensures.status c.replay_command.ensures.headline
+
+pub returns-clause-sampled : goal.returns-clause-sampled
+returns-clause-sampled g c = λ number asked. absurd (some_none _ (sym asked ∙ sym c.in_default.ensures))
