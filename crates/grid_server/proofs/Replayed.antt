@@ -1,14 +1,26 @@
 -- What holds of a replay's status holds of the status that is handed on.
 use Rattle.std.proofs.Common.{◌≡◌, ℕ, List, Option, sym, subst}
+use Rattle.entry_processors.specs.declared.form.Form.{Form}
 use Rattle.entry_processors.specs.Processors.{ProcessorForm}
 use Rattle.grid_cli.specs.Commands.{PrintsHistories}
 use Rattle.grid_cli.specs.declared.status.Status.{Status}
 use Rattle.serve_options.specs.Options.{Words}
-use Rattle.grid_server.specs.Commands.{HasReplayedBy}
-use Rattle.grid_server.specs.Serving.{Operator}
+use Rattle.grid_sample.specs.Samples.{HasSampled}
+use Rattle.grid_server.specs.Commands.{HasReplayedBy, HasSampledBy}
+use Rattle.grid_server.specs.Serving.{Operator, AtDoors}
+use Rattle.grid_server.specs.declared.ended.Ended.{Ended}
 
 pub replayed_as : (words : Words) (forms : List ProcessorForm) (told status : Status) (before after : Operator) → status ≡ told → HasReplayedBy words forms told before after → HasReplayedBy words forms status before after
 replayed_as words forms told status before after same replayed = subst (λ (s : Status). HasReplayedBy words forms s before after) (sym same) replayed
 
 pub printed_as : (forms : List ProcessorForm) (told status : Status) (first left before after : Option (List ℕ)) → status ≡ told → PrintsHistories forms told first left before after → PrintsHistories forms status first left before after
 printed_as forms told status first left before after same printed = subst (λ (s : Status). PrintsHistories forms s first left before after) (sym same) printed
+
+-- the same of a sample, whose number is the one that the words give
+pub sampled_as : (asked number : ℕ) (forms : List Form) (before after : Operator) (outside closed : AtDoors) (ended : Ended) → asked ≡ number → after.script ≡ before.script → closed ≡ outside
+    → HasSampled asked forms ended.status ended.grid before.out.bytes after.out.bytes before.out.faults after.out.faults → HasSampledBy number forms before after outside closed ended
+sampled_as asked number forms before after outside closed ended same unread unopened sampled = record {
+  unread = unread;
+  unopened = unopened;
+  sampled = subst (λ n. HasSampled n forms ended.status ended.grid before.out.bytes after.out.bytes before.out.faults after.out.faults) same sampled;
+}

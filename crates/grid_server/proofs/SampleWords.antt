@@ -32,8 +32,8 @@ sample_is_no_server (command ∷ word ∷ []) number e s = either (are_same (str
   where
     either : (b : Bool) → are_same (string_bytes command) (codes "sample") ≡ b → cond b (number_within 0 4294967295 (string_bytes word)) None ≡ Some number → ⊥
     either true is e =
-        let first = same_text (string_bytes command) (codes "sample") is in
-        let second = same_text (string_bytes command) (codes "serve") s in
+        let first = same_text (string_bytes command) (codes "sample") (sym is) in
+        let second = same_text (string_bytes command) (codes "serve") (sym s) in
         let letter : 97 ≡ 101 = ap (λ bytes. slice_index bytes 1) (sym first ∙ second) in
         absurd (omega (arith, letter))
     either false is e = some_none number (sym e)

@@ -1,7 +1,6 @@
-use Rattle.std.proofs.Common.{ap, ◌∙◌, sym, refl, subst}
-use Rattle.grid_server.specs.Commands.{HasSampledBy}
+use Rattle.std.proofs.Common.{ap, ◌∙◌, sym, refl}
 use Rattle.grid_server.specs.Serving.{operator}
-use Rattle.grid_server.proofs.Replayed.{replayed_as, printed_as}
+use Rattle.grid_server.proofs.Replayed.{replayed_as, printed_as, sampled_as}
 use Rattle.grid_server.proofs.SampleWords.{sample_is_no_server, some_none, same_some}
 use Rattle.grid_server.proofs.top.grid_top.Goals as goal
 
@@ -12,11 +11,10 @@ pub returns-in-Some-clause-headline : goal.returns-in-Some-clause-headline
 returns-in-Some-clause-headline g c = λ no_server no_sample. absurd (some_none _ (c.in-Some.ensures ∙ no_sample))
 
 pub returns-in-Some-clause-served : goal.returns-in-Some-clause-served
-returns-in-Some-clause-served g c = λ server. absurd (sample_is_no_server _ _ (sym c.in-Some.ensures) server)
+returns-in-Some-clause-served g c = λ server. absurd (sample_is_no_server c.args.words.now c.in-Some.number (sym c.in-Some.ensures) server)
 
 pub returns-in-Some-clause-sampled : goal.returns-in-Some-clause-sampled
-returns-in-Some-clause-sampled g c = λ number asked.
-    subst (λ n. HasSampledBy n _ _ _ _ _ _) (same_some _ _ (c.in-Some.ensures ∙ asked)) (record { unread = refl; unopened = refl; sampled = c.sample_command.ensures })
+returns-in-Some-clause-sampled g c = λ number asked. sampled_as _ _ _ _ _ _ _ _ (same_some _ _ (c.in-Some.ensures ∙ asked)) refl refl c.sample_command.ensures
 
 pub returns-then-is_serve_command-clause-sampled : goal.returns-then-is_serve_command-clause-sampled
 returns-then-is_serve_command-clause-sampled g c = λ number asked. absurd (some_none _ (sym asked ∙ sym c.in_default.ensures))
