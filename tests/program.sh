@@ -126,7 +126,7 @@ long_message >"$room/message"
 run replay <"$room/message"
 ended 'a message too long' 0 "$(long_message_closes)" ''
 
-# Words that are composed: they are those of scenarios. And words that nobody says.
+# Words that are composed: they are those of scenarios, and one of each message. And words that nobody says.
 data=crates/compose_script/data
 for words in "$data"/*/*.words; do
     name=${words#"$data/"}
@@ -134,8 +134,14 @@ for words in "$data"/*/*.words; do
     run compose <"$words"
     ended "the words of $name" 0 "$(cat "crates/grid_scenarios/data/$name.script")" ''
 done
+for words in tests/words/*.words; do
+    run compose <"$words"
+    ended "the words of $words" 0 "$(cat "${words%.words}.script")" ''
+done
 run compose <<<$'grid 1 0 10\nsay 0 fly'
 ended 'words that nobody says' 2 $'grid 1 0 10\nrefused 2 word' ''
+run compose <<<$'grid 1 0 10\nsay 0 put m text:k\nend'
+ended 'words that say too little' 2 $'grid 1 0 10\nrefused 2 count' ''
 
 # Samples: the summaries are those of another program, twice the same. Nothing is told of how far they are, since no one looks.
 for summary in tests/samples/*.summary; do

@@ -4,6 +4,3 @@
 mod command;
 
 pub use command::compose_command;
-
-#[cfg(test)]
-mod tests;

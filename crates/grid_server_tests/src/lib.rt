@@ -8,4 +8,8 @@ mod hall;
 #[cfg(test)]
 mod meeting;
 #[cfg(test)]
+mod operator;
+#[cfg(test)]
+mod options;
+#[cfg(test)]
 mod serving;

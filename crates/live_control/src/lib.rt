@@ -7,6 +7,3 @@ mod running;
 mod serving;
 
 pub use serving::serve_control;
-
-#[cfg(test)]
-mod tests;

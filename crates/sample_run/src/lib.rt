@@ -9,6 +9,3 @@ mod watch;
 pub use sample::{Sampled, replay_sample, replay_watched};
 pub use summary::{Summary, write_summary};
 pub use watch::{LineWatch, Unwatched};
-
-#[cfg(test)]
-mod tests;

@@ -15,8 +15,6 @@
 mod command;
 mod options;
 mod refusal;
-#[cfg(test)]
-mod tests;
 
 pub use command::help_of_serve;
 pub use options::{ServeOptions, read_options, why_refused};

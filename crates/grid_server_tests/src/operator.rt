@@ -1,12 +1,14 @@
+//! An operator's control script on a live grid.
+
 ghost use Rattle.std.specs.Prelude.{◌≡◌, ◌<◌, []};
 ghost use Rattle.live_grid.specs.Plans.{settings_in};
 
-use crate::serve_control;
 use call_engine::{GridEnv, GridShelf};
 use entry_processors::Registry;
 use grid_base::Executes;
 use grid_cli::{LimitWhat, Status};
 use grid_edge::{MemorySink, MemorySource};
+use live_control::serve_control;
 use live_grid::LiveGrid;
 use script_lang::LineWhy;
 use std::alloc::Global;

@@ -1,4 +1,6 @@
-use crate::{OptionsRefused, ServeOptions, help_of_serve, read_options, why_refused};
+//! The words of `grid serve`.
+
+use serve_options::{OptionsRefused, ServeOptions, help_of_serve, read_options, why_refused};
 use std::alloc::Global;
 use std::test::Fail;
 
