@@ -1,5 +1,0 @@
-//! Tests of `partition_world` over its public calls. The examples in `specs/` are what its definitions compute.
-#![tactic(auto)]
-
-#[cfg(test)]
-mod worlds;
