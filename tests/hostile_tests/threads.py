@@ -1,11 +1,11 @@
-"""A system that gives a server fewer threads than it needs, or just as many."""
+"""A system that gives a server, or a sample, fewer threads than it needs, or just as many."""
 
 from __future__ import annotations
 
 from serving import wire
 from serving.checks import Checks
 from serving.limits import limited_to, threads_of
-from serving.server import MEMORY, Server, free_ports, run_program
+from serving.server import DONE, MEMORY, TOP, Server, free_ports, run_program
 from serving.wire import Key
 
 PARTITIONS = range(24)
@@ -50,4 +50,22 @@ def enough_threads_answer_in_every_partition(checks: Checks) -> None:
             checks.equal(f"{members} members, threads", needed(members), threads_of(server.process.pid))
 
 
-TESTS = [too_few_threads_open_no_door, enough_threads_answer_in_every_partition]
+# How many threads a sample has: one for each of its four sessions, and that of the worker. The system counts a thread for a moment
+# after its end, so that there is surely room for these where there is also room for the four that a sample asks for before.
+SAMPLED = 5
+ENOUGH = SAMPLED + 4
+
+
+def too_few_threads_count_no_calls(checks: Checks) -> None:
+    """For each number of threads below what its counted calls need a sample prints its summary alone, and ends with status 7. With
+    enough it counts its calls."""
+    whole = (TOP / "tests/samples/0.summary").read_text()
+    summary = "".join(whole.splitlines(keepends=True)[:8])
+    for threads in range(1, SAMPLED):
+        run = run_program(["sample", "0"], limits=limited_to(threads))
+        checks.equal(f"a sample, {threads} threads", (MEMORY, summary, WANT), (run.status, run.out, run.err))
+    run = run_program(["sample", "0"], limits=limited_to(ENOUGH))
+    checks.equal(f"a sample, {ENOUGH} threads", (DONE, whole, ""), (run.status, run.out, run.err))
+
+
+TESTS = [too_few_threads_open_no_door, enough_threads_answer_in_every_partition, too_few_threads_count_no_calls]

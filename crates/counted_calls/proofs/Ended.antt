@@ -1,5 +1,5 @@
 -- A count that has ended: all sessions were joined, and then a turn has looked.
-use Rattle.std.proofs.Common.{◌≡◌, ℕ, ℤ, true, List, Option, Some, Ok, slice_get, sym, ap, ◌∙◌, subst, arith}
+use Rattle.std.proofs.Common.{◌≡◌, ⊎_elim, ℕ, ℤ, List, Option, Some, Ok, slice_get, sym, ap, ◌∙◌, subst}
 use Rattle.std.specs.Option.{option_and_then, option_map}
 use Rattle.entry_processors.specs.declared.form.Form.{Form}
 use Rattle.entry_processors.specs.Processors.{counted}
@@ -11,7 +11,7 @@ use Rattle.hand_cell.specs.Told.{Told}
 use Rattle.object_store.specs.Records.{Record, entry_in}
 use Rattle.partition_world.specs.declared.event.Event.{Event}
 use Rattle.session_calls.proofs.OfCells.{came_from}
-use Rattle.session_calls.proofs.Places.{set_there}
+use Rattle.session_calls.proofs.Places.{after_set, set_there}
 use Rattle.live_grid.specs.declared.copies.Record.{Record as Copy}
 use Rattle.live_grid.specs.declared.grid.GridPass.{GridPass}
 use Rattle.live_grid.specs.declared.grid.LiveGrid.{LiveGrid}
@@ -23,7 +23,7 @@ use Rattle.live_grid.specs.Plans.{IsPlanOf}
 use Rattle.live_grid.specs.Stored.{HasLookedAt, record_of, stored_in}
 use Rattle.counted_calls.specs.Calls.{name_of}
 use Rattle.counted_calls.specs.Counts.{AreCounted, HasCounted, number_stored}
-use Rattle.counted_calls.specs.Gathered.{AreGathered, HasGathered}
+use Rattle.counted_calls.specs.Gathered.{AreGathered, HasGathered, HasNamesFrom, HaveNamesFrom}
 use Rattle.counted_calls.specs.declared.requests.TheConstants.{PARTITION}
 use Rattle.counted_calls.proofs.Gathering.{gathered_longer}
 use Rattle.counted_calls.proofs.Later.{none_from, no_controls}
@@ -55,19 +55,29 @@ module _ {Error : Type 0} (law : CountIsStored) (grid : LiveGrid) (forms : List 
   was_gathered : AreGathered looked.plan key 0 answered looked.was.seen
   was_gathered = subst (λ (p : GridPlan). AreGathered p key 0 answered looked.was.seen) plan_is (subst (λ (t : Told (Event Request)). AreGathered gathered.plan key 0 answered t.seen) last_is gathered.gathered)
 
-  control : looked.was.names.control ≡ true
-  control = subst (λ (t : Told (Event Request)). t.names.control ≡ true) last_is gathered.control
-
-  named : (number : ℕ) → has_number looked.was.names.numbers number ≡ true
-  named number = subst (λ (t : Told (Event Request)). has_number t.names.numbers number ≡ true) last_is (gathered.named number (omega arith))
+  names : HasNamesFrom 0 looked.was
+  names = gathered.named PARTITION looked.was looked.was_there
 
   is_gathered : AreGathered looked.plan key 0 answered looked.is.seen
   is_gathered =
       let follows = looked.here.follows in
       subst (λ (t : Told (Event Request)). AreGathered looked.plan key 0 answered t.seen) (sym follows.pass)
       (gathered_longer looked.plan key 0 answered looked.was.seen follows.later
-      (no_controls looked.was.names follows.later follows.not_own control)
-      (none_from looked.was.names follows.later follows.not_own 0 (λ number low. named number)) was_gathered)
+      (no_controls looked.was.names follows.later follows.not_own names.control)
+      (none_from looked.was.names follows.later follows.not_own 0 names.numbers) was_gathered)
+
+  names_after : HasNamesFrom 0 looked.is
+  names_after = record {
+    control = ap (λ (t : Told (Event Request)). t.names.control) looked.here.follows.pass ∙ names.control;
+    numbers = λ number low. ap (λ (t : Told (Event Request)). has_number t.names.numbers number) looked.here.follows.pass ∙ names.numbers number low;
+    uncontrolled = is_gathered.uncontrolled;
+  }
+
+  still_named : HaveNamesFrom 0 after.passes.items
+  still_named partition pass e = ⊎_elim
+      (λ (h : (pass ≡ looked.is) × (partition ≡ PARTITION)). subst (λ (t : Told (Event Request)). HasNamesFrom 0 t) (sym h.0) names_after)
+      (λ (h : slice_get before.passes.items partition ≡ Some pass). gathered.named partition pass h)
+      (after_set before.passes.items PARTITION looked.is partition pass (ap (λ l. slice_get l partition) (sym looked.passes) ∙ e))
 
   stored : total ≡ number_stored looked.plan looked.is.seen key
   stored = subst (λ (n : ObjectKey). total ≡ counted (option_and_then (λ (kept : Record). (entry_in kept).value) (stored_in looked.plan looked.is.seen n))) name_is
@@ -80,5 +90,6 @@ module _ {Error : Type 0} (law : CountIsStored) (grid : LiveGrid) (forms : List 
     plan_there = record { there = looked.plan_there };
     last = looked.is;
     last_there = ap (λ l. slice_get l PARTITION) looked.passes ∙ set_there before.passes.items PARTITION looked.was looked.is looked.was_there;
+    named = still_named;
     came_to = law looked.here.live looked.plan forms capacity key looked.is.seen answered total looked.here.stands of_plan is_gathered stored;
   }

@@ -1,26 +1,30 @@
 -- One session is joined to the grid's pass.
-use Rattle.std.proofs.Common.{◌≡◌, ◌⊎◌, inl, inr, ℕ, zero, suc, ◌+◌, ◌*◌, ◌^◌, ◌<◌, ◌≤◌, Bool, true, false, ◌||◌, eqb, List, [], ◌∷◌, ◌++◌, length, Option, Some, Ok, IfOk, slice_get, get_or, take, drop, refl, sym, ap, ◌∙◌, subst, arith}
+use Rattle.std.proofs.Common.{◌≡◌, ◌⊎◌, inl, inr, ℕ, zero, suc, ◌+◌, ◌*◌, ◌^◌, ◌<◌, ◌≤◌, Bool, true, false, ◌||◌, eqb, List, [], ◌∷◌, ◌++◌, length, Option, Some, None, Ok, IfOk, slice_get, get_or, take, drop, refl, sym, ap, ◌∙◌, subst, arith}
 use Rattle.std.proofs.lemmas.List.{length-append}
 use Rattle.std.proofs.lemmas.Option.{slice_get_within, slice_get-get_or}
 use Rattle.std.proofs.Math.Seq.{take-append_seam}
 use Rattle.std.proofs.lemmas.List.Sums.{length-filter, count_by-le-length}
 use Rattle.grid_base.specs.declared.calls.Request.{Request}
+use Rattle.hand_cell.specs.declared.names.NameSet.{NameSet}
 use Rattle.hand_cell.specs.Names.{has_number}
+use Rattle.hand_cell.specs.Rule.{Extends, longer_of}
 use Rattle.hand_cell.specs.Told.{Told}
+use Rattle.hand_cell.proofs.Prefixes.{longer_left, longer_right}
 use Rattle.partition_world.specs.declared.event.Event.{Event}
 use Rattle.session_calls.specs.Passes.{AreJoinedWith, IsJoinedWith}
 use Rattle.session_calls.proofs.Opened.{joined_has}
 use Rattle.live_grid.specs.declared.grid.GridPass.{GridPass}
 use Rattle.live_grid.specs.declared.grid.LiveGrid.{LiveGrid}
 use Rattle.live_grid.specs.declared.plan.GridPlan.{GridPlan}
+use Rattle.live_grid.specs.Control.{controls_in, is_control}
 use Rattle.live_grid.specs.Histories.{live_key}
 use Rattle.counted_calls.specs.Callers.{HaveAllMade, HasMadeAll}
 use Rattle.counted_calls.specs.declared.threads.Caller.{Caller}
-use Rattle.counted_calls.specs.Gathered.{AreGathered, HasGathered}
+use Rattle.counted_calls.specs.Gathered.{AreGathered, HasGathered, HasNamesFrom, HaveNamesFrom}
 use Rattle.counted_calls.specs.Sessions.{GridSession, HasMade, HaveBeenMade, is_answered}
 use Rattle.counted_calls.specs.declared.requests.TheConstants.{PARTITION, SESSIONS, CALLS}
 use Rattle.counted_calls.proofs.Gathering.{gathered_joined}
-use Rattle.counted_calls.proofs.Later.{same_number, other_number}
+use Rattle.counted_calls.proofs.Later.{same_number, other_number, no_controls, passed_before}
 
 same_some : {A : Type 0} (a b : A) → ◌≡◌ {A = Option A} (Some a) (Some b) → a ≡ b
 same_some a b e = cc
@@ -83,7 +87,7 @@ sum_fits grid key conn from answered others session pass made is =
     let theirs = gathered_few is.plan key from others is.last.seen is.gathered in
     omega (arith, mine, theirs)
 
-there_is : {A : Type 0} (xs ys : List A) (k : ℕ) (x : A) → length ys ≡ length xs → slice_get xs k ≡ Some x → (y : A) × (slice_get ys k ≡ Some y)
+there_is : {A B : Type 0} (xs : List A) (ys : List B) (k : ℕ) (x : A) → length ys ≡ length xs → slice_get xs k ≡ Some x → (y : B) × (slice_get ys k ≡ Some y)
 there_is [] ys k x long e = absurd cc
 there_is (z ∷ zs) [] k x long e = absurd (omega (arith, long))
 there_is (z ∷ zs) (y ∷ ys) zero x long e = (y, refl)
@@ -94,7 +98,26 @@ either true b h = refl
 either false b (inl e) = absurd cc
 either false b (inr e) = e
 
-module _ (grid : LiveGrid) (key : List ℕ) (conn others answered : ℕ) (old new : GridPass) (session : GridSession) (high : conn < SESSIONS)
+-- what a pass has seen that took another in has no operator's event, where it had the operator's name
+none_controlled : (names names_of_other : NameSet) (seen other : List (Event Request)) → names.control ≡ true → controls_in seen ≡ [] → Extends live_key seen names other names_of_other → controls_in (longer_of seen other) ≡ []
+none_controlled names names_of_other seen other control none (inl (later, longer, new)) =
+    ap controls_in (ap (longer_of seen) longer ∙ longer_right seen later) ∙ (passed_before (λ event. is_control (live_key event)) seen later (no_controls names later new control) ∙ none)
+none_controlled names names_of_other seen other control none (inr (later, longer, new)) =
+    ap controls_in (ap (λ xs. longer_of xs other) longer ∙ (longer_left other later ∙ sym longer)) ∙ none
+
+-- a pass that took in one which has the number before its own
+joined_names : (conn : ℕ) (was other is : Told (Event Request)) → HasNamesFrom (suc conn) was → has_number other.names.numbers conn ≡ true → IsJoinedWith live_key was other is → HasNamesFrom conn is
+joined_names conn was other is has own joined = record {
+  control = ap (λ (p : Told (Event Request)). p.names.control) joined.pass_is ∙ ap (λ b. b || other.names.control) has.control;
+  numbers = λ number low. joined_has live_key number was other is joined ∙ either (has_number was.names.numbers number) (has_number other.names.numbers number) (go number low (eqb number conn) refl);
+  uncontrolled = ap (λ (p : Told (Event Request)). controls_in p.seen) joined.pass_is ∙ none_controlled was.names other.names was.seen other.seen has.control has.uncontrolled joined.extends;
+}
+  where
+    go : (number : ℕ) → conn ≤ number → (b : Bool) → eqb number conn ≡ b → (has_number was.names.numbers number ≡ true) ⊎ (has_number other.names.numbers number ≡ true)
+    go number low true e = inr (subst (λ n. has_number other.names.numbers n ≡ true) (sym (same_number number conn e)) own)
+    go number low false e = let different = other_number number conn e in inl (has.numbers number (omega (arith, low, different)))
+
+module _ (grid : LiveGrid) (key : List ℕ) (conn others answered : ℕ) (old new : GridPass) (session : GridSession) (high : conn < SESSIONS) (as_many : length session.passes.items ≡ length old.passes.items)
     (is : HasGathered grid key (suc conn) others old) (made : HasMade grid key conn CALLS answered session) (joined : AreJoinedWith live_key old.passes.items session.passes.items new.passes.items) where
   found : (pass : Told (Event Request)) × (slice_get new.passes.items PARTITION ≡ Some pass)
   found = there_is old.passes.items new.passes.items PARTITION is.last joined.as_long is.last_there
@@ -105,12 +128,19 @@ module _ (grid : LiveGrid) (key : List ℕ) (conn others answered : ℕ) (old ne
   plan_is : made.plan ≡ is.plan
   plan_is = same_some made.plan is.plan (sym made.plan_here.there ∙ is.plan_here.there)
 
-  named : (number : ℕ) → conn ≤ number → has_number found.0.names.numbers number ≡ true
-  named number low = joined_has live_key number is.last made.pass found.0 joined_here ∙ either (has_number is.last.names.numbers number) (has_number made.pass.names.numbers number) (go (eqb number conn) refl)
-    where
-      go : (b : Bool) → eqb number conn ≡ b → (has_number is.last.names.numbers number ≡ true) ⊎ (has_number made.pass.names.numbers number ≡ true)
-      go true e = inr (subst (λ n. has_number made.pass.names.numbers n ≡ true) (sym (same_number number conn e)) made.named)
-      go false e = let other = other_number number conn e in inl (is.named number (omega (arith, low, other)))
+  names_at : (partition : ℕ) (was pass : Told (Event Request)) (other : Option (Told (Event Request))) → slice_get old.passes.items partition ≡ Some was → slice_get session.passes.items partition ≡ Some other
+      → slice_get new.passes.items partition ≡ Some pass → HasNamesFrom conn pass
+  names_at partition was pass None there with_it e = absurd (made.rests partition with_it)
+  names_at partition was pass (Some other) there with_it e = joined_names conn was other pass (is.named partition was there) (made.named partition other with_it) (joined.each partition was other pass there with_it e)
+
+  named : HaveNamesFrom conn new.passes.items
+  named partition pass e =
+      let was = there_is new.passes.items old.passes.items partition pass (sym joined.as_long) e in
+      let other = there_is old.passes.items session.passes.items partition was.0 as_many was.1 in
+      names_at partition was.0 pass other.0 was.1 other.1 e
+
+  names_here : HasNamesFrom (suc conn) is.last
+  names_here = is.named PARTITION is.last is.last_there
 
   pub one_more_joined : HasGathered grid key conn (others + answered) new
   one_more_joined = record {
@@ -118,10 +148,9 @@ module _ (grid : LiveGrid) (key : List ℕ) (conn others answered : ℕ) (old ne
     plan_here = is.plan_here;
     last = found.0;
     last_there = found.1;
-    control = ap (λ (p : Told (Event Request)). p.names.control) joined_here.pass_is ∙ ap (λ b. b || made.pass.names.control) is.control;
     named = named;
     gathered = subst (λ n. AreGathered is.plan key conn n found.0.seen) (omega arith)
         (subst (λ seen. AreGathered is.plan key conn (answered + others) seen) (sym (ap (λ (p : Told (Event Request)). p.seen) joined_here.pass_is))
-        (gathered_joined is.plan key conn others answered high is.last.names made.pass.names is.last.seen made.pass.seen is.control is.named made.named is.gathered
+        (gathered_joined is.plan key conn others answered high is.last.names made.pass.names is.last.seen made.pass.seen names_here.control names_here.numbers (made.named PARTITION made.pass made.there) is.gathered
         (subst (λ (p : GridPlan). HaveBeenMade p key conn CALLS answered made.pass.seen) plan_is made.made) joined_here.extends));
   }

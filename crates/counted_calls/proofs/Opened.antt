@@ -23,7 +23,7 @@ use Rattle.live_grid.specs.declared.world.LiveWorld.{LiveWorld}
 use Rattle.live_grid.specs.Grids.{place_of}
 use Rattle.counted_calls.specs.Callers.{MayMake, MayAllMake}
 use Rattle.counted_calls.specs.declared.threads.Caller.{Caller}
-use Rattle.counted_calls.specs.Gathered.{AreGathered, HasGathered}
+use Rattle.counted_calls.specs.Gathered.{AreGathered, HasGathered, HasNamesFrom, HaveNamesFrom}
 use Rattle.counted_calls.specs.Sessions.{GridSession, HasMade, HaveBeenMade, IsPlanHere}
 use Rattle.counted_calls.specs.declared.requests.TheConstants.{PARTITION, LEADER, SESSIONS}
 use Rattle.counted_calls.proofs.Later.{itself}
@@ -100,6 +100,18 @@ none_gathered plan key = record {
 same_some : {A : Type 0} (a b : A) → ◌≡◌ {A = Option A} (Some a) (Some b) → a ≡ b
 same_some a b e = cc
 
+-- the names of passes that were opened, and of those that were left
+opened_number : (conn : ℕ) (passes : List (Told (Event Request))) (opened : List (Option (Told (Event Request)))) → opened ≡ map (λ pass. Some (given (One conn) pass)) passes
+    → (place : ℕ) (pass : Told (Event Request)) → slice_get opened place ≡ Some (Some pass) → has_number pass.names.numbers conn ≡ true
+opened_number conn passes opened are place pass e =
+    let was = came_from (λ (p : Told (Event Request)). Some (given (One conn) p)) passes place (Some pass) (ap (λ l. slice_get l place) (sym are) ∙ e) in
+    ap (λ (p : Told (Event Request)). has_number p.names.numbers conn) (same_some pass (given (One conn) was.0) was.2) ∙ ap (λ b. b || false) (itself conn)
+
+left_named : (cells : List GridCell) (passes : List (Told (Event Request))) → passes ≡ passes_left SESSIONS cells → HaveNamesFrom SESSIONS passes
+left_named cells passes are place pass e =
+    let was = came_from (left_of_cell SESSIONS) cells place pass (ap (λ l. slice_get l place) (sym are) ∙ e) in
+    subst (λ (p : Told (Event Request)). HasNamesFrom SESSIONS p) (sym was.2) (record { control = refl; numbers = λ number low. still_left SESSIONS number low; uncontrolled = refl })
+
 -- one more session
 
 pushed : {A : Type 0} (xs : List A) (x : A) (p : ℕ) (y : A) → slice_get (xs ++ x ∷ []) p ≡ Some y → (slice_get xs p ≡ Some y) ⊎ ((p ≡ length xs) × (y ≡ x))
@@ -139,7 +151,7 @@ module _ (grid : LiveGrid) (key : List ℕ) (count : length (place_of grid).cell
         ∙ (ap (λ l. slice_get (map (λ (pass : Told (Event Request)). Some (given (One conn) pass)) l) PARTITION) are
         ∙ mapped (λ (pass : Told (Event Request)). Some (given (One conn) pass)) (passes_left conn (place_of grid).cells.items) PARTITION (left_of_cell conn here.cell)
         (mapped (left_of_cell conn) (place_of grid).cells.items PARTITION here.cell here.there));
-    named = ap (λ b. b || false) (itself conn);
+    named = opened_number conn passes session.passes.items opened.passes_are;
     made = none_made (plan_of here.cell) key conn;
   }
     where
@@ -153,7 +165,6 @@ module _ (grid : LiveGrid) (key : List ℕ) (count : length (place_of grid).cell
     plan_here = plan_here;
     last = left_of_cell SESSIONS here.cell;
     last_there = ap (λ l. slice_get l PARTITION) are ∙ mapped (left_of_cell SESSIONS) (place_of grid).cells.items PARTITION here.cell here.there;
-    control = refl;
-    named = λ number low. still_left SESSIONS number low;
+    named = left_named (place_of grid).cells.items pass.passes.items are;
     gathered = none_gathered (plan_of here.cell) key;
   }

@@ -31,7 +31,7 @@ use Rattle.live_grid.specs.Histories.{live_key, live_call}
 use Rattle.live_grid.specs.Outcomes.{LiveTells}
 use Rattle.counted_calls.specs.Calls.{call_of, calls_by, id_of, is_call_by, request_of}
 use Rattle.counted_calls.specs.Callers.{GridPlace, IsFree, IsSameSession, WasStarted}
-use Rattle.counted_calls.specs.Sessions.{GridSession, HasMade, HaveBeenMade, Ran, WasMade, counting, event_of}
+use Rattle.counted_calls.specs.Sessions.{GridSession, HasMade, HasNumber, HaveBeenMade, Ran, WasMade, counting, event_of}
 use Rattle.counted_calls.specs.declared.requests.TheConstants.{PARTITION, LEADER}
 use Rattle.counted_calls.proofs.Later.{itself}
 use Rattle.counted_calls.proofs.Lists.{there_from_map, there_passed}
@@ -74,7 +74,7 @@ pub is_free : (grid : LiveGrid) (key : List ℕ) (conn number answered : ℕ) (s
 is_free grid key conn number answered session is = record {
   pass = is.pass;
   there = is.there;
-  named = subst (λ n. has_number is.pass.names.numbers n ≡ true) (sym is.conn_is) is.named;
+  named = subst (λ n. has_number is.pass.names.numbers n ≡ true) (sym is.conn_is) (is.named PARTITION is.pass is.there);
   unused = subst (λ n. Lacks live_key (Call (id_of n number)) is.pass.seen) (sym is.conn_is) (next_is_new is.plan key conn number answered is.pass.seen is.made);
 }
 
@@ -152,6 +152,15 @@ module _ (grid : LiveGrid) (key : List ℕ) (conn number answered : ℕ) (old aw
         none_there : ◌≡◌ {A = Option (Told (Event Request))} None (Some back.last) → ⊥
         none_there h = cc
 
+    named_here : has_number made.pass.names.numbers conn ≡ true
+    named_here = made.named PARTITION made.pass made.there
+
+    still_named : HasNumber conn new
+    still_named partition pass e = ⊎_elim
+        (λ (h : (Some pass ≡ Some back.last) × (partition ≡ PARTITION)). ap (λ (p : Told (Event Request)). has_number p.names.numbers conn) (same_some pass back.last h.0) ∙ (ap (λ names. has_number names.numbers conn) called.same_names ∙ named_here))
+        (λ (h : slice_get old.passes.items partition ≡ Some (Some pass)). made.named partition pass h)
+        (after_set old.passes.items PARTITION (Some back.last) partition (Some pass) (ap (λ l. slice_get l partition) (sym written) ∙ e))
+
     pub has_made : HasMade grid key conn (suc number) (answered + counting outcome) new
     has_made = record {
       of_grid = of_grid;
@@ -162,8 +171,8 @@ module _ (grid : LiveGrid) (key : List ℕ) (conn number answered : ℕ) (old aw
       plan_here = made.plan_here;
       pass = back.last;
       there = ap (λ l. slice_get l PARTITION) written ∙ set_there old.passes.items PARTITION (Some made.pass) (Some back.last) made.there;
-      named = ap (λ names. has_number names.numbers conn) called.same_names ∙ made.named;
-      made = made_next made.plan key conn number answered made.pass back.last outcome made.named made.made called no_memory;
+      named = still_named;
+      made = made_next made.plan key conn number answered made.pass back.last outcome named_here made.made called no_memory;
     }
 
 -- what the call counts

@@ -17,6 +17,7 @@ use Rattle.live_grid.specs.Outcomes.{IsRepliedIn}
 use Rattle.live_grid.specs.Plans.{settings_for}
 use Rattle.live_grid.specs.Stored.{stored_in}
 use Rattle.counted_calls.specs.Calls.{call_of, calls_in, id_of, name_of}
+use Rattle.counted_calls.specs.Gathered.{HaveNamesFrom}
 use Rattle.counted_calls.specs.Sessions.{IsPlanHere}
 use Rattle.counted_calls.specs.declared.counting.Counted.{Counted}
 use Rattle.counted_calls.specs.declared.requests.TheConstants.{PARTITION, SESSIONS, CALLS}
@@ -45,11 +46,13 @@ module _ (plan : GridPlan) (key : List ℕ) (history : List (Event Request)) whe
     pub stored : counts.total ≡ number_stored plan history key
     pub agree : IsAdding plan → counts.total ≡ Some (pos counts.answered)
 
--- The last turn of the pass has seen this history of the partition, by which the calls are counted
+-- The last turn of the pass has seen this history of the partition, by which the calls are counted. It has every name of each partition,
+-- and no operator's event was run in any
 pub record HasCounted (forms : List Form) (capacity : ℕ) (key : List ℕ) (grid : LiveGrid) (pass : GridPass) (counts : Counted) : Type 0 where
   pub cells : AreCells 3 1 forms capacity (place_of grid).cells.items
   pub plan : GridPlan
   pub plan_there : IsPlanHere grid plan
   pub last : Told (Event Request)
   pub last_there : slice_get pass.passes.items PARTITION ≡ Some last
+  pub named : HaveNamesFrom 0 pass.passes.items
   pub came_to : AreCounted plan key last.seen counts

@@ -37,13 +37,21 @@ module _ (plan : GridPlan) (key : List ℕ) where
     pub count : answered ≡ length (filter is_answered ran)
     pub whole : length seen < most_events → AreAllThere from (length ran) seen
 
--- The sessions from one on are joined to the grid's pass. It has the numbers of these and of all other connections for names, and Control; only
--- the sessions that aren't joined yet have theirs
+-- It has the numbers of all connections from one on for names, and Control, and has seen no operator's event
+pub record HasNamesFrom (from : ℕ) (pass : Told (Event Request)) : Type 0 where
+  pub control : pass.names.control ≡ true
+  pub numbers : (number : ℕ) → from ≤ number → has_number pass.names.numbers number ≡ true
+  pub uncontrolled : controls_in pass.seen ≡ []
+
+-- so it is with the pass of each partition
+abbrev pub HaveNamesFrom : ℕ → List (Told (Event Request)) → Type 0
+HaveNamesFrom from passes = (partition : ℕ) (pass : Told (Event Request)) → slice_get passes partition ≡ Some pass → HasNamesFrom from pass
+
+-- The sessions from one on are joined to the grid's pass. Only those that aren't joined yet have their names
 pub record HasGathered (grid : LiveGrid) (key : List ℕ) (from answered : ℕ) (pass : GridPass) : Type 0 where
   pub plan : GridPlan
   pub plan_here : IsPlanHere grid plan
   pub last : Told (Event Request)
   pub last_there : slice_get pass.passes.items PARTITION ≡ Some last
-  pub control : last.names.control ≡ true
-  pub named : (number : ℕ) → from ≤ number → has_number last.names.numbers number ≡ true
+  pub named : HaveNamesFrom from pass.passes.items
   pub gathered : AreGathered plan key from answered last.seen

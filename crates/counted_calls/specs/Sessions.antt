@@ -75,6 +75,10 @@ GridSession = SessionPass LiveWorld GridPlan (Event Request) Happened
 pub record IsPlanHere (grid : LiveGrid) (plan : GridPlan) : Type 0 where
   pub there : slice_get (cells_of grid).plans PARTITION ≡ Some plan
 
+-- each pass of the session has the connection's number for a name
+abbrev pub HasNumber : ℕ → GridSession → Type 0
+HasNumber conn session = (partition : ℕ) (pass : Told (Event Request)) → pass_at session partition ≡ Some (Some pass) → has_number pass.names.numbers conn ≡ true
+
 -- A session of the connection at the leader, of which no call is under way. By what its pass of the partition has seen, its first so many
 -- calls were made, and so many of them answered
 pub record HasMade (grid : LiveGrid) (key : List ℕ) (conn calls answered : ℕ) (session : GridSession) : Type 0 where
@@ -86,5 +90,5 @@ pub record HasMade (grid : LiveGrid) (key : List ℕ) (conn calls answered : ℕ
   pub plan_here : IsPlanHere grid plan
   pub pass : Told (Event Request)
   pub there : pass_at session PARTITION ≡ Some (Some pass)
-  pub named : has_number pass.names.numbers conn ≡ true
+  pub named : HasNumber conn session
   pub made : HaveBeenMade plan key conn calls answered pass.seen

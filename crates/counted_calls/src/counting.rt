@@ -13,14 +13,15 @@ use crate::laws::every_count_is_what_is_stored;
 use crate::opening::{open_callers, take_back};
 use crate::requests::{LEADER, PARTITION, THREAD, entry};
 use crate::stage::Stage;
-use crate::threads::run_threads;
+use crate::threads::{OTHERS, run_threads};
 use call_environment::{Environment, Shared};
 use entry_processors::Form;
 use grid_base::{Bytes, Memory};
 use live_grid::{GridPass, LiveGrid, Record};
-use std::alloc::Global;
+use std::alloc::{AllocError, Global};
 use std::sync::Wait;
 use std::thread::Threads;
+use thread_crew::room_for;
 
 /// What a number value begins with.
 const HEADER: [u8; 8] = [0, 0, 0, 0, 0xff, 0xff, 0xff, 0xf8];
@@ -69,7 +70,8 @@ fn number_found(found: &Option<Record>) -> Option<i64>
 
 /// Makes a grid of three members with one backup, has four sessions at member 2 make 250 calls each, of the first
 /// processor with argument 1 on one key of partition 5, and reads what is stored of the key. Takes memory for the grid,
-/// for each session and each call; waits for the threads that it starts, which wait for turns and answers.
+/// for each session and each call, and four threads beside this one, whose want is told as want of memory; waits for these
+/// threads, which wait for turns and answers.
 pub fn count_calls<N: Environment, R: Threads + Wait + Sync>(
     rt: &R,
     alloc: Global,
@@ -82,11 +84,12 @@ pub fn count_calls<N: Environment, R: Threads + Wait + Sync>(
     requires env { N.settings env.env ≡ settings_in forms.now capacity }
     ensures { IfOk result (λ made. HasCounted forms.now capacity key made.0 made.1 made.2) }
 {
+    room_for(rt, alloc, OTHERS).ok_or(AllocError)?;
     let (grid, mut pass) = LiveGrid::new(alloc, 3, 1, &env, forms, capacity)?;
     let mut slot = Some(grid.tokens(alloc, &mut pass, LEADER, THREAD)?);
     let stage = Stage::new(alloc, grid, env, key);
     let mut callers = open_callers(&stage, &mut pass)?;
-    run_threads(rt, &stage, &mut slot, &mut callers);
+    run_threads(rt, &stage, &mut slot, &mut callers)?;
     let answered = take_back(&stage, &mut pass, callers)?;
     let name = entry(alloc, &stage.key)?;
     let found = stage.grid.stored(rt, alloc, &mut pass, PARTITION, &name)?;

@@ -183,8 +183,16 @@ fn cause(status: Status) -> Option<&'static str> {
     }
 }
 
-/// What standard error is told where a server ended for want of memory, which a thread takes too.
-const WANT_OF_SERVER: &str = "grid: out of memory or of threads";
+/// Whether these are words of a command that starts threads.
+fn starts_threads(words: &[String]) -> bool {
+    match words {
+        [word, ..] => word.as_str() == "serve" || word.as_str() == "sample",
+        [] => false,
+    }
+}
+
+/// What standard error is told where a command that starts threads ended for want of memory, which a thread takes too.
+const WANT_OF_THREADS: &str = "grid: out of memory or of threads";
 
 /// Tells standard error why the program ended so. Where it takes nothing, the exit status alone tells it.
 fn tell_cause(rt: &HostRuntime, words: &[String], status: Status) {
@@ -193,8 +201,8 @@ fn tell_cause(rt: &HostRuntime, words: &[String], status: Status) {
         && let Ok(Some(why)) = why_refused(rt.alloc(), words)
     {
         let _ = rt.eprintln(why.as_str().trim_end());
-    } else if status == Status::Memory && is_serve(words) {
-        let _ = rt.eprintln(WANT_OF_SERVER);
+    } else if status == Status::Memory && starts_threads(words) {
+        let _ = rt.eprintln(WANT_OF_THREADS);
     } else if let Some(cause) = cause(status) {
         let _ = rt.eprintln(cause);
     }

@@ -1,4 +1,4 @@
-use Rattle.std.proofs.Common.{◌<◌, length, subst, arith}
+use Rattle.std.proofs.Common.{◌<◌, length, sym, ◌∙◌, subst, arith}
 use Rattle.counted_calls.specs.Gathered.{HasGathered}
 use Rattle.counted_calls.specs.declared.requests.TheConstants.{SESSIONS}
 use Rattle.counted_calls.proofs.Joined.{one_down, one_more_joined, others_made, popped_made, sum_fits}
@@ -37,6 +37,6 @@ loop-caller-preserved g c =
       of_grid = c.join.ensures.kept;
       few = omega (arith, high);
       made = others_made stage.grid stage.key rest all c.in-Some.caller c.in-Some.ensures.items was.made;
-      gathered = one_more_joined stage.grid stage.key (length rest) c.loop-caller.answered c.in_ok-count.count c.loop-caller.pass c.join.new.pass c.in-Some.caller.session high
+      gathered = one_more_joined stage.grid stage.key (length rest) c.loop-caller.answered c.in_ok-count.count c.loop-caller.pass c.join.new.pass c.in-Some.caller.session high (made.of_grid.each ∙ sym was.of_grid.cells.as_long)
           (subst (λ n. HasGathered stage.grid stage.key n c.loop-caller.answered c.loop-caller.pass) down was.gathered) made c.join.ensures.joined;
     }

@@ -3,7 +3,7 @@ use Rattle.std.proofs.lemmas.Option.{slice_get_read}
 use Rattle.counted_calls.specs.Callers.{HasMadeAll}
 use Rattle.counted_calls.specs.declared.threads.Caller.{Caller}
 use Rattle.counted_calls.proofs.Joined.{read_there, sliced, within_all}
-use Rattle.counted_calls.proofs.threads.call_all.Goals as goal
+use Rattle.counted_calls.proofs.threads.call_each.Goals as goal
 
 pub for_each_mut-requires-clause-accepts : goal.for_each_mut-requires-clause-accepts
 for_each_mut-requires-clause-accepts g c κs within i p less is =
