@@ -9,7 +9,7 @@ use Rattle.partition_protocol.specs.Node.{Node}
 use Rattle.partition_protocol.specs.Execution.{Executes, reached}
 use Rattle.partition_protocol.specs.World.{is_live, pair_state}
 use Rattle.partition_protocol.proofs.Lists.{Every}
-use Rattle.waiting_protocol.specs.Machine.{Waiting, Test, Picked, is_ready, Runs, Stays, is_over, fate_of, fate_at, Leaves, stirs, pick}
+use Rattle.waiting_protocol.specs.Machine.{Waiting, Terms, Picked, is_ready, Runs, Stays, is_over, fate_of, fate_at, Leaves, stirs, pick}
 use Rattle.waiting_protocol.specs.Machine as machine
 use Rattle.waiting_protocol.proofs.Turns.{IsPick, pick_of}
 use Rattle.waiting_protocol.proofs.Fates.{closed_fate}
@@ -20,7 +20,7 @@ use Rattle.call_engine.proofs.Wishes.{ready_where_granted}
 use Rattle.object_store.specs.Partitions.{Partition}
 use Rattle.wait_sets.specs.declared.waiter.Waiter.{Waiter}
 use Rattle.wait_sets.specs.WaitSets.{is_due, is_of, wish}
-use Rattle.wait_sets.specs.Laws.{meant, all_meant, IsPlaceOf, EveryNextIsItsTurn, EveryClosingIsAlike}
+use Rattle.wait_sets.specs.Laws.{meant, all_meant, grid_terms, IsPlaceOf, EveryNextIsItsTurn, EveryClosingIsAlike}
 
 -- those who wish the same are ready together
 pub ready_together : (settings : Settings) (s : Partition) (now : ℕ) (x y : Waiter) → wish x ≡ wish y → is_ready_in settings s x.request now ≡ is_ready_in settings s y.request now
@@ -73,22 +73,23 @@ same_end : (now : ℕ) (d : Option ℕ) → machine.is_due now d ≡ has_ended d
 same_end now None = refl
 same_end now (Some d) = refl
 
-over : (b : Bool) → is_over (fate_of Executes b) ≡ b
-over true = refl
-over false = refl
+over : (b h : Bool) → is_over (fate_of Executes b h) ≡ b
+over true true = refl
+over true false = refl
+over false h = refl
 
-its_turn : {State : Type 0} (o : Object Request State) (t : Test Request) (j : Waiting Request) (member : ℕ) (node : Node)
+its_turn : {State : Type 0} (o : Object Request State) (t : Terms Request) (j : Waiting Request) (member : ℕ) (node : Node)
     → is_live j.world member ≡ true → slice_get j.world.nodes member ≡ Some node → reached member node ≡ Executes → (waiter : Waiter)
     → stirs o t j (meant member waiter) ≡ turn_by (λ call. is_ready o t (pair_state o j.world node.pair) call (j.clock member)) (j.clock member) waiter
 its_turn o t j member node live at serves waiter =
     let now : ℕ = j.clock member in
     let ready : Bool = is_ready o t (pair_state o j.world node.pair) waiter.request now in
     ap is_over (closed_fate (is_live j.world member) (slice_get j.world.nodes member) (fate_at o t j.world now (meant member waiter)) node live at)
-    ∙ ap (λ r. is_over (fate_of r (ready || machine.is_due now waiter.deadline))) serves
-    ∙ over (ready || machine.is_due now waiter.deadline)
+    ∙ ap (λ r. is_over (fate_of r (ready || machine.is_due now waiter.deadline) (t.starves (meant member waiter)))) serves
+    ∙ over (ready || machine.is_due now waiter.deadline) (t.starves (meant member waiter))
     ∙ ap (λ d. ready || d) (same_end now waiter.deadline)
 
-next_is_its_turn : {State : Type 0} (o : Object Request State) (t : Test Request) (j : Waiting Request) (member : ℕ) (node : Node) (waiters : List Waiter)
+next_is_its_turn : {State : Type 0} (o : Object Request State) (t : Terms Request) (j : Waiting Request) (member : ℕ) (node : Node) (waiters : List Waiter)
     → is_live j.world member ≡ true → slice_get j.world.nodes member ≡ Some node → reached member node ≡ Executes
     → IsPlaceOf (all_meant member waiters) (pick (stirs o t j) (all_meant member waiters)) (position (turn_by (λ call. is_ready o t (pair_state o j.world node.pair) call (j.clock member)) (j.clock member)) waiters)
 next_is_its_turn o t j member node waiters live at serves =
@@ -99,7 +100,7 @@ next_is_its_turn o t j member node waiters live at serves =
     subst (λ (r : Option ℕ). IsPlaceOf (all_meant member waiters) (pick (stirs o t j) (all_meant member waiters)) r) place (picked_place (stirs o t j) (all_meant member waiters))
 
 pub every_next_is_its_turn : (settings : Settings) → EveryNextIsItsTurn settings
-every_next_is_its_turn settings j member node waiters live at serves = next_is_its_turn (partition_object settings) is_wished_reply j member node waiters live at serves
+every_next_is_its_turn settings starves j member node waiters live at serves = next_is_its_turn (partition_object settings) (grid_terms starves) j member node waiters live at serves
 
 -- closing
 

@@ -1,10 +1,10 @@
 -- A set beside the machine of calls that wait, and what is known of a set from one look to the next.
-use Rattle.std.specs.Prelude.{◌≡◌, ℕ, true, not, ◌==◌, List, [], ◌∷◌, ◌++◌, length, take, map, filter, position, remove, Option, Some, None, slice_get, if◌then◌else◌}
+use Rattle.std.specs.Prelude.{◌≡◌, ℕ, Bool, true, not, ◌==◌, List, [], ◌∷◌, ◌++◌, length, take, map, filter, position, remove, Option, Some, None, slice_get, if◌then◌else◌}
 use Rattle.grid_base.specs.declared.calls.Request.{Request}
 use Rattle.partition_protocol.specs.Node.{Node}
 use Rattle.partition_protocol.specs.Execution.{Executes, reached}
 use Rattle.partition_protocol.specs.World.{is_live, pair_state}
-use Rattle.waiting_protocol.specs.Machine.{Waiting, Picked, stirs, pick}
+use Rattle.waiting_protocol.specs.Machine.{Waiting, Terms, Picked, stirs, pick}
 use Rattle.waiting_protocol.specs.Machine as machine
 use Rattle.object_store.specs.Partitions.{Partition}
 use Rattle.call_engine.specs.Calls.{Settings}
@@ -22,6 +22,10 @@ meant member waiter = record { member = member; conn = waiter.request.id.conn; n
 abbrev pub all_meant : ℕ → List Waiter → List (machine.Waiter Request)
 all_meant member waiters = map (meant member) waiters
 
+-- What the machine goes by in a grid: the replies that calls wish, and whichever waiting calls find no memory.
+abbrev pub grid_terms : (machine.Waiter Request → Bool) → Terms Request
+grid_terms starves = record { wished = is_wished_reply; starves = starves }
+
 -- that place is the picked one's, and what is left without it is what stands before and after the picked one
 abbrev pub IsPlaceOf : {C : Type 0} → List (machine.Waiter C) → Option (Picked C) → Option ℕ → Type 0
 IsPlaceOf xs None None = Unit {0}
@@ -31,10 +35,10 @@ IsPlaceOf xs (Some picked) (Some place) = (slice_get xs place ≡ Some picked.on
 
 -- At a live member that serves, the first of a set that is ready or due by what the member has of the partition is the first with which the machine has something to do
 abbrev pub EveryNextIsItsTurn : Settings → Type 0
-EveryNextIsItsTurn settings = (j : Waiting Request) (member : ℕ) (node : Node) (waiters : List Waiter)
+EveryNextIsItsTurn settings = (starves : machine.Waiter Request → Bool) (j : Waiting Request) (member : ℕ) (node : Node) (waiters : List Waiter)
     → is_live j.world member ≡ true → slice_get j.world.nodes member ≡ Some node → reached member node ≡ Executes
     → let o = partition_object settings in
-    IsPlaceOf (all_meant member waiters) (pick (stirs o is_wished_reply j) (all_meant member waiters)) (position (is_its_turn settings (pair_state o j.world node.pair) (j.clock member)) waiters)
+    IsPlaceOf (all_meant member waiters) (pick (stirs o (grid_terms starves) j) (all_meant member waiters)) (position (is_its_turn settings (pair_state o j.world node.pair) (j.clock member)) waiters)
 
 -- as a connection closes, a set keeps whom the machine keeps
 abbrev pub EveryClosingIsAlike : Type 0

@@ -4,13 +4,13 @@ use Rattle.grid_base.specs.Objects.{Object}
 use Rattle.partition_protocol.proofs.Lists.{In, in_left, in_right, in_cases, in_contains, contains_in}
 use Rattle.partition_protocol.proofs.Histories.{filter_in}
 use Rattle.partition_protocol.proofs.RowFacts.{number_same}
-use Rattle.waiting_protocol.specs.Machine.{Waiter, Waiting, Line, Closes, Test, Gone, gone_as, turn, gone_in, gone, opened, goes, gone_by, after, all_gone}
+use Rattle.waiting_protocol.specs.Machine.{Waiter, Waiting, Line, Closes, Terms, Gone, gone_as, turn, gone_in, gone, opened, goes, gone_by, after, all_gone}
 use Rattle.waiting_protocol.specs.Claims.{IsItsTurn, waits_by, waits_in, EveryClosedConnectionIsLeft}
 use Rattle.waiting_protocol.proofs.Turns.{turn_of}
 use Rattle.waiting_protocol.proofs.Sources.{turn_from, turned_from, opened_from}
 
 -- who leaves was on the list
-module _ {C State : Type 0} (o : Object C State) (t : Test C) (P : Waiter C → Type 0) where
+module _ {C State : Type 0} (o : Object C State) (t : Terms C) (P : Waiter C → Type 0) where
   abbrev pub LeaveP : List (Gone C) → Type 0
   LeaveP gs = (g : Gone C) → In g gs → P g.waiter
 

@@ -6,3 +6,7 @@ pub mod Sources
 pub mod Theorem
 pub mod Places
 pub mod Closed
+pub mod Standings
+pub mod Refusals
+pub mod Orders
+pub mod Partitions

@@ -5,14 +5,12 @@ use Rattle.partition_protocol.specs.Events.{Event}
 use Rattle.partition_protocol.specs.Arrivals.{CallName, asked_by, arrivals, name, NamedOnce}
 use Rattle.partition_protocol.proofs.Lists.{In, in_contains, contains_in, cases}
 use Rattle.partition_protocol.proofs.RowFacts.{number_same, same_number, both_right}
-use Rattle.waiting_protocol.specs.Machine.{Waiter, Waiting, Line, Asks, Waits, Clock, Closes, Test, Fate, Stays, Runs, IsRefused, Leaves, plain, event_if, event_of, events_of, gone_as, turn, gone_in, turned, gone, opened, event_in, goes, gone_by, events_by, after, events}
+use Rattle.waiting_protocol.specs.Machine.{Waiter, Waiting, Line, Asks, Waits, Clock, Closes, Terms, Fate, Stays, Runs, Starves, IsRefused, Leaves, plain, event_if, event_of, events_of, gone_as, turn, gone_in, turned, gone, opened, event_in, goes, gone_by, events_by, after, events}
 use Rattle.waiting_protocol.specs.Claims.{IsQuiet, IsItsTurn, names_in, name_of}
+use Rattle.waiting_protocol.specs.LineClaims.{is_name}
 use Rattle.waiting_protocol.proofs.Turns.{turn_of, events_append}
 
 -- how often a name stands in a list
-
-abbrev pub is_name : CallName → CallName → Bool
-is_name k a = (a.conn == k.conn) && (a.number == k.number)
 
 abbrev pub weight : Bool → ℕ
 weight true = 1
@@ -105,10 +103,11 @@ wait_filter {C} k f (x ∷ xs) = go (f x) (wait_filter k f xs)
 pub event_happens : {C : Type 0} (k : CallName) (x : Waiter C) (now : ℕ) (f : Fate) → happen k (event_if (plain x now) f) ≤ weight (is_name k (name_of x))
 event_happens k x now Stays = omega arith
 event_happens k x now Runs = omega arith
+event_happens k x now Starves = omega arith
 event_happens k x now (IsRefused r) = omega arith
 event_happens k x now Leaves = omega arith
 
-module _ {C State : Type 0} (o : Object C State) (t : Test C) (k : CallName) where
+module _ {C State : Type 0} (o : Object C State) (t : Terms C) (k : CallName) where
   pub turn_counts : (j : Waiting C) → happen k (events_of (gone_in o t j)) + wait k (turn o t j).waiters ≤ wait k j.waiters
   turn_counts j = ⊎_elim quiet (λ s. busy s.0 s.1) (turn_of o t j)
     where

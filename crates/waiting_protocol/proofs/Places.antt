@@ -9,7 +9,7 @@ use Rattle.partition_protocol.proofs.Lists.{In, in_left, in_right, in_cases, in_
 use Rattle.partition_protocol.proofs.Histories.{filter_in}
 use Rattle.partition_protocol.proofs.RowFacts.{number_cases, number_other}
 use Rattle.partition_protocol.proofs.Extends.{run_append}
-use Rattle.waiting_protocol.specs.Machine.{Waiter, Waiting, Line, Asks, Waits, Clock, Closes, Test, Fate, Stays, Runs, IsRefused, Leaves, fate_in, is_over, stirs, Gone, plain, event_if, event_of, gone_as, leaving, turn, gone_in, gone, opened, gone_by, after, events, start}
+use Rattle.waiting_protocol.specs.Machine.{Waiter, Waiting, Line, Asks, Waits, Clock, Closes, Terms, Fate, Stays, Runs, Starves, IsRefused, Leaves, fate_in, is_over, stirs, Gone, plain, event_if, event_of, gone_as, leaving, turn, gone_in, gone, opened, gone_by, after, events, start}
 use Rattle.waiting_protocol.specs.Claims.{IsQuiet, IsItsTurn, IsAt, IsLineAt, EveryLeaverIsOfItsLine}
 use Rattle.waiting_protocol.proofs.Turns.{turn_of, after_quiet, all_run}
 use Rattle.waiting_protocol.proofs.Fates.{every_other_event_is_idle}
@@ -29,7 +29,7 @@ at_or (BeginHandover from to) k = inr (λ z. z)
 at_or Advance k = inr (λ z. z)
 at_or Reopen k = inr (λ z. z)
 
-module _ {C State : Type 0} (o : Object C State) (t : Test C) (p n b : ℕ) (some : 1 ≤ n) (law : IsLawful o) where
+module _ {C State : Type 0} (o : Object C State) (t : Terms C) (p n b : ℕ) (some : 1 ≤ n) (law : IsLawful o) where
   -- a world that can come
   abbrev pub Comes : World C → Type 0
   Comes w = (es : List (Event C)) × (run o (world.start p n b) es ≡ w)
@@ -40,6 +40,7 @@ module _ {C State : Type 0} (o : Object C State) (t : Test C) (p n b : ℕ) (som
   pub run_idle : (w : World C) → Comes w → (x : Waiter C) (at : ℕ) (f : Fate) (now : ℕ) (y : Waiter C) → (x.member ≡ y.member → ⊥) → fate_in o t (run o w (event_if (plain x at) f)) now y ≡ fate_in o t w now y
   run_idle w c x at Stays now y d = refl
   run_idle w c x at Runs now y d = idle w c (plain x at) now y d
+  run_idle w c x at Starves now y d = refl
   run_idle w c x at (IsRefused r) now y d = refl
   run_idle w c x at Leaves now y d = refl
 

@@ -4,8 +4,9 @@ use Rattle.grid_base.specs.Objects.{Object}
 use Rattle.partition_protocol.specs.Events.{Event}
 use Rattle.partition_protocol.proofs.Lists.{In, in_left, in_right, in_cases, in_contains, contains_in}
 use Rattle.partition_protocol.proofs.Histories.{filter_in}
-use Rattle.waiting_protocol.specs.Machine.{Waiter, Waiting, Line, Asks, Waits, Clock, Closes, Test, Fate, Stays, Runs, IsRefused, Leaves, plain, event_if, event_of, events_of, gone_as, turn, gone_in, turned, gone, opened, event_in, goes, gone_by, events_by, after, events, start}
+use Rattle.waiting_protocol.specs.Machine.{Waiter, Waiting, Line, Asks, Waits, Clock, Closes, Terms, Fate, Stays, Runs, Starves, IsRefused, Leaves, plain, event_if, event_of, events_of, gone_as, turn, gone_in, turned, gone, opened, event_in, goes, gone_by, events_by, after, events, start}
 use Rattle.waiting_protocol.specs.Claims.{IsQuiet, IsItsTurn, asked_in, waits_by, waits_in}
+use Rattle.waiting_protocol.proofs.Fates.{as_plain}
 use Rattle.waiting_protocol.proofs.Turns.{turn_of, events_append}
 
 -- how many
@@ -13,6 +14,7 @@ use Rattle.waiting_protocol.proofs.Turns.{turn_of, events_append}
 pub event_few : {C : Type 0} (e : Event C) (f : Fate) → length (event_if e f) ≤ 1
 event_few e Stays = omega arith
 event_few e Runs = omega arith
+event_few e Starves = omega arith
 event_few e (IsRefused r) = omega arith
 event_few e Leaves = omega arith
 
@@ -24,7 +26,7 @@ filter_few {X} f (x ∷ xs) = go (f x) (filter_few f xs)
     go true l = omega (arith, l)
     go false l = omega (arith, l)
 
-module _ {C State : Type 0} (o : Object C State) (t : Test C) where
+module _ {C State : Type 0} (o : Object C State) (t : Terms C) where
   pub turn_few : (j : Waiting C) → length (events_of (gone_in o t j)) + length (turn o t j).waiters ≤ length j.waiters
   turn_few j = ⊎_elim quiet (λ s. busy s.0 s.1) (turn_of o t j)
     where
@@ -79,14 +81,15 @@ module _ {C State : Type 0} (o : Object C State) (t : Test C) where
     AreP xs = (x : Waiter C) → In x xs → P x
 
     abbrev pub IsOfP : Event C → Type 0
-    IsOfP e = (x : Waiter C) × (now : ℕ) × P x × (e ≡ plain x now)
+    IsOfP e = (x : Waiter C) × (now : ℕ) × P x × (t.starves x ≡ false) × (e ≡ plain x now)
 
-    pub fated : (x : Waiter C) (now : ℕ) (f : Fate) → P x → (e : Event C) → In e (event_if (plain x now) f) → IsOfP e
-    fated x now Stays h e i = absurd i
-    fated x now Runs h e (inl s) = (x, now, h, sym s)
-    fated x now Runs h e (inr i) = absurd i
-    fated x now (IsRefused r) h e i = absurd i
-    fated x now Leaves h e i = absurd i
+    pub fated : (x : Waiter C) (now : ℕ) (f : Fate) → (f ≡ Runs → t.starves x ≡ false) → P x → (e : Event C) → In e (event_if (plain x now) f) → IsOfP e
+    fated x now Stays d h e i = absurd i
+    fated x now Runs d h e (inl s) = (x, now, h, d refl, sym s)
+    fated x now Runs d h e (inr i) = absurd i
+    fated x now Starves d h e i = absurd i
+    fated x now (IsRefused r) d h e i = absurd i
+    fated x now Leaves d h e i = absurd i
 
     abbrev pub TurnOf : Waiting C → Type 0
     TurnOf j = AreP (turn o t j).waiters × ((e : Event C) → In e (events_of (gone_in o t j)) → IsOfP e)
@@ -101,7 +104,7 @@ module _ {C State : Type 0} (o : Object C State) (t : Test C) where
         busy x i =
             let all : AreP (i.front ++ x ∷ i.back) = subst AreP i.place h in (
               subst (λ (k : Waiting C). AreP k.waiters) (sym i.left) (λ y k. ⊎_elim (λ a. all y (in_left y i.front (x ∷ i.back) a)) (λ a. all y (in_right y i.front (x ∷ i.back) (inr a))) (in_cases y i.front i.back k)),
-              λ e k. fated x (gone_as o t j x).now (gone_as o t j x).fate (all x (in_right x i.front (x ∷ i.back) (inl refl))) e
+              λ e k. fated x (gone_as o t j x).now (gone_as o t j x).fate (as_plain o t j x).fed (all x (in_right x i.front (x ∷ i.back) (inl refl))) e
                   (subst (λ es. In e es) (append-nil (event_of (gone_as o t j x))) (subst (λ gs. In e (events_of gs)) i.gone k)),
             )
 
@@ -128,6 +131,6 @@ module _ {C State : Type 0} (o : Object C State) (t : Test C) where
         (in_cases e (events_by o t j l) (events o t (goes o t j l) ls) i)
 
   pub sources : (p n b : ℕ) (lines : List (Line C)) (e : Event C) → Contains (events o t (start p n b) lines) e
-      → Contains (asked_in lines) e ⊎ ((x : Waiter C) × (now : ℕ) × Contains (waits_in lines) x × (e ≡ plain x now))
-  sources p n b lines e c = ⊎_elim (λ i. inl (contains_in e (asked_in lines) i)) (λ r. inr (r.0, r.1, contains_in r.0 (waits_in lines) r.2, r.3))
+      → Contains (asked_in lines) e ⊎ ((x : Waiter C) × (now : ℕ) × Contains (waits_in lines) x × (t.starves x ≡ false) × (e ≡ plain x now))
+  sources p n b lines e c = ⊎_elim (λ i. inl (contains_in e (asked_in lines) i)) (λ r. inr (r.0, r.1, contains_in r.0 (waits_in lines) r.2, r.3, r.4))
       (all_from (λ x. In x (waits_in lines)) (start p n b) lines (λ x i. absurd i) (λ x i. i) e (in_contains e (events o t (start p n b) lines) c))

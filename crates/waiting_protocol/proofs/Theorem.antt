@@ -6,7 +6,7 @@ use Rattle.partition_protocol.specs.Arrivals.{arrivals, name, NamedOnce}
 use Rattle.partition_protocol.specs.Claims.{IsSafe, IsFaithful}
 use Rattle.partition_protocol.proofs.Lists.{in_contains}
 use Rattle.partition_protocol.proofs.Theorem.{every_run_is_safe}
-use Rattle.waiting_protocol.specs.Machine.{Waiting, Waits, Test, start, turned, opened, goes, events_of, after, events}
+use Rattle.waiting_protocol.specs.Machine.{Waiting, Waits, Terms, start, turned, opened, goes, events_of, after, events}
 use Rattle.waiting_protocol.specs.Claims.{IsQuiet, names_in, name_of, EveryWaiterIsRuled, EveryWaiterIsSilent}
 use Rattle.waiting_protocol.proofs.Turns.{turn_of, shorter, goes_quiet, after_quiet, all_run}
 use Rattle.waiting_protocol.proofs.Names.{count_append, once_count, count_once, all_counts}
@@ -14,7 +14,7 @@ use Rattle.waiting_protocol.proofs.Without.{arrives, nothing_depends}
 use Rattle.waiting_protocol.proofs.Fates.{as_plain, waits_on}
 use Rattle.waiting_protocol.proofs.Sources.{sources, all_few}
 
-pub start_quiet : {C State : Type 0} (o : Object C State) (t : Test C) (p n b : ℕ) → IsQuiet o t (start p n b)
+pub start_quiet : {C State : Type 0} (o : Object C State) (t : Terms C) (p n b : ℕ) → IsQuiet o t (start p n b)
 start_quiet o t p n b x c = absurd (in_contains x [] c)
 
 pub every_waiter_is_ruled : {C State : Type 0} (o : Object C State) → EveryWaiterIsRuled o

@@ -5,7 +5,7 @@ use Rattle.partition_protocol.specs.World.{map_or}
 use Rattle.partition_protocol.specs.Events.{run}
 use Rattle.partition_protocol.proofs.Lists.{Every, every_in, in_contains, cases}
 use Rattle.partition_protocol.proofs.Extends.{run_append}
-use Rattle.waiting_protocol.specs.Machine.{Waiter, Waiting, Line, Asks, Waits, Clock, Closes, Test, stirs, Picked, skipping, pick, Gone, event_of, events_of, gone_as, leaving, turn, gone_in, turned, gone, opened, event_in, goes, gone_by, events_by, after, events}
+use Rattle.waiting_protocol.specs.Machine.{Waiter, Waiting, Line, Asks, Waits, Clock, Closes, Terms, stirs, Picked, skipping, pick, Gone, event_of, events_of, gone_as, leaving, turn, gone_in, turned, gone, opened, event_in, goes, gone_by, events_by, after, events}
 use Rattle.waiting_protocol.specs.Claims.{IsQuiet, IsItsTurn, Turns}
 
 -- the first that passes
@@ -45,7 +45,7 @@ pick_of {C} f (x ∷ xs) = ⊎_elim first (λ e. later e (pick_of f xs)) (cases 
 
 -- turns
 
-module _ {C State : Type 0} (o : Object C State) (t : Test C) where
+module _ {C State : Type 0} (o : Object C State) (t : Terms C) where
   pub its_turn : (j : Waiting C) (p : Picked C) → pick (stirs o t j) j.waiters ≡ Some p → IsPick (stirs o t j) j.waiters p → IsItsTurn o t j p.one
   its_turn j p s i = record {
     front = p.front;

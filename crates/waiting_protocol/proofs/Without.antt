@@ -3,7 +3,7 @@ use Rattle.std.proofs.Common.{◌≡◌, ℕ, zero, suc, Bool, true, false, cond
 use Rattle.grid_base.specs.Objects.{Object}
 use Rattle.partition_protocol.proofs.Lists.{Every, every_append, every_from_in, contains_in, cases}
 use Rattle.partition_protocol.proofs.RowFacts.{same_number}
-use Rattle.waiting_protocol.specs.Machine.{Waiter, Waiting, Line, Asks, Waits, Clock, Closes, Test, stirs, Picked, skipping, pick, events_of, gone_as, leaving, turn, gone_in, turned, gone, opened, event_in, goes, gone_by, events_by, events, all_gone}
+use Rattle.waiting_protocol.specs.Machine.{Waiter, Waiting, Line, Asks, Waits, Clock, Closes, Terms, stirs, Picked, skipping, pick, events_of, gone_as, leaving, turn, gone_in, turned, gone, opened, event_in, goes, gone_by, events_by, events, all_gone}
 use Rattle.waiting_protocol.specs.Claims.{IsQuiet, IsItsTurn, IsWithout, ComesToItsTurn, IsStillWaiting, NothingDependsOn}
 use Rattle.waiting_protocol.proofs.Turns.{at_some, at_none, IsPick, takes_at, skips_at, pick_of, its_turn, rests, steady}
 
@@ -91,7 +91,7 @@ picks_of {C} f x (z ∷ zs) ys = ⊎_elim first (λ e. later e (picks_of f x zs 
 
 -- turns
 
-module _ {C State : Type 0} (o : Object C State) (t : Test C) (x : Waiter C) where
+module _ {C State : Type 0} (o : Object C State) (t : Terms C) (x : Waiter C) where
   -- a state with these waiters
   abbrev pub at : Waiting C → List (Waiter C) → Waiting C
   at u xs = record { world = u.world; clock = u.clock; waiters = xs }
