@@ -1,6 +1,7 @@
 -- A client with one connection stays one, whatever it is told and asked.
 use Rattle.std.proofs.Common.{◌≡◌, ℕ, ◌*◌, ◌≤◌, ◌==◌, Bool, true, false, cond, nat_lt, ℤ, List, [], ◌∷◌, ◌++◌, length, Option, Some, None, option_map, refl, ap, sym, ◌∙◌, subst, arith}
-use Rattle.std.specs.Option.{option_map_or}
+use Rattle.std.specs.Option.{option_map_or, option_or}
+use Rattle.std.specs.List.{find, list_any}
 use Rattle.std.specs.Result.{result_ok}
 use Rattle.std.proofs.lemmas.Bool.Decides.{nat_tests}
 use Rattle.message_frames.specs.MessageReaders.{standing}
@@ -10,16 +11,17 @@ use Rattle.event_codecs.specs.declared.events.ClientEvent.{ClientEvent}
 use Rattle.event_codecs.specs.declared.events.ClientEvent.TheVariants.{Entry, Invalidation, Rows}
 use Rattle.event_codecs.specs.declared.seen.SeenRow.{SeenRow}
 use Rattle.near_protocol.specs.Client.{LookUp, Overtaking}
-use Rattle.grid_client.specs.Nears.{Near, Value, Look, look_up, closed, kept, filled, answered, used, opened, invalidated, cleared, has_number}
-use Rattle.grid_client.specs.Rows.{version_in}
+use Rattle.grid_client.specs.Nears.{Near, Value, Look, look_up, closed, kept, filled, answered, used, opened, invalidated, cleared, has_number, new_near as near_of_map}
+use Rattle.grid_client.specs.Rows.{version_in, leader_in}
 use Rattle.grid_client.specs.Calls.{answered_number}
-use Rattle.grid_client.specs.Connections.{is_conn, with_uuid, with_reader}
+use Rattle.grid_client.specs.Connections.{is_conn, is_to, target_of, with_uuid, with_reader}
 use Rattle.grid_client.specs.Messages.{head_of, code_of, value_of, accepted_of}
-use Rattle.grid_client.specs.States.{State}
-use Rattle.grid_client.specs.Hearing.{Told, nothing, near_answered, told_by_answer, is_near_map, told_by_invalidation, clearing, knowing_row, told_by_row, told_by_rows, told_by_event, is_welcome, welcomed, told_otherwise, told_by_number, told_by_head, told_by_message, told_by_messages, reading}
+use Rattle.grid_client.specs.States.{State, looked, target}
+use Rattle.grid_client.specs.Hearing.{Told, nothing, near_answered, told_by_answer, is_near_map, told_by_invalidation, clearing, knowing_row, told_by_row, told_by_rows, told_by_event, is_welcome, welcomed, told_otherwise, told_by_number, told_by_head, told_by_message, told_by_messages, HasHeard, messages_by, reading}
 use Rattle.grid_client.specs.declared.connections.Connection.{Connection}
 use Rattle.grid_client.specs.declared.messages.Head.{Head}
 use Rattle.script_lang.specs.Limits.{most_line_bytes}
+use Rattle.script_run.specs.NearClients.{NearClient, piece, told, missed, new_near}
 use Rattle.script_run.specs.Grids.{IsOnOne}
 
 pub same_number : (c : ℕ) → (c == c) ≡ true
@@ -137,3 +139,45 @@ module _ (c : ℕ) (text : List ℕ) where
   pub messages_one : (messages : List Message) (s : State) → IsOnOne c text s → IsOnOne c text (told_by_messages c messages s).after
   messages_one [] s one = one
   messages_one (message ∷ messages) s one = messages_one messages (told_by_message c message s).after (head_one (head_of message) message s one)
+
+-- what is read of it
+
+pub attached_one : (c : ℕ) (text : List ℕ) (s : State) → IsOnOne c text s → list_any (is_conn c) s.connections ≡ true
+attached_one c text s one = ap (list_any (is_conn c)) one.connections ∙ rw (same_number c) refl
+
+pub heard_one : (c : ℕ) (text : List ℕ) (s : State) → IsOnOne c text s → HasHeard c text s
+heard_one c text s one = ap (λ cs. option_map (λ (x : Connection). x.reader) (find (is_conn c) cs)) one.connections ∙ rw (same_number c) refl
+
+pub fed_one : (most : ℕ) (n : NearClient) → IsOnOne n.conn n.read n.state → IsOnOne n.conn (n.read ++ piece most n) (told most n).after
+fed_one most n one =
+    let text = n.read ++ piece most n in
+    messages_one n.conn text (messages_by n.read (piece most n)) (reading n.conn text n.state) (reading_one one text)
+
+-- what it is asked
+
+pub used_one : (c : ℕ) (text key : List ℕ) (s : State) → IsOnOne c text s → IsOnOne c text (looked key s)
+used_one c text key s one = with_near one (used key) (λ n. refl) (looked key s) refl refl
+
+pub missed_one : (key : List ℕ) (n : NearClient) → IsOnOne n.conn n.read n.state → IsOnOne n.conn n.read (missed key n).state
+missed_one key n one = with_near one (opened n.state.next key) (λ m. refl) (missed key n).state refl refl
+
+-- its calls go on its connection
+pub target_one : (c : ℕ) (text : List ℕ) (s : State) (partition : ℕ) → IsOnOne c text s → target partition s ≡ Some c
+target_one c text s partition one = ap (target_of (leader_in partition s.rows)) one.connections ∙ go (is_to (leader_in partition s.rows) its)
+  where
+    its : Connection
+    its = record { conn = c; uuid = one.uuid; reader = standing false text }
+
+    go : (b : Bool) → option_map (λ (x : Connection). x.conn) (option_or (cond b (Some its) None) (Some its)) ≡ Some c
+    go true = refl
+    go false = refl
+
+-- at first
+pub begun_one : (c : ℕ) (name : List ℕ) (capacity : ℕ) → 2 * length name ≤ most_line_bytes → IsOnOne c [] (new_near c name capacity).state
+begun_one c name capacity short = record {
+  uuid = None;
+  connections = refl;
+  near = near_of_map name capacity;
+  keeps = refl;
+  short = short;
+}
