@@ -1,0 +1,5 @@
+pub mod Keeping
+pub mod Numbers
+pub mod Sending
+pub mod Takes
+pub mod WholeSteps
