@@ -10,7 +10,7 @@ pub(crate) struct Subject {
 }
 
 /// All of them, in the order in which they run.
-pub(crate) const SUBJECTS: [Subject; 25] = [
+pub(crate) const SUBJECTS: [Subject; 26] = [
     Subject {
         folder: "sessions",
         scenarios: SESSIONS,
@@ -74,6 +74,10 @@ pub(crate) const SUBJECTS: [Subject; 25] = [
     Subject {
         folder: "listeners",
         scenarios: LISTENERS,
+    },
+    Subject {
+        folder: "waiting",
+        scenarios: WAITING,
     },
     Subject {
         folder: "bad_bytes",
@@ -413,6 +417,56 @@ const LISTENERS: &[(&str, u8)] = &[
     ("rows_of_one_member", 0),
     ("rows_come_before_answers", 0),
     ("rows_of_a_loss_and_a_reopening", 0),
+];
+
+/// Calls that wait: when they run, who is refused, and who leaves without an answer.
+const WAITING: &[(&str, u8)] = &[
+    ("capacity_zero", 0),
+    ("chain_of_runs", 0),
+    ("clock_goes_by_partition", 0),
+    ("clock_that_goes_back", 0),
+    ("closed_connection", 0),
+    ("crashed_member", 0),
+    ("deadline_past_the_last_moment", 0),
+    ("due_before_ready", 0),
+    ("events_of_a_waiting_put", 0),
+    ("example_frozen", 0),
+    ("example_poll_waits_to_its_deadline", 0),
+    ("example_put_waits_for_a_lock", 0),
+    ("freeze_refuses_and_releases_nothing", 0),
+    ("further_bytes_and_pieces", 0),
+    ("later_ready_before_earlier", 0),
+    ("lease_that_ends", 0),
+    ("lock_is_handed_on", 0),
+    ("lost_partition", 0),
+    ("moved_away_and_back", 0),
+    ("near_client_beside_a_waiter", 0),
+    ("negative_timeout", 0),
+    ("offer_waits_for_room", 0),
+    ("overtaken_by_its_own_connection", 0),
+    ("own_releases_come_first", 0),
+    ("polls_are_served_in_order", 0),
+    ("put_gives_up_locked", 0),
+    ("random_01", 0),
+    ("random_02", 0),
+    ("random_03", 0),
+    ("random_04", 0),
+    ("random_05", 0),
+    ("random_06", 0),
+    ("random_07", 0),
+    ("random_08", 0),
+    ("random_09", 0),
+    ("random_10", 0),
+    ("ready_and_due_together", 0),
+    ("ready_at_its_arrival", 0),
+    ("refusals_of_the_session", 0),
+    ("refused_at_arrival", 0),
+    ("refused_between_freeze_and_row", 0),
+    ("refused_when_the_role_goes", 0),
+    ("runs_wait_for_backups", 0),
+    ("timeout_zero", 0),
+    ("unanswered_waiter_survives_a_crash", 0),
+    ("unfrozen_by_a_row", 0),
 ];
 
 /// Bytes at fault: what closes a connection from its first message on, and what was served before.
