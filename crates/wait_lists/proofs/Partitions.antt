@@ -177,11 +177,11 @@ module _ (settings : Settings) (starves : Meant → Bool) (j : Waiting Request) 
 
   pub place_is : (stands : Standing) → InTurn stands → IsPlaceOf (all_meant m here) (pick (stirs object terms j) (all_meant m here)) (place_in_turn settings s (j.clock m) stands here)
   place_is Serves i =
-      let v = standing_serves m (is_live j.world m) (slice_get j.world.nodes m) i.stands in
+      let v = standing_serves m (is_live j.world m) (slice_get j.world.nodes m) i.does in
       subst (λ (z : Partition). IsPlaceOf (all_meant m here) (pick (stirs object terms j) (all_meant m here)) (position (is_its_turn settings z (j.clock m)) here)) (sym (i.has v.1 v.2))
       (every_next_is_its_turn settings starves j m v.1 here v.0 v.2 v.3)
-  place_is (Refuses why) i = first_picked (stirs object terms j) m here (refused_stirs (Some (refused_as why)) (IsRefused (refused_as why)) i.stands (refusing_some why))
-  place_is Gone i = first_picked (stirs object terms j) m here (refused_stirs None Leaves i.stands refl)
+  place_is (Refuses why) i = first_picked (stirs object terms j) m here (refused_stirs (Some (refused_as why)) (IsRefused (refused_as why)) i.does (refusing_some why))
+  place_is Gone i = first_picked (stirs object terms j) m here (refused_stirs None Leaves i.does refl)
 
   -- by what the member does, so it leaves
   pub by_standing : (r : Option Reached) (f : Fate) → r ≡ standing j.world m → IsBy (standing j.world m) f → IsBy r f
@@ -228,7 +228,7 @@ module _ (settings : Settings) (starves : Meant → Bool) (j : Waiting Request) 
       let stays : turn object terms j ≡ j = at_none (pick (stirs object terms j) j.waiters) j _ e in (
         λ x c. every_in (λ y. stirs object terms j y ≡ false) j.waiters x q (in_contains x j.waiters c),
         subst (λ (k : Waiting Request). AreOf members (with_list lists m p new) p k.waiters) (sym stays)
-            (left_of new j.waiters i.there (ap (all_meant m) takes ∙ i.lists m i.member) (λ n l d. i.lists n l)),
+            (left_of new j.waiters i.there (ap (all_meant m) takes ∙ i.listed m i.member) (λ n l d. i.listed n l)),
       )
 
   -- somebody is
@@ -237,9 +237,9 @@ module _ (settings : Settings) (starves : Meant → Bool) (j : Waiting Request) 
   one_in_turn stands i None it new q e is place takes = absurd place
   one_in_turn stands i (Some k) None new q e is place takes = absurd takes
   one_in_turn stands i (Some k) (Some it) new q e is place takes = (
-    (q.one, its, ap (λ (y : Meant). y.call) same ∙ sym (ap request_of takes.becomes ∙ its_request stands takes.waiter.request), subst (λ z. IsFate z (fate object terms j q.one)) (sym takes.becomes) (so_it_leaves stands takes.waiter.request (fate object terms j q.one) i.stands by)),
+    (q.one, its, ap (λ (y : Meant). y.call) same ∙ sym (ap request_of takes.becomes ∙ its_request stands takes.waiter.request), subst (λ z. IsFate z (fate object terms j q.one)) (sym takes.becomes) (so_it_leaves stands takes.waiter.request (fate object terms j q.one) i.does by)),
     subst (λ (z : Waiting Request). AreOf members (with_list lists m p new) p z.waiters) (sym its.left)
-        (left_of new (q.front ++ q.back) i.there own (others_stay q.one q.front q.back mine (subst (AreOf members lists p) is.whole i.lists))),
+        (left_of new (q.front ++ q.back) i.there own (others_stay q.one q.front q.back mine (subst (AreOf members lists p) is.whole i.listed))),
   )
     where
       its : IsItsTurn object terms j q.one
@@ -268,7 +268,7 @@ module _ (settings : Settings) (starves : Meant → Bool) (j : Waiting Request) 
 
       among : pick (stirs object terms j) (all_meant m here) ≡ picked_among (is_at m) (pick (stirs object terms j) j.waiters)
       among =
-          ap (pick (stirs object terms j)) (i.lists m i.member)
+          ap (pick (stirs object terms j)) (i.listed m i.member)
           ∙ pick_among (stirs object terms j) (is_at m) j.waiters (λ y c t. number_same y.member m (i.only y (contains_in y j.waiters c) t))
 
 pub every_turn_is_its_partitions : (settings : Settings) → EveryTurnIsItsPartitions settings

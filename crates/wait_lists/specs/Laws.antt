@@ -66,8 +66,8 @@ pub record IsInTurn (settings : Settings) (starves : machine.Waiter Request → 
   pub member : m < members
   pub partition : p < PARTITIONS
   pub there : place_of m p < length lists
-  pub lists : AreOf members lists p j.waiters
-  pub stands : standing_as stands ≡ standing j.world m
+  pub listed : AreOf members lists p j.waiters
+  pub does : standing_as stands ≡ standing j.world m
   pub has : (node : Node) → slice_get j.world.nodes m ≡ Some node → s ≡ pair_state (partition_object settings) j.world node.pair
   pub only : (y : machine.Waiter Request) → Contains j.waiters y → stirs (partition_object settings) (grid_terms starves) j y ≡ true → y.member ≡ m
 

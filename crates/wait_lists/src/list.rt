@@ -57,7 +57,8 @@ impl WaitList {
         ensures ok { OnOk result (self.new ≡ self.old ++ waiter ∷ []) }
         ensures err { OnErr result (self.new ≡ self.old) }
     {
-        self.set.add(waiter)
+        self.set.add(waiter)?;
+        Ok(())
     }
 
     /// The first that is ready or due at that moment, which leaves; none exactly where nobody is.

@@ -3,7 +3,7 @@ ghost use Rattle.grid_base.specs.declared.TheConstants.{PARTITIONS as partitions
 ghost use Rattle.call_engine.specs.Env.{settings_of};
 ghost use Rattle.wait_sets.specs.Boxes.{boxed};
 ghost use Rattle.wait_sets.specs.WaitSets.{is_of};
-ghost use Rattle.wait_lists.specs.Lists.{place_of, list_at, with_list, if_some, AreFor};
+ghost use Rattle.wait_lists.specs.Lists.{place_of, list_at, with_list, if_some};
 ghost use Rattle.wait_lists.specs.Turns.{TakesTurn};
 
 use crate::list::WaitList;
