@@ -2,9 +2,10 @@
 #![tactic(auto)]
 
 mod explain;
-mod rows;
 mod script;
-mod watching;
+mod story;
+mod together;
 
 pub use explain::explain_command;
-pub use watching::{Watcher, watch_script};
+pub use script::{Script, ScriptEnd, read_script};
+pub use story::{LineTold, Stop, Story};

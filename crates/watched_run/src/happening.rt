@@ -1,8 +1,6 @@
-use crate::rows::Letter;
-use crate::sayings::Saying;
-use frame_codec::Why;
 use grid_base::{MemberId, Moment, PartitionId};
 use member_wire::Took;
+use run_words::{Letter, Spoken};
 
 /// A message between members on its way. Ends are members by their numbers, and the table service behind the last.
 #[derive(Debug, Drop)]
@@ -14,6 +12,16 @@ pub struct Flight {
     pub sent: u32,
     pub step: u32,
     pub letter: Letter,
+}
+
+/// A step by which the primaries are dealt out evenly: a partition goes from a member to another.
+#[derive(Clone, Copy, Debug, PartialEq, Eq)]
+pub struct PlanStep {
+    pub partition: PartitionId,
+    pub from: MemberId,
+    pub to: MemberId,
+    /// Its contents are there already.
+    pub handover: bool,
 }
 
 /// Something that happened at a line of a script.
@@ -48,7 +56,7 @@ pub enum Happening {
     Heard {
         conn: u32,
         number: u32,
-        saying: Saying,
+        saying: Spoken,
     },
     /// It is a call in that partition, and was executed there. Where it is held its answer waits for the backups.
     Reached {
@@ -68,7 +76,12 @@ pub enum Happening {
     Closed {
         conn: u32,
         at: u64,
-        why: Why,
+        words: &'static str,
+    },
+    /// Who listens on a connection was told something, or what nobody reads.
+    Event {
+        conn: u32,
+        words: String,
     },
     /// A message was sent.
     Sent(Flight),
@@ -104,7 +117,22 @@ pub enum Happening {
     Begun {
         partition: PartitionId,
     },
-    /// A move, a join, a handover or a reopening was refused, for this cause.
+    /// How the primaries are dealt out evenly: in so many steps, of which up to so many are run.
+    Planned {
+        steps: u32,
+        most: u32,
+    },
+    /// A step was run, in so many events of its partition.
+    Stepped {
+        step: PlanStep,
+        moving: bool,
+        events: u32,
+    },
+    /// A step of the plan that wasn't run.
+    NotRun {
+        step: PlanStep,
+    },
+    /// A plan, a move, a join, a handover or a reopening was refused, for this cause.
     Refused {
         why: &'static str,
     },

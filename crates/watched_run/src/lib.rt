@@ -1,31 +1,25 @@
 //! A script's run as it is watched: what each line came to, for people to read.
 #![tactic(auto)]
 
-mod answers;
-mod calls;
-mod connections;
-mod fitting;
+mod arrivals;
+mod clients;
+mod deliveries;
+mod events;
 mod happening;
 mod history;
-mod lines;
-mod part;
-mod rows;
+mod looks;
+mod printed;
+mod rebalances;
 mod run_end;
-mod sayings;
+mod running;
 mod sendings;
-mod stage;
 mod tale;
 mod telling;
-mod values;
-mod watched;
+mod watch;
 
-pub use happening::{Flight, Happening};
-pub use rows::Letter;
+pub use happening::{Flight, Happening, PlanStep};
 pub use run_end::RunEnd;
-pub use sayings::Saying;
-pub use stage::Stage;
+pub use run_words::{Form, Letter, Spoken};
 pub use tale::{Tale, Told};
 pub use telling::Place;
-
-#[cfg(test)]
-mod tests;
+pub use watch::Watch;

@@ -27,9 +27,10 @@ impl Sendings {
         Ok(Sendings { ends, lanes })
     }
 
-    fn lane(&mut self, from: u8, to: u8) -> Option<&mut VecDeque<Sending>> {
-        let at = usize::from(from).checked_mul(self.ends)?;
-        self.lanes.get_mut(at.checked_add(usize::from(to))?)
+    /// The place of a link among all.
+    fn place(&self, from: u8, to: u8) -> usize {
+        let row = usize::from(from).saturating_mul(self.ends);
+        row.saturating_add(usize::from(to))
     }
 
     /// So many messages are in flight on a link now: those that weren't before were sent now. Gives the place of the first
@@ -41,7 +42,8 @@ impl Sendings {
         count: usize,
         now: Sending,
     ) -> Result<usize, Memory> {
-        let Some(lane) = self.lane(from, to) else {
+        let place = self.place(from, to);
+        let Some(lane) = self.lanes.get_mut(place) else {
             return Ok(count);
         };
         let before = lane.len();
@@ -51,18 +53,37 @@ impl Sendings {
         Ok(before)
     }
 
-    /// When the message at a place was sent.
-    pub(crate) fn sending_at(&mut self, from: u8, to: u8, place: usize) -> Sending {
-        match self.lane(from, to) {
-            Some(lane) => lane.get(place).copied().unwrap_or_default(),
-            None => Sending::default(),
+    /// So many messages are in flight on a link now, of which the first ones were delivered.
+    pub(crate) fn settle(
+        &mut self,
+        from: u8,
+        to: u8,
+        count: usize,
+        now: Sending,
+    ) -> Result<(), Memory> {
+        let place = self.place(from, to);
+        if let Some(lane) = self.lanes.get_mut(place) {
+            for _ in count..lane.len() {
+                lane.pop_front();
+            }
         }
+        self.grow(from, to, count, now)?;
+        Ok(())
+    }
+
+    /// When the message at a place was sent.
+    pub(crate) fn sending_at(&self, from: u8, to: u8, place: usize) -> Sending {
+        let lane = self.lanes.get(self.place(from, to));
+        lane.and_then(|lane| lane.get(place))
+            .copied()
+            .unwrap_or_default()
     }
 
     /// The message at a place is no longer in flight.
     pub(crate) fn drop_at(&mut self, from: u8, to: u8, place: usize) {
-        if let Some(lane) = self.lane(from, to) {
-            let _ = lane.remove(place);
+        let lane = self.place(from, to);
+        if let Some(lane) = self.lanes.get_mut(lane) {
+            lane.remove(place);
         }
     }
 }

@@ -1,9 +1,8 @@
 //! What happened, as the lines of an explanation.
 
-use crate::happening::{Flight, Happening};
-use frame_codec::Why;
+use crate::happening::{Flight, Happening, PlanStep};
 use grid_base::{Memory, PartitionId};
-use member_wire::Took;
+use run_words::{Form, took_words};
 
 /// Where the happenings of a line are told.
 #[derive(Clone, Copy)]
@@ -16,38 +15,42 @@ pub struct Place {
     pub partition: Option<PartitionId>,
 }
 
-/// What shows a fault.
-fn fault_words(why: Why) -> &'static str {
-    match why {
-        Why::Prefix => "the bytes don't begin with CP2",
-        Why::TooShort => "a frame is shorter than its header",
-        Why::TooLong => "a frame is too long",
-        Why::BadFragment => "a fragment's header can't stand there",
-        Why::OpenFragments => "too many chains of fragments are open",
-        Why::ManyFrames => "a message has too many frames",
-        Why::LongMessage => "a message is too long",
-        Why::ShortStart => "a message's first frame is too short",
-        Why::Spent => "no further message is counted",
-    }
+/// A count and the word for what is counted.
+fn push_count(out: &mut String, count: u64, word: &str) -> Result<(), Memory> {
+    let end = if count == 1 { "" } else { "s" };
+    write!(out, "{count} {word}{end}")
 }
 
-/// How a message was taken.
-fn took_words(took: Took) -> &'static str {
-    match took {
-        Took::Adopted => "adopted",
-        Took::Synced => "installed",
-        Took::Applied => "applied",
-        Took::Bridged => "bridged",
-        Took::Acked => "counted",
-        Took::Frozen => "taken: frozen",
-        Took::Joined => "taken: the joiner may lead",
-        Took::Drained => "taken: the source is drained",
-        Took::Already => "known already",
-        Took::Gap => "not taken: one before it is missing",
-        Took::Other => "not taken: it isn't for the taker",
-        Took::Stale => "not taken: it is of an earlier version",
-        Took::Dropped => "dropped: the taker has crashed",
+/// Appends a step of a plan without its partition, and what became of it.
+fn push_step(out: &mut String, step: PlanStep, end: &str) -> Result<(), Memory> {
+    let word = if step.handover { "handover" } else { "move" };
+    let PlanStep { from, to, .. } = step;
+    write!(out, "{word} from {from} to {to}, {end}")
+}
+
+/// Appends what became of a step of a plan, if that is what happened.
+fn push_outcome(out: &mut String, happening: &Happening) -> Result<bool, Memory> {
+    match happening {
+        Happening::Stepped {
+            step,
+            moving,
+            events,
+        } => {
+            push_step(
+                out,
+                *step,
+                if *moving {
+                    "under way after "
+                } else {
+                    "done after "
+                },
+            )?;
+            push_count(out, u64::from(*events), "event")?;
+        }
+        Happening::NotRun { step } => push_step(out, *step, "not run")?,
+        _ => return Ok(false),
     }
+    Ok(true)
 }
 
 impl Place {
@@ -97,8 +100,10 @@ impl Place {
                 self.push_end(out, *end)?;
                 out.push_str(" sends again what may have been lost")?;
             }
-            Happening::Flowed { count: 1 } => out.push_str("1 message was delivered")?,
-            Happening::Flowed { count } => write!(out, "{count} messages were delivered")?,
+            Happening::Flowed { count } => {
+                push_count(out, u64::from(*count), "message")?;
+                out.push_str(" delivered")?;
+            }
             Happening::InFlight { partition, count } => {
                 write!(out, "{count} in flight in partition {partition}")?;
             }
@@ -114,13 +119,15 @@ impl Place {
                 write!(out, "connection {conn} is open to member {member}")?;
             }
             Happening::Pieces { conn, count } => {
-                write!(
-                    out,
-                    "{count} bytes on connection {conn}, and no message is whole yet"
-                )?;
+                push_count(out, *count as u64, "byte")?;
+                write!(out, " on connection {conn}, and no message is whole yet")?;
             }
             Happening::Heard { conn, saying, .. } => {
-                out.push_str(if saying.exact { "say" } else { "heard" })?;
+                out.push_str(match saying.form {
+                    Form::Said => "say",
+                    Form::Heard => "heard",
+                    Form::Bytes => "bytes",
+                })?;
                 write!(out, " {conn} ")?;
                 out.push_str(saying.words.as_str())?;
             }
@@ -131,8 +138,11 @@ impl Place {
                 write!(out, "-> {conn} ")?;
                 out.push_str(words.as_str())?;
             }
-            Happening::Closed { conn, at, why } => {
-                let words = fault_words(*why);
+            Happening::Event { conn, words } => {
+                write!(out, "-> {conn} ")?;
+                out.push_str(words.as_str())?;
+            }
+            Happening::Closed { conn, at, words } => {
                 write!(out, "connection {conn} closes at byte {at}: {words}")?;
             }
             _ => return Ok(false),
@@ -177,6 +187,25 @@ impl Place {
         Ok(true)
     }
 
+    /// Appends what a plan says, or one of its steps, if that is what happened.
+    fn push_plan(self, out: &mut String, happening: &Happening) -> Result<bool, Memory> {
+        match happening {
+            Happening::Planned { steps, most } => {
+                let run = steps.min(most);
+                out.push_str("plan of ")?;
+                push_count(out, u64::from(*steps), "step")?;
+                write!(out, ", of which {run} are run")?;
+                Ok(true)
+            }
+            Happening::Stepped { step, .. } | Happening::NotRun { step } => {
+                let partition = step.partition;
+                write!(out, "partition {partition}: ")?;
+                push_outcome(out, happening)
+            }
+            _ => Ok(false),
+        }
+    }
+
     /// Appends what a line printed or said.
     fn push_other(self, out: &mut String, happening: &Happening) -> Result<(), Memory> {
         match happening {
@@ -185,10 +214,11 @@ impl Place {
                 backups,
                 capacity,
             } => {
-                write!(
-                    out,
-                    "grid of {members} members, {backups} backups, queues of {capacity}"
-                )
+                out.push_str("grid of ")?;
+                push_count(out, u64::from(*members), "member")?;
+                out.push_str(" with ")?;
+                push_count(out, u64::from(*backups), "backup")?;
+                write!(out, " and queues of {capacity}")
             }
             Happening::Nothing { why } => {
                 out.push_str("nothing: ")?;
@@ -217,6 +247,43 @@ impl Place {
         }
     }
 
+    /// Appends what happened.
+    fn push_words(self, out: &mut String, happening: &Happening) -> Result<(), Memory> {
+        let known = self.push_message(out, happening)?
+            || self.push_client(out, happening)?
+            || self.push_plan(out, happening)?
+            || self.push_table(out, happening)?;
+        if known {
+            Ok(())
+        } else {
+            self.push_other(out, happening)
+        }
+    }
+
+    /// Appends what happened in a partition, which it doesn't name.
+    pub fn push_in(
+        self,
+        out: &mut String,
+        partition: PartitionId,
+        happening: &Happening,
+    ) -> Result<(), Memory> {
+        let there = Place {
+            partition: Some(partition),
+            ..self
+        };
+        match happening {
+            Happening::Row { version, words, .. } => {
+                write!(out, "row {version}: ")?;
+                out.push_str(words.as_str())
+            }
+            Happening::Stepped { .. } | Happening::NotRun { .. } => {
+                push_outcome(out, happening)?;
+                Ok(())
+            }
+            happening => there.push_words(out, happening),
+        }
+    }
+
     /// Appends a line of what happened, if there is more to tell than what was told before.
     pub fn push(self, out: &mut String, happening: &Happening) -> Result<(), Memory> {
         if let Happening::Reached { held: false, .. } = happening {
@@ -224,12 +291,7 @@ impl Place {
         }
         let line = self.line;
         write!(out, "{line} ")?;
-        let known = self.push_message(out, happening)?
-            || self.push_client(out, happening)?
-            || self.push_table(out, happening)?;
-        if !known {
-            self.push_other(out, happening)?;
-        }
+        self.push_words(out, happening)?;
         out.push_str("\n")
     }
 }

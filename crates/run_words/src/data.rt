@@ -1,6 +1,6 @@
 //! Names, keys, values and arguments as the words of `docs/WORDS.md`, which stand for the same bytes again.
 
-use grid_base::Memory;
+use grid_base::{Bytes, Memory, PartitionId};
 use murmur_partition::{key_hash, partition_of};
 use std::alloc::Global;
 
@@ -59,7 +59,7 @@ fn shape_of(bytes: &[u8]) -> Shape<'_> {
 }
 
 /// Appends bytes in hexadecimal.
-pub(crate) fn push_hex(alloc: Global, out: &mut String, bytes: &[u8]) -> Result<(), Memory> {
+pub fn push_hex(alloc: Global, out: &mut String, bytes: &[u8]) -> Result<(), Memory> {
     let digits = hex::encode(alloc, bytes)?;
     out.push_str(digits.as_str())
 }
@@ -78,7 +78,7 @@ fn push_escaped(out: &mut String, text: &str) -> Result<(), Memory> {
 }
 
 /// Appends a name, which is UTF-8 where it was read; other bytes as digits.
-pub(crate) fn push_name(alloc: Global, out: &mut String, name: &[u8]) -> Result<(), Memory> {
+pub fn push_name(alloc: Global, out: &mut String, name: &[u8]) -> Result<(), Memory> {
     match text_of(name) {
         Some(text) => push_escaped(out, text),
         None => {
@@ -89,7 +89,7 @@ pub(crate) fn push_name(alloc: Global, out: &mut String, name: &[u8]) -> Result<
 }
 
 /// Appends a key or a value.
-pub(crate) fn push_data(alloc: Global, out: &mut String, bytes: &[u8]) -> Result<(), Memory> {
+pub fn push_data(alloc: Global, out: &mut String, bytes: &[u8]) -> Result<(), Memory> {
     match shape_of(bytes) {
         Shape::Text(text) => {
             out.push_str("text:")?;
@@ -107,12 +107,20 @@ pub(crate) fn push_data(alloc: Global, out: &mut String, bytes: &[u8]) -> Result
     }
 }
 
-/// Appends a value, or `null`.
-pub(crate) fn push_nullable(
+/// Appends the name of a map's entry.
+pub(crate) fn push_entry_name(
     alloc: Global,
     out: &mut String,
-    value: Option<&[u8]>,
+    map: &Bytes,
+    key: &Bytes,
 ) -> Result<(), Memory> {
+    push_name(alloc, out, map.as_slice())?;
+    out.push_str(" ")?;
+    push_data(alloc, out, key.as_slice())
+}
+
+/// Appends a value, or `null`.
+pub fn push_nullable(alloc: Global, out: &mut String, value: Option<&[u8]>) -> Result<(), Memory> {
     match value {
         Some(value) => push_data(alloc, out, value),
         None => out.push_str("null"),
@@ -120,7 +128,7 @@ pub(crate) fn push_nullable(
 }
 
 /// Appends what a processor is given, which isn't serialized.
-pub(crate) fn push_argument(alloc: Global, out: &mut String, bytes: &[u8]) -> Result<(), Memory> {
+pub fn push_argument(alloc: Global, out: &mut String, bytes: &[u8]) -> Result<(), Memory> {
     if let [a, b, c, d, e, f, g, h] = bytes {
         let number = i64::from_le_bytes([*a, *b, *c, *d, *e, *f, *g, *h]);
         return write!(out, "number:{number}");
@@ -138,13 +146,12 @@ pub(crate) fn push_argument(alloc: Global, out: &mut String, bytes: &[u8]) -> Re
 }
 
 /// The partition of a key, if it is long enough to be one.
-pub(crate) fn partition_of_key(key: &[u8]) -> Option<i32> {
-    let hash = key_hash(key).ok()?;
-    Some(i32::from(partition_of(hash)))
+pub(crate) fn partition_of_key(key: &[u8]) -> Option<PartitionId> {
+    Some(partition_of(key_hash(key).ok()?))
 }
 
 /// The partition of a queue that no message states otherwise: that of its name as a key.
-pub(crate) fn partition_of_name(alloc: Global, name: &[u8]) -> Result<Option<i32>, Memory> {
+pub(crate) fn partition_of_name(alloc: Global, name: &[u8]) -> Result<Option<PartitionId>, Memory> {
     let mut key = Vec::from_slice(alloc, &[0, 0, 0, 0, 0xff, 0xff, 0xff, 0xf5])?;
     key.extend_from_slice(name)?;
     Ok(partition_of_key(key.as_slice()))

@@ -1,11 +1,15 @@
 //! A client's calls in words: what each asks for, without its object or with it.
 
-use crate::values::{push_argument, push_data, push_name};
+use crate::data::{push_argument, push_data, push_entry_name, push_name};
+use compose_words::{MapWait, QueueWait};
 use grid_base::{Bytes, GridCall, MapCall, Memory, Owner, QueueCall};
 use std::alloc::Global;
 
 /// The thread of a call that states none in words.
 const USUAL_THREAD: i64 = 1;
+
+/// The timeout of one that states none, which has no end.
+const NO_END: i64 = -1;
 
 /// What a call says beside its object.
 #[derive(Clone, Copy)]
@@ -151,10 +155,30 @@ fn parts_of_queue(call: &QueueCall) -> Parts<'_> {
     }
 }
 
-fn parts_of(call: &GridCall) -> Parts<'_> {
-    match call {
-        GridCall::Map(call) => parts_of_map(call),
-        GridCall::Queue(call) => parts_of_queue(call),
+/// What a call that may wait for a map's entry says.
+fn parts_of_map_wait(wait: &MapWait) -> Parts<'_> {
+    match wait {
+        MapWait::Lock { owner, lease, .. } => Parts {
+            lease: *lease,
+            ..Parts::by("lockWait", owner)
+        },
+        MapWait::Put {
+            owner,
+            value,
+            ttl,
+            ..
+        } => Parts::storing("putWait", owner, value, *ttl),
+    }
+}
+
+/// What a call that may wait for a queue says.
+fn parts_of_queue_wait(wait: &QueueWait) -> Parts<'_> {
+    match wait {
+        QueueWait::Offer { value, .. } => Parts {
+            value: Some(value),
+            ..Parts::of("offerWait")
+        },
+        QueueWait::Poll { .. } => Parts::of("pollWait"),
     }
 }
 
@@ -195,30 +219,98 @@ fn push_rest(alloc: Global, out: &mut String, parts: Parts<'_>) -> Result<(), Me
     }
 }
 
+/// Appends for how long a call may wait, where that has an end.
+fn push_timeout(out: &mut String, timeout: i64) -> Result<(), Memory> {
+    if timeout == NO_END {
+        return Ok(());
+    }
+    write!(out, " timeout {timeout}")
+}
+
+/// Appends a word and a map's entry.
+fn push_entry_call(
+    alloc: Global,
+    out: &mut String,
+    word: &str,
+    map: &Bytes,
+    key: &Bytes,
+) -> Result<(), Memory> {
+    out.push_str(word)?;
+    out.push_str(" ")?;
+    push_entry_name(alloc, out, map, key)
+}
+
+/// Appends a word and a queue.
+fn push_named_call(
+    alloc: Global,
+    out: &mut String,
+    word: &str,
+    queue: &Bytes,
+) -> Result<(), Memory> {
+    out.push_str(word)?;
+    out.push_str(" ")?;
+    push_name(alloc, out, queue.as_slice())
+}
+
+/// Appends a call on a map's entry as `say` lines have it.
+pub(crate) fn push_map_call(alloc: Global, out: &mut String, call: &MapCall) -> Result<(), Memory> {
+    let parts = parts_of_map(call);
+    push_entry_call(alloc, out, parts.word, call.map(), call.key())?;
+    push_rest(alloc, out, parts)
+}
+
+/// Appends a call on a queue, but for its partition.
+pub(crate) fn push_queue_call(
+    alloc: Global,
+    out: &mut String,
+    call: &QueueCall,
+) -> Result<(), Memory> {
+    let parts = parts_of_queue(call);
+    push_named_call(alloc, out, parts.word, call.queue())?;
+    push_rest(alloc, out, parts)
+}
+
+/// Appends a call that may wait for a map's entry.
+pub(crate) fn push_map_wait(
+    alloc: Global,
+    out: &mut String,
+    wait: &MapWait,
+    timeout: i64,
+) -> Result<(), Memory> {
+    let parts = parts_of_map_wait(wait);
+    let (MapWait::Lock { name, key, .. } | MapWait::Put { name, key, .. }) = wait;
+    push_entry_call(alloc, out, parts.word, name, key)?;
+    push_rest(alloc, out, parts)?;
+    push_timeout(out, timeout)
+}
+
+/// Appends a call that may wait for a queue, but for its partition.
+pub(crate) fn push_queue_wait(
+    alloc: Global,
+    out: &mut String,
+    wait: &QueueWait,
+    timeout: i64,
+) -> Result<(), Memory> {
+    let parts = parts_of_queue_wait(wait);
+    push_named_call(alloc, out, parts.word, wait.queue())?;
+    push_rest(alloc, out, parts)?;
+    push_timeout(out, timeout)
+}
+
 /// Appends the object that a call is on: a map and a key, or a queue.
-pub(crate) fn push_object(alloc: Global, out: &mut String, call: &GridCall) -> Result<(), Memory> {
+pub fn push_object(alloc: Global, out: &mut String, call: &GridCall) -> Result<(), Memory> {
     match call {
-        GridCall::Map(call) => {
-            push_name(alloc, out, call.map().as_slice())?;
-            out.push_str(" ")?;
-            push_data(alloc, out, call.key().as_slice())
-        }
+        GridCall::Map(call) => push_entry_name(alloc, out, call.map(), call.key()),
         GridCall::Queue(call) => push_name(alloc, out, call.queue().as_slice()),
     }
 }
 
-/// Appends a call as `say` lines have it.
-pub(crate) fn push_call(alloc: Global, out: &mut String, call: &GridCall) -> Result<(), Memory> {
-    let parts = parts_of(call);
-    out.push_str(parts.word)?;
-    out.push_str(" ")?;
-    push_object(alloc, out, call)?;
-    push_rest(alloc, out, parts)
-}
-
 /// Appends what a call on a known object says.
-pub(crate) fn push_deed(alloc: Global, out: &mut String, call: &GridCall) -> Result<(), Memory> {
-    let parts = parts_of(call);
+pub fn push_deed(alloc: Global, out: &mut String, call: &GridCall) -> Result<(), Memory> {
+    let parts = match call {
+        GridCall::Map(call) => parts_of_map(call),
+        GridCall::Queue(call) => parts_of_queue(call),
+    };
     out.push_str(parts.word)?;
     push_rest(alloc, out, parts)
 }

@@ -1,6 +1,6 @@
 //! Rows of the partition table, effects and contents in words, and the messages between members that bring them.
 
-use crate::values::{push_data, push_hex, push_name, push_nullable};
+use crate::data::{push_data, push_entry_name, push_hex, push_name, push_nullable};
 use grid_base::{Bytes, ClientKey, MemberId, Memory, ObjectKey, Owner};
 use key_locks::Lock;
 use map_records::MapRecord;
@@ -22,7 +22,7 @@ pub struct Letter {
 }
 
 /// Who leads in a row, and the row's version.
-pub(crate) fn leader_of(row: &Row) -> Option<(MemberId, u32)> {
+pub fn leader_of(row: &Row) -> Option<(MemberId, u32)> {
     let first = row.members.as_slice().first()?;
     Some((first.member, row.version))
 }
@@ -38,7 +38,7 @@ fn part_word(first: bool, listed: RowMember) -> &'static str {
 }
 
 /// Appends who keeps a partition by a row.
-pub(crate) fn push_row(out: &mut String, row: &Row) -> Result<(), Memory> {
+pub fn push_row(out: &mut String, row: &Row) -> Result<(), Memory> {
     if row.lost {
         return out.push_str("lost");
     }
@@ -81,11 +81,7 @@ fn push_lock(out: &mut String, lock: &Lock) -> Result<(), Memory> {
 }
 
 /// Appends what is kept of a map's entry.
-pub(crate) fn push_record(
-    alloc: Global,
-    out: &mut String,
-    record: &MapRecord,
-) -> Result<(), Memory> {
+pub fn push_record(alloc: Global, out: &mut String, record: &MapRecord) -> Result<(), Memory> {
     match &record.value {
         Some(value) => push_data(alloc, out, value.as_slice())?,
         None => out.push_str("no value")?,
@@ -101,18 +97,6 @@ pub(crate) fn push_record(
         Some(lock) => push_lock(out, lock),
         None => Ok(()),
     }
-}
-
-/// Appends the name of a map's entry.
-fn push_entry_name(
-    alloc: Global,
-    out: &mut String,
-    map: &Bytes,
-    key: &Bytes,
-) -> Result<(), Memory> {
-    push_name(alloc, out, map.as_slice())?;
-    out.push_str(" ")?;
-    push_data(alloc, out, key.as_slice())
 }
 
 /// Appends what an effect does.
@@ -156,7 +140,7 @@ fn push_items(alloc: Global, out: &mut String, items: &[Bytes]) -> Result<(), Me
 }
 
 /// Appends an object that a store keeps, with what is kept of it.
-pub(crate) fn push_stored(
+pub fn push_stored(
     alloc: Global,
     out: &mut String,
     store: &ObjectStore,
@@ -295,7 +279,7 @@ fn letter_of_message(alloc: Global, message: &MemberMessage) -> Result<Letter, M
 }
 
 /// What the bytes of a message say. Bytes that nothing reads are shown as they are.
-pub(crate) fn letter_of(alloc: Global, bytes: &Bytes) -> Result<Letter, Memory> {
+pub fn letter_of(alloc: Global, bytes: &Bytes) -> Result<Letter, Memory> {
     match read_member(alloc, bytes.as_slice()) {
         Ok(message) => letter_of_message(alloc, &message),
         Err(WireRefused::Memory) => Err(AllocError),
