@@ -41,11 +41,17 @@ impl From<AllocError> for Stop {
 }
 
 impl Stop {
+    fn at_limit(line: u32, what: LimitWhat) -> Stop {
+        Stop::Limit { line, what }
+    }
+
     /// Why a line that didn't run ends the run.
     fn at(line: u32, end: RunEnd) -> Stop {
         match end {
             RunEnd::Refused(why) => Stop::Refused { line, why },
-            RunEnd::Limit(what) => Stop::Limit { line, what },
+            RunEnd::Long => Stop::at_limit(line, LimitWhat::Line),
+            RunEnd::Lines => Stop::at_limit(line, LimitWhat::Lines),
+            RunEnd::InFlight => Stop::at_limit(line, LimitWhat::InFlight),
             RunEnd::Memory => Stop::Memory,
         }
     }
@@ -160,12 +166,10 @@ impl Story {
             return Err(Stop::Behind { line: self.lines });
         }
         if line > MOST_LINES {
-            let what = LimitWhat::Lines;
-            return Err(Stop::Limit { line, what });
+            return Err(Stop::at_limit(line, LimitWhat::Lines));
         }
         if length > MOST_LINE_BYTES {
-            let what = LimitWhat::Line;
-            return Err(Stop::Limit { line, what });
+            return Err(Stop::at_limit(line, LimitWhat::Line));
         }
         if newline.is_none() && self.script.end != ScriptEnd::Whole {
             return Err(Stop::Behind { line: self.lines });

@@ -2,9 +2,9 @@
 
 use crate::clients::Numbered;
 use crate::happening::Happening;
+use crate::looks::Look;
 use crate::printed::{Appended, appended, outcome_of};
 use crate::tale::Tale;
-use crate::watch::Watch;
 use grid_base::{MemberId, Memory};
 use run_words::{Output, fault_words};
 use std::alloc::Global;
@@ -17,10 +17,10 @@ struct Answered {
     executed: bool,
 }
 
-impl Watch {
+impl<'a> Look<'a> {
     /// Why bytes came to nothing on a connection.
     fn why_unheard(&self, conn: u32) -> &'static str {
-        match self.clients.get(conn) {
+        match self.notes.clients.get(conn) {
             None => "the connection isn't open",
             Some(client) if client.closed => "the connection has closed",
             Some(_) => "its member has crashed",
@@ -37,7 +37,7 @@ impl Watch {
             } => (correlation, executed, words),
             Output::Unasked { words } => return (Happening::Event { conn, words }, None),
         };
-        let client = self.clients.get_mut(conn);
+        let client = self.notes.clients.get_mut(conn);
         match client.and_then(|client| client.answer(correlation)) {
             Some(number) => (
                 Happening::Answered {
@@ -57,7 +57,7 @@ impl Watch {
 
     /// A connection closed.
     fn close(&mut self, conn: u32, at: u64, why: &str) -> Happening {
-        if let Some(client) = self.clients.get_mut(conn) {
+        if let Some(client) = self.notes.clients.get_mut(conn) {
             client.closed = true;
         }
         Happening::Closed {
@@ -117,7 +117,7 @@ impl Watch {
             let why = self.why_unheard(conn);
             return told.push(Happening::Nothing { why });
         }
-        let Some(client) = self.clients.get_mut(conn) else {
+        let Some(client) = self.notes.clients.get_mut(conn) else {
             return Ok(());
         };
         let member = client.member;

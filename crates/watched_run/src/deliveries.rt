@@ -3,16 +3,18 @@
 ghost use Rattle.std.specs.Prelude.{◌≤◌};
 ghost use Rattle.script_lang.specs.Lines.{IsWithin};
 ghost use Rattle.script_lang.specs.Limits.{most_line_bytes};
+ghost use Rattle.replay_run.specs.Grids.{boxed};
+ghost use Rattle.running_grid.specs.Runs.{IsRunning};
 
 use crate::happening::{Flight, Happening};
-use crate::looks::LinkPlace;
+use crate::looks::{LinkPlace, Look};
 use crate::printed::{as_text, number_in, outcome_of};
-use crate::run_end::RunEnd;
 use crate::tale::Tale;
 use crate::watch::Watch;
 use grid_base::{Memory, PARTITIONS, PartitionId};
 use partition_world::Link;
 use run_words::took_of;
+use running_grid::RunEnd;
 use script_lang::Line;
 use std::alloc::Global;
 
@@ -49,7 +51,7 @@ fn place_of(line: &Line) -> Option<LinkPlace> {
     }
 }
 
-impl Watch {
+impl<'a> Look<'a> {
     /// The message that a line names, in words.
     pub(crate) fn flight_of(&self, alloc: Global, line: &Line) -> Result<Option<Flight>, Memory> {
         match place_of(line) {
@@ -120,31 +122,57 @@ impl Watch {
         self.tell_appended(alloc, text, told)
     }
 
+    /// Tells a message that was delivered with others at a line. What its taker sent is told once it is delivered too.
+    fn tell_flowed(
+        &mut self,
+        alloc: Global,
+        flight: Flight,
+        text: &str,
+        told: &mut Tale,
+    ) -> Result<(), Memory> {
+        let (partition, taker) = (flight.partition, flight.to);
+        self.tell_taken(alloc, flight, 0, text, told)?;
+        self.note_sent(partition, taker, told)?;
+        self.tell_appended(alloc, text, told)
+    }
+
+    /// Tells what messages came to that were delivered untold.
+    fn tell_untold(&mut self, alloc: Global, text: &str, told: &mut Tale) -> Result<(), Memory> {
+        self.settle(told)?;
+        self.tell_rows(alloc, told)?;
+        self.tell_appended(alloc, text, told)
+    }
+}
+
+impl Watch {
     /// Whether a delivery can be told by itself.
     fn has_spare(&self) -> bool {
         self.spare() > KEPT
     }
 
-    /// Delivers the first message of a link as a line of its own. What its taker sends is told once it is delivered too.
+    /// Delivers the first message of a link as a line of its own.
     fn deliver_first(
         &mut self,
         alloc: Global,
         partition: PartitionId,
         link: Link,
         told: &mut Tale,
-    ) -> Result<(), RunEnd> {
+    ) -> Result<(), RunEnd>
+        requires { IsRunning (boxed form) self.old.running }
+        ensures { IsRunning (boxed form) self.new.running }
+    {
         let Some(line) = self.running.delivery(partition, link) else {
             return Ok(());
         };
-        let flight = self.flight_of(alloc, &line)?;
+        let look = Look::at(&self.running, &mut self.notes);
+        let flight = look.flight_of(alloc, &line)?;
         let text = self.take(alloc, &line)?;
         told.go_on();
-        let text = as_text(text.as_slice());
         if let Some(flight) = flight {
-            self.tell_taken(alloc, flight, 0, text, told)?;
+            let mut look = Look::at(&self.running, &mut self.notes);
+            look.tell_flowed(alloc, flight, as_text(text.as_slice()), told)?;
         }
-        self.note_sent(partition, link.to, told)?;
-        Ok(self.tell_appended(alloc, text, told)?)
+        Ok(())
     }
 
     /// Delivers up to so many messages of a partition, each as a line of its own, while there are such lines. Tells how
@@ -155,7 +183,10 @@ impl Watch {
         partition: PartitionId,
         most: u32,
         told: &mut Tale,
-    ) -> Result<u32, RunEnd> {
+    ) -> Result<u32, RunEnd>
+        requires { IsRunning (boxed form) self.old.running }
+        ensures { IsRunning (boxed form) self.new.running }
+    {
         for count in 0..most {
             let next = match self.running.world(partition) {
                 Some(world) => world.next_link(),
@@ -174,13 +205,14 @@ impl Watch {
 
     /// Delivers up to so many messages at once, as a line does that is one of the grid's. Tells how many.
     fn flow_untold(&mut self, alloc: Global, line: &Line, told: &mut Tale) -> Result<u32, RunEnd>
-        requires { IsWithin self.old.running most_line_bytes line.now }
+        requires within { IsWithin self.old.running.members most_line_bytes line.now }
+        requires stands { IsRunning (boxed form) self.old.running }
+        ensures { IsRunning (boxed form) self.new.running }
     {
         let printed = self.take(alloc, line)?;
         let text = as_text(printed.as_slice());
-        self.settle(told)?;
-        self.tell_rows(alloc, told)?;
-        self.tell_appended(alloc, text, told)?;
+        let mut look = Look::at(&self.running, &mut self.notes);
+        look.tell_untold(alloc, text, told)?;
         Ok(number_in(outcome_of(text).rest))
     }
 
@@ -194,6 +226,8 @@ impl Watch {
     ) -> Result<u32, RunEnd>
         requires placed { partition ≤ 270 }
         requires most { most ≤ 1000 }
+        requires stands { IsRunning (boxed form) self.old.running }
+        ensures { IsRunning (boxed form) self.new.running }
     {
         let count = self.flow_told(alloc, partition, most, told)?;
         let rest = most.saturating_sub(count);
@@ -217,6 +251,8 @@ impl Watch {
     ) -> Result<(), RunEnd>
         requires placed { partition ≤ 270 }
         requires most { most ≤ 1000 }
+        requires stands { IsRunning (boxed form) self.old.running }
+        ensures { IsRunning (boxed form) self.new.running }
     {
         let count = self.flow_in(alloc, partition, most, told)?;
         told.push(Happening::Flowed { count })?;
@@ -232,6 +268,8 @@ impl Watch {
     ) -> Result<(), RunEnd>
         requires some { 1 ≤ most }
         requires most { most ≤ 1000 }
+        requires stands { IsRunning (boxed form) self.old.running }
+        ensures { IsRunning (boxed form) self.new.running }
     {
         let mut count: u32 = 0;
         if self.has_spare() {

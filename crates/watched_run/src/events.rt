@@ -1,9 +1,9 @@
 //! Lines that are events of a member or of the table service, and lines at which nothing happens in a partition.
 
 use crate::happening::Happening;
+use crate::looks::Look;
 use crate::printed::outcome_of;
 use crate::tale::Tale;
-use crate::watch::Watch;
 use grid_base::{MemberId, Memory, PartitionId};
 use run_words::refused_words;
 use script_lang::Line;
@@ -33,7 +33,7 @@ fn partition_changed(line: &Line) -> Option<PartitionId> {
     }
 }
 
-impl Watch {
+impl<'a> Look<'a> {
     /// Tells a line that is an event, or one that opens a connection or sets a clock.
     pub(crate) fn tell_event(
         &mut self,
@@ -44,7 +44,7 @@ impl Watch {
     ) -> Result<(), Memory> {
         if outcome_of(text).word == "nothing" {
             let opened = match line {
-                Line::OpenConn { conn, .. } => self.clients.get(*conn).is_some(),
+                Line::OpenConn { conn, .. } => self.notes.clients.get(*conn).is_some(),
                 _ => false,
             };
             return told.push(Happening::Nothing {
@@ -78,7 +78,7 @@ impl Watch {
         member: MemberId,
         told: &mut Tale,
     ) -> Result<(), Memory> {
-        self.clients.open(alloc, conn, member);
+        self.notes.clients.open(alloc, conn, member);
         told.push(Happening::Opened { conn, member })
     }
 

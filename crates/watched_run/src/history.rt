@@ -1,10 +1,9 @@
 //! What is in flight, what a member has, and what was called: the lines that ask for them.
 
 use crate::happening::Happening;
-use crate::looks::LinkPlace;
+use crate::looks::{LinkPlace, Look};
 use crate::printed::{EntryLines, entries};
 use crate::tale::Tale;
-use crate::watch::Watch;
 use grid_base::{Bytes, MemberId, Memory, PARTITIONS, PartitionId, Request};
 use partition_world::Entry;
 use run_words::{push_deed, push_object, push_result, push_stored};
@@ -122,7 +121,7 @@ impl ObjectHistory {
     }
 }
 
-impl Watch {
+impl<'a> Look<'a> {
     /// Tells a line that asks what is there.
     pub(crate) fn tell_asked(
         &mut self,
@@ -144,8 +143,8 @@ impl Watch {
     /// The lines of the script for those of the grid.
     fn in_script(&self, lines: EntryLines) -> EntryLines {
         EntryLines {
-            arrived: self.script_line(lines.arrived),
-            answered: lines.answered.map(|number| self.script_line(number)),
+            arrived: self.notes.script_line(lines.arrived),
+            answered: lines.answered.map(|number| self.notes.script_line(number)),
         }
     }
 

@@ -10,16 +10,14 @@ mod history;
 mod looks;
 mod printed;
 mod rebalances;
-mod run_end;
-mod running;
 mod sendings;
 mod tale;
 mod telling;
 mod watch;
 
 pub use happening::{Flight, Happening, PlanStep};
-pub use run_end::RunEnd;
 pub use run_words::{Form, Letter, Spoken};
+pub use running_grid::RunEnd;
 pub use tale::{Tale, Told};
 pub use telling::Place;
 pub use watch::Watch;

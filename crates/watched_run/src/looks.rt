@@ -1,11 +1,12 @@
 //! What is to be seen of a run between two lines: messages in flight, and rows.
 
+use crate::clients::Clients;
 use crate::happening::{Flight, Happening};
 use crate::sendings::{Sending, Sendings};
 use crate::tale::Tale;
-use crate::watch::Watch;
 use grid_base::{Memory, PARTITIONS, PartitionId};
 use run_words::{leader_of, letter_of, push_row};
+use running_grid::RunningGrid;
 use std::alloc::Global;
 
 /// A place on a link of a partition.
@@ -36,7 +37,52 @@ impl Part {
     }
 }
 
-impl Watch {
+/// What is known of a run beside its grid.
+#[derive(Drop)]
+pub(crate) struct Notes {
+    /// The line that runs, or ran last.
+    pub(crate) line: u32,
+    /// The script's line of each line that the grid ran, behind its first.
+    pub(crate) numbers: Vec<u32>,
+    pub(crate) clients: Clients,
+    pub(crate) parts: Vec<Part>,
+}
+
+impl Notes {
+    /// Nothing has happened behind the first line of a grid of so many members.
+    pub(crate) fn new(alloc: Global, members: u8) -> Result<Self, Memory> {
+        let mut parts = Vec::new(alloc);
+        for _ in 0..PARTITIONS {
+            parts.push(Part::new(alloc, members.saturating_add(1))?)?;
+        }
+        Ok(Notes {
+            line: 1,
+            numbers: Vec::new(alloc),
+            clients: Clients::new(alloc)?,
+            parts,
+        })
+    }
+
+    /// The script's line of a line that the grid ran.
+    pub(crate) fn script_line(&self, number: u32) -> u32 {
+        let place = (number as usize).wrapping_sub(2);
+        self.numbers.get(place).copied().unwrap_or(number)
+    }
+}
+
+/// A grid between two lines, and what is known of its run.
+#[derive(Drop)]
+pub(crate) struct Look<'a> {
+    pub(crate) running: &'a RunningGrid,
+    pub(crate) notes: &'a mut Notes,
+}
+
+impl<'a> Look<'a> {
+    /// Looks at a grid, to tell what happened.
+    pub(crate) fn at(running: &'a RunningGrid, notes: &'a mut Notes) -> Self {
+        Look { running, notes }
+    }
+
     /// How many messages are in flight on a link.
     fn in_flight(&self, partition: PartitionId, from: u8, to: u8) -> usize {
         match self.running.world(partition) {
@@ -48,7 +94,7 @@ impl Watch {
     /// When a message is sent that is sent now.
     fn now(&self, told: &Tale) -> Sending {
         Sending {
-            line: self.line,
+            line: self.notes.line,
             step: told.step,
         }
     }
@@ -67,7 +113,7 @@ impl Watch {
         let Some(bytes) = world.in_flight(from, to).get(place) else {
             return Ok(None);
         };
-        let part = self.parts.get(usize::from(partition));
+        let part = self.notes.parts.get(usize::from(partition));
         let sent = part.map_or(
             Sending::default(),
             |part| part.sendings.sending_at(from, to, place),
@@ -84,7 +130,7 @@ impl Watch {
 
     /// The message at a place of a link is no longer in flight.
     pub(crate) fn drop_flight(&mut self, flight: &Flight, place: usize) {
-        if let Some(part) = self.parts.get_mut(usize::from(flight.partition)) {
+        if let Some(part) = self.notes.parts.get_mut(usize::from(flight.partition)) {
             part.sendings.drop_at(flight.from, flight.to, place);
         }
     }
@@ -99,7 +145,7 @@ impl Watch {
     ) -> Result<(usize, usize), Memory> {
         let count = self.in_flight(partition, from, to);
         let now = self.now(told);
-        let first = match self.parts.get_mut(usize::from(partition)) {
+        let first = match self.notes.parts.get_mut(usize::from(partition)) {
             Some(part) => part.sendings.grow(from, to, count, now)?,
             None => count,
         };
@@ -168,7 +214,7 @@ impl Watch {
         for from in 0..=members {
             for to in 0..=members {
                 let count = self.in_flight(partition, from, to);
-                if let Some(part) = self.parts.get_mut(usize::from(partition)) {
+                if let Some(part) = self.notes.parts.get_mut(usize::from(partition)) {
                     part.sendings.settle(from, to, count, now)?;
                 }
             }
@@ -182,7 +228,7 @@ impl Watch {
             .running
             .world(partition)
             .map_or(0, |world| world.steps());
-        match self.parts.get_mut(usize::from(partition)) {
+        match self.notes.parts.get_mut(usize::from(partition)) {
             Some(part) => {
                 let before = part.events;
                 part.events = events;
@@ -209,7 +255,7 @@ impl Watch {
         partition: PartitionId,
         told: &mut Tale,
     ) -> Result<(), Memory> {
-        let part = self.parts.get_mut(usize::from(partition));
+        let part = self.notes.parts.get_mut(usize::from(partition));
         let (Some(part), Some(world)) = (part, self.running.world(partition)) else {
             return Ok(());
         };

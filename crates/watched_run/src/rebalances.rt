@@ -1,13 +1,12 @@
 //! The line that deals the primaries out evenly: its plan, and what its steps came to.
 
 use crate::happening::{Happening, PlanStep};
-use crate::looks::Part;
+use crate::looks::{Look, Part};
 use crate::printed::{number_in, outcome_in, outcome_of};
-use crate::running::Running;
 use crate::tale::Tale;
-use crate::watch::Watch;
 use grid_base::{Memory, PARTITIONS, PartitionId};
 use run_words::refused_words;
+use running_grid::RunningGrid;
 use std::alloc::Global;
 
 /// A number of a transcript that is a partition.
@@ -58,13 +57,13 @@ fn why_no_plan(rest: &str) -> &'static str {
 }
 
 /// Notes how many events each partition had.
-pub(crate) fn mark_events(running: &Running, parts: &mut [Part]) {
+pub(crate) fn mark_events(running: &RunningGrid, parts: &mut [Part]) {
     for (partition, part) in (0..PARTITIONS).zip(parts.iter_mut()) {
         part.events = running.world(partition).map_or(0, |world| world.steps());
     }
 }
 
-impl Watch {
+impl<'a> Look<'a> {
     /// Tells what a line says of a step that was run, or what it appended.
     fn tell_ran(
         &mut self,

@@ -1,4 +1,3 @@
-use grid_cli::LimitWhat;
 use script_lang::{LineRefused, LineWhy};
 use std::alloc::{AllocError, AllocFailed};
 
@@ -7,8 +6,12 @@ use std::alloc::{AllocError, AllocFailed};
 pub enum RunEnd {
     /// The line isn't in the language, and ran in no part.
     Refused(LineWhy),
-    /// The line goes past a limit.
-    Limit(LimitWhat),
+    /// The line is longer than one may be.
+    Long,
+    /// The grid has run as many lines as a script may have.
+    Lines,
+    /// An event other than a loss met a partition with 65,400 messages or more in flight on one link.
+    InFlight,
     /// Want of memory.
     Memory,
 }
@@ -25,7 +28,7 @@ impl From<LineRefused> for RunEnd {
 impl From<replay_run::RunEnd> for RunEnd {
     fn from(end: replay_run::RunEnd) -> RunEnd {
         match end {
-            replay_run::RunEnd::InFlight => RunEnd::Limit(LimitWhat::InFlight),
+            replay_run::RunEnd::InFlight => RunEnd::InFlight,
             replay_run::RunEnd::Memory => RunEnd::Memory,
         }
     }
