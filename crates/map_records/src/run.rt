@@ -2,8 +2,8 @@ ghost use Rattle.std.specs.Prelude.{◌≡◌, map, IfOk, option_copied};
 ghost use Rattle.entry_processors.specs.Processors.{outcome_at};
 ghost use Rattle.map_records.specs.MapTable.{answer as answer_of, after as after_of, row, writer as writer_of, processed as processed_of};
 
+use crate::entry_view::EntryView;
 use crate::records::{MapRecord, max_idle};
-use crate::standing::Standing;
 use entry_processors::{Outcome, ProcessorRefused, Registry};
 use grid_base::{Answer, Bytes, MapCall, Memory, Moment, Owner};
 use key_locks::ends_at;
@@ -24,7 +24,7 @@ pub fn run_map(
     ensures answer { IfOk result (λ done. done.0 ≡ answer_of (map form registry.now) kept.now call.now now) }
     ensures after { IfOk result (λ done. done.1 ≡ after_of (map form registry.now) kept.now call.now now) }
 {
-    let entry = Standing::of(kept, now);
+    let entry = EntryView::of(kept, now);
     match writer(call, registry) {
         Some(owner) if !entry.may_write(owner) => leaving(alloc, Answer::KeyLocked, &entry),
         _ => run_unlocked(alloc, &entry, call, now, registry),
@@ -32,7 +32,7 @@ pub fn run_map(
 }
 
 /// The answer, with the record of what stands.
-fn leaving(alloc: Global, answer: Answer, entry: &Standing) -> Result<(Answer, MapRecord), Memory>
+fn leaving(alloc: Global, answer: Answer, entry: &EntryView) -> Result<(Answer, MapRecord), Memory>
     ensures answer { IfOk result (λ done. done.0 ≡ answer) }
     ensures after { IfOk result (λ done. done.1 ≡ entry.now) }
 {
@@ -42,8 +42,8 @@ fn leaving(alloc: Global, answer: Answer, entry: &Standing) -> Result<(Answer, M
 /// The value as it is before the call, as the answer, with the record of what stands after it.
 fn answering_value(
     alloc: Global,
-    before: &Standing,
-    after: &Standing,
+    before: &EntryView,
+    after: &EntryView,
 ) -> Result<(Answer, MapRecord), Memory>
     ensures answer { IfOk result (λ done. done.0 ≡ Answer.Maybe before.now.value) }
     ensures after { IfOk result (λ done. done.1 ≡ after.now) }
@@ -77,7 +77,7 @@ fn writer<'a>(call: &'a MapCall, registry: &Registry) -> Option<&'a Owner>
 /// Runs a call that no lock keeps out.
 fn run_unlocked(
     alloc: Global,
-    entry: &Standing,
+    entry: &EntryView,
     call: &MapCall,
     now: Moment,
     registry: &Registry,
@@ -175,7 +175,7 @@ fn run_processor(
 /// What an outcome makes of the entry. Without one, nothing changes.
 fn processed(
     alloc: Global,
-    entry: &Standing,
+    entry: &EntryView,
     outcome: Option<Outcome>,
     now: Moment,
 ) -> Result<(Answer, MapRecord), Memory>

@@ -1,4 +1,4 @@
-pub mod Standings
+pub mod Phases
 pub mod Services
 pub mod Refusals
 pub mod Sending

@@ -2,11 +2,11 @@
 use Rattle.std.specs.Prelude.{ℕ}
 use Rattle.partition_protocol.specs.Service.{Service as ProtocolService}
 use Rattle.table_service.specs.declared.service.Service.{Service}
-use Rattle.table_service.specs.Standings.{standing_step}
+use Rattle.table_service.specs.Phases.{phase_step}
 
 -- the newest row, the move under way, and who is detected
 abbrev pub service_of : Service → ProtocolService
-service_of s = record { row = (standing_step s.standing).row; move = (standing_step s.standing).move; detected = s.detected.items }
+service_of s = record { row = (phase_step s.phase).row; move = (phase_step s.phase).move; detected = s.detected.items }
 
 -- what never changes: which partition it is, of how many members, and how many backups a reopened row gets
 pub record Setup : Type 0 where

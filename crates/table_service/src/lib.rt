@@ -7,10 +7,10 @@
 
 mod losses;
 mod moves;
+mod phase;
 mod refusals;
 mod reopening;
 mod service;
-mod standing;
 mod taking;
 mod telling;
 mod told;

@@ -61,7 +61,7 @@ impl Service {
         let out = tell(alloc, self.members, detected.as_slice(), &row)?;
         let version = row.version;
         self.detected = detected;
-        self.standing = self.take_standing().after_loss(member, row);
+        self.phase = self.take_phase().after_loss(member, row);
         Ok(Told {
             outcome: version,
             out,

@@ -4,9 +4,9 @@ ghost use Rattle.migration.specs.Steps.{has_source};
 ghost use Rattle.table_service.specs.Refusals.{move_refusal};
 ghost use Rattle.table_service.specs.Sending.{IsTold, IsRowTold};
 
+use crate::phase::{NextStep, Phase};
 use crate::refusals::MoveRefused;
 use crate::service::Service;
-use crate::standing::{NextStep, Standing};
 use crate::telling::tell;
 use crate::told::Told;
 use grid_base::{MemberId, Memory};
@@ -91,7 +91,7 @@ impl Service {
         let row = self.row().with_joiner(alloc, target)?;
         let out = tell(alloc, self.members, self.detected.as_slice(), &row)?;
         let outcome = row.version;
-        self.standing = Standing::Joining(Joining::start(source, target, row));
+        self.phase = Phase::Joining(Joining::start(source, target, row));
         Ok(Told { outcome, out })
     }
 
@@ -104,7 +104,7 @@ impl Service {
         ensures err { OnErr result (service_of self.new ≡ service_of self.old) }
     {
         self.check_handover(from, to)?;
-        self.standing = self.take_standing().handing_over(from, to);
+        self.phase = self.take_phase().handing_over(from, to);
         Ok(())
     }
 
@@ -121,7 +121,7 @@ impl Service {
             IfOk result (λ step. IsTold step.out (told_on_advance (service_number self.old) (advance_of s) s)) }
         ensures err { OnErr result (service_of self.new ≡ service_of self.old) }
     {
-        match self.standing.next_step(alloc)? {
+        match self.phase.next_step(alloc)? {
             NextStep::Nothing => Ok(Told {
                 outcome: Advanced::Nothing,
                 out: Outbox::new(alloc),
@@ -144,7 +144,7 @@ impl Service {
         let version = self.row().version;
         let mut out = Outbox::new(alloc);
         out.write(alloc, source, &MemberMessage::Freeze { version })?;
-        self.standing = self.take_standing().freezing();
+        self.phase = self.take_phase().freezing();
         Ok(Told {
             outcome: Advanced::Freezing,
             out,
@@ -163,7 +163,7 @@ impl Service {
     {
         let out = tell(alloc, self.members, self.detected.as_slice(), &row)?;
         let version = row.version;
-        self.standing = self.take_standing().ended(row);
+        self.phase = self.take_phase().ended(row);
         Ok(Told {
             outcome: Advanced::Row { version },
             out,

@@ -4,9 +4,9 @@ ghost use Rattle.partition_protocol.specs.Service.{NoMove, telling, candidates, 
 ghost use Rattle.table_service.specs.Refusals.{reopen_refusal};
 ghost use Rattle.table_service.specs.Sending.{IsRowTold};
 
+use crate::phase::Phase;
 use crate::refusals::ReopenRefused;
 use crate::service::{Service, is_listed};
-use crate::standing::Standing;
 use crate::telling::tell;
 use crate::told::Told;
 use grid_base::{MemberId, Memory, PartitionId};
@@ -59,7 +59,7 @@ impl Service {
         let row = self.row().reopened(alloc, members)?;
         let out = tell(alloc, self.members, self.detected.as_slice(), &row)?;
         let outcome = row.version;
-        self.standing = Standing::Idle(row);
+        self.phase = Phase::Idle(row);
         Ok(Told { outcome, out })
     }
 }

@@ -2,7 +2,7 @@ ghost use Rattle.std.specs.Prelude.{◌≡◌, [], not, IfOk};
 ghost use Rattle.partition_table.specs.Rows.{initial_row, is_among};
 ghost use Rattle.partition_protocol.specs.Service.{NoMove, is_idle};
 
-use crate::standing::Standing;
+use crate::phase::Phase;
 use grid_base::{MemberId, Memory, PartitionId};
 use partition_table::Row;
 use std::alloc::Global;
@@ -14,7 +14,7 @@ pub struct Service {
     pub(crate) partition: PartitionId,
     pub(crate) members: u8,
     pub(crate) backups: u8,
-    pub(crate) standing: Standing,
+    pub(crate) phase: Phase,
     /// Whose crash the service was told of, the last first.
     pub(crate) detected: Vec<MemberId>,
 }
@@ -38,7 +38,7 @@ impl Service {
             partition,
             members,
             backups,
-            standing: Standing::Idle(Row::initial(alloc, partition, members, backups)?),
+            phase: Phase::Idle(Row::initial(alloc, partition, members, backups)?),
             detected: Vec::new(alloc),
         })
     }
@@ -47,14 +47,14 @@ impl Service {
     pub fn row(&self) -> &Row
         ensures { result.now ≡ (service_of self.now).row }
     {
-        self.standing.row()
+        self.phase.row()
     }
 
     /// Whether a move is under way.
     pub fn moving(&self) -> bool
         ensures { result ≡ not (is_idle (service_of self.now).move) }
     {
-        !self.standing.is_idle()
+        !self.phase.is_idle()
     }
 
     /// Whether the service was told that the member has crashed, in one pass over those that have.
@@ -64,13 +64,13 @@ impl Service {
         is_listed(self.detected.as_slice(), member)
     }
 
-    /// Takes the standing out, for the caller to put another in its place. Takes no memory.
-    pub(crate) fn take_standing(&mut self) -> Standing
-        ensures standing { result ≡ self.old.standing }
-        ensures rest { self.new ≡ record self.old { standing = self.new.standing } }
+    /// Takes the phase out, for the caller to put another in its place. Takes no memory.
+    pub(crate) fn take_phase(&mut self) -> Phase
+        ensures phase { result ≡ self.old.phase }
+        ensures rest { self.new ≡ record self.old { phase = self.new.phase } }
     {
-        let nothing = Standing::nothing(*self.detected.allocator());
-        mem::replace(&mut self.standing, nothing)
+        let nothing = Phase::nothing(*self.detected.allocator());
+        mem::replace(&mut self.phase, nothing)
     }
 }
 

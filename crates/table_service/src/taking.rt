@@ -34,7 +34,7 @@ impl Service {
         if row.version != version || !row.contains(member) || row.is_eligible(member) {
             return Took::Stale;
         }
-        self.standing = self.take_standing().joined(member);
+        self.phase = self.take_phase().joined(member);
         Took::Joined
     }
 
@@ -43,8 +43,8 @@ impl Service {
         ensures service { service_of self.new ≡ (on_frozen version (service_of self.old)).service }
         ensures took { took_of result ≡ (on_frozen version (service_of self.old)).took }
     {
-        let (standing, drained) = self.take_standing().drained(version);
-        self.standing = standing;
+        let (phase, drained) = self.take_phase().drained(version);
+        self.phase = phase;
         if drained { Took::Drained } else { Took::Stale }
     }
 }

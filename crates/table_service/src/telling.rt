@@ -3,8 +3,8 @@ ghost use Rattle.partition_protocol.specs.Messages.{Sent, Freeze};
 ghost use Rattle.partition_protocol.specs.Service.{telling, freezing_again};
 ghost use Rattle.table_service.specs.Sending.{IsTold, row_told};
 
+use crate::phase::Phase;
 use crate::service::{Service, is_listed};
-use crate::standing::Standing;
 use grid_base::{MemberId, Memory};
 use member_wire::{MemberMessage, Outbox};
 use partition_table::Row;
@@ -52,8 +52,8 @@ impl Service {
             IfOk result (λ out. IsTold out (telling (service_number self.now) s ++ freezing_again s)) }
     {
         let out = tell(alloc, self.members, self.detected.as_slice(), self.row())?;
-        match &self.standing {
-            Standing::Freezing(freezing) => {
+        match &self.phase {
+            Phase::Freezing(freezing) => {
                 tell_freeze(alloc, out, freezing.source(), freezing.row().version)
             }
             _ => Ok(out),

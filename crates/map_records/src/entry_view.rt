@@ -11,14 +11,14 @@ use std::marker::Model;
 
 /// What stands of an entry at a moment, with its value by reference. To contracts it is the record that it makes.
 #[derive(Drop)]
-pub(crate) struct Standing<'a> {
+pub(crate) struct EntryView<'a> {
     value: Option<&'a Bytes>,
     expires: Option<Moment>,
     idle: Option<Idle>,
     lock: Option<Lock>,
 }
 
-impl<'a> Model for Standing<'a> {
+impl<'a> Model for EntryView<'a> {
     ghost use Rattle.std.specs.Option.{option_copied};
     ghost use Rattle.map_records.specs.declared.records.MapRecord.{MapRecord as RecordOf};
 
@@ -32,21 +32,21 @@ impl<'a> Model for Standing<'a> {
     } };
 }
 
-impl<'a> Standing<'a> {
+impl<'a> EntryView<'a> {
     /// What of the record hasn't ended.
-    pub fn of(kept: &'a MapRecord, now: Moment) -> Standing<'a>
+    pub fn of(kept: &'a MapRecord, now: Moment) -> EntryView<'a>
         ensures { result ≡ cleaned_at kept.now now }
     {
         let lock = cleaned(kept.lock, now);
         if is_expired(kept, now) {
-            Standing {
+            EntryView {
                 value: None,
                 expires: None,
                 idle: None,
                 lock,
             }
         } else {
-            Standing {
+            EntryView {
                 value: kept.value.as_ref(),
                 expires: kept.expires,
                 idle: kept.idle,
@@ -112,16 +112,16 @@ impl<'a> Standing<'a> {
         may_write(&self.lock, owner)
     }
 
-    fn unchanged(&self) -> Standing<'a>
+    fn unchanged(&self) -> EntryView<'a>
         ensures { result ≡ self.now }
     {
         self.with_lock(self.lock)
     }
 
-    pub fn without_value(&self) -> Standing<'a>
+    pub fn without_value(&self) -> EntryView<'a>
         ensures { result ≡ without_value_of self.now }
     {
-        Standing {
+        EntryView {
             value: None,
             expires: None,
             idle: None,
@@ -129,10 +129,10 @@ impl<'a> Standing<'a> {
         }
     }
 
-    pub fn with_lock(&self, lock: Option<Lock>) -> Standing<'a>
+    pub fn with_lock(&self, lock: Option<Lock>) -> EntryView<'a>
         ensures { result ≡ with_lock_of self.now lock }
     {
-        Standing {
+        EntryView {
             value: self.value,
             expires: self.expires,
             idle: self.idle,
@@ -145,10 +145,10 @@ impl<'a> Standing<'a> {
         value: &'a Bytes,
         expires: Option<Moment>,
         idle: Option<Idle>,
-    ) -> Standing<'a>
+    ) -> EntryView<'a>
         ensures { result ≡ with_value_of self.now value.now expires idle }
     {
-        Standing {
+        EntryView {
             value: Some(value),
             expires,
             idle,
@@ -156,7 +156,7 @@ impl<'a> Standing<'a> {
         }
     }
 
-    pub fn with_value_if_absent(&self, value: &'a Bytes, expires: Option<Moment>) -> Standing<'a>
+    pub fn with_value_if_absent(&self, value: &'a Bytes, expires: Option<Moment>) -> EntryView<'a>
         ensures { result ≡ with_value_if_absent_of self.now value.now expires }
     {
         if self.has_value() {
@@ -167,10 +167,10 @@ impl<'a> Standing<'a> {
     }
 
     /// A value in the place of another, if there is one.
-    pub fn replaced(&self, value: &'a Bytes) -> Standing<'a>
+    pub fn replaced(&self, value: &'a Bytes) -> EntryView<'a>
         ensures { result ≡ replaced_of self.now value.now }
     {
-        Standing {
+        EntryView {
             value: self.value.map(|_| value),
             expires: self.expires,
             idle: self.idle,
@@ -178,7 +178,7 @@ impl<'a> Standing<'a> {
         }
     }
 
-    pub fn replaced_if_same(&self, test: &Bytes, value: &'a Bytes) -> Standing<'a>
+    pub fn replaced_if_same(&self, test: &Bytes, value: &'a Bytes) -> EntryView<'a>
         ensures { result ≡ replaced_if_same_of self.now test.now value.now }
     {
         if self.is_value(test) {
@@ -188,7 +188,7 @@ impl<'a> Standing<'a> {
         }
     }
 
-    pub fn removed_if_same(&self, test: &Bytes) -> Standing<'a>
+    pub fn removed_if_same(&self, test: &Bytes) -> EntryView<'a>
         ensures { result ≡ removed_if_same_of self.now test.now }
     {
         if self.is_value(test) {
@@ -199,10 +199,10 @@ impl<'a> Standing<'a> {
     }
 
     /// A use of the entry.
-    pub fn touched(&self, now: Moment) -> Standing<'a>
+    pub fn touched(&self, now: Moment) -> EntryView<'a>
         ensures { result ≡ touched_at self.now now }
     {
-        Standing {
+        EntryView {
             value: self.value,
             expires: self.expires,
             idle: used(self.idle, now),
@@ -211,7 +211,7 @@ impl<'a> Standing<'a> {
     }
 
     /// Locks the key for the owner, if the lock lets it, and answers whether it did.
-    pub fn locked(&self, owner: &Owner, until: Option<Moment>) -> (Answer, Standing<'a>)
+    pub fn locked(&self, owner: &Owner, until: Option<Moment>) -> (Answer, EntryView<'a>)
         ensures answer { result.0 ≡ Answer.Flag (may_lock self.now.lock owner.now) }
         ensures after { result.1 ≡ with_lock_of self.now (after_try_lock self.now.lock owner.now until) }
     {
@@ -221,7 +221,7 @@ impl<'a> Standing<'a> {
     }
 
     /// Releases the owner's lock once, or answers that it isn't the owner's.
-    pub fn unlocked(&self, owner: &Owner) -> (Answer, Standing<'a>)
+    pub fn unlocked(&self, owner: &Owner) -> (Answer, EntryView<'a>)
         ensures answer { result.0 ≡ (if is_held_by self.now.lock owner.now then Answer.Void else Answer.NotOwner) }
         ensures after { result.1 ≡ with_lock_of self.now (after_unlock self.now.lock owner.now) }
     {
