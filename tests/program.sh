@@ -51,7 +51,7 @@ fi
 # Words that are no command, one of them no text.
 run <"$script"
 ended 'no words' 1 '' "$usage"
-for words in 'Serve' 'Replay' 'replay x' 'Sample 0' 'sample' 'sample x' 'sample 01' 'sample -1' 'sample 4294967296' \
+for words in 'Serve' 'Replay' 'replay x' 'Explain' 'explain x' 'draw x' 'Sample 0' 'sample' 'sample x' 'sample 01' 'sample -1' 'sample 4294967296' \
     'sample 0 0' '--help x' '--version x' $'\xff'; do
     # shellcheck disable=SC2086
     run $words <"$script"
@@ -61,19 +61,20 @@ done
 # The usage and the version are asked for.
 run
 help=$(cat "$room/err")
-for words in '--help' 'replay --help' 'compose --help' 'sample --help'; do
+for words in '--help' 'replay --help' 'compose --help' 'explain --help' 'draw --help' 'sample --help'; do
     # shellcheck disable=SC2086
     run $words <"$script"
     ended "the words $words" 0 "$help" ''
 done
-for words in '--version' 'replay --version' 'compose --version' 'sample --version' 'serve --version'; do
+for words in '--version' 'replay --version' 'compose --version' 'explain --version' 'draw --version' \
+    'sample --version' 'serve --version'; do
     # shellcheck disable=SC2086
     run $words <"$script"
     ended "the words $words" 0 'grid 0.1.0' ''
 done
 
 # The usage names each command. A server's options are asked for, and others are told.
-for command in 'grid replay' 'grid compose' 'grid serve'; do
+for command in 'grid replay' 'grid compose' 'grid explain' 'grid draw' 'grid serve'; do
     compare "the usage of $command" 1 "$(grep -c "$command .*<" <<<"$help")"
 done
 compare 'the usage of grid sample' 1 "$(grep -c 'grid sample NUMBER ' <<<"$help")"
@@ -143,6 +144,26 @@ ended 'words that nobody says' 2 $'grid 1 0 10\nrefused 2 word' ''
 run compose <<<$'grid 1 0 10\nsay 0 put m text:k\nend'
 ended 'words that say too little' 2 $'grid 1 0 10\nrefused 2 count' ''
 
+# Stories in words, with what is told of them and their pictures.
+for words in docs/pictures/*.words; do
+    name=${words%.words}
+    "$grid" compose <"$words" >"$room/script"
+    run explain <"$room/script"
+    ended "the story of $name" 0 "$(cat "$name.explained")" ''
+    run draw <"$room/script"
+    ended "the picture of $name" 0 "$(cat "$name.svg")" ''
+done
+
+# What is told and drawn of scripts that don't end.
+run explain <<<'grid 1 0 10'
+ended 'a story without an end' 2 $'1 grid of 1 member with 0 backups and queues of 10\nrefused 1 noend' ''
+run draw <<<'grid 1 0 10'
+compare 'a picture without an end, exit status' 2 "$status"
+compare 'a picture without an end, what it says' 1 "$(grep -c '>refused 1 noend</text>' "$room/out")"
+run draw <"$room/long"
+compare 'a picture of a long line, exit status' 5 "$status"
+compare 'a picture of a long line, what it says' 1 "$(grep -c '>limit 2 line</text>' "$room/out")"
+
 # Samples: the summaries are those of another program, twice the same. Nothing is told of how far they are, since no one looks.
 for summary in tests/samples/*.summary; do
     number=${summary#tests/samples/}
@@ -158,9 +179,11 @@ compare 'a sample at a terminal, how far it is' $'grid: 2000 lines run\ngrid: 10
     "$(grep -E 'grid: (2000 lines run|1000 calls made)' "$room/err")"
 
 # Standard input that can't be read, and standard output that can't be written.
-run replay <.
-ended 'a directory' 3 '' "grid: standard input can't be read"
-for words in 'replay' 'compose' 'sample 0' '--help' 'serve --help' '--version'; do
+for words in 'replay' 'explain' 'draw'; do
+    run $words <.
+    ended "a directory and $words" 3 '' "grid: standard input can't be read"
+done
+for words in 'replay' 'compose' 'explain' 'draw' 'sample 0' '--help' 'serve --help' '--version'; do
     # shellcheck disable=SC2086
     timeout 60 "$grid" $words <"$script" >/dev/full 2>"$room/err"
     compare "a full disk and $words, exit status" 4 $?

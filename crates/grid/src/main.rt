@@ -1,5 +1,6 @@
-//! The program: `grid replay` runs a script and prints its transcript, `grid compose` writes a script of words, `grid sample`
-//! runs a script that is made from a number, and `grid serve` serves clients.
+//! The program: `grid replay` runs a script and prints its transcript, `grid compose` writes a script of words, `grid explain`
+//! tells a script's run in words and `grid draw` draws it, `grid sample` runs a script that is made from a number, and `grid
+//! serve` serves clients.
 #![tactic(auto)]
 
 ghost use Rattle.std.specs.Prelude.{◌≡◌, map, IfOk};
@@ -11,7 +12,9 @@ mod telling_doors;
 use crate::progress::Progress;
 use crate::telling_doors::TellingDoors;
 use compose_script::compose_command;
+use draw_run::draw_command;
 use entry_processors::{Add, AddUpTo, Append, Clear, Form, Processor, SetIfGreater};
+use explain_run::explain_command;
 use grid_base::Memory;
 use grid_cli::Status;
 use grid_edge::{Clock, Doors, StdClock, StdSink, StdSource};
@@ -30,6 +33,8 @@ use tcp_edge::TcpDoors;
 const USAGE: &str = "\
 usage: grid replay < SCRIPT             runs a script and prints its transcript
        grid compose < WORDS             writes the script that words stand for
+       grid explain < SCRIPT            runs a script and tells in words what happens
+       grid draw < SCRIPT > PICTURE     runs a script and draws what happens, as SVG
        grid sample NUMBER               runs a large script that is made from the number, and counts calls
        grid serve [OPTIONS] < CONTROL   serves clients; grid serve --help has the options
        grid --help                      prints this
@@ -49,8 +54,17 @@ enum Request {
     Version,
     /// Words to be composed.
     Compose,
+    /// A command that runs with the grid's processors.
+    Run(Run),
+}
+
+/// A command that runs with the grid's processors.
+#[derive(Clone, Copy, Debug)]
+enum Run {
+    Explain,
+    Draw,
     /// Another command, or words that are none.
-    Command,
+    Top,
 }
 
 fn is_serve(words: &[String]) -> bool {
@@ -73,13 +87,18 @@ impl Request {
         let (command, word) = match words {
             [word] => ("", word.as_str()),
             [command, word] => (command.as_str(), word.as_str()),
-            _ => return Request::Command,
+            _ => return Request::Run(Run::Top),
         };
         match (command, word) {
-            ("" | "replay" | "compose" | "sample", "--help" | "-h") => Request::Help,
-            ("" | "replay" | "compose" | "sample" | "serve", "--version") => Request::Version,
+            ("" | "replay" | "compose" | "explain" | "draw" | "sample", "--help" | "-h") => {
+                Request::Help
+            }
+            ("" | "replay" | "compose" | "explain" | "draw" | "sample" | "serve", "--version") =>
+                Request::Version,
             ("", "compose") => Request::Compose,
-            _ => Request::Command,
+            ("", "explain") => Request::Run(Run::Explain),
+            ("", "draw") => Request::Run(Run::Draw),
+            _ => Request::Run(Run::Top),
         }
     }
 }
@@ -109,10 +128,11 @@ fn enrol(
     Ok(())
 }
 
-/// Carries out the command of these words with the grid's processors, whose numbers go from 1.
+/// Carries out a command with the grid's processors, whose numbers go from 1; another one by these words.
 fn carry_out<R, C, D, W>(
     rt: &R,
     alloc: Global,
+    run: Run,
     words: &[String],
     script: &mut StdSource,
     out: &mut StdSink,
@@ -149,10 +169,16 @@ where
     )?;
     enrol(&mut list, &mut forms, Box::new(alloc, Clear)?, Form::Clear)?;
     let forms = forms.as_slice();
-    let ended = grid_top(
-        rt, alloc, words, list, forms, script, out, clock, doors, watch,
-    );
-    Ok(ended.status)
+    Ok(match run {
+        Run::Explain => explain_command(alloc, list, script, out),
+        Run::Draw => draw_command(alloc, list, script, out),
+        Run::Top => {
+            let ended = grid_top(
+                rt, alloc, words, list, forms, script, out, clock, doors, watch,
+            );
+            ended.status
+        }
+    })
 }
 
 /// Prints a text and a newline to standard output.
@@ -235,9 +261,10 @@ fn main(rt: HostRuntime) -> ExitCode {
         Ok(Request::ServeHelp) => print_options(&rt),
         Ok(Request::Version) => print(&rt, VERSION),
         Ok(Request::Compose) => compose_command(alloc, &mut script, &mut out),
-        Ok(Request::Command) => carry_out(
+        Ok(Request::Run(run)) => carry_out(
             &rt,
             alloc,
+            run,
             words,
             &mut script,
             &mut out,

@@ -1,0 +1,25 @@
+-- What the grid of a script stands for.
+use Rattle.std.specs.Prelude.{◌≡◌, ℕ, ◌≤◌, Option, Some, None}
+use Rattle.call_engine.specs.Calls.{Settings}
+use Rattle.replay_run.specs.declared.grid.Grid.{Grid}
+use Rattle.replay_run.specs.Runs.{Run}
+use Rattle.replay_run.specs.Grids.{FormOf, Stands}
+use Rattle.running_grid.specs.declared.running.RunningGrid.{RunningGrid}
+
+-- The grid stands for a run of so many members.
+pub record HasRun {V : Type 0} {T : V → Type 0} (form : FormOf V T) (members : ℕ) (grid : Grid V T) : Type 0 where
+  pub settings : Settings
+  pub run : Run
+  pub stands : Stands form settings grid run
+  pub same : members ≡ run.members
+
+-- A run that wasn't given up is one of a script.
+abbrev pub RunsSo : {V : Type 0} {T : V → Type 0} → FormOf V T → ℕ → Option (Grid V T) → Type 0
+RunsSo form members (Some grid) = HasRun form members grid
+RunsSo form members None = Unit {0}
+
+-- from a script's first line on
+pub record IsRunning {V : Type 0} {T : V → Type 0} (form : FormOf V T) (running : RunningGrid V T) : Type 0 where
+  pub some : 1 ≤ running.members
+  pub most : running.members ≤ 8
+  pub so : RunsSo form running.members running.grid

@@ -1,0 +1,134 @@
+//! The grid of a script, of which each line is one that its script can have next.
+
+ghost use Rattle.std.specs.Prelude.{◌≡◌, ◌≤◌, IfOk, OnOk, IfSome};
+ghost use Rattle.script_lang.specs.Lines.{IsWithin};
+ghost use Rattle.script_lang.specs.Limits.{most_line_bytes};
+ghost use Rattle.replay_run.specs.Grids.{boxed};
+ghost use Rattle.running_grid.specs.Runs.{IsRunning};
+
+use crate::run_end::RunEnd;
+use call_engine::GridShelf;
+use entry_processors::Processor;
+use grid_base::{MemberId, Memory, PARTITIONS, PartitionId, Request};
+use partition_world::{Link, Recorder, World};
+use replay_run::Grid;
+use replica_node::Contents;
+use script_lang::{Line, MOST_LINE_BYTES, MOST_LINES, read_line};
+use std::alloc::Global;
+
+/// A script's run behind its first line.
+#[derive(Drop)]
+pub struct RunningGrid {
+    members: u8,
+    /// None once a line was given up, since nothing more is known of its grid.
+    grid: Option<Grid>,
+}
+
+impl RunningGrid {
+    /// The grid after a script's first line, with these processors. Costs its partitions, and in each of them its members
+    /// and the links between them.
+    pub fn new(
+        alloc: Global,
+        members: u8,
+        backups: u8,
+        capacity: u32,
+        processors: Vec<Box<dyn Processor>>,
+    ) -> Result<RunningGrid, Memory>
+        requires some { 1 ≤ members }
+        requires most { members ≤ 8 }
+        ensures { IfOk result (λ running. IsRunning form running) }
+    {
+        let grid = Grid::new(alloc, members, backups, capacity, processors)?;
+        Ok(RunningGrid {
+            members,
+            grid: Some(grid),
+        })
+    }
+
+    /// How many members the grid has.
+    pub fn members(&self) -> u8
+        ensures { result ≡ self.now.members }
+    {
+        self.members
+    }
+
+    /// How many lines the grid ran, the first among them; as many as a script may have, once a line was given up.
+    pub fn lines(&self) -> u32 {
+        match &self.grid {
+            Some(grid) => grid.lines(),
+            None => MOST_LINES,
+        }
+    }
+
+    /// Reads a line behind the first.
+    pub fn read(&self, alloc: Global, text: &[u8]) -> Result<Line, RunEnd>
+        requires { IsRunning (boxed form) self.now }
+        ensures { IfOk result (λ line. IsWithin self.now.members most_line_bytes line) }
+    {
+        if text.len() > MOST_LINE_BYTES {
+            return Err(RunEnd::Long);
+        }
+        Ok(read_line(alloc, text, false, self.members)?)
+    }
+
+    /// The line that delivers the first message of a partition's link, if there is such a link.
+    pub fn delivery(&self, partition: PartitionId, link: Link) -> Option<Line>
+        ensures { IfSome result (λ line. IsWithin self.now.members most_line_bytes line) }
+    {
+        let Link { from, to } = link;
+        if partition >= PARTITIONS || from > self.members || to > self.members {
+            return None;
+        }
+        Some(Line::Deliver {
+            partition,
+            from,
+            to,
+            place: 0,
+        })
+    }
+
+    /// Runs a line on the grid, and gives the text that a replay has for it there. After an error the run is given up.
+    pub fn run(&mut self, alloc: Global, line: &Line) -> Result<Vec<u8>, RunEnd>
+        requires within { IsWithin self.old.members most_line_bytes line.now }
+        requires stands { IsRunning (boxed form) self.old }
+        ensures same { self.new.members ≡ self.old.members }
+        ensures stands { IsRunning (boxed form) self.new }
+    {
+        let Some(mut grid) = self.grid.take() else {
+            return Err(RunEnd::Memory);
+        };
+        if grid.lines() >= MOST_LINES {
+            return Err(RunEnd::Lines);
+        }
+        let number = grid.lines() + 1;
+        let mut text = Vec::new(alloc);
+        grid.run_line(alloc, number, line, &mut text)?;
+        self.grid = Some(grid);
+        Ok(text)
+    }
+
+    /// The world of a partition, if there is one of that number and the run wasn't given up.
+    pub fn world(&self, partition: PartitionId) -> Option<&World<GridShelf, Recorder<Request>>> {
+        match &self.grid {
+            Some(grid) => grid.world(partition),
+            None => None,
+        }
+    }
+
+    /// What a member has of a partition, if there are such a member and such a partition.
+    pub fn contents(
+        &self,
+        partition: PartitionId,
+        member: MemberId,
+    ) -> Option<Contents<'_, GridShelf>>
+        requires { IsRunning (boxed form) self.now }
+    {
+        if partition >= PARTITIONS || member >= self.members {
+            return None;
+        }
+        match &self.grid {
+            Some(grid) => grid.world(partition).map(|world| world.contents(member)),
+            None => None,
+        }
+    }
+}

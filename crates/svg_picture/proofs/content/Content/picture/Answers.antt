@@ -1,0 +1,12 @@
+use Rattle.std.proofs.Common.{ap, ◌∙◌, string_bytes}
+use Rattle.svg_picture.specs.declared.words.Tag.TheVariants.{Svg}
+use Rattle.svg_picture.specs.Markup.{element_text}
+use Rattle.svg_picture.proofs.content.Content.picture.Goals as goal
+
+pub returns : goal.returns
+returns c = record {
+  attributes = c.args.attributes.now;
+  inside = string_bytes c.self.inside.text;
+  markup = c.self.invariant;
+  is = c.in_ok-text.ensures ∙ ap (element_text Svg c.args.attributes.now) c.as_str.ensures.value;
+}

@@ -1,0 +1,58 @@
+use crate::happening::Happening;
+use grid_base::Memory;
+use std::alloc::Global;
+use std::mem;
+
+/// Something that happened, and the step of the run at which it did: a message that arrived or was delivered, or a line.
+#[derive(Debug, Drop)]
+pub struct Told {
+    pub step: u32,
+    pub happening: Happening,
+}
+
+/// What has happened, in order.
+#[derive(Debug, Drop)]
+pub struct Tale {
+    pub(crate) step: u32,
+    told: Vec<Told>,
+}
+
+impl Tale {
+    /// Nothing has happened.
+    pub fn new(alloc: Global) -> Self {
+        Tale {
+            step: 0,
+            told: Vec::new(alloc),
+        }
+    }
+
+    /// A grid was made of so many members and backups, with queues of this capacity.
+    pub fn begin(&mut self, members: u8, backups: u8, capacity: u32) -> Result<(), Memory> {
+        self.push(Happening::Made {
+            members,
+            backups,
+            capacity,
+        })
+    }
+
+    /// A new step begins.
+    pub(crate) fn go_on(&mut self) {
+        self.step = self.step.saturating_add(1);
+    }
+
+    /// Something happened at this step.
+    pub(crate) fn push(&mut self, happening: Happening) -> Result<(), Memory> {
+        let step = self.step;
+        Ok(self.told.push(Told { step, happening })?)
+    }
+
+    /// How much was told since the last time.
+    pub(crate) fn len(&self) -> usize {
+        self.told.len()
+    }
+
+    /// What was told since the last time.
+    pub fn take(&mut self, alloc: Global) -> Vec<Told> {
+        mem::replace(&mut self.told, Vec::new(alloc))
+    }
+}

@@ -1,0 +1,159 @@
+//! A script's run, of which each line is told.
+
+ghost use Rattle.std.specs.Prelude.{◌≤◌, IfOk};
+ghost use Rattle.script_lang.specs.Lines.{IsWithin};
+ghost use Rattle.script_lang.specs.Limits.{most_line_bytes};
+ghost use Rattle.replay_run.specs.Grids.{boxed};
+ghost use Rattle.running_grid.specs.Runs.{IsRunning};
+
+use crate::happening::Happening;
+use crate::looks::{Look, Notes};
+use crate::printed::as_text;
+use crate::rebalances::mark_events;
+use crate::tale::Tale;
+use entry_processors::Processor;
+use grid_base::Memory;
+use running_grid::{RunEnd, RunningGrid};
+use script_lang::{Line, MOST_LINES};
+use std::alloc::Global;
+
+/// The grid of a script, and what is known of it from the lines that ran.
+#[derive(Drop)]
+pub struct Watch {
+    pub(crate) running: RunningGrid,
+    /// How many lines of the script are still to come.
+    to_come: u32,
+    pub(crate) notes: Notes,
+}
+
+impl Watch {
+    /// The grid after the first line of a script that has so many lines, with these processors. Costs its partitions, and
+    /// in each of them its members and the links between them.
+    pub fn new(
+        alloc: Global,
+        members: u8,
+        backups: u8,
+        capacity: u32,
+        processors: Vec<Box<dyn Processor>>,
+        lines: u32,
+    ) -> Result<Watch, Memory>
+        requires some { 1 ≤ members }
+        requires most { members ≤ 8 }
+        ensures { IfOk result (λ watch. IsRunning form watch.running) }
+    {
+        Ok(Watch {
+            running: RunningGrid::new(alloc, members, backups, capacity, processors)?,
+            to_come: lines.saturating_sub(1),
+            notes: Notes::new(alloc, members)?,
+        })
+    }
+
+    /// How many members the grid has.
+    pub fn members(&self) -> u8 {
+        self.running.members()
+    }
+
+    /// How many lines ran, the first among them.
+    pub fn lines(&self) -> u32 {
+        self.notes.line
+    }
+
+    /// How many lines the grid can run beside those of the script.
+    pub(crate) fn spare(&self) -> u32 {
+        let room = MOST_LINES.saturating_sub(self.running.lines());
+        room.saturating_sub(self.to_come)
+    }
+
+    /// Runs a line on the grid, and gives the text that a replay has for it there.
+    pub(crate) fn take(&mut self, alloc: Global, line: &Line) -> Result<Vec<u8>, RunEnd>
+        requires within { IsWithin self.old.running.members most_line_bytes line.now }
+        requires stands { IsRunning (boxed form) self.old.running }
+        ensures { IsRunning (boxed form) self.new.running }
+    {
+        let text = self.running.run(alloc, line)?;
+        self.notes.numbers.push(self.notes.line)?;
+        Ok(text)
+    }
+
+    /// Runs the next line of the script, and tells what happened, in order. Gives the line. Costs what the line costs the
+    /// grid, and the words of what happened.
+    ///
+    /// The deliveries of a `flow` line are run and told one by one, while the grid can run so many lines: 200,000 in all,
+    /// those of the script that are to come among them. Else only their number is told.
+    ///
+    /// `Refused` where the line isn't in the language; `Long`, `Lines` and `InFlight` where it goes past a limit; and
+    /// `Memory` for want of memory. Then the run is given up, and what was told of the line doesn't count.
+    pub fn run(&mut self, alloc: Global, text: &[u8], told: &mut Tale) -> Result<Line, RunEnd>
+        requires { IsRunning (boxed form) self.old.running }
+        ensures { IsRunning (boxed form) self.new.running }
+    {
+        self.notes.line = self.notes.line.saturating_add(1);
+        self.to_come = self.to_come.saturating_sub(1);
+        told.go_on();
+        let line = self.running.read(alloc, text)?;
+        match &line {
+            Line::Flow { partition, most } => self.flow(alloc, *partition, *most, told)?,
+            Line::FlowAll { most } => self.flow_all(alloc, *most, told)?,
+            Line::Comment => self.run_comment(alloc, text, told)?,
+            Line::Rebalance { most } => self.run_rebalance(alloc, &line, *most, told)?,
+            line => self.run_line(alloc, line, told)?,
+        }
+        Ok(line)
+    }
+
+    /// A comment says what stands behind its `#`.
+    fn run_comment(&mut self, alloc: Global, text: &[u8], told: &mut Tale) -> Result<(), RunEnd>
+        requires { IsRunning (boxed form) self.old.running }
+        ensures { IsRunning (boxed form) self.new.running }
+    {
+        self.take(alloc, &Line::Comment)?;
+        let said = text.get(1..).unwrap_or(&[]);
+        let text = String::from_utf8_lossy(alloc, said)?;
+        told.push(Happening::Comment { text })?;
+        Ok(())
+    }
+
+    /// The primaries are dealt out evenly.
+    fn run_rebalance(
+        &mut self,
+        alloc: Global,
+        line: &Line,
+        most: u32,
+        told: &mut Tale,
+    ) -> Result<(), RunEnd>
+        requires within { IsWithin self.old.running.members most_line_bytes line.now }
+        requires stands { IsRunning (boxed form) self.old.running }
+        ensures { IsRunning (boxed form) self.new.running }
+    {
+        mark_events(&self.running, self.notes.parts.as_mut_slice());
+        let printed = self.take(alloc, line)?;
+        let mut look = Look::at(&self.running, &mut self.notes);
+        Ok(look.tell_rebalance(alloc, most, as_text(printed.as_slice()), told)?)
+    }
+
+    /// Runs a line that is one of the grid's.
+    fn run_line(&mut self, alloc: Global, line: &Line, told: &mut Tale) -> Result<(), RunEnd>
+        requires within { IsWithin self.old.running.members most_line_bytes line.now }
+        requires stands { IsRunning (boxed form) self.old.running }
+        ensures { IsRunning (boxed form) self.new.running }
+    {
+        let look = Look::at(&self.running, &mut self.notes);
+        let flight = look.flight_of(alloc, line)?;
+        let printed = self.take(alloc, line)?;
+        let text = as_text(printed.as_slice());
+        let mut look = Look::at(&self.running, &mut self.notes);
+        match line {
+            Line::Arrive { conn, bytes } => {
+                look.tell_arrival(alloc, *conn, bytes.as_slice(), text, told)?;
+            }
+            Line::Deliver { .. } | Line::Lose { .. } | Line::Repeat { .. } => {
+                look.tell_flight(alloc, line, flight, text, told)?;
+            }
+            Line::Dump { .. } | Line::Links { .. } | Line::Trail { .. } | Line::End => {
+                look.tell_asked(alloc, line, text, told)?;
+            }
+            line => look.tell_event(alloc, line, text, told)?,
+        }
+        Ok(())
+    }
+}
