@@ -1,7 +1,7 @@
 //! A member's answers to its clients in words.
 
-use crate::data::{push_hex, push_nullable};
 use crate::events::push_event;
+use client_words::{push_hex, push_nullable};
 use event_codecs::read_event;
 use fixed_fields::{Cursor, byte_at, int32_at, int64_at, kind_of, uuid_at};
 use frame_codec::Frame;

@@ -1,7 +1,7 @@
 //! What who listens is told, in words.
 
-use crate::data::{push_data, push_entry_name};
 use crate::groups::Groups;
+use client_words::{push_data, push_entry_name};
 use event_codecs::{ADDED, ClientEvent, EXPIRED, REMOVED, SeenRow, UPDATED};
 use grid_base::{Bytes, Memory};
 use std::alloc::Global;

@@ -1,6 +1,6 @@
 //! Rows of the partition table, effects and contents in words, and the messages between members that bring them.
 
-use crate::data::{push_data, push_entry_name, push_hex, push_name, push_nullable};
+use client_words::{push_data, push_entry_name, push_hex, push_name, push_nullable};
 use grid_base::{Bytes, ClientKey, MemberId, Memory, ObjectKey, Owner};
 use key_locks::Lock;
 use map_records::MapRecord;

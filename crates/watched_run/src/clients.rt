@@ -1,8 +1,8 @@
 //! The connections of a run, as its lines show them.
 
+use client_words::{Spoken, read_spoken};
 use grid_base::{MemberId, Memory};
 use message_frames::MessageReader;
-use run_words::{Spoken, read_spoken};
 use std::alloc::Global;
 use std::collections::{HashMap, VecDeque};
 

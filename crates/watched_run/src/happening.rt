@@ -1,6 +1,7 @@
+use client_words::Spoken;
 use grid_base::{MemberId, Moment, PartitionId};
 use member_wire::Took;
-use run_words::{Letter, Spoken};
+use run_words::Letter;
 
 /// A message between members on its way. Ends are members by their numbers, and the table service behind the last.
 #[derive(Debug, Drop)]

@@ -15,8 +15,9 @@ mod tale;
 mod telling;
 mod watch;
 
+pub use client_words::{Form, Spoken};
 pub use happening::{Flight, Happening, PlanStep};
-pub use run_words::{Form, Letter, Spoken};
+pub use run_words::Letter;
 pub use running_grid::RunEnd;
 pub use tale::{Tale, Told};
 pub use telling::Place;

@@ -1,8 +1,9 @@
 //! What happened, as the lines of an explanation.
 
 use crate::happening::{Flight, Happening, PlanStep};
+use client_words::Form;
 use grid_base::{Memory, PartitionId};
-use run_words::{Form, took_words};
+use run_words::took_words;
 
 /// Where the happenings of a line are told.
 #[derive(Clone, Copy)]

@@ -108,7 +108,7 @@ pub fn push_data(alloc: Global, out: &mut String, bytes: &[u8]) -> Result<(), Me
 }
 
 /// Appends the name of a map's entry.
-pub(crate) fn push_entry_name(
+pub fn push_entry_name(
     alloc: Global,
     out: &mut String,
     map: &Bytes,
@@ -128,7 +128,7 @@ pub fn push_nullable(alloc: Global, out: &mut String, value: Option<&[u8]>) -> R
 }
 
 /// Appends what a processor is given, which isn't serialized.
-pub fn push_argument(alloc: Global, out: &mut String, bytes: &[u8]) -> Result<(), Memory> {
+pub(crate) fn push_argument(alloc: Global, out: &mut String, bytes: &[u8]) -> Result<(), Memory> {
     if let [a, b, c, d, e, f, g, h] = bytes {
         let number = i64::from_le_bytes([*a, *b, *c, *d, *e, *f, *g, *h]);
         return write!(out, "number:{number}");
