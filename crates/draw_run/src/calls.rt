@@ -3,9 +3,9 @@
 use crate::chart::{Chart, OpenCall};
 use crate::marks::cut;
 use grid_base::{CallId, Memory};
+use run_tale::Happening;
 use std::alloc::Global;
 use svg_picture::{Anchor, Look, Point};
-use watched_run::Happening;
 
 /// How the words of an answer look.
 fn look_of(words: &str) -> Look {

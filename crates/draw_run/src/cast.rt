@@ -1,9 +1,8 @@
 //! Who appears in a picture, and where.
 
-use explain_run::LineTold;
 use grid_base::{MemberId, Memory, PARTITIONS, PartitionId};
+use run_tale::{Happening, LineTold};
 use std::alloc::Global;
-use watched_run::Happening;
 
 /// Where the first lane stands, which may have labels on its left, and how far the next ones are from one another.
 const LEFT: u64 = 200;

@@ -2,12 +2,11 @@
 
 use crate::cast::{Cast, Lane};
 use crate::marks::{cut, cut_remark, width_of};
-use explain_run::LineTold;
 use grid_base::{CallId, Memory};
+use run_tale::{Happening, LineTold, Told};
 use std::alloc::Global;
 use std::collections::HashMap;
 use svg_picture::{Anchor, Look, Picture, Point};
-use watched_run::{Happening, Told};
 
 /// Where the first row stands, and how far the next one is from it.
 pub(crate) const TOP: u64 = 70;

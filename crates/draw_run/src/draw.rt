@@ -5,10 +5,11 @@ ghost use Rattle.svg_picture.specs.Markup.{IsDocument};
 use crate::cast::Cast;
 use crate::chart::Chart;
 use entry_processors::Processor;
-use explain_run::{LineTold, Script, ScriptEnd, Stop, Story, read_script};
+use explain_run::{Script, ScriptEnd, Stop, Story, read_script};
 use grid_base::Memory;
 use grid_cli::Status;
 use grid_edge::{Sink, Source, write_all};
+use run_tale::LineTold;
 use std::alloc::Global;
 
 /// A script's run to its end.

@@ -2,8 +2,8 @@
 
 use grid_base::Memory;
 use member_wire::Took;
+use run_tale::Flight;
 use std::alloc::Global;
-use watched_run::Flight;
 
 /// How many characters are shown of a text beside an arrow, of one below a lane's name, and of a remark.
 const MOST: usize = 60;

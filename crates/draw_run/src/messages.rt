@@ -4,9 +4,9 @@ use crate::chart::Chart;
 use crate::marks::{hint_of, is_taken, label_of};
 use grid_base::Memory;
 use member_wire::Took;
+use run_tale::{Flight, Happening};
 use std::alloc::Global;
 use svg_picture::{Anchor, Look, Point};
-use watched_run::{Flight, Happening};
 
 /// Whether a message's taker leads by what it brings.
 fn leads_taker(flight: &Flight, took: Took) -> bool {

@@ -2,9 +2,9 @@
 
 use crate::chart::Chart;
 use grid_base::{MemberId, Memory};
+use run_tale::Happening;
 use std::alloc::Global;
 use svg_picture::{Look, Point};
-use watched_run::Happening;
 
 impl Chart {
     /// A member crashed.

@@ -3,7 +3,6 @@ ghost use Rattle.grid_edge.specs.Faults.{Rose};
 
 use crate::script::{ScriptEnd, read_script};
 use crate::story::{Stop, Story};
-use crate::together::words_of;
 use entry_processors::Processor;
 use grid_base::Memory;
 use grid_cli::Status;
@@ -20,7 +19,7 @@ enum Page {
 /// Runs the next line, and gives what is written of it.
 fn next_page(alloc: Global, end: ScriptEnd, story: &mut Story) -> Result<Page, Memory> {
     match story.next(alloc) {
-        Ok(line) => Ok(Page::Line(words_of(alloc, line.at, line.told.as_slice())?)),
+        Ok(line) => Ok(Page::Line(line.words(alloc)?)),
         Err(stop) => {
             let mut text = Vec::new(alloc);
             stop.push(end, &mut text)?;

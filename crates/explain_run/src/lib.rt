@@ -4,8 +4,7 @@
 mod explain;
 mod script;
 mod story;
-mod together;
 
 pub use explain::explain_command;
 pub use script::{Script, ScriptEnd, read_script};
-pub use story::{LineTold, Stop, Story};
+pub use story::{Stop, Story};

@@ -7,17 +7,11 @@ use entry_processors::Processor;
 use grid_base::{Memory, PartitionId};
 use grid_cli::{LimitWhat, Status, push_limit, push_refused};
 use memchr::memchr;
+use run_tale::{LineTold, Place, Tale};
 use script_lang::{Line, LineRefused, LineWhy, MOST_LINE_BYTES, MOST_LINES, read_line};
 use std::alloc::{AllocError, Global};
 use std::mem;
-use watched_run::{Place, RunEnd, Tale, Told, Watch};
-
-/// What happened at a line, in order.
-#[derive(Drop)]
-pub struct LineTold {
-    pub at: Place,
-    pub told: Vec<Told>,
-}
+use watched_run::{RunEnd, Watch};
 
 /// How a script's run ended.
 #[derive(Clone, Copy, Debug, PartialEq, Eq)]

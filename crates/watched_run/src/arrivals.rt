@@ -1,11 +1,10 @@
 //! Bytes that arrive on connections, and what is appended to these.
 
 use crate::clients::Numbered;
-use crate::happening::Happening;
 use crate::looks::Look;
 use crate::printed::{Appended, appended, outcome_of};
-use crate::tale::Tale;
 use grid_base::{MemberId, Memory};
+use run_tale::{Happening, Tale};
 use run_words::{Output, fault_words};
 use std::alloc::Global;
 

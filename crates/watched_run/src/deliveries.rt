@@ -6,13 +6,12 @@ ghost use Rattle.script_lang.specs.Limits.{most_line_bytes};
 ghost use Rattle.replay_run.specs.Grids.{boxed};
 ghost use Rattle.running_grid.specs.Runs.{IsRunning};
 
-use crate::happening::{Flight, Happening};
 use crate::looks::{LinkPlace, Look};
 use crate::printed::{as_text, number_in, outcome_of};
-use crate::tale::Tale;
 use crate::watch::Watch;
 use grid_base::{Memory, PARTITIONS, PartitionId};
 use partition_world::Link;
+use run_tale::{Flight, Happening, Tale};
 use run_words::took_of;
 use running_grid::RunEnd;
 use script_lang::Line;

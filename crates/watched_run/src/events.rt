@@ -1,10 +1,9 @@
 //! Lines that are events of a member or of the table service, and lines at which nothing happens in a partition.
 
-use crate::happening::Happening;
 use crate::looks::Look;
 use crate::printed::outcome_of;
-use crate::tale::Tale;
 use grid_base::{MemberId, Memory, PartitionId};
+use run_tale::{Happening, Tale};
 use run_words::refused_words;
 use script_lang::Line;
 use std::alloc::Global;

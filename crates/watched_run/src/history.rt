@@ -1,12 +1,11 @@
 //! What is in flight, what a member has, and what was called: the lines that ask for them.
 
-use crate::happening::Happening;
 use crate::looks::{LinkPlace, Look};
 use crate::printed::{EntryLines, entries};
-use crate::tale::Tale;
 use client_words::{push_deed, push_object};
 use grid_base::{Bytes, MemberId, Memory, PARTITIONS, PartitionId, Request};
 use partition_world::Entry;
+use run_tale::{Happening, Tale};
 use run_words::{push_result, push_stored};
 use script_lang::Line;
 use std::alloc::Global;

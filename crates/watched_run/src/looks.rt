@@ -1,10 +1,9 @@
 //! What is to be seen of a run between two lines: messages in flight, and rows.
 
 use crate::clients::Clients;
-use crate::happening::{Flight, Happening};
 use crate::sendings::{Sending, Sendings};
-use crate::tale::Tale;
 use grid_base::{Memory, PARTITIONS, PartitionId};
+use run_tale::{Flight, Happening, Tale};
 use run_words::{leader_of, letter_of, push_row};
 use running_grid::RunningGrid;
 use std::alloc::Global;
@@ -95,7 +94,7 @@ impl<'a> Look<'a> {
     fn now(&self, told: &Tale) -> Sending {
         Sending {
             line: self.notes.line,
-            step: told.step,
+            step: told.step(),
         }
     }
 

@@ -1,10 +1,9 @@
 //! The line that deals the primaries out evenly: its plan, and what its steps came to.
 
-use crate::happening::{Happening, PlanStep};
 use crate::looks::{Look, Part};
 use crate::printed::{number_in, outcome_in, outcome_of};
-use crate::tale::Tale;
 use grid_base::{Memory, PARTITIONS, PartitionId};
+use run_tale::{Happening, PlanStep, Tale};
 use run_words::refused_words;
 use running_grid::RunningGrid;
 use std::alloc::Global;

@@ -6,13 +6,12 @@ ghost use Rattle.script_lang.specs.Limits.{most_line_bytes};
 ghost use Rattle.replay_run.specs.Grids.{boxed};
 ghost use Rattle.running_grid.specs.Runs.{IsRunning};
 
-use crate::happening::Happening;
 use crate::looks::{Look, Notes};
 use crate::printed::as_text;
 use crate::rebalances::mark_events;
-use crate::tale::Tale;
 use entry_processors::Processor;
 use grid_base::Memory;
+use run_tale::{Happening, Tale};
 use running_grid::{RunEnd, RunningGrid};
 use script_lang::{Line, MOST_LINES};
 use std::alloc::Global;

@@ -1,9 +1,18 @@
-//! What happened at a line in several partitions, told together.
+//! What happened at a line, where what happened alike in several partitions is told together.
 
+use crate::happening::Happening;
+use crate::tale::Told;
+use crate::telling::Place;
 use grid_base::{Memory, PartitionId};
 use run_words::Groups;
 use std::alloc::Global;
-use watched_run::{Happening, Place, Told};
+
+/// What happened at a line, in order.
+#[derive(Drop)]
+pub struct LineTold {
+    pub at: Place,
+    pub told: Vec<Told>,
+}
 
 /// The partition in which something happened that may have happened in others alike.
 fn partition_of(happening: &Happening) -> Option<PartitionId> {
@@ -50,13 +59,16 @@ fn push_together(alloc: Global, out: &mut String, at: Place, told: &[Told]) -> R
     Ok(())
 }
 
-/// What happened at a line, in words.
-pub(crate) fn words_of(alloc: Global, at: Place, told: &[Told]) -> Result<String, Memory> {
-    let mut words = String::new(alloc);
-    if is_of_many(told) {
-        push_together(alloc, &mut words, at, told)?;
-    } else {
-        push_each(&mut words, at, told)?;
+impl LineTold {
+    /// What happened, in words: a line for each thing, which begins with the number of the script's line.
+    pub fn words(&self, alloc: Global) -> Result<String, Memory> {
+        let told = self.told.as_slice();
+        let mut words = String::new(alloc);
+        if is_of_many(told) {
+            push_together(alloc, &mut words, self.at, told)?;
+        } else {
+            push_each(&mut words, self.at, told)?;
+        }
+        Ok(words)
     }
-    Ok(words)
 }

@@ -13,7 +13,7 @@ pub struct Told {
 /// What has happened, in order.
 #[derive(Debug, Drop)]
 pub struct Tale {
-    pub(crate) step: u32,
+    step: u32,
     told: Vec<Told>,
 }
 
@@ -36,18 +36,23 @@ impl Tale {
     }
 
     /// A new step begins.
-    pub(crate) fn go_on(&mut self) {
+    pub fn go_on(&mut self) {
         self.step = self.step.saturating_add(1);
     }
 
+    /// The step at which what happens now is told.
+    pub fn step(&self) -> u32 {
+        self.step
+    }
+
     /// Something happened at this step.
-    pub(crate) fn push(&mut self, happening: Happening) -> Result<(), Memory> {
+    pub fn push(&mut self, happening: Happening) -> Result<(), Memory> {
         let step = self.step;
         Ok(self.told.push(Told { step, happening })?)
     }
 
-    /// How much was told since the last time.
-    pub(crate) fn len(&self) -> usize {
+    /// How much was told since it was taken last.
+    pub fn len(&self) -> usize {
         self.told.len()
     }
 
