@@ -86,6 +86,13 @@ pub enum Happening {
     },
     /// A message was sent.
     Sent(Flight),
+    /// So many messages more were sent on that link.
+    SentMore {
+        partition: PartitionId,
+        from: u8,
+        to: u8,
+        count: usize,
+    },
     /// A message was delivered, and taken this way.
     Delivered(Flight, Took),
     /// A message was lost.

@@ -20,6 +20,7 @@ fn partition_of(happening: &Happening) -> Option<PartitionId> {
         Happening::Row { partition, .. } => Some(*partition),
         Happening::Stepped { step, .. } | Happening::NotRun { step } => Some(step.partition),
         Happening::Sent(flight) | Happening::Delivered(flight, _) => Some(flight.partition),
+        Happening::SentMore { partition, .. } => Some(*partition),
         _ => None,
     }
 }
