@@ -1,6 +1,6 @@
 -- Markup as a tree, and its bytes. What has the bytes of a tree is well formed: each element ends where it should, names and
 -- values are words and numbers, and a text has no character that begins markup.
-use Rattle.std.specs.Prelude.{◌≡◌, ℕ, Bool, ◌&&◌, ◌||◌, not, ◌==◌, nat_le, if◌then◌else◌, List, [], ◌∷◌, ◌++◌, codes, decimal}
+use Rattle.std.specs.Prelude.{◌≡◌, ℕ, Bool, ◌&&◌, ◌||◌, not, ◌==◌, nat_le, if◌then◌else◌, List, [], ◌++◌, codes, decimal}
 use Rattle.std.specs.Char.{encode_utf8}
 use Rattle.std.specs.List.{flat_map}
 use Rattle.svg_picture.specs.declared.words.Tag.{Tag}
