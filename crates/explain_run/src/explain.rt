@@ -1,5 +1,6 @@
 ghost use Rattle.std.specs.Prelude.{◌≡◌, ◌≢◌, ◌≤◌, Err, IsErrOf};
 ghost use Rattle.grid_edge.specs.Faults.{Rose};
+ghost use Rattle.explain_run.specs.Stories.{GoesOn};
 
 use crate::script::{ScriptEnd, read_script};
 use crate::story::{Stop, Story};
@@ -17,7 +18,10 @@ enum Page {
 }
 
 /// Runs the next line, and gives what is written of it.
-fn next_page(alloc: Global, end: ScriptEnd, story: &mut Story) -> Result<Page, Memory> {
+fn next_page(alloc: Global, end: ScriptEnd, story: &mut Story) -> Result<Page, Memory>
+    requires { GoesOn form story.old }
+    ensures { GoesOn form story.new }
+{
     match story.next(alloc) {
         Ok(line) => Ok(Page::Line(line.words(alloc)?)),
         Err(stop) => {
@@ -35,6 +39,8 @@ fn explain_next<K: Sink>(
     story: &mut Story,
     out: &mut K,
 ) -> Result<(), Status>
+    requires { GoesOn form story.old }
+    ensures goes_on { GoesOn form story.new }
     ensures runs { result ≢ Err Status.Usage }
     ensures doorless { result ≢ Err Status.DoorFault }
     ensures reads { IsErrOf result Status.ReadFault → end ≡ ScriptEnd.Fault }
@@ -59,12 +65,13 @@ fn explain_next<K: Sink>(
 
 /// Runs a script's lines, and writes what happened at each before the next one runs.
 fn explain_all<K: Sink>(alloc: Global, end: ScriptEnd, story: &mut Story, out: &mut K) -> Status
+    requires { GoesOn form story.old }
     ensures runs { result ≢ Status.Usage }
     ensures doorless { result ≢ Status.DoorFault }
     ensures reads { result ≡ Status.ReadFault → end ≡ ScriptEnd.Fault }
     ensures cause { result ≡ Status.WriteFault → Rose (K.faults out.old) (K.faults out.new) }
 {
-    for _ in 0..u64::MAX {
+    'lines: for _ in 0..u64::MAX {
         if let Err(status) = explain_next(alloc, end, story, out) {
             return status;
         }

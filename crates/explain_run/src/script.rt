@@ -41,7 +41,7 @@ pub fn read_script<S: Source>(alloc: Global, source: &mut S) -> Result<Script, M
 {
     let mut buffer = vec![in alloc; 0u8; PIECE]?;
     let mut text = Vec::new(alloc);
-    for _ in 0..u64::MAX {
+    'pieces: for _ in 0..u64::MAX {
         let Ok(count) = source.read(buffer.as_mut_slice()) else {
             return Ok(Script {
                 text,
@@ -51,8 +51,7 @@ pub fn read_script<S: Source>(alloc: Global, source: &mut S) -> Result<Script, M
         if count == 0 {
             break;
         }
-        let piece = buffer.as_slice().get(..count).unwrap_or(&[]);
-        if !add(&mut text, piece)? {
+        if !add(&mut text, &buffer[..count])? {
             return Ok(Script {
                 text,
                 end: ScriptEnd::TooLong,

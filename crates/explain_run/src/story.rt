@@ -1,6 +1,8 @@
 //! A script that runs line by line, each of which is told.
 
 ghost use Rattle.std.specs.Prelude.{◌≡◌, ◌≢◌};
+ghost use Rattle.running_grid.specs.Runs.{IsRunning};
+ghost use Rattle.explain_run.specs.Stories.{GoesOn};
 
 use crate::script::{Script, ScriptEnd};
 use entry_processors::Processor;
@@ -140,7 +142,9 @@ pub struct Story {
 
 impl Story {
     /// A script of which no line ran. Its grid is to have these processors, whose numbers go from 1.
-    pub fn new(alloc: Global, script: Script, processors: Vec<Box<dyn Processor>>) -> Self {
+    pub fn new(alloc: Global, script: Script, processors: Vec<Box<dyn Processor>>) -> Self
+        ensures { GoesOn form result }
+    {
         Story {
             script,
             at: 0,
@@ -178,7 +182,10 @@ impl Story {
         alloc: Global,
         processors: Vec<Box<dyn Processor>>,
         text: &[u8],
-    ) -> Result<Place, Stop> {
+    ) -> Result<Place, Stop>
+        requires { GoesOn form self.old }
+        ensures { GoesOn form self.new }
+    {
         let line = match read_line(alloc, text, true, 0) {
             Ok(line) => line,
             Err(LineRefused::Why(why)) => return Err(Stop::Refused { line: 1, why }),
@@ -205,7 +212,11 @@ impl Story {
     }
 
     /// Runs a line behind the first.
-    fn go_on(&mut self, alloc: Global, mut watch: Watch, text: &[u8]) -> Result<Place, Stop> {
+    fn go_on(&mut self, alloc: Global, mut watch: Watch, text: &[u8]) -> Result<Place, Stop>
+        requires waits { GoesOn form self.old }
+        requires stands { IsRunning form watch.running }
+        ensures { GoesOn form self.new }
+    {
         let ran = watch.run(alloc, text, &mut self.told);
         let line = match ran {
             Ok(line) => line,
@@ -225,7 +236,10 @@ impl Story {
     }
 
     /// Runs the next line.
-    fn run_next(&mut self, alloc: Global) -> Result<Place, Stop> {
+    fn run_next(&mut self, alloc: Global) -> Result<Place, Stop>
+        requires { GoesOn form self.old }
+        ensures { GoesOn form self.new }
+    {
         let stage = mem::replace(&mut self.stage, Stage::Ended);
         if matches!(&stage, Stage::Ended) {
             return Err(Stop::Done);
@@ -244,7 +258,10 @@ impl Story {
     /// Runs the next line, and tells what happened. An `Err` is how the run ended: behind a line `end`, or at a line that
     /// didn't run, of which nothing is told. After an `Err` nothing more is run. Costs what the line costs the grid, the
     /// words of what happened, and a copy of the line.
-    pub fn next(&mut self, alloc: Global) -> Result<LineTold, Stop> {
+    pub fn next(&mut self, alloc: Global) -> Result<LineTold, Stop>
+        requires { GoesOn form self.old }
+        ensures { GoesOn form self.new }
+    {
         let at = self.run_next(alloc)?;
         let told = self.told.take(alloc);
         Ok(LineTold { at, told })

@@ -3,9 +3,8 @@
 use crate::cast::{Cast, Lane};
 use crate::marks::{cut, cut_remark, width_of};
 use grid_base::{CallId, Memory};
-use run_tale::{Happening, LineTold, Told};
 use std::alloc::Global;
-use std::collections::HashMap;
+use std::collections::{BTreeMap, HashMap};
 use svg_picture::{Anchor, Look, Picture, Point};
 
 /// Where the first row stands, and how far the next one is from it.
@@ -19,13 +18,16 @@ const ROWS_OF_HEADS: u32 = 40;
 /// Where the numbers of lines end, and how far remarks are from the texts on their left.
 const GUTTER: u64 = 34;
 
-const GAP: u64 = 30;
+pub(crate) const GAP: u64 = 30;
+
+/// Half of how wide the name of the last lane is, about.
+const HALF_NAME: u64 = 20;
 
 /// A remark, which stands behind all lanes.
 #[derive(Drop)]
-struct Remark {
-    y: u64,
-    text: String,
+pub(crate) struct Remark {
+    pub(crate) y: u64,
+    pub(crate) text: String,
 }
 
 /// A call that wasn't answered: its connection, and where it arrived.
@@ -50,12 +52,13 @@ pub(crate) struct Chart {
     numbered: u32,
     /// A comment, until the row of the line behind it begins.
     comment: Option<String>,
-    remarks: Vec<Remark>,
+    pub(crate) remarks: Vec<Remark>,
     /// Where the texts on the left of the remarks end.
-    right: u64,
+    pub(crate) right: u64,
     /// At which height each step of the run stands.
     heights: Vec<u64>,
-    pub(crate) calls: HashMap<CallId, OpenCall>,
+    /// The calls that weren't answered so far.
+    pub(crate) calls: BTreeMap<CallId, OpenCall>,
     /// At which height somebody was gone, by the places of the lanes.
     gone: HashMap<usize, u64>,
     /// How many messages of partitions that aren't shown the line at hand delivered.
@@ -65,7 +68,7 @@ pub(crate) struct Chart {
 impl Chart {
     /// A picture with this cast, in which nothing has happened.
     pub(crate) fn new(alloc: Global, cast: Cast) -> Self {
-        let right = cast.table().x;
+        let right = cast.table().x.saturating_add(HALF_NAME);
         Chart {
             cast,
             picture: Picture::new(alloc),
@@ -77,14 +80,19 @@ impl Chart {
             remarks: Vec::new(alloc),
             right,
             heights: Vec::new(alloc),
-            calls: HashMap::new(alloc),
+            calls: BTreeMap::new(alloc),
             gone: HashMap::new(alloc),
             others: 0,
         }
     }
 
+    /// Whether a comment waits for its row.
+    pub(crate) fn has_comment(&self) -> bool {
+        self.comment.is_some()
+    }
+
     /// Goes on to a new row, with the comment that stands before it.
-    fn next_row(&mut self) -> Result<(), Memory> {
+    pub(crate) fn next_row(&mut self) -> Result<(), Memory> {
         if self.rows >= ROWS_OF_HEADS {
             self.rows = 0;
             self.y = self.y.saturating_add(STEP);
@@ -169,7 +177,7 @@ impl Chart {
 
     /// Remarks something behind all lanes, in a row of its own.
     pub(crate) fn remark(&mut self, alloc: Global, line: u32, text: &str) -> Result<(), Memory> {
-        if self.comment.is_some() {
+        if self.has_comment() {
             self.next_row()?;
         }
         let y = self.next(alloc, line)?;
@@ -180,7 +188,7 @@ impl Chart {
 
     /// Keeps a comment for the row of the next line; one that was kept before gets a row of its own.
     pub(crate) fn comment(&mut self, alloc: Global, text: &str) -> Result<(), Memory> {
-        if self.comment.is_some() {
+        if self.has_comment() {
             self.next_row()?;
         }
         self.comment = Some(cut_remark(alloc, text)?);
@@ -199,7 +207,7 @@ impl Chart {
     }
 
     /// Notes that a step stands in the row at hand.
-    fn set_height(&mut self, step: u32) -> Result<(), Memory> {
+    pub(crate) fn set_height(&mut self, step: u32) -> Result<(), Memory> {
         let place = step as usize;
         for _ in self.heights.len()..place.saturating_add(1) {
             self.heights.push(self.y)?;
@@ -213,68 +221,5 @@ impl Chart {
     /// At which height a step stands.
     pub(crate) fn height_of(&self, step: u32) -> u64 {
         self.heights.get(step as usize).copied().unwrap_or(TOP)
-    }
-
-    /// Draws what happened.
-    fn draw(&mut self, alloc: Global, line: u32, told: &Told) -> Result<(), Memory> {
-        let happening = &told.happening;
-        self.draw_message(alloc, line, happening)?;
-        self.draw_client(alloc, line, happening)?;
-        self.draw_table(alloc, line, happening)?;
-        match happening {
-            Happening::Answered { .. } | Happening::Event { .. } => Ok(()),
-            _ => self.set_height(told.step),
-        }
-    }
-
-    /// Draws what happened at a line.
-    pub(crate) fn draw_line(&mut self, alloc: Global, line: &LineTold) -> Result<(), Memory> {
-        let number = line.at.line;
-        self.others = 0;
-        for told in line.told.as_slice() {
-            self.draw(alloc, number, told)?;
-        }
-        if self.others == 0 {
-            return Ok(());
-        }
-        let others = self.others;
-        let text = format!(in alloc; "and {others} messages of other partitions")?;
-        self.remark(alloc, number, text.as_str())
-    }
-
-    /// Writes the remarks. Gives the width of the picture.
-    fn write_remarks(&mut self, alloc: Global) -> Result<u64, Memory> {
-        let x = self.right.saturating_add(GAP);
-        let mut right = x;
-        for remark in self.remarks.as_slice() {
-            let text = remark.text.as_str();
-            let at = Point {
-                x,
-                y: remark.y.saturating_add(4),
-            };
-            self.picture
-                .text(alloc, Look::Note, at, Anchor::Start, text, "")?;
-            right = right.max(x.saturating_add(width_of(text)));
-        }
-        Ok(right)
-    }
-
-    /// The picture, with a remark on where the run stopped, if it did.
-    pub(crate) fn finish(
-        mut self,
-        alloc: Global,
-        stopped: &str,
-        line: u32,
-    ) -> Result<String, Memory> {
-        if !stopped.is_empty() {
-            self.remark(alloc, line, stopped)?;
-        } else if self.comment.is_some() {
-            self.next_row()?;
-        }
-        self.draw_open_calls(alloc)?;
-        self.draw_lanes(alloc)?;
-        let width = self.write_remarks(alloc)?;
-        let height = self.y.saturating_add(STEP * 2);
-        self.picture.finish(alloc, width, height)
     }
 }

@@ -75,13 +75,13 @@ impl Chart {
         let (members, backups) = (self.cast.members, self.cast.backups);
         for partition in partitions {
             let row = Row::initial(alloc, *partition, members, backups)?;
-            let first = row.members.as_slice().first().copied();
-            if first.is_some_and(|first| first.member == member) {
-                words.push_str(if words.is_empty() {
+            if row.primary() == Some(member) {
+                let before = if words.is_empty() {
                     "primary of "
                 } else {
                     ", "
-                })?;
+                };
+                words.push_str(before)?;
                 write!(words, "{partition}")?;
             }
         }

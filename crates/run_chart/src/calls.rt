@@ -1,6 +1,6 @@
 //! What clients say and are told.
 
-use crate::chart::{Chart, OpenCall};
+use crate::chart::{Chart, OpenCall, STEP};
 use crate::marks::cut;
 use grid_base::{CallId, Memory};
 use run_tale::Happening;
@@ -146,7 +146,7 @@ impl Chart {
 
     /// Draws the calls that weren't answered: their bars stay open.
     pub(crate) fn draw_open_calls(&mut self, alloc: Global) -> Result<(), Memory> {
-        let foot = self.y.saturating_add(crate::chart::STEP);
+        let foot = self.y.saturating_add(STEP);
         for call in self.calls.values() {
             if let Some((client, _)) = self.cast.client(call.conn) {
                 let top = Point {

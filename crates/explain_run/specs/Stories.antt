@@ -1,0 +1,16 @@
+-- What the grid of a story stands for.
+use Rattle.replay_run.specs.Grids.{FormOf}
+use Rattle.running_grid.specs.Runs.{IsRunning}
+use Rattle.explain_run.specs.declared.story.Stage.{Stage}
+use Rattle.explain_run.specs.declared.story.Stage.TheVariants.{Waiting, Running, Ended}
+use Rattle.explain_run.specs.declared.story.Story.{Story}
+
+-- A grid that runs a story's lines is one of a script.
+abbrev pub RunsLines : {V : Type 0} {T : V → Type 0} → FormOf V T → Stage V T → Type 0
+RunsLines form (Waiting processors) = Unit {0}
+RunsLines form (Running watch) = IsRunning form watch.running
+RunsLines form Ended = Unit {0}
+
+-- between two lines of a story
+abbrev pub GoesOn : {V : Type 0} {T : V → Type 0} → FormOf V T → Story V T → Type 0
+GoesOn form story = RunsLines form story.stage
