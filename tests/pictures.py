@@ -3,8 +3,8 @@
 
 Each script must end with the exit status of its replay, and nothing may stand on standard error. Its picture must be
 well-formed, with all that stands in it inside its frame. Where its messages are delivered and lost one by one, or by the
-`flow` of one partition, it has an arrow or a broken line for each. FOLDERs have scripts, as files *.script, in place of the scenarios. GRID names another program. The last line is
-'N passed, M failed', and the exit status is 0 where none failed.
+`flow` of one partition, it has an arrow or a broken line for each. FOLDERs have scripts, as files *.script, in place of the
+scenarios. GRID names another program. The last line is 'N passed, M failed', and the exit status is 0 where none failed.
 """
 import os
 import subprocess
