@@ -1,7 +1,7 @@
 -- Markup that stands one behind another is markup.
 use Rattle.std.proofs.Common.{◌≡◌, ℕ, Bool, true, false, cond, List, [], ◌∷◌, ◌++◌, map, refl, sym, ap, subst, ◌∙◌, append_assoc, append-nil}
 use Rattle.std.specs.List.{flat_map}
-use Rattle.svg_picture.specs.Markup.{Markup, nothing, text, element, markup_text, element_text, escaped_char, IsMarkup}
+use Rattle.svg_picture.specs.Markup.{Markup, nothing, text, element, markup_text, element_text, escaped_char, HasEachOnce, IsSound, IsMarkup}
 use Rattle.svg_picture.specs.declared.words.Tag.{Tag}
 use Rattle.svg_picture.specs.declared.words.Attribute.{Attribute}
 
@@ -20,22 +20,29 @@ markup_text-joined (element tag attributes inside rest) more =
     ap (λ bytes. element_text tag attributes (markup_text inside) ++ bytes) (markup_text-joined rest more)
     ∙ sym (append_assoc (element_text tag attributes (markup_text inside)) (markup_text rest) (markup_text more))
 
+sound_joined : (first more : Markup) → IsSound first → IsSound more → IsSound (joined first more)
+sound_joined nothing more a b = b
+sound_joined (text characters rest) more a b = sound_joined rest more a b
+sound_joined (element tag attributes inside rest) more a b = (a.0, a.1, sound_joined rest more a.2 b)
+
 pub no_markup : (bytes : List ℕ) → bytes ≡ [] → IsMarkup bytes
-no_markup bytes e = record { markup = nothing; is = e }
+no_markup bytes e = record { markup = nothing; sound = tt; is = e }
 
 pub of_text : (characters bytes : List ℕ) → bytes ≡ flat_map escaped_char characters → IsMarkup bytes
 of_text characters bytes e =
-    record { markup = text characters nothing; is = e ∙ sym (append-nil (flat_map escaped_char characters)) }
+    record { markup = text characters nothing; sound = tt; is = e ∙ sym (append-nil (flat_map escaped_char characters)) }
 
-pub of_element : (tag : Tag) (attributes : List Attribute) (inside bytes : List ℕ) → IsMarkup inside → bytes ≡ element_text tag attributes inside → IsMarkup bytes
-of_element tag attributes inside bytes within e = record {
+pub of_element : (tag : Tag) (attributes : List Attribute) (inside bytes : List ℕ) → HasEachOnce attributes → IsMarkup inside → bytes ≡ element_text tag attributes inside → IsMarkup bytes
+of_element tag attributes inside bytes once within e = record {
   markup = element tag attributes within.markup nothing;
+  sound = (once, within.sound, tt);
   is = e ∙ (ap (element_text tag attributes) within.is ∙ sym (append-nil (element_text tag attributes (markup_text within.markup))));
 }
 
 pub of_both : (first more bytes : List ℕ) → IsMarkup first → IsMarkup more → bytes ≡ first ++ more → IsMarkup bytes
 of_both first more bytes a b e = record {
   markup = joined a.markup b.markup;
+  sound = sound_joined a.markup b.markup a.sound b.sound;
   is = e ∙ (ap (λ front. front ++ more) a.is ∙ (ap (λ rest. markup_text a.markup ++ rest) b.is ∙ sym (markup_text-joined a.markup b.markup)));
 }
 

@@ -1,8 +1,8 @@
--- Markup as a tree, and its bytes. What has the bytes of a tree is well formed: each element ends where it should, names and
--- values are words and numbers, and a text has no character that begins markup.
-use Rattle.std.specs.Prelude.{◌≡◌, ℕ, Bool, ◌&&◌, ◌||◌, not, ◌==◌, nat_le, if◌then◌else◌, List, [], ◌++◌, codes, decimal}
+-- Markup as a tree, and its bytes. What has the bytes of a sound tree is well formed: each element ends where it should and
+-- has each attribute once, names and values are words and numbers, and a text has no character that begins markup.
+use Rattle.std.specs.Prelude.{◌≡◌, ℕ, Bool, true, ◌&&◌, ◌||◌, not, IsTrue, ◌==◌, nat_le, bytes_eq, if◌then◌else◌, List, [], ◌∷◌, ◌++◌, map, codes, decimal}
 use Rattle.std.specs.Char.{encode_utf8}
-use Rattle.std.specs.List.{flat_map}
+use Rattle.std.specs.List.{flat_map, list_any}
 use Rattle.svg_picture.specs.declared.words.Tag.{Tag}
 use Rattle.svg_picture.specs.declared.words.Tag.TheVariants.{Svg}
 use Rattle.svg_picture.specs.declared.words.Attribute.{Attribute}
@@ -49,14 +49,33 @@ markup_text nothing = []
 markup_text (text characters rest) = flat_map escaped_char characters ++ markup_text rest
 markup_text (element tag attributes inside rest) = element_text tag attributes (markup_text inside) ++ markup_text rest
 
--- These bytes are those of a tree
+-- whether no name stands twice
+abbrev pub are_distinct : List (List ℕ) → Bool
+are_distinct [] = true
+are_distinct (name ∷ names) = not (list_any (bytes_eq name) names) && are_distinct names
+
+abbrev pub names_of : List Attribute → List (List ℕ)
+names_of attributes = map (λ attribute. field_text attribute.field) attributes
+
+abbrev pub HasEachOnce : List Attribute → Type 0
+HasEachOnce attributes = IsTrue (are_distinct (names_of attributes))
+
+-- Each element has each attribute once.
+abbrev pub IsSound : Markup → Type 0
+IsSound nothing = Unit {0}
+IsSound (text characters rest) = IsSound rest
+IsSound (element tag attributes inside rest) = HasEachOnce attributes × IsSound inside × IsSound rest
+
+-- These bytes are those of a sound tree.
 pub record IsMarkup (bytes : List ℕ) : Type 0 where
   pub markup : Markup
+  pub sound : IsSound markup
   pub is : bytes ≡ markup_text markup
 
--- These bytes are one element `svg`
+-- These bytes are one element `svg`.
 pub record IsDocument (bytes : List ℕ) : Type 0 where
   pub attributes : List Attribute
+  pub once : HasEachOnce attributes
   pub inside : List ℕ
   pub markup : IsMarkup inside
   pub is : bytes ≡ element_text Svg attributes inside

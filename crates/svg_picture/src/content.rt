@@ -2,7 +2,7 @@
 ghost use Rattle.std.specs.Prelude.{◌≡◌, [], ◌++◌, OnOk, OnErr, IfOk, string_bytes};
 ghost use Rattle.std.specs.List.{flat_map};
 ghost use Rattle.std.specs.Str.{chars};
-ghost use Rattle.svg_picture.specs.Markup.{value_text, attribute_text, element_text, escaped_char, IsDocument};
+ghost use Rattle.svg_picture.specs.Markup.{value_text, attribute_text, element_text, escaped_char, HasEachOnce, IsDocument};
 
 use crate::escaping::push_escaped;
 use crate::words::{Attribute, Tag, Value};
@@ -101,6 +101,7 @@ impl Content {
         attributes: &[Attribute],
         inside: &Content,
     ) -> Result<Self, AllocError>
+        requires { HasEachOnce attributes.now }
         ensures { IfOk result (λ content. content ≡ element_text tag attributes.now inside.now) }
     {
         let text = element_text(alloc, tag, attributes, inside.text.as_str())?;
@@ -121,6 +122,7 @@ impl Content {
         alloc: Global,
         attributes: &[Attribute],
     ) -> Result<String, AllocError>
+        requires { HasEachOnce attributes.now }
         ensures { IfOk result (λ text. IsDocument (string_bytes text)) }
     {
         let text = element_text(alloc, Tag::Svg, attributes, self.text.as_str())?;

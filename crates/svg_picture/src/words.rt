@@ -210,21 +210,27 @@ pub(crate) struct Attribute {
 }
 
 impl Attribute {
-    pub(crate) fn number(field: Field, number: u64) -> Attribute {
+    pub(crate) fn number(field: Field, number: u64) -> Attribute
+        ensures { result.field ≡ field }
+    {
         Attribute {
             field,
             value: Value::Number(number),
         }
     }
 
-    pub(crate) fn look(look: Look) -> Attribute {
+    pub(crate) fn look(look: Look) -> Attribute
+        ensures { result.field ≡ Field.Class }
+    {
         Attribute {
             field: Field::Class,
             value: Value::Look(look),
         }
     }
 
-    pub(crate) fn fixed(field: Field, fixed: Fixed) -> Attribute {
+    pub(crate) fn fixed(field: Field, fixed: Fixed) -> Attribute
+        ensures { result.field ≡ field }
+    {
         Attribute {
             field,
             value: Value::Fixed(fixed),

@@ -5,5 +5,5 @@ use Rattle.svg_picture.proofs.content.Content.of_element.Goals as goal
 
 pub invariant_of-result : goal.invariant_of-result
 invariant_of-result c =
-    of_element c.args.tag c.args.attributes.now (string_bytes c.inside.inside.text) (string_bytes c.in_ok-text.text) c.inside.invariant
+    of_element c.args.tag c.args.attributes.now (string_bytes c.inside.inside.text) (string_bytes c.in_ok-text.text) c.requires c.inside.invariant
     (c.in_ok-text.ensures ∙ ap (element_text c.args.tag c.args.attributes.now) c.as_str.ensures.value)

@@ -6,6 +6,7 @@ use Rattle.svg_picture.proofs.content.Content.picture.Goals as goal
 pub returns : goal.returns
 returns c = record {
   attributes = c.args.attributes.now;
+  once = c.requires;
   inside = string_bytes c.self.inside.text;
   markup = c.self.invariant;
   is = c.in_ok-text.ensures ∙ ap (element_text Svg c.args.attributes.now) c.as_str.ensures.value;
