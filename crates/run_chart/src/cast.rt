@@ -34,7 +34,7 @@ pub(crate) struct Cast {
 }
 
 /// The lane of that place.
-fn lane(place: usize) -> Lane {
+fn lane_at(place: usize) -> Lane {
     let x = LEFT.saturating_add((place as u64).saturating_mul(STEP));
     Lane { place, x }
 }
@@ -114,7 +114,7 @@ impl Cast {
 
     /// The lane of a member, or that of the table service behind the last member's.
     pub(crate) fn end(&self, end: u8) -> Lane {
-        lane(self.clients.len().saturating_add(usize::from(end)))
+        lane_at(self.clients.len().saturating_add(usize::from(end)))
     }
 
     /// The lane of the table service.
@@ -126,7 +126,7 @@ impl Cast {
     pub(crate) fn client(&self, conn: u32) -> Option<(Lane, Lane)> {
         let place = self.clients.iter().position(|client| client.conn == conn)?;
         let client = self.clients.get(place)?;
-        Some((lane(place), self.end(client.member)))
+        Some((lane_at(place), self.end(client.member)))
     }
 
     /// The connections, in the order of their lanes.
