@@ -2,7 +2,7 @@
 
 use crate::data::{push_argument, push_data, push_entry_name, push_name};
 use compose_words::{MapWait, QueueWait};
-use grid_base::{Bytes, GridCall, MapCall, Memory, Owner, QueueCall};
+use grid_base::{Bytes, GridCall, MapCall, Memory, QueueCall};
 use std::alloc::Global;
 
 /// The thread of a call that states none in words.
@@ -21,10 +21,11 @@ struct Parts<'a> {
     ttl: i64,
     idle: i64,
     lease: i64,
-    owner: Option<&'a Owner>,
+    thread: i64,
 }
 
 impl<'a> Parts<'a> {
+    /// A word that says all.
     fn of(word: &'static str) -> Self {
         Parts {
             word,
@@ -34,109 +35,129 @@ impl<'a> Parts<'a> {
             ttl: 0,
             idle: 0,
             lease: 0,
-            owner: None,
-        }
-    }
-
-    fn by(word: &'static str, owner: &'a Owner) -> Self {
-        Parts {
-            owner: Some(owner),
-            ..Parts::of(word)
-        }
-    }
-
-    fn storing(word: &'static str, owner: &'a Owner, value: &'a Bytes, ttl: i64) -> Self {
-        Parts {
-            value: Some(value),
-            ttl,
-            ..Parts::by(word, owner)
+            thread: USUAL_THREAD,
         }
     }
 }
 
-/// What a call that stores a value says.
-fn parts_of_storing(call: &MapCall) -> Option<Parts<'_>> {
+/// The word of a call on a map's entry.
+fn word_of_map(call: &MapCall) -> &'static str {
     match call {
-        MapCall::Put {
-            owner,
-            value,
-            ttl,
+        MapCall::Put { .. } => "put",
+        MapCall::Set { .. } => "set",
+        MapCall::PutIfAbsent { .. } => "putIfAbsent",
+        MapCall::Get { .. } => "get",
+        MapCall::ContainsKey { .. } => "containsKey",
+        MapCall::Remove { .. } => "remove",
+        MapCall::Delete { .. } => "delete",
+        MapCall::Replace { .. } => "replace",
+        MapCall::ReplaceIfSame { .. } => "replaceIfSame",
+        MapCall::RemoveIfSame { .. } => "removeIfSame",
+        MapCall::TryLock { .. } => "tryLock",
+        MapCall::Unlock { .. } => "unlock",
+        MapCall::IsLocked { .. } => "isLocked",
+        MapCall::ForceUnlock { .. } => "forceUnlock",
+        MapCall::ExecuteOnKey { .. } => "executeOnKey",
+        MapCall::PutMaxIdle { .. } => "putMaxIdle",
+        MapCall::SetMaxIdle { .. } => "setMaxIdle",
+    }
+}
+
+/// The processor that a call runs, and what it is given.
+fn processor_of(call: &MapCall) -> Option<(i32, &Bytes)> {
+    match call {
+        MapCall::ExecuteOnKey {
+            number,
+            argument,
             ..
-        } => Some(Parts::storing("put", owner, value, *ttl)),
-        MapCall::Set {
-            owner,
-            value,
-            ttl,
-            ..
-        } => Some(Parts::storing("set", owner, value, *ttl)),
-        MapCall::PutIfAbsent {
-            owner,
-            value,
-            ttl,
-            ..
-        } => { Some(Parts::storing("putIfAbsent", owner, value, *ttl)) }
-        MapCall::PutMaxIdle {
-            owner,
-            value,
-            ttl,
-            idle,
-            ..
-        } => Some(Parts {
-            idle: *idle,
-            ..Parts::storing("putMaxIdle", owner, value, *ttl)
-        }),
-        MapCall::SetMaxIdle {
-            owner,
-            value,
-            ttl,
-            idle,
-            ..
-        } => Some(Parts {
-            idle: *idle,
-            ..Parts::storing("setMaxIdle", owner, value, *ttl)
-        }),
-        MapCall::Replace { owner, value, .. } => Some(Parts::storing("replace", owner, value, 0)),
-        MapCall::ReplaceIfSame {
-            owner,
-            test,
-            value,
-            ..
-        } => Some(Parts {
-            test: Some(test),
-            ..Parts::storing("replaceIfSame", owner, value, 0)
-        }),
+        } => Some((*number, argument)),
         _ => None,
+    }
+}
+
+/// The value that is to be there already.
+fn test_of(call: &MapCall) -> Option<&Bytes> {
+    match call {
+        MapCall::ReplaceIfSame { test, .. } | MapCall::RemoveIfSame { test, .. } => Some(test),
+        _ => None,
+    }
+}
+
+/// The value that a call stores.
+fn value_of(call: &MapCall) -> Option<&Bytes> {
+    match call {
+        MapCall::Put { value, .. }
+        | MapCall::Set { value, .. }
+        | MapCall::PutIfAbsent { value, .. }
+        | MapCall::Replace { value, .. }
+        | MapCall::ReplaceIfSame { value, .. }
+        | MapCall::PutMaxIdle { value, .. }
+        | MapCall::SetMaxIdle { value, .. } => Some(value),
+        _ => None,
+    }
+}
+
+/// For how long the value lives, where the call says it.
+fn ttl_of(call: &MapCall) -> i64 {
+    match call {
+        MapCall::Put { ttl, .. }
+        | MapCall::Set { ttl, .. }
+        | MapCall::PutIfAbsent { ttl, .. }
+        | MapCall::PutMaxIdle { ttl, .. }
+        | MapCall::SetMaxIdle { ttl, .. } => *ttl,
+        _ => 0,
+    }
+}
+
+/// For how long the value may lie unused, where the call says it.
+fn idle_of(call: &MapCall) -> i64 {
+    match call {
+        MapCall::PutMaxIdle { idle, .. } | MapCall::SetMaxIdle { idle, .. } => *idle,
+        _ => 0,
+    }
+}
+
+/// For how long the key is locked, where the call says it.
+fn lease_of(call: &MapCall) -> i64 {
+    match call {
+        MapCall::TryLock { lease, .. } => *lease,
+        _ => 0,
+    }
+}
+
+/// The thread that calls; the usual one where the call has none.
+fn thread_of(call: &MapCall) -> i64 {
+    match call {
+        MapCall::Put { owner, .. }
+        | MapCall::Set { owner, .. }
+        | MapCall::PutIfAbsent { owner, .. }
+        | MapCall::Get { owner, .. }
+        | MapCall::ContainsKey { owner, .. }
+        | MapCall::Remove { owner, .. }
+        | MapCall::Delete { owner, .. }
+        | MapCall::Replace { owner, .. }
+        | MapCall::ReplaceIfSame { owner, .. }
+        | MapCall::RemoveIfSame { owner, .. }
+        | MapCall::TryLock { owner, .. }
+        | MapCall::Unlock { owner, .. }
+        | MapCall::ExecuteOnKey { owner, .. }
+        | MapCall::PutMaxIdle { owner, .. }
+        | MapCall::SetMaxIdle { owner, .. } => owner.thread,
+        MapCall::IsLocked { .. } | MapCall::ForceUnlock { .. } => USUAL_THREAD,
     }
 }
 
 /// What a call on a map's entry says.
 fn parts_of_map(call: &MapCall) -> Parts<'_> {
-    match call {
-        MapCall::Get { owner, .. } => Parts::by("get", owner),
-        MapCall::ContainsKey { owner, .. } => Parts::by("containsKey", owner),
-        MapCall::Remove { owner, .. } => Parts::by("remove", owner),
-        MapCall::Delete { owner, .. } => Parts::by("delete", owner),
-        MapCall::RemoveIfSame { owner, test, .. } => Parts {
-            test: Some(test),
-            ..Parts::by("removeIfSame", owner)
-        },
-        MapCall::TryLock { owner, lease, .. } => Parts {
-            lease: *lease,
-            ..Parts::by("tryLock", owner)
-        },
-        MapCall::Unlock { owner, .. } => Parts::by("unlock", owner),
-        MapCall::IsLocked { .. } => Parts::of("isLocked"),
-        MapCall::ForceUnlock { .. } => Parts::of("forceUnlock"),
-        MapCall::ExecuteOnKey {
-            owner,
-            number,
-            argument,
-            ..
-        } => Parts {
-            processor: Some((*number, argument)),
-            ..Parts::by("executeOnKey", owner)
-        },
-        _ => parts_of_storing(call).unwrap_or(Parts::of("put")),
+    Parts {
+        word: word_of_map(call),
+        processor: processor_of(call),
+        test: test_of(call),
+        value: value_of(call),
+        ttl: ttl_of(call),
+        idle: idle_of(call),
+        lease: lease_of(call),
+        thread: thread_of(call),
     }
 }
 
@@ -160,14 +181,20 @@ fn parts_of_map_wait(wait: &MapWait) -> Parts<'_> {
     match wait {
         MapWait::Lock { owner, lease, .. } => Parts {
             lease: *lease,
-            ..Parts::by("lockWait", owner)
+            thread: owner.thread,
+            ..Parts::of("lockWait")
         },
         MapWait::Put {
             owner,
             value,
             ttl,
             ..
-        } => Parts::storing("putWait", owner, value, *ttl),
+        } => Parts {
+            value: Some(value),
+            ttl: *ttl,
+            thread: owner.thread,
+            ..Parts::of("putWait")
+        },
     }
 }
 
@@ -182,8 +209,8 @@ fn parts_of_queue_wait(wait: &QueueWait) -> Parts<'_> {
     }
 }
 
-/// Appends a word and its value, where it has one.
-fn push_part(alloc: Global, out: &mut String, value: Option<&Bytes>) -> Result<(), Memory> {
+/// Appends a value, where there is one.
+fn push_value(alloc: Global, out: &mut String, value: Option<&Bytes>) -> Result<(), Memory> {
     let Some(value) = value else {
         return Ok(());
     };
@@ -205,18 +232,16 @@ fn push_rest(alloc: Global, out: &mut String, parts: Parts<'_>) -> Result<(), Me
         write!(out, " {number} ")?;
         push_argument(alloc, out, argument.as_slice())?;
     }
-    push_part(alloc, out, parts.test)?;
-    push_part(alloc, out, parts.value)?;
+    push_value(alloc, out, parts.test)?;
+    push_value(alloc, out, parts.value)?;
     push_span(out, "ttl", parts.ttl)?;
     push_span(out, "idle", parts.idle)?;
     push_span(out, "lease", parts.lease)?;
-    match parts.owner {
-        Some(owner) if owner.thread != USUAL_THREAD => {
-            let thread = owner.thread;
-            write!(out, " thread {thread}")
-        }
-        _ => Ok(()),
+    let thread = parts.thread;
+    if thread == USUAL_THREAD {
+        return Ok(());
     }
+    write!(out, " thread {thread}")
 }
 
 /// Appends for how long a call may wait, where that has an end.
@@ -241,15 +266,10 @@ fn push_entry_call(
 }
 
 /// Appends a word and a queue.
-fn push_named_call(
-    alloc: Global,
-    out: &mut String,
-    word: &str,
-    queue: &Bytes,
-) -> Result<(), Memory> {
+fn push_named_call(out: &mut String, word: &str, queue: &Bytes) -> Result<(), Memory> {
     out.push_str(word)?;
     out.push_str(" ")?;
-    push_name(alloc, out, queue.as_slice())
+    push_name(out, queue.as_slice())
 }
 
 /// Appends a call on a map's entry as `say` lines have it.
@@ -266,7 +286,7 @@ pub(crate) fn push_queue_call(
     call: &QueueCall,
 ) -> Result<(), Memory> {
     let parts = parts_of_queue(call);
-    push_named_call(alloc, out, parts.word, call.queue())?;
+    push_named_call(out, parts.word, call.queue())?;
     push_rest(alloc, out, parts)
 }
 
@@ -292,7 +312,7 @@ pub(crate) fn push_queue_wait(
     timeout: i64,
 ) -> Result<(), Memory> {
     let parts = parts_of_queue_wait(wait);
-    push_named_call(alloc, out, parts.word, wait.queue())?;
+    push_named_call(out, parts.word, wait.queue())?;
     push_rest(alloc, out, parts)?;
     push_timeout(out, timeout)
 }
@@ -301,7 +321,7 @@ pub(crate) fn push_queue_wait(
 pub fn push_object(alloc: Global, out: &mut String, call: &GridCall) -> Result<(), Memory> {
     match call {
         GridCall::Map(call) => push_entry_name(alloc, out, call.map(), call.key()),
-        GridCall::Queue(call) => push_name(alloc, out, call.queue().as_slice()),
+        GridCall::Queue(call) => push_name(out, call.queue().as_slice()),
     }
 }
 

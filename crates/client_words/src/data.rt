@@ -22,23 +22,25 @@ enum Shape<'a> {
     Other,
 }
 
-/// Whether a text can stand in a word, each of its control characters as two digits.
-fn is_printable(text: &str) -> bool {
-    text.chars().all(|c| c.is_ascii() || !c.is_control())
-}
-
-/// The text of bytes that can stand in a word.
-fn text_of(bytes: &[u8]) -> Option<&str> {
-    let text = str::from_utf8(bytes).ok()?;
-    is_printable(text).then_some(text)
-}
-
-/// What a text is whose data states this hash.
-fn placed(hash: u32, text: &str) -> Shape<'_> {
+/// What data of a text is that states this hash.
+fn shape_of_text(hash: u32, content: &[u8]) -> Shape<'_> {
+    let Ok(text) = str::from_utf8(content) else {
+        return Shape::Other;
+    };
     match hash {
         0 => Shape::Text(text),
         HASH_OF_PARTITION_0 => Shape::Placed(0, text),
         1..=270 => Shape::Placed(hash, text),
+        _ => Shape::Other,
+    }
+}
+
+/// What data of a number is that states no hash.
+fn shape_of_number(content: &[u8]) -> Shape<'_> {
+    match content {
+        [a, b, c, d, e, f, g, h] => {
+            Shape::Number(i64::from_be_bytes([*a, *b, *c, *d, *e, *f, *g, *h]))
+        }
         _ => Shape::Other,
     }
 }
@@ -49,11 +51,9 @@ fn shape_of(bytes: &[u8]) -> Shape<'_> {
     };
     let [a, b, c, d, e, f, g, h] = *header;
     let hash = u32::from_be_bytes([a, b, c, d]);
-    match (u32::from_be_bytes([e, f, g, h]), content) {
-        (TEXT, content) => text_of(content).map_or(Shape::Other, |text| placed(hash, text)),
-        (NUMBER, [i, j, k, l, m, n, o, p]) if hash == 0 => {
-            Shape::Number(i64::from_be_bytes([*i, *j, *k, *l, *m, *n, *o, *p]))
-        }
+    match u32::from_be_bytes([e, f, g, h]) {
+        TEXT => shape_of_text(hash, content),
+        NUMBER if hash == 0 => shape_of_number(content),
         _ => Shape::Other,
     }
 }
@@ -64,27 +64,45 @@ pub fn push_hex(alloc: Global, out: &mut String, bytes: &[u8]) -> Result<(), Mem
     out.push_str(digits.as_str())
 }
 
-/// Appends a text, with a `%` and two digits for each byte that would end the word or can't be seen.
-fn push_escaped(out: &mut String, text: &str) -> Result<(), Memory> {
+/// Appends the word of bytes that nothing else says.
+fn push_plain(alloc: Global, out: &mut String, bytes: &[u8]) -> Result<(), Memory> {
+    out.push_str("hex:")?;
+    push_hex(alloc, out, bytes)
+}
+
+/// Appends a character, with a `%` and two digits for each of its bytes where it would end the word or can't be seen.
+fn push_char(out: &mut String, c: char) -> Result<(), Memory> {
+    let code = u32::from(c);
+    match c {
+        '%' | ' ' => write!(out, "%{code:02x}"),
+        _ if c.is_ascii_control() => write!(out, "%{code:02x}"),
+        // Each other control character is one of U+0080 to U+009F, which have two bytes: `c2`, and their number.
+        _ if c.is_control() => write!(out, "%c2%{code:02x}"),
+        _ => out.push(c),
+    }
+}
+
+/// Appends a text as a part of a word.
+fn push_text(out: &mut String, text: &str) -> Result<(), Memory> {
     for c in text.chars() {
-        if c == '%' || c == ' ' || c.is_ascii_control() {
-            let code = u32::from(c);
-            write!(out, "%{code:02x}")?;
-        } else {
-            out.push(c)?;
-        }
+        push_char(out, c)?;
     }
     Ok(())
 }
 
-/// Appends a name, which is UTF-8 where it was read; other bytes as digits.
-pub fn push_name(alloc: Global, out: &mut String, name: &[u8]) -> Result<(), Memory> {
-    match text_of(name) {
-        Some(text) => push_escaped(out, text),
-        None => {
-            out.push_str("hex:")?;
-            push_hex(alloc, out, name)
-        }
+/// Appends bytes as a part of a word, a `%` and two digits for each.
+fn push_bytes(out: &mut String, bytes: &[u8]) -> Result<(), Memory> {
+    for byte in bytes {
+        write!(out, "%{byte:02x}")?;
+    }
+    Ok(())
+}
+
+/// Appends a name, which is UTF-8 where it was read.
+pub fn push_name(out: &mut String, name: &[u8]) -> Result<(), Memory> {
+    match str::from_utf8(name) {
+        Ok(text) => push_text(out, text),
+        Err(_) => push_bytes(out, name),
     }
 }
 
@@ -93,17 +111,14 @@ pub fn push_data(alloc: Global, out: &mut String, bytes: &[u8]) -> Result<(), Me
     match shape_of(bytes) {
         Shape::Text(text) => {
             out.push_str("text:")?;
-            push_escaped(out, text)
+            push_text(out, text)
         }
         Shape::Number(number) => write!(out, "number:{number}"),
         Shape::Placed(partition, text) => {
             write!(out, "at:{partition}:")?;
-            push_escaped(out, text)
+            push_text(out, text)
         }
-        Shape::Other => {
-            out.push_str("hex:")?;
-            push_hex(alloc, out, bytes)
-        }
+        Shape::Other => push_plain(alloc, out, bytes),
     }
 }
 
@@ -114,7 +129,7 @@ pub fn push_entry_name(
     map: &Bytes,
     key: &Bytes,
 ) -> Result<(), Memory> {
-    push_name(alloc, out, map.as_slice())?;
+    push_name(out, map.as_slice())?;
     out.push_str(" ")?;
     push_data(alloc, out, key.as_slice())
 }
@@ -133,15 +148,12 @@ pub(crate) fn push_argument(alloc: Global, out: &mut String, bytes: &[u8]) -> Re
         let number = i64::from_le_bytes([*a, *b, *c, *d, *e, *f, *g, *h]);
         return write!(out, "number:{number}");
     }
-    match text_of(bytes) {
-        Some(text) => {
+    match str::from_utf8(bytes) {
+        Ok(text) => {
             out.push_str("text:")?;
-            push_escaped(out, text)
+            push_text(out, text)
         }
-        None => {
-            out.push_str("hex:")?;
-            push_hex(alloc, out, bytes)
-        }
+        Err(_) => push_plain(alloc, out, bytes),
     }
 }
 
@@ -152,7 +164,8 @@ pub(crate) fn partition_of_key(key: &[u8]) -> Option<PartitionId> {
 
 /// The partition of a queue that no message states otherwise: that of its name as a key.
 pub(crate) fn partition_of_name(alloc: Global, name: &[u8]) -> Result<Option<PartitionId>, Memory> {
-    let mut key = Vec::from_slice(alloc, &[0, 0, 0, 0, 0xff, 0xff, 0xff, 0xf5])?;
+    let mut key = Vec::from_slice(alloc, &[0; 4])?;
+    key.extend_from_slice(&TEXT.to_be_bytes())?;
     key.extend_from_slice(name)?;
     Ok(partition_of_key(key.as_slice()))
 }

@@ -3,9 +3,11 @@
 
 mod calls;
 mod data;
+mod reading;
 mod sayings;
 mod spelling;
+mod spoken;
 
 pub use calls::{push_deed, push_object};
 pub use data::{push_data, push_entry_name, push_hex, push_name, push_nullable};
-pub use sayings::{Form, Spoken, read_spoken};
+pub use spoken::{Form, Spoken, read_spoken};

@@ -1,8 +1,11 @@
 //! A member's answers to its clients in words.
 
 use crate::events::push_event;
+use client_codecs::{AUTHENTICATION_KIND, PING_KIND};
 use client_words::{push_hex, push_nullable};
-use event_codecs::read_event;
+use event_codecs::{
+    CLUSTER_VIEW_KIND, ENTRY_LISTENER_KIND, INVALIDATION_LISTENER_KIND, read_event,
+};
 use fixed_fields::{Cursor, byte_at, int32_at, int64_at, kind_of, uuid_at};
 use frame_codec::Frame;
 use grid_base::errors::{
@@ -10,13 +13,21 @@ use grid_base::errors::{
     UNKNOWN_PROCESSOR, UNKNOWN_TYPE, WANT_OF_MEMORY, WRONG_PARTITION, WRONG_TARGET,
 };
 use grid_base::{CallRefused, Memory};
+use map_codecs::{
+    CONTAINS_KEY_KIND, DELETE_KIND, EXECUTE_ON_KEY_KIND, FORCE_UNLOCK_KIND, GET_KIND,
+    IS_LOCKED_KIND, LOCK_WAIT_KIND, PUT_IF_ABSENT_KIND, PUT_KIND, PUT_MAX_IDLE_KIND, PUT_WAIT_KIND,
+    REMOVE_IF_SAME_KIND, REMOVE_KIND, REPLACE_IF_SAME_KIND, REPLACE_KIND, SET_KIND,
+    SET_MAX_IDLE_KIND, TRY_LOCK_KIND, UNLOCK_KIND,
+};
 use message_frames::{Message, MessageReader};
+use queue_codecs::{
+    CLEAR_KIND, OFFER_KIND, OFFER_WAIT_KIND, PEEK_KIND, POLL_KIND, POLL_WAIT_KIND,
+    REMAINING_CAPACITY_KIND, SIZE_KIND,
+};
 use std::alloc::{AllocError, Global};
 
-/// The types of answers by their shapes: one more than those of what they answer.
+/// The type of an error. That of each other answer is one more than the type of what it answers.
 const ERROR: u32 = 0;
-
-const AUTHENTICATION: u32 = 0x00_01_01;
 
 /// Where the first payload of an answer has the correlation.
 const CORRELATION: usize = 4;
@@ -51,42 +62,50 @@ enum Shape {
     Unknown,
 }
 
-/// The shape of an answer of a type, by `docs/PROTOCOL.md`, section 15.
-fn shape_of(kind: u32) -> Shape {
+/// The shape of the answer of a message of this type.
+fn shape_of_answer(kind: u32) -> Shape {
     match kind {
-        ERROR => Shape::Error,
-        AUTHENTICATION => Shape::Authentication,
-        0x00_0b_01
-        | 0x00_03_01
-        | 0x01_19_01
-        | 0x01_3f_01
-        | 0x01_09_01
-        | 0x01_0f_01
-        | 0x01_13_01
-        | 0x01_33_01
-        | 0x01_61_01
-        | 0x03_0f_01 => { Shape::Void }
-        0x01_80_01
-        | 0x03_80_01
-        | 0x01_05_01
-        | 0x01_06_01
-        | 0x01_08_01
-        | 0x01_11_01
-        | 0x01_12_01
-        | 0x03_01_01 => Shape::Flag,
-        0x03_03_01 | 0x03_13_01 => Shape::Number,
-        0x01_01_01
-        | 0x01_02_01
-        | 0x01_03_01
-        | 0x01_04_01
-        | 0x01_0e_01
-        | 0x01_2e_01
-        | 0x01_60_01
-        | 0x01_81_01
-        | 0x03_81_01
-        | 0x03_05_01
-        | 0x03_07_01 => Shape::Data,
+        AUTHENTICATION_KIND => Shape::Authentication,
+        PING_KIND
+        | CLUSTER_VIEW_KIND
+        | ENTRY_LISTENER_KIND
+        | INVALIDATION_LISTENER_KIND
+        | DELETE_KIND
+        | SET_KIND
+        | UNLOCK_KIND
+        | FORCE_UNLOCK_KIND
+        | SET_MAX_IDLE_KIND
+        | CLEAR_KIND => Shape::Void,
+        LOCK_WAIT_KIND
+        | OFFER_WAIT_KIND
+        | REPLACE_IF_SAME_KIND
+        | CONTAINS_KEY_KIND
+        | REMOVE_IF_SAME_KIND
+        | TRY_LOCK_KIND
+        | IS_LOCKED_KIND
+        | OFFER_KIND => Shape::Flag,
+        SIZE_KIND | REMAINING_CAPACITY_KIND => Shape::Number,
+        PUT_KIND
+        | GET_KIND
+        | REMOVE_KIND
+        | REPLACE_KIND
+        | PUT_IF_ABSENT_KIND
+        | EXECUTE_ON_KEY_KIND
+        | PUT_MAX_IDLE_KIND
+        | PUT_WAIT_KIND
+        | POLL_WAIT_KIND
+        | POLL_KIND
+        | PEEK_KIND => Shape::Data,
         _ => Shape::Unknown,
+    }
+}
+
+/// The shape of a message that begins with this frame.
+fn shape_of(first: &Frame) -> Shape {
+    match kind_of(first) {
+        Some(ERROR) => Shape::Error,
+        Some(kind) => shape_of_answer(kind - 1),
+        None => Shape::Unknown,
     }
 }
 
@@ -182,7 +201,7 @@ fn push_message(
     let Some((first, rest)) = message.frames.as_slice().split_first() else {
         return push_hex(alloc, out, bytes);
     };
-    match shape_of(kind_of(first).unwrap_or(u32::MAX)) {
+    match shape_of(first) {
         Shape::Error => push_error_message(out, first),
         Shape::Authentication => push_authentication(out, first),
         Shape::Unknown => push_hex(alloc, out, bytes),
@@ -219,10 +238,16 @@ fn is_refusal(first: &Frame) -> bool {
 fn read_answer(alloc: Global, message: &Message, bytes: &[u8]) -> Result<Output, Memory> {
     let mut words = String::new(alloc);
     push_message(alloc, &mut words, message, bytes)?;
-    let first = message.frames.as_slice().first();
+    let (correlation, executed) = match message.frames.as_slice().first() {
+        Some(first) => (
+            int64_at(first, CORRELATION).unwrap_or(0),
+            !is_refusal(first),
+        ),
+        None => (0, false),
+    };
     Ok(Output::Answer {
-        correlation: first.map_or(0, |first| int64_at(first, CORRELATION).unwrap_or(0)),
-        executed: !first.map_or(true, is_refusal),
+        correlation,
+        executed,
         words,
     })
 }

@@ -1,3 +1,5 @@
+//! Partitions of which the same is said, told together.
+
 use grid_base::{Memory, PartitionId};
 use std::alloc::Global;
 use std::collections::HashMap;
@@ -12,6 +14,7 @@ struct Group {
 /// What is said of partitions. Those of which the same is said stand together, in the order of their first ones.
 #[derive(Drop)]
 pub struct Groups {
+    /// Where in `groups` the group of these words is.
     places: HashMap<String, usize>,
     groups: Vec<Group>,
 }
@@ -36,15 +39,6 @@ fn common_step(partitions: &[PartitionId]) -> Option<PartitionId> {
     (same && step > 1).then_some(step)
 }
 
-/// Appends partitions that are told in rising order: `2 to 270 in steps of 4` where they are as far from one another, and
-/// else each, but three and more that follow one another as `2 to 9`.
-fn push_partitions(out: &mut String, partitions: &[PartitionId]) -> Result<(), Memory> {
-    match (common_step(partitions), partitions) {
-        (Some(step), [first, .., last]) => write!(out, "{first} to {last} in steps of {step}"),
-        _ => push_list(out, partitions),
-    }
-}
-
 /// Appends each partition, but three and more that follow one another as `2 to 9`.
 fn push_list(out: &mut String, partitions: &[PartitionId]) -> Result<(), Memory> {
     for (place, partition) in partitions.iter().enumerate() {
@@ -64,6 +58,29 @@ fn push_list(out: &mut String, partitions: &[PartitionId]) -> Result<(), Memory>
         write!(out, "{partition}")?;
     }
     Ok(())
+}
+
+/// Appends partitions that are told in rising order: `2 to 270 in steps of 4` where they are as far from one another, and
+/// else each, but three and more that follow one another as `2 to 9`.
+fn push_partitions(out: &mut String, partitions: &[PartitionId]) -> Result<(), Memory> {
+    match (common_step(partitions), partitions) {
+        (Some(step), [first, .., last]) => write!(out, "{first} to {last} in steps of {step}"),
+        _ => push_list(out, partitions),
+    }
+}
+
+impl Group {
+    fn line(&self, alloc: Global) -> Result<String, Memory> {
+        let word = match self.partitions.len() {
+            1 => "partition ",
+            _ => "partitions ",
+        };
+        let mut line = String::from_str(alloc, word)?;
+        push_partitions(&mut line, self.partitions.as_slice())?;
+        line.push_str(": ")?;
+        line.push_str(self.words.as_str())?;
+        Ok(line)
+    }
 }
 
 impl Groups {
@@ -91,8 +108,10 @@ impl Groups {
         let mut partitions = Vec::new(alloc);
         partitions.push(partition)?;
         let words = String::from_str(alloc, words)?;
-        self.places.insert(words.clone()?, self.groups.len())?;
+        let known = words.clone()?;
+        let place = self.groups.len();
         self.groups.push(Group { words, partitions })?;
+        self.places.insert(known, place)?;
         Ok(())
     }
 
@@ -100,16 +119,7 @@ impl Groups {
     pub fn lines(&self, alloc: Global) -> Result<Vec<String>, Memory> {
         let mut lines = Vec::new(alloc);
         for group in self.groups.as_slice() {
-            let word = if group.partitions.len() == 1 {
-                "partition "
-            } else {
-                "partitions "
-            };
-            let mut line = String::from_str(alloc, word)?;
-            push_partitions(&mut line, group.partitions.as_slice())?;
-            line.push_str(": ")?;
-            line.push_str(group.words.as_str())?;
-            lines.push(line)?;
+            lines.push(group.line(alloc)?)?;
         }
         Ok(lines)
     }

@@ -3,12 +3,14 @@
 #![tactic(auto)]
 
 mod answers;
+mod contents;
 mod events;
 mod groups;
 mod letters;
 mod outcomes;
 
 pub use answers::{Output, push_result, read_output};
+pub use contents::push_stored;
 pub use groups::Groups;
-pub use letters::{Letter, leader_of, letter_of, push_row, push_stored};
+pub use letters::{Letter, leader_of, letter_of, push_row};
 pub use outcomes::{fault_words, refused_words, took_of, took_words};
