@@ -51,12 +51,20 @@ impl Tale {
         Ok(self.told.push(Told { step, happening })?)
     }
 
+    /// These things happened at this step, in order.
+    pub fn push_all(&mut self, happenings: Vec<Happening>) -> Result<(), Memory> {
+        for happening in happenings {
+            self.push(happening)?;
+        }
+        Ok(())
+    }
+
     /// How much was told since it was taken last.
     pub fn len(&self) -> usize {
         self.told.len()
     }
 
-    /// What was told since the last time.
+    /// What was told since it was taken last.
     pub fn take(&mut self, alloc: Global) -> Vec<Told> {
         mem::replace(&mut self.told, Vec::new(alloc))
     }

@@ -1,1 +1,1 @@
-mod LineLimits
+mod Grids

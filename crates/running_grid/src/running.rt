@@ -1,6 +1,6 @@
 //! The grid of a script, of which each line is one that its script can have next.
 
-ghost use Rattle.std.specs.Prelude.{◌≡◌, ◌≤◌, IfOk, OnOk, IfSome};
+ghost use Rattle.std.specs.Prelude.{◌≡◌, ◌≤◌, IfOk, IfSome};
 ghost use Rattle.script_lang.specs.Lines.{IsWithin};
 ghost use Rattle.script_lang.specs.Limits.{most_line_bytes};
 ghost use Rattle.replay_run.specs.Grids.{boxed};
@@ -9,7 +9,8 @@ ghost use Rattle.running_grid.specs.Runs.{IsRunning};
 use crate::run_end::RunEnd;
 use call_engine::GridShelf;
 use entry_processors::Processor;
-use grid_base::{MemberId, Memory, PARTITIONS, PartitionId, Request};
+use grid_base::{Bytes, MemberId, Memory, PARTITIONS, PartitionId, Request};
+use partition_table::Row;
 use partition_world::{Link, Recorder, World};
 use replay_run::Grid;
 use replica_node::Contents;
@@ -71,22 +72,6 @@ impl RunningGrid {
         Ok(read_line(alloc, text, false, self.members)?)
     }
 
-    /// The line that delivers the first message of a partition's link, if there is such a link.
-    pub fn delivery(&self, partition: PartitionId, link: Link) -> Option<Line>
-        ensures { IfSome result (λ line. IsWithin self.now.members most_line_bytes line) }
-    {
-        let Link { from, to } = link;
-        if partition >= PARTITIONS || from > self.members || to > self.members {
-            return None;
-        }
-        Some(Line::Deliver {
-            partition,
-            from,
-            to,
-            place: 0,
-        })
-    }
-
     /// Runs a line on the grid, and gives the text that a replay has for it there. After an error the run is given up.
     pub fn run(&mut self, alloc: Global, line: &Line) -> Result<Vec<u8>, RunEnd>
         requires within { IsWithin self.old.members most_line_bytes line.now }
@@ -115,6 +100,46 @@ impl RunningGrid {
         }
     }
 
+    /// The newest row of a partition, if there is such a partition.
+    pub fn row(&self, partition: PartitionId) -> Option<&Row> {
+        match self.world(partition) {
+            Some(world) => Some(world.row()),
+            None => None,
+        }
+    }
+
+    /// How many events a partition had.
+    pub fn events(&self, partition: PartitionId) -> u32 {
+        match self.world(partition) {
+            Some(world) => world.steps(),
+            None => 0,
+        }
+    }
+
+    /// The messages in flight on a link of a partition, in the order in which they were sent.
+    pub fn in_flight(&self, partition: PartitionId, link: Link) -> &[Bytes] {
+        match self.world(partition) {
+            Some(world) => world.in_flight(link.from, link.to),
+            None => &[],
+        }
+    }
+
+    /// The line that delivers the first message in flight of a partition, if it has one.
+    pub fn next_delivery(&self, partition: PartitionId) -> Option<Line>
+        ensures { IfSome result (λ line. IsWithin self.now.members most_line_bytes line) }
+    {
+        let Link { from, to } = self.world(partition)?.next_link()?;
+        if partition >= PARTITIONS || from > self.members || to > self.members {
+            return None;
+        }
+        Some(Line::Deliver {
+            partition,
+            from,
+            to,
+            place: 0,
+        })
+    }
+
     /// What a member has of a partition, if there are such a member and such a partition.
     pub fn contents(
         &self,
@@ -126,8 +151,11 @@ impl RunningGrid {
         if partition >= PARTITIONS || member >= self.members {
             return None;
         }
-        match &self.grid {
-            Some(grid) => grid.world(partition).map(|world| world.contents(member)),
+        let Some(grid) = &self.grid else {
+            return None;
+        };
+        match grid.world(partition) {
+            Some(world) => Some(world.contents(member)),
             None => None,
         }
     }

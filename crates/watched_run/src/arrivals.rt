@@ -1,92 +1,107 @@
 //! Bytes that arrive on connections, and what is appended to these.
 
-use crate::clients::Numbered;
-use crate::looks::Look;
+use crate::clients::ClientMessage;
+use crate::notes::Notes;
 use crate::printed::{Appended, appended, outcome_of};
-use grid_base::{MemberId, Memory};
+use grid_base::{CallId, Memory};
 use run_tale::{Happening, Tale};
 use run_words::{Output, fault_words};
+use running_grid::RunningGrid;
 use std::alloc::Global;
 
-/// An answer, and whether its message is a call that was executed.
+/// An answer of a client's message, and whether that is a call that was executed.
 #[derive(Clone, Copy)]
 struct Answered {
-    conn: u32,
-    number: u32,
+    id: CallId,
     executed: bool,
 }
 
-impl<'a> Look<'a> {
+/// What a line appended to connections, in order, and the answers among it.
+#[derive(Drop)]
+struct Appendings {
+    happenings: Vec<Happening>,
+    answers: Vec<Answered>,
+}
+
+impl Appendings {
+    fn new(alloc: Global) -> Self {
+        Appendings {
+            happenings: Vec::new(alloc),
+            answers: Vec::new(alloc),
+        }
+    }
+
+    /// Adds the answer of a message.
+    fn add_answer(&mut self, answered: Answered, words: String) -> Result<(), Memory> {
+        let CallId { conn, number } = answered.id;
+        self.answers.push(answered)?;
+        self.happenings.push(Happening::Answered {
+            conn,
+            number,
+            words,
+        })?;
+        Ok(())
+    }
+
+    /// The answer of a message, if it is among these.
+    fn answer_of(&self, id: CallId) -> Option<Answered> {
+        self.answers
+            .iter()
+            .find(|answered| answered.id == id)
+            .copied()
+    }
+}
+
+impl Notes {
     /// Why bytes came to nothing on a connection.
     fn why_unheard(&self, conn: u32) -> &'static str {
-        match self.notes.clients.get(conn) {
+        match self.clients.get(conn) {
             None => "the connection isn't open",
             Some(client) if client.closed => "the connection has closed",
             Some(_) => "its member has crashed",
         }
     }
 
-    /// What is appended to a connection's output.
-    fn output(&mut self, conn: u32, output: Output) -> (Happening, Option<Answered>) {
+    /// Adds what is appended to a connection's output.
+    fn add_output(
+        &mut self,
+        conn: u32,
+        output: Output,
+        all: &mut Appendings,
+    ) -> Result<(), Memory> {
         let (correlation, executed, words) = match output {
             Output::Answer {
                 correlation,
                 executed,
                 words,
             } => (correlation, executed, words),
-            Output::Unasked { words } => return (Happening::Event { conn, words }, None),
+            Output::Unasked { words } => {
+                return Ok(all.happenings.push(Happening::Event { conn, words })?);
+            }
         };
-        let client = self.notes.clients.get_mut(conn);
-        match client.and_then(|client| client.answer(correlation)) {
-            Some(number) => (
-                Happening::Answered {
-                    conn,
-                    number,
-                    words,
-                },
-                Some(Answered {
-                    conn,
-                    number,
-                    executed,
-                }),
-            ),
-            None => (Happening::Event { conn, words }, None),
+        match self.clients.answer(conn, correlation) {
+            Some(number) => {
+                let id = CallId { conn, number };
+                all.add_answer(Answered { id, executed }, words)
+            }
+            None => Ok(all.happenings.push(Happening::Event { conn, words })?),
         }
     }
 
-    /// A connection closed.
-    fn close(&mut self, conn: u32, at: u64, why: &str) -> Happening {
-        if let Some(client) = self.notes.clients.get_mut(conn) {
-            client.closed = true;
-        }
-        Happening::Closed {
-            conn,
-            at,
-            words: fault_words(why),
-        }
-    }
-
-    /// What a line appended to connections, in order, and the answers among it.
-    fn appendings(
-        &mut self,
-        alloc: Global,
-        text: &str,
-    ) -> Result<(Vec<Happening>, Vec<Answered>), Memory> {
-        let mut happenings = Vec::new(alloc);
-        let mut answers = Vec::new(alloc);
+    /// What a line appended to connections.
+    fn appendings(&mut self, alloc: Global, text: &str) -> Result<Appendings, Memory> {
+        let mut all = Appendings::new(alloc);
         for appended in appended(alloc, text)? {
             match appended {
-                Appended::Output { conn, output } => {
-                    let (happening, answered) = self.output(conn, output);
-                    happenings.push(happening)?;
-                    if let Some(answered) = answered {
-                        answers.push(answered)?;
-                    }
+                Appended::Output { conn, output } => self.add_output(conn, output, &mut all)?,
+                Appended::Close { conn, at, why } => {
+                    self.clients.close(conn);
+                    let words = fault_words(why);
+                    all.happenings.push(Happening::Closed { conn, at, words })?;
                 }
-                Appended::Close { conn, at, why } => happenings.push(self.close(conn, at, why))?,
             }
         }
-        Ok((happenings, answers))
+        Ok(all)
     }
 
     /// Tells what a line appended to connections.
@@ -96,17 +111,15 @@ impl<'a> Look<'a> {
         text: &str,
         told: &mut Tale,
     ) -> Result<(), Memory> {
-        let (happenings, _) = self.appendings(alloc, text)?;
-        for happening in happenings {
-            told.push(happening)?;
-        }
-        Ok(())
+        let all = self.appendings(alloc, text)?;
+        told.push_all(all.happenings)
     }
 
     /// Tells the bytes that arrived on a connection: the messages that they complete, and what followed.
     pub(crate) fn tell_arrival(
         &mut self,
         alloc: Global,
+        running: &RunningGrid,
         conn: u32,
         bytes: &[u8],
         text: &str,
@@ -116,39 +129,31 @@ impl<'a> Look<'a> {
             let why = self.why_unheard(conn);
             return told.push(Happening::Nothing { why });
         }
-        let Some(client) = self.notes.clients.get_mut(conn) else {
-            return Ok(());
-        };
-        let member = client.member;
-        let messages = client.feed(alloc, bytes)?;
+        let messages = self.clients.feed(alloc, conn, bytes)?;
         if messages.is_empty() {
-            told.push(Happening::Pieces {
-                conn,
-                count: bytes.len(),
-            })?;
+            let count = bytes.len();
+            told.push(Happening::Pieces { conn, count })?;
         }
-        let (happenings, answers) = self.appendings(alloc, text)?;
+        let all = self.appendings(alloc, text)?;
         for message in messages {
+            let answered = all.answer_of(message.id);
             told.go_on();
-            self.tell_heard(alloc, conn, member, message, answers.as_slice(), told)?;
+            self.tell_heard(alloc, running, message, answered, told)?;
         }
-        for happening in happenings {
-            told.push(happening)?;
-        }
-        Ok(())
+        told.push_all(all.happenings)
     }
 
     /// Tells a message that was heard, and where it reached its partition what was sent then.
     fn tell_heard(
         &mut self,
         alloc: Global,
-        conn: u32,
-        member: MemberId,
-        message: Numbered,
-        answers: &[Answered],
+        running: &RunningGrid,
+        message: ClientMessage,
+        answered: Option<Answered>,
         told: &mut Tale,
     ) -> Result<(), Memory> {
-        let Numbered { number, spoken } = message;
+        let ClientMessage { id, member, spoken } = message;
+        let CallId { conn, number } = id;
         let partition = spoken.partition;
         told.push(Happening::Heard {
             conn,
@@ -158,18 +163,15 @@ impl<'a> Look<'a> {
         let Some(partition) = partition else {
             return Ok(());
         };
-        let answer = answers
-            .iter()
-            .find(|answer| answer.conn == conn && answer.number == number);
-        if answer.map_or(true, |answer| answer.executed) {
+        if answered.map_or(true, |answered| answered.executed) {
             told.push(Happening::Reached {
                 conn,
                 number,
                 partition,
                 member,
-                held: answer.is_none(),
+                held: answered.is_none(),
             })?;
         }
-        self.tell_sent(alloc, partition, member, told)
+        self.tell_sent(alloc, running, partition, member, told)
     }
 }

@@ -1,7 +1,7 @@
 //! The connections of a run, as its lines show them.
 
 use client_words::{Spoken, read_spoken};
-use grid_base::{MemberId, Memory};
+use grid_base::{CallId, MemberId, Memory};
 use message_frames::MessageReader;
 use std::alloc::Global;
 use std::collections::{HashMap, VecDeque};
@@ -9,17 +9,19 @@ use std::collections::{HashMap, VecDeque};
 /// How many connections a script can open.
 const CONNECTIONS: usize = 64;
 
-/// A message that is complete, and its place among those of its connection.
+/// A client's message that is complete, and the member that it is for.
 #[derive(Drop)]
-pub(crate) struct Numbered {
-    pub(crate) number: u32,
+pub(crate) struct ClientMessage {
+    pub(crate) id: CallId,
+    pub(crate) member: MemberId,
     pub(crate) spoken: Spoken,
 }
 
 /// A connection that was opened.
 #[derive(Drop)]
 pub(crate) struct Client {
-    pub(crate) member: MemberId,
+    conn: u32,
+    member: MemberId,
     pub(crate) closed: bool,
     reader: MessageReader,
     /// How many messages were complete.
@@ -31,8 +33,9 @@ pub(crate) struct Client {
 }
 
 impl Client {
-    fn new(alloc: Global, member: MemberId) -> Self {
+    fn new(alloc: Global, conn: u32, member: MemberId) -> Self {
         Client {
+            conn,
             member,
             closed: false,
             reader: MessageReader::new(alloc, true),
@@ -53,22 +56,31 @@ impl Client {
         Ok(())
     }
 
+    /// Counts a message, which waits for its answer.
+    fn count_message(&mut self, alloc: Global, spoken: Spoken) -> Result<ClientMessage, Memory> {
+        let (conn, number) = (self.conn, self.count);
+        self.await_answer(alloc, spoken.correlation, number)?;
+        self.count = number.saturating_add(1);
+        Ok(ClientMessage {
+            id: CallId { conn, number },
+            member: self.member,
+            spoken,
+        })
+    }
+
     /// Takes bytes: the messages that they complete.
-    pub(crate) fn feed(&mut self, alloc: Global, bytes: &[u8]) -> Result<Vec<Numbered>, Memory> {
+    fn feed(&mut self, alloc: Global, bytes: &[u8]) -> Result<Vec<ClientMessage>, Memory> {
         let heard = self.reader.feed(alloc, bytes)?;
         let mut messages = Vec::new(alloc);
         for message in heard.messages.as_slice() {
             let spoken = read_spoken(alloc, message, &mut self.next)?;
-            let number = self.count;
-            self.await_answer(alloc, spoken.correlation, number)?;
-            messages.push(Numbered { number, spoken })?;
-            self.count = number.saturating_add(1);
+            messages.push(self.count_message(alloc, spoken)?)?;
         }
         Ok(messages)
     }
 
     /// The first message of this correlation that wasn't answered, which is answered now.
-    pub(crate) fn answer(&mut self, correlation: i64) -> Option<u32> {
+    fn answer(&mut self, correlation: i64) -> Option<u32> {
         let numbers = self.waiting.get_mut(&correlation)?;
         let number = numbers.pop_front();
         if numbers.is_empty() {
@@ -100,14 +112,39 @@ impl Clients {
     }
 
     /// The same, to be changed.
-    pub(crate) fn get_mut(&mut self, conn: u32) -> Option<&mut Client> {
+    fn get_mut(&mut self, conn: u32) -> Option<&mut Client> {
         self.slots.get_mut(conn as usize)?.as_mut()
     }
 
     /// A connection to a member was opened.
     pub(crate) fn open(&mut self, alloc: Global, conn: u32, member: MemberId) {
         if let Some(slot) = self.slots.get_mut(conn as usize) {
-            *slot = Some(Client::new(alloc, member));
+            *slot = Some(Client::new(alloc, conn, member));
         }
+    }
+
+    /// A connection closed.
+    pub(crate) fn close(&mut self, conn: u32) {
+        if let Some(client) = self.get_mut(conn) {
+            client.closed = true;
+        }
+    }
+
+    /// Takes bytes of a connection: the messages that they complete.
+    pub(crate) fn feed(
+        &mut self,
+        alloc: Global,
+        conn: u32,
+        bytes: &[u8],
+    ) -> Result<Vec<ClientMessage>, Memory> {
+        match self.get_mut(conn) {
+            Some(client) => client.feed(alloc, bytes),
+            None => Ok(Vec::new(alloc)),
+        }
+    }
+
+    /// The first message of a connection with this correlation that wasn't answered, which is answered now.
+    pub(crate) fn answer(&mut self, conn: u32, correlation: i64) -> Option<u32> {
+        self.get_mut(conn)?.answer(correlation)
     }
 }

@@ -1,10 +1,11 @@
 //! Lines that are events of a member or of the table service, and lines at which nothing happens in a partition.
 
-use crate::looks::Look;
+use crate::notes::Notes;
 use crate::printed::outcome_of;
 use grid_base::{MemberId, Memory, PartitionId};
 use run_tale::{Happening, Tale};
 use run_words::refused_words;
+use running_grid::RunningGrid;
 use script_lang::Line;
 use std::alloc::Global;
 
@@ -32,23 +33,27 @@ fn partition_changed(line: &Line) -> Option<PartitionId> {
     }
 }
 
-impl<'a> Look<'a> {
+impl Notes {
+    /// Whether a line opens a connection that was opened before.
+    fn was_opened(&self, line: &Line) -> bool {
+        match line {
+            Line::OpenConn { conn, .. } => self.clients.get(*conn).is_some(),
+            _ => false,
+        }
+    }
+
     /// Tells a line that is an event, or one that opens a connection or sets a clock.
     pub(crate) fn tell_event(
         &mut self,
         alloc: Global,
+        running: &RunningGrid,
         line: &Line,
         text: &str,
         told: &mut Tale,
     ) -> Result<(), Memory> {
         if outcome_of(text).word == "nothing" {
-            let opened = match line {
-                Line::OpenConn { conn, .. } => self.notes.clients.get(*conn).is_some(),
-                _ => false,
-            };
-            return told.push(Happening::Nothing {
-                why: why_nothing(line, opened),
-            });
+            let why = why_nothing(line, self.was_opened(line));
+            return told.push(Happening::Nothing { why });
         }
         match line {
             Line::OpenConn { conn, member } => self.tell_opened(alloc, *conn, *member, told),
@@ -58,14 +63,17 @@ impl<'a> Look<'a> {
             }
             Line::Resend { partition, end } => {
                 told.push(Happening::Resent { end: *end })?;
-                self.tell_sent(alloc, *partition, *end, told)
+                self.tell_sent(alloc, running, *partition, *end, told)
             }
             Line::Crash { member } => told.push(Happening::Crashed { member: *member }),
             Line::Detect { member } => {
                 told.push(Happening::Detected { member: *member })?;
-                self.tell_rows(alloc, told)
+                self.tell_rows(alloc, running, told)
             }
-            line => self.tell_table(alloc, line, text, told),
+            line => match partition_changed(line) {
+                Some(partition) => self.tell_table(alloc, running, partition, text, told),
+                None => Ok(()),
+            },
         }
     }
 
@@ -77,7 +85,7 @@ impl<'a> Look<'a> {
         member: MemberId,
         told: &mut Tale,
     ) -> Result<(), Memory> {
-        self.notes.clients.open(alloc, conn, member);
+        self.clients.open(alloc, conn, member);
         told.push(Happening::Opened { conn, member })
     }
 
@@ -85,22 +93,20 @@ impl<'a> Look<'a> {
     fn tell_table(
         &mut self,
         alloc: Global,
-        line: &Line,
+        running: &RunningGrid,
+        partition: PartitionId,
         text: &str,
         told: &mut Tale,
     ) -> Result<(), Memory> {
-        let Some(partition) = partition_changed(line) else {
-            return Ok(());
-        };
         let outcome = outcome_of(text);
         match outcome.word {
-            "row" => self.tell_row(alloc, partition, told)?,
+            "row" => self.tell_row(alloc, running, partition, told)?,
             "freezing" => told.push(Happening::Freezing { partition })?,
             "refused" => told.push(Happening::Refused {
                 why: refused_words(outcome.rest),
             })?,
             _ => told.push(Happening::Begun { partition })?,
         }
-        self.tell_sent(alloc, partition, self.running.members(), told)
+        self.tell_sent(alloc, running, partition, running.members(), told)
     }
 }

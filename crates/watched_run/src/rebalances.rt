@@ -1,6 +1,6 @@
 //! The line that deals the primaries out evenly: its plan, and what its steps came to.
 
-use crate::looks::{Look, Part};
+use crate::notes::Notes;
 use crate::printed::{number_in, outcome_in, outcome_of};
 use grid_base::{Memory, PARTITIONS, PartitionId};
 use run_tale::{Happening, PlanStep, Tale};
@@ -55,68 +55,73 @@ fn why_no_plan(rest: &str) -> &'static str {
     }
 }
 
-/// Notes how many events each partition had.
-pub(crate) fn mark_events(running: &RunningGrid, parts: &mut [Part]) {
-    for (partition, part) in (0..PARTITIONS).zip(parts.iter_mut()) {
-        part.events = running.world(partition).map_or(0, |world| world.steps());
-    }
+/// Whether a word of a transcript says what a step came to.
+fn ends_step(word: &str) -> bool {
+    word == "done" || word == "open"
 }
 
-impl<'a> Look<'a> {
-    /// Tells what a line says of a step that was run, or what it appended.
-    fn tell_ran(
+impl Notes {
+    /// Tells what a step that was run came to.
+    fn tell_stepped(
         &mut self,
         alloc: Global,
-        line: &str,
-        step: Option<PlanStep>,
+        running: &RunningGrid,
+        step: PlanStep,
+        moving: bool,
         told: &mut Tale,
     ) -> Result<(), Memory> {
-        let outcome = outcome_in(line);
-        let moving = outcome.word == "open";
-        let Some(step) = step else {
-            return self.tell_appended(alloc, line, told);
-        };
-        let events = self.new_events(step.partition);
-        self.settle_links(step.partition, told)?;
+        let events = self.new_events(running, step.partition);
+        self.settle_links(running, step.partition, told)?;
         told.push(Happening::Stepped {
             step,
             moving,
             events,
         })?;
-        self.tell_row(alloc, step.partition, told)
+        self.tell_row(alloc, running, step.partition, told)
+    }
+
+    /// Tells what a text says of the steps that were run, and what it appended. Gives how many steps were run.
+    fn tell_steps(
+        &mut self,
+        alloc: Global,
+        running: &RunningGrid,
+        steps: &[PlanStep],
+        text: &str,
+        told: &mut Tale,
+    ) -> Result<usize, Memory> {
+        let mut done: usize = 0;
+        for line in text.split('\n') {
+            let word = outcome_in(line).word;
+            if !ends_step(word) {
+                self.tell_appended(alloc, line, told)?;
+                continue;
+            }
+            if let Some(step) = steps.get(done) {
+                self.tell_stepped(alloc, running, *step, word == "open", told)?;
+            }
+            done = done.saturating_add(1);
+        }
+        Ok(done)
     }
 
     /// Tells the plan of the line `rebalance K`, and what each step that was run came to.
     pub(crate) fn tell_rebalance(
         &mut self,
         alloc: Global,
+        running: &RunningGrid,
         most: u32,
         text: &str,
         told: &mut Tale,
     ) -> Result<(), Memory> {
         let outcome = outcome_of(text);
         if outcome.word != "plan" {
-            return told.push(Happening::Refused {
-                why: why_no_plan(outcome.rest),
-            });
+            let why = why_no_plan(outcome.rest);
+            return told.push(Happening::Refused { why });
         }
         let steps = steps_in(alloc, text)?;
-        told.push(Happening::Planned {
-            steps: number_in(outcome.rest),
-            most,
-        })?;
-        let mut done: usize = 0;
-        for line in text.split('\n') {
-            let word = outcome_in(line).word;
-            let ends = word == "done" || word == "open";
-            let step = if ends {
-                steps.as_slice().get(done).copied()
-            } else {
-                None
-            };
-            done = done.saturating_add(usize::from(ends));
-            self.tell_ran(alloc, line, step, told)?;
-        }
+        let count = number_in(outcome.rest);
+        told.push(Happening::Planned { steps: count, most })?;
+        let done = self.tell_steps(alloc, running, steps.as_slice(), text, told)?;
         for step in steps.as_slice().iter().skip(done) {
             told.push(Happening::NotRun { step: *step })?;
         }

@@ -1,4 +1,5 @@
 use grid_base::Memory;
+use partition_world::Link;
 use std::alloc::Global;
 use std::collections::VecDeque;
 
@@ -28,21 +29,15 @@ impl Sendings {
     }
 
     /// The place of a link among all.
-    fn place(&self, from: u8, to: u8) -> usize {
-        let row = usize::from(from).saturating_mul(self.ends);
-        row.saturating_add(usize::from(to))
+    fn place(&self, link: Link) -> usize {
+        let row = usize::from(link.from).saturating_mul(self.ends);
+        row.saturating_add(usize::from(link.to))
     }
 
     /// So many messages are in flight on a link now: those that weren't before were sent now. Gives the place of the first
     /// of these.
-    pub(crate) fn grow(
-        &mut self,
-        from: u8,
-        to: u8,
-        count: usize,
-        now: Sending,
-    ) -> Result<usize, Memory> {
-        let place = self.place(from, to);
+    pub(crate) fn grow(&mut self, link: Link, count: usize, now: Sending) -> Result<usize, Memory> {
+        let place = self.place(link);
         let Some(lane) = self.lanes.get_mut(place) else {
             return Ok(count);
         };
@@ -54,34 +49,28 @@ impl Sendings {
     }
 
     /// So many messages are in flight on a link now, of which the first ones were delivered.
-    pub(crate) fn settle(
-        &mut self,
-        from: u8,
-        to: u8,
-        count: usize,
-        now: Sending,
-    ) -> Result<(), Memory> {
-        let place = self.place(from, to);
+    pub(crate) fn settle(&mut self, link: Link, count: usize, now: Sending) -> Result<(), Memory> {
+        let place = self.place(link);
         if let Some(lane) = self.lanes.get_mut(place) {
             for _ in count..lane.len() {
                 lane.pop_front();
             }
         }
-        self.grow(from, to, count, now)?;
+        self.grow(link, count, now)?;
         Ok(())
     }
 
     /// When the message at a place was sent.
-    pub(crate) fn sending_at(&self, from: u8, to: u8, place: usize) -> Sending {
-        let lane = self.lanes.get(self.place(from, to));
+    pub(crate) fn sending_at(&self, link: Link, place: usize) -> Sending {
+        let lane = self.lanes.get(self.place(link));
         lane.and_then(|lane| lane.get(place))
             .copied()
             .unwrap_or_default()
     }
 
     /// The message at a place is no longer in flight.
-    pub(crate) fn drop_at(&mut self, from: u8, to: u8, place: usize) {
-        let lane = self.place(from, to);
+    pub(crate) fn drop_at(&mut self, link: Link, place: usize) {
+        let lane = self.place(link);
         if let Some(lane) = self.lanes.get_mut(lane) {
             lane.remove(place);
         }

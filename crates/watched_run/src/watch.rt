@@ -6,9 +6,8 @@ ghost use Rattle.script_lang.specs.Limits.{most_line_bytes};
 ghost use Rattle.replay_run.specs.Grids.{boxed};
 ghost use Rattle.running_grid.specs.Runs.{IsRunning};
 
-use crate::looks::{Look, Notes};
+use crate::notes::Notes;
 use crate::printed::as_text;
-use crate::rebalances::mark_events;
 use entry_processors::Processor;
 use grid_base::Memory;
 use run_tale::{Happening, Tale};
@@ -124,10 +123,13 @@ impl Watch {
         requires stands { IsRunning (boxed form) self.old.running }
         ensures { IsRunning (boxed form) self.new.running }
     {
-        mark_events(&self.running, self.notes.parts.as_mut_slice());
+        self.notes.mark_events(&self.running);
         let printed = self.take(alloc, line)?;
-        let mut look = Look::at(&self.running, &mut self.notes);
-        Ok(look.tell_rebalance(alloc, most, as_text(printed.as_slice()), told)?)
+        let text = as_text(printed.as_slice());
+        Ok(
+            self.notes
+                .tell_rebalance(alloc, &self.running, most, text, told)?,
+        )
     }
 
     /// Runs a line that is one of the grid's.
@@ -136,22 +138,22 @@ impl Watch {
         requires stands { IsRunning (boxed form) self.old.running }
         ensures { IsRunning (boxed form) self.new.running }
     {
-        let look = Look::at(&self.running, &mut self.notes);
-        let flight = look.flight_of(alloc, line)?;
+        let flight = self.notes.flight_of(alloc, &self.running, line)?;
         let printed = self.take(alloc, line)?;
         let text = as_text(printed.as_slice());
-        let mut look = Look::at(&self.running, &mut self.notes);
+        let running = &self.running;
+        let notes = &mut self.notes;
         match line {
             Line::Arrive { conn, bytes } => {
-                look.tell_arrival(alloc, *conn, bytes.as_slice(), text, told)?;
+                notes.tell_arrival(alloc, running, *conn, bytes.as_slice(), text, told)?;
             }
             Line::Deliver { .. } | Line::Lose { .. } | Line::Repeat { .. } => {
-                look.tell_flight(alloc, line, flight, text, told)?;
+                notes.tell_flight(alloc, running, line, flight, text, told)?;
             }
             Line::Dump { .. } | Line::Links { .. } | Line::Trail { .. } | Line::End => {
-                look.tell_asked(alloc, line, text, told)?;
+                notes.tell_asked(alloc, running, line, text, told)?;
             }
-            line => look.tell_event(alloc, line, text, told)?,
+            line => notes.tell_event(alloc, running, line, text, told)?,
         }
         Ok(())
     }

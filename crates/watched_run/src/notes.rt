@@ -1,19 +1,22 @@
-//! What is to be seen of a run between two lines: messages in flight, and rows.
+//! What is known of a run beside its grid: when the messages in flight were sent, and which rows were told.
 
 use crate::clients::Clients;
 use crate::sendings::{Sending, Sendings};
 use grid_base::{Memory, PARTITIONS, PartitionId};
+use partition_world::Link;
 use run_tale::{Flight, Happening, Tale};
 use run_words::{leader_of, letter_of, push_row};
 use running_grid::RunningGrid;
 use std::alloc::Global;
 
+/// How many messages are told of those that an end sends at once on a link.
+const MOST_SENT: usize = 8;
+
 /// A place on a link of a partition.
 #[derive(Clone, Copy)]
 pub(crate) struct LinkPlace {
     pub(crate) partition: PartitionId,
-    pub(crate) from: u8,
-    pub(crate) to: u8,
+    pub(crate) link: Link,
     pub(crate) place: usize,
 }
 
@@ -27,7 +30,7 @@ pub(crate) struct Part {
 
 impl Part {
     /// A partition where nothing has happened, with so many ends of links.
-    pub(crate) fn new(alloc: Global, ends: u8) -> Result<Self, Memory> {
+    fn new(alloc: Global, ends: u8) -> Result<Self, Memory> {
         Ok(Part {
             version: 1,
             events: 0,
@@ -67,60 +70,48 @@ impl Notes {
         let place = (number as usize).wrapping_sub(2);
         self.numbers.get(place).copied().unwrap_or(number)
     }
-}
 
-/// A grid between two lines, and what is known of its run.
-#[derive(Drop)]
-pub(crate) struct Look<'a> {
-    pub(crate) running: &'a RunningGrid,
-    pub(crate) notes: &'a mut Notes,
-}
-
-impl<'a> Look<'a> {
-    /// Looks at a grid, to tell what happened.
-    pub(crate) fn at(running: &'a RunningGrid, notes: &'a mut Notes) -> Self {
-        Look { running, notes }
-    }
-
-    /// How many messages are in flight on a link.
-    fn in_flight(&self, partition: PartitionId, from: u8, to: u8) -> usize {
-        match self.running.world(partition) {
-            Some(world) => world.in_flight(from, to).len(),
-            None => 0,
-        }
+    /// What is known of a partition.
+    fn part_mut(&mut self, partition: PartitionId) -> Option<&mut Part> {
+        self.parts.get_mut(usize::from(partition))
     }
 
     /// When a message is sent that is sent now.
     fn now(&self, told: &Tale) -> Sending {
         Sending {
-            line: self.notes.line,
+            line: self.line,
             step: told.step(),
         }
     }
 
+    /// When the message at a place was sent.
+    fn sending_at(&self, at: LinkPlace) -> Sending {
+        match self.parts.get(usize::from(at.partition)) {
+            Some(part) => part.sendings.sending_at(at.link, at.place),
+            None => Sending::default(),
+        }
+    }
+
     /// The message at a place of a link, in words.
-    pub(crate) fn flight_at(&self, alloc: Global, at: LinkPlace) -> Result<Option<Flight>, Memory> {
+    pub(crate) fn flight_at(
+        &self,
+        alloc: Global,
+        running: &RunningGrid,
+        at: LinkPlace,
+    ) -> Result<Option<Flight>, Memory> {
         let LinkPlace {
             partition,
-            from,
-            to,
+            link,
             place,
         } = at;
-        let Some(world) = self.running.world(partition) else {
+        let Some(bytes) = running.in_flight(partition, link).get(place) else {
             return Ok(None);
         };
-        let Some(bytes) = world.in_flight(from, to).get(place) else {
-            return Ok(None);
-        };
-        let part = self.notes.parts.get(usize::from(partition));
-        let sent = part.map_or(
-            Sending::default(),
-            |part| part.sendings.sending_at(from, to, place),
-        );
+        let sent = self.sending_at(at);
         Ok(Some(Flight {
             partition,
-            from,
-            to,
+            from: link.from,
+            to: link.to,
             sent: sent.line,
             step: sent.step,
             letter: letter_of(alloc, bytes)?,
@@ -128,49 +119,57 @@ impl<'a> Look<'a> {
     }
 
     /// The message at a place of a link is no longer in flight.
-    pub(crate) fn drop_flight(&mut self, flight: &Flight, place: usize) {
-        if let Some(part) = self.notes.parts.get_mut(usize::from(flight.partition)) {
-            part.sendings.drop_at(flight.from, flight.to, place);
+    pub(crate) fn drop_flight(&mut self, at: LinkPlace) {
+        if let Some(part) = self.part_mut(at.partition) {
+            part.sendings.drop_at(at.link, at.place);
         }
     }
 
     /// Notes the messages that were sent on a link now. Gives the places of the first of these and behind the last.
     pub(crate) fn note_link(
         &mut self,
+        running: &RunningGrid,
         partition: PartitionId,
-        from: u8,
-        to: u8,
+        link: Link,
         told: &Tale,
     ) -> Result<(usize, usize), Memory> {
-        let count = self.in_flight(partition, from, to);
+        let count = running.in_flight(partition, link).len();
         let now = self.now(told);
-        let first = match self.notes.parts.get_mut(usize::from(partition)) {
-            Some(part) => part.sendings.grow(from, to, count, now)?,
+        let first = match self.part_mut(partition) {
+            Some(part) => part.sendings.grow(link, count, now)?,
             None => count,
         };
         Ok((first, count))
     }
 
-    /// Tells the messages that an end sent now on a link.
+    /// Tells the messages that an end sent now on a link: the first of them, and how many more there are.
     fn tell_sent_on(
         &mut self,
         alloc: Global,
+        running: &RunningGrid,
         partition: PartitionId,
-        from: u8,
-        to: u8,
+        link: Link,
         told: &mut Tale,
     ) -> Result<(), Memory> {
-        let (first, count) = self.note_link(partition, from, to, told)?;
-        for place in first..count {
+        let (first, count) = self.note_link(running, partition, link, told)?;
+        let untold = first.saturating_add(MOST_SENT);
+        for place in first..count.min(untold) {
             let at = LinkPlace {
                 partition,
-                from,
-                to,
+                link,
                 place,
             };
-            if let Some(flight) = self.flight_at(alloc, at)? {
+            if let Some(flight) = self.flight_at(alloc, running, at)? {
                 told.push(Happening::Sent(flight))?;
             }
+        }
+        if count > untold {
+            told.push(Happening::SentMore {
+                partition,
+                from: link.from,
+                to: link.to,
+                count: count - untold,
+            })?;
         }
         Ok(())
     }
@@ -179,12 +178,13 @@ impl<'a> Look<'a> {
     pub(crate) fn tell_sent(
         &mut self,
         alloc: Global,
+        running: &RunningGrid,
         partition: PartitionId,
         from: u8,
         told: &mut Tale,
     ) -> Result<(), Memory> {
-        for to in 0..=self.running.members() {
-            self.tell_sent_on(alloc, partition, from, to, told)?;
+        for to in 0..=running.members() {
+            self.tell_sent_on(alloc, running, partition, Link { from, to }, told)?;
         }
         Ok(())
     }
@@ -192,12 +192,33 @@ impl<'a> Look<'a> {
     /// Notes the messages that an end sent now. Costs the ends and these messages.
     pub(crate) fn note_sent(
         &mut self,
+        running: &RunningGrid,
         partition: PartitionId,
         from: u8,
         told: &Tale,
     ) -> Result<(), Memory> {
-        for to in 0..=self.running.members() {
-            self.note_link(partition, from, to, told)?;
+        for to in 0..=running.members() {
+            self.note_link(running, partition, Link { from, to }, told)?;
+        }
+        Ok(())
+    }
+
+    /// Notes what is in flight in a partition from an end, where messages were delivered that weren't told.
+    fn settle_end(
+        &mut self,
+        running: &RunningGrid,
+        partition: PartitionId,
+        from: u8,
+        told: &Tale,
+    ) -> Result<(), Memory> {
+        let now = self.now(told);
+        let Some(part) = self.part_mut(partition) else {
+            return Ok(());
+        };
+        for to in 0..=running.members() {
+            let link = Link { from, to };
+            let count = running.in_flight(partition, link).len();
+            part.sendings.settle(link, count, now)?;
         }
         Ok(())
     }
@@ -205,29 +226,20 @@ impl<'a> Look<'a> {
     /// Notes what is in flight in a partition, where messages were delivered that weren't told.
     pub(crate) fn settle_links(
         &mut self,
+        running: &RunningGrid,
         partition: PartitionId,
         told: &Tale,
     ) -> Result<(), Memory> {
-        let members = self.running.members();
-        let now = self.now(told);
-        for from in 0..=members {
-            for to in 0..=members {
-                let count = self.in_flight(partition, from, to);
-                if let Some(part) = self.notes.parts.get_mut(usize::from(partition)) {
-                    part.sendings.settle(from, to, count, now)?;
-                }
-            }
+        for from in 0..=running.members() {
+            self.settle_end(running, partition, from, told)?;
         }
         Ok(())
     }
 
     /// How many events a partition had since it was asked last.
-    pub(crate) fn new_events(&mut self, partition: PartitionId) -> u32 {
-        let events = self
-            .running
-            .world(partition)
-            .map_or(0, |world| world.steps());
-        match self.notes.parts.get_mut(usize::from(partition)) {
+    pub(crate) fn new_events(&mut self, running: &RunningGrid, partition: PartitionId) -> u32 {
+        let events = running.events(partition);
+        match self.part_mut(partition) {
             Some(part) => {
                 let before = part.events;
                 part.events = events;
@@ -237,32 +249,49 @@ impl<'a> Look<'a> {
         }
     }
 
+    /// Notes how many events each partition had.
+    pub(crate) fn mark_events(&mut self, running: &RunningGrid) {
+        for (partition, part) in (0..PARTITIONS).zip(self.parts.iter_mut()) {
+            part.events = running.events(partition);
+        }
+    }
+
     /// Notes what is in flight in each partition that had events since it was asked last.
-    pub(crate) fn settle(&mut self, told: &Tale) -> Result<(), Memory> {
+    pub(crate) fn settle(&mut self, running: &RunningGrid, told: &Tale) -> Result<(), Memory> {
         for partition in 0..PARTITIONS {
-            if self.new_events(partition) > 0 {
-                self.settle_links(partition, told)?;
+            if self.new_events(running, partition) > 0 {
+                self.settle_links(running, partition, told)?;
             }
         }
         Ok(())
+    }
+
+    /// Whether the row of that version is one that wasn't told. From now on it was.
+    fn is_new(&mut self, partition: PartitionId, version: u32) -> bool {
+        match self.part_mut(partition) {
+            Some(part) => {
+                let before = part.version;
+                part.version = version;
+                before != version
+            }
+            None => false,
+        }
     }
 
     /// Tells a partition's row, if the table service made it since it was told last.
     pub(crate) fn tell_row(
         &mut self,
         alloc: Global,
+        running: &RunningGrid,
         partition: PartitionId,
         told: &mut Tale,
     ) -> Result<(), Memory> {
-        let part = self.notes.parts.get_mut(usize::from(partition));
-        let (Some(part), Some(world)) = (part, self.running.world(partition)) else {
+        let Some(row) = running.row(partition) else {
             return Ok(());
         };
-        let row = world.row();
-        if part.version == row.version {
+        if !self.is_new(partition, row.version) {
             return Ok(());
         }
-        part.version = row.version;
         let mut words = String::new(alloc);
         push_row(&mut words, row)?;
         told.push(Happening::Row {
@@ -274,11 +303,16 @@ impl<'a> Look<'a> {
     }
 
     /// Tells the new rows of all partitions, and notes what the table service sent with them.
-    pub(crate) fn tell_rows(&mut self, alloc: Global, told: &mut Tale) -> Result<(), Memory> {
-        let table = self.running.members();
+    pub(crate) fn tell_rows(
+        &mut self,
+        alloc: Global,
+        running: &RunningGrid,
+        told: &mut Tale,
+    ) -> Result<(), Memory> {
+        let table = running.members();
         for partition in 0..PARTITIONS {
-            self.tell_row(alloc, partition, told)?;
-            self.note_sent(partition, table, told)?;
+            self.tell_row(alloc, running, partition, told)?;
+            self.note_sent(running, partition, table, told)?;
         }
         Ok(())
     }
