@@ -10,6 +10,17 @@ use Rattle.svg_picture.specs.Markup.{IsDocument}
 abbrev pub TakesPicture : Option (List ℕ) → Option (List ℕ) → Type 0
 TakesPicture before after = (picture : List ℕ) × IsDocument picture × (after ≡ append_known before picture)
 
+-- A run that ended so has a picture: it came to its end, or to a line that doesn't run.
+abbrev pub HasPicture : Status → Type 0
+HasPicture Done = Unit {0}
+HasPicture Usage = ⊥
+HasPicture (ScriptRefused line why) = Unit {0}
+HasPicture ReadFault = ⊥
+HasPicture WriteFault = ⊥
+HasPicture (Limit what) = Unit {0}
+HasPicture DoorFault = ⊥
+HasPicture Memory = ⊥
+
 -- One picture where the run came to an end or to a line that doesn't run; some front of one where writing failed, and else
 -- nothing.
 abbrev pub WritesPicture : Status → Option (List ℕ) → Option (List ℕ) → Type 0

@@ -1,7 +1,7 @@
 ghost use Rattle.std.specs.Prelude.{◌≡◌, ◌≢◌, IfOk, string_bytes};
 ghost use Rattle.grid_edge.specs.Faults.{Rose};
 ghost use Rattle.svg_picture.specs.Markup.{IsDocument};
-ghost use Rattle.draw_run.specs.Pictures.{WritesPicture};
+ghost use Rattle.draw_run.specs.Pictures.{HasPicture, WritesPicture};
 
 use entry_processors::Processor;
 use explain_run::{Script, ScriptEnd, Stop, Story, read_script};
@@ -20,7 +20,11 @@ struct Run {
 }
 
 /// Runs a script to its end.
-fn run(alloc: Global, script: Script, processors: Vec<Box<dyn Processor>>) -> Result<Run, Memory> {
+fn run_to_end(
+    alloc: Global,
+    script: Script,
+    processors: Vec<Box<dyn Processor>>,
+) -> Result<Run, Memory> {
     let mut lines = Vec::new(alloc);
     let mut story = Story::new(alloc, script, processors);
     'lines: for _ in 0..u64::MAX {
@@ -43,6 +47,28 @@ fn picture_of(alloc: Global, run: &Run, end: ScriptEnd) -> Result<String, Memory
     draw_chart(alloc, run.lines.as_slice(), stopped.as_str().trim_end())
 }
 
+/// Writes the picture of a run that ended with this status.
+fn write_picture<K: Sink>(
+    alloc: Global,
+    run: &Run,
+    end: ScriptEnd,
+    status: Status,
+    out: &mut K,
+) -> Status
+    requires { HasPicture status }
+    ensures picture { WritesPicture result (K.taken out.old) (K.taken out.new) }
+    ensures reads { result ≢ Status.ReadFault }
+    ensures write_fault { result ≡ Status.WriteFault → Rose (K.faults out.old) (K.faults out.new) }
+{
+    let Ok(picture) = picture_of(alloc, run, end) else {
+        return Status::Memory;
+    };
+    match write_all(out, picture.as_bytes()) {
+        Ok(()) => status,
+        Err(_) => Status::WriteFault,
+    }
+}
+
 /// Runs a script, whose entries these processors process, and writes a picture of the run as SVG once it has ended:
 /// `draw_chart` says what it has. Costs what `explain` costs, memory for all that happened, and the picture.
 ///
@@ -57,8 +83,6 @@ pub fn draw_command<S: Source, K: Sink>(
 ) -> Status
     // What is written is one well-formed element, whatever clients say.
     ensures picture { WritesPicture result (K.taken out.old) (K.taken out.new) }
-    ensures runs { result ≢ Status.Usage }
-    ensures doorless { result ≢ Status.DoorFault }
     // A fault is told only where the source or the sink had one.
     ensures read_fault { result ≡ Status.ReadFault → Rose (S.faults script.old) (S.faults script.new) }
     ensures write_fault { result ≡ Status.WriteFault → Rose (K.faults out.old) (K.faults out.new) }
@@ -67,18 +91,12 @@ pub fn draw_command<S: Source, K: Sink>(
         return Status::Memory;
     };
     let end = script.end;
-    let Ok(run) = run(alloc, script, processors) else {
+    let Ok(run) = run_to_end(alloc, script, processors) else {
         return Status::Memory;
     };
-    let status = run.stop.status(end);
-    if matches!(status, Status::ReadFault | Status::Memory) {
-        return status;
-    }
-    let Ok(picture) = picture_of(alloc, &run, end) else {
-        return Status::Memory;
-    };
-    match write_all(out, picture.as_bytes()) {
-        Ok(()) => status,
-        Err(_) => Status::WriteFault,
+    match run.stop.status(end) {
+        Status::ReadFault => Status::ReadFault,
+        Status::Memory => Status::Memory,
+        status => write_picture(alloc, &run, end, status, out),
     }
 }

@@ -35,14 +35,17 @@ fn add(text: &mut Vec<u8>, piece: &[u8]) -> Result<bool, Memory> {
     Ok(piece.len() <= room)
 }
 
-/// Reads a script to its end, the limit, or a fault of the source. Costs its length.
-pub fn read_script<S: Source>(alloc: Global, source: &mut S) -> Result<Script, Memory>
+/// Reads a script through a buffer.
+fn read_pieces<S: Source>(
+    alloc: Global,
+    buffer: &mut [u8],
+    source: &mut S,
+) -> Result<Script, Memory>
     ensures { IfOk result (λ script. script.end ≡ ScriptEnd.Fault → Rose (S.faults source.old) (S.faults source.new)) }
 {
-    let mut buffer = vec![in alloc; 0u8; PIECE]?;
     let mut text = Vec::new(alloc);
     'pieces: for _ in 0..u64::MAX {
-        let Ok(count) = source.read(buffer.as_mut_slice()) else {
+        let Ok(count) = source.read(buffer) else {
             return Ok(Script {
                 text,
                 end: ScriptEnd::Fault,
@@ -62,4 +65,13 @@ pub fn read_script<S: Source>(alloc: Global, source: &mut S) -> Result<Script, M
         text,
         end: ScriptEnd::Whole,
     })
+}
+
+/// Reads a script to its end, the limit, or a fault of the source. Costs its length.
+pub fn read_script<S: Source>(alloc: Global, source: &mut S) -> Result<Script, Memory>
+    // A fault is told only where the source had one.
+    ensures { IfOk result (λ script. script.end ≡ ScriptEnd.Fault → Rose (S.faults source.old) (S.faults source.new)) }
+{
+    let mut buffer = vec![in alloc; 0u8; PIECE]?;
+    read_pieces(alloc, buffer.as_mut_slice(), source)
 }

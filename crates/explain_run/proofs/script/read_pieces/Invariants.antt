@@ -1,5 +1,5 @@
 use Rattle.std.proofs.Common.{◌≤◌}
-use Rattle.explain_run.proofs.script.read_script.Given as goal
+use Rattle.explain_run.proofs.script.read_pieces.Given as goal
 
 -- no fault is forgotten
 abbrev pub invariant-pieces : goal.invariant-pieces
