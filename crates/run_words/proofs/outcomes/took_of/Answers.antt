@@ -1,5 +1,5 @@
 -- A word that no way has is none of theirs.
-use Rattle.std.proofs.Common.{◌≡◌, ◌≢◌, ℕ, Option, Some, None, IsNone, Bool, true, false, List, [], ◌∷◌, rules, tests, lit<, lit≤}
+use Rattle.std.proofs.Common.{◌≡◌, ◌≢◌, ℕ, Option, Some, None, IsNone, true, false, List, [], ◌∷◌, rules, tests, lit<, lit≤}
 use Rattle.std.specs.Bool.{⊤}
 use Rattle.std.specs.Option.{MatchOption}
 use Rattle.std.specs.List.{AllWithin}
