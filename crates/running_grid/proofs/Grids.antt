@@ -1,12 +1,12 @@
 -- The grid of a script stands for a run of as many members, before a line and behind it.
-use Rattle.std.proofs.Common.{◌≡◌, ℕ, ◌+◌, ◌<◌, ◌≤◌, List, Option, Some, sym, ◌∙◌, ap, subst, arith}
+use Rattle.std.proofs.Common.{◌≡◌, ℕ, ◌+◌, ◌<◌, List, Option, Some, sym, ◌∙◌, ap, subst, arith}
 use Rattle.call_engine.specs.Objects.{partition_object}
 use Rattle.partition_world.specs.Worlds.{node_count}
 use Rattle.script_lang.specs.Limits.{most_lines, most_line_bytes}
 use Rattle.script_lang.specs.Lines.{IsWithin}
 use Rattle.script_lang.specs.declared.line.Line.{Line}
 use Rattle.replay_run.specs.declared.grid.Grid.{Grid}
-use Rattle.replay_run.specs.Grids.{FormOf, GridWorld, IsWorld, Stands, MayRun, HasRun as HasRunLine}
+use Rattle.replay_run.specs.Grids.{FormOf, GridWorld, IsWorld, MayRun, HasRun as HasRunLine}
 use Rattle.replay_run.specs.AfterLines.{after_line}
 use Rattle.replay_run.proofs.Asking.{nodes_of}
 use Rattle.grid_cli.proofs.LineLimits.{within_more}

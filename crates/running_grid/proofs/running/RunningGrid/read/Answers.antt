@@ -1,5 +1,3 @@
-use Rattle.std.proofs.Common.{refl}
-use Rattle.grid_cli.proofs.LineLimits.{within_more}
 use Rattle.running_grid.proofs.running.RunningGrid.read.Goals as goal
 
 pub read_line-requires : goal.read_line-requires

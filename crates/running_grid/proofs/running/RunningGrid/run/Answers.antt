@@ -1,0 +1,20 @@
+use Rattle.std.proofs.Common.{◌+◌, ◌<◌, refl, sym, ◌∙◌, arith}
+use Rattle.script_lang.specs.Limits.{most_lines}
+use Rattle.running_grid.proofs.Grids.{not_given_up, may_run, has_run}
+use Rattle.running_grid.proofs.running.RunningGrid.run.Goals as goal
+
+pub run_line-requires : goal.run_line-requires
+run_line-requires g c =
+    let has = not_given_up c.args.self.now.members c.args.self.now.grid c.in-Some.grid (sym c.take.ensures.value ∙ c.in-Some.is) c.requires.stands.so in
+    let counted = c.lines-number.ensures has.settings has.run has.stands in
+    let room : c.lines-number.result < most_lines = omega (arith, counted, c.lines.ensures has.settings has.run has.stands, c.if-lines-ge-MOST_LINES.false) in
+    may_run c.args.self.now.members (c.lines-number.result + 1) c.lines-number.result c.in-Some.grid c.args.line.now has counted refl room c.requires.within
+
+pub returns-clause-stands : goal.returns-clause-stands
+returns-clause-stands g c =
+    let has = not_given_up c.args.self.now.members c.args.self.now.grid c.in-Some.grid (sym c.take.ensures.value ∙ c.in-Some.is) c.requires.stands.so in
+    record {
+      some = c.requires.stands.some;
+      most = c.requires.stands.most;
+      so = has_run c.args.self.now.members c.in-Some.grid c.run_line.new.self c.args.line.now _ _ has (c.in_ok-run_line.ensures.ok has.settings has.run has.stands);
+    }
