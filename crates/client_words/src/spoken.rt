@@ -1,4 +1,9 @@
 //! A client's message, told in the words of a `say` line where they give its bytes again.
+ghost use Rattle.std.specs.Prelude.{◌≡◌, ◌≢◌, pos, All, IfSome, IfOk, OnErr};
+ghost use Rattle.std.specs.Int.{w64, int_wrapping_add};
+ghost use Rattle.frame_codec.specs.Laws.{IsWithinLimits};
+ghost use Rattle.compose_words.specs.Sayings.{bytes_of, IsPlaced};
+ghost use Rattle.client_words.specs.Tellings.{IsSaidBy, CanBeSaid};
 
 use crate::data::{partition_of_key, push_hex};
 use crate::reading::read_saying;
@@ -37,7 +42,9 @@ pub struct Spoken {
 }
 
 /// The bytes that a `say` line gives for a saying, if it gives any.
-fn bytes_said(alloc: Global, correlation: i64, saying: &Saying) -> Result<Option<Bytes>, Memory> {
+fn bytes_said(alloc: Global, correlation: i64, saying: &Saying) -> Result<Option<Bytes>, Memory>
+    ensures { IfOk result (λ said. IfSome said (λ bytes. IsPlaced saying.now × (bytes ≡ bytes_of correlation saying.now))) }
+{
     if !saying.is_placed() {
         return Ok(None);
     }
@@ -83,7 +90,10 @@ fn form_of(
     message: &Message,
     saying: &Saying,
     correlation: i64,
-) -> Result<Form, Memory> {
+) -> Result<Form, Memory>
+    ensures { IfOk result (λ form. form ≡ Form.Said → All IsWithinLimits message.now.frames
+        → IsSaidBy correlation saying.now message.now.frames) }
+{
     let said = bytes_said(alloc, correlation, saying)?;
     let spelled = spelled(alloc, message.frames.as_slice())?;
     Ok(match said {
@@ -94,7 +104,9 @@ fn form_of(
 }
 
 /// A message that is told as its bytes.
-fn as_bytes(alloc: Global, message: &Message, correlation: i64) -> Result<Spoken, Memory> {
+fn as_bytes(alloc: Global, message: &Message, correlation: i64) -> Result<Spoken, Memory>
+    ensures { IfOk result (λ spoken. spoken.form ≡ Form.Bytes) }
+{
     let bytes = spelled(alloc, message.frames.as_slice())?;
     let mut words = String::new(alloc);
     push_hex(alloc, &mut words, bytes.as_slice())?;
@@ -112,7 +124,9 @@ fn told_as(
     message: &Message,
     saying: &Saying,
     correlation: i64,
-) -> Result<Spoken, Memory> {
+) -> Result<Spoken, Memory>
+    ensures { IfOk result (λ spoken. spoken.form ≡ Form.Said → CanBeSaid spoken.correlation message.now.frames) }
+{
     let form = form_of(alloc, message, saying, correlation)?;
     if form == Form::Bytes {
         return as_bytes(alloc, message, correlation);
@@ -128,7 +142,9 @@ fn told_as(
 }
 
 /// A message in words, but for its correlation.
-fn read_words(alloc: Global, message: &Message) -> Result<Spoken, Memory> {
+fn read_words(alloc: Global, message: &Message) -> Result<Spoken, Memory>
+    ensures { IfOk result (λ spoken. spoken.form ≡ Form.Said → CanBeSaid spoken.correlation message.now.frames) }
+{
     let correlation = correlation_of(message);
     match read_saying(alloc, message)? {
         Some(saying) => told_as(alloc, message, &saying, correlation),
@@ -136,16 +152,31 @@ fn read_words(alloc: Global, message: &Message) -> Result<Spoken, Memory> {
     }
 }
 
+/// Appends a correlation, where the words don't give it by themselves.
+fn push_correlation(
+    out: &mut String,
+    form: Form,
+    correlation: i64,
+    next: i64,
+) -> Result<(), Memory> {
+    if form == Form::Bytes || correlation == next {
+        return Ok(());
+    }
+    write!(out, " as {correlation}")
+}
+
 /// A client's message in words, and whether it counts among the correlations that go up by themselves: `next` is the one
 /// that a `say` line gives by itself there, and then the one behind the message's.
-pub fn read_spoken(alloc: Global, message: &Message, next: &mut i64) -> Result<Spoken, Memory> {
+pub fn read_spoken(alloc: Global, message: &Message, next: &mut i64) -> Result<Spoken, Memory>
+    ensures said { IfOk result (λ spoken. spoken.form ≡ Form.Said → CanBeSaid spoken.correlation message.now.frames) }
+    ensures counted { IfOk result (λ spoken. spoken.form ≡ Form.Said → next.new ≡ int_wrapping_add w64 spoken.correlation (pos 1)) }
+    ensures uncounted { IfOk result (λ spoken. spoken.form ≢ Form.Said → next.new ≡ next.old) }
+    ensures err { OnErr result (next.new ≡ next.old) }
+{
     let mut spoken = read_words(alloc, message)?;
-    let correlation = spoken.correlation;
-    if spoken.form != Form::Bytes && correlation != *next {
-        write!(spoken.words, " as {correlation}")?;
-    }
+    push_correlation(&mut spoken.words, spoken.form, spoken.correlation, *next)?;
     if spoken.form == Form::Said {
-        *next = correlation.wrapping_add(1);
+        *next = spoken.correlation.wrapping_add(1);
     }
     Ok(spoken)
 }

@@ -1,4 +1,7 @@
 //! The words of a transcript in whole words.
+ghost use Rattle.std.specs.Prelude.{◌≡◌, ◌≢◌, IfSome, IsNone};
+ghost use Rattle.member_wire.specs.TookWords.{word_of};
+ghost use Rattle.member_wire.specs.declared.took.Took.{Took as TookOf};
 
 use member_wire::Took;
 
@@ -20,7 +23,10 @@ const WAYS: [Took; 13] = [
 ];
 
 /// The way in which a message was taken that has this word in a transcript.
-pub fn took_of(word: &str) -> Option<Took> {
+pub fn took_of(word: &str) -> Option<Took>
+    ensures found { IfSome result (λ took. word_of took ≡ word.now) }
+    ensures none { IsNone result → (took : TookOf) → word_of took ≢ word.now }
+{
     WAYS.iter().copied().find(|took| took.word() == word)
 }
 
