@@ -1,6 +1,6 @@
 use Rattle.std.proofs.Common.{◌+◌, ◌<◌, refl, sym, ◌∙◌, arith}
 use Rattle.script_lang.specs.Limits.{most_lines}
-use Rattle.running_grid.proofs.Grids.{not_given_up, may_run, has_run}
+use Rattle.running_grid.proofs.Grids.{not_given_up, may_run, has_run, same_grid, from_empty}
 use Rattle.running_grid.proofs.running.RunningGrid.run.Goals as goal
 
 pub run_line-requires : goal.run_line-requires
@@ -17,4 +17,13 @@ returns-clause-stands g c =
       some = c.requires.stands.some;
       most = c.requires.stands.most;
       so = has_run c.args.self.now.members c.in-Some.grid c.run_line.new.self c.args.line.now _ _ has (c.in_ok-run_line.ensures.ok has.settings has.run has.stands);
+    }
+
+pub returns-clause-ran : goal.returns-clause-ran
+returns-clause-ran g c = λ settings r stands.
+    let here = same_grid settings c.args.self.now r c.in-Some.grid stands (sym c.take.ensures.value ∙ c.in-Some.is) in
+    record {
+      grid = c.run_line.new.self;
+      there = refl;
+      ran = from_empty settings c.run_line.new.self r c.args.line.now _ _ c.new-text.ensures.items (c.in_ok-run_line.ensures.ok settings r here);
     }
