@@ -1,5 +1,8 @@
-use Rattle.std.proofs.Common.{◌+◌, ◌<◌, refl, sym, ◌∙◌, arith}
+use Rattle.std.proofs.Common.{◌≡◌, Err, ap, ◌+◌, ◌<◌, refl, sym, ◌∙◌, arith}
+use Rattle.std.proofs.lemmas.Result.{err_from_is_err_and}
 use Rattle.script_lang.specs.Limits.{most_lines}
+use Rattle.running_grid.specs.declared.run_end.RunEnd.TheVariants as RunEnds
+use Rattle.running_grid.proofs.Ends.{was_full}
 use Rattle.running_grid.proofs.Grids.{not_given_up, may_run, has_run, same_grid, from_empty}
 use Rattle.running_grid.proofs.running.RunningGrid.run.Goals as goal
 
@@ -27,3 +30,10 @@ returns-clause-ran g c = λ settings r stands.
       there = refl;
       ran = from_empty settings c.run_line.new.self r c.args.line.now _ _ c.new-text.ensures.items (c.in_ok-run_line.ensures.ok settings r here);
     }
+
+pub returns-in_err-run_line-clause-full : goal.returns-in_err-run_line-clause-full
+returns-in_err-run_line-clause-full g c = λ settings r stands is.
+    let here = same_grid settings c.args.self.now r c.in-Some.grid stands (sym c.take.ensures.value ∙ c.in-Some.is) in
+    let p = err_from_is_err_and c.from_residual.result c.from_residual.ensures.1 in
+    let told : p.0 ≡ RunEnds.InFlight = cc in
+    c.in_err-run_line.ensures.full settings r here (ap Err (was_full _ (sym p.2 ∙ told)))
