@@ -1,17 +1,18 @@
 -- The grid of a script stands for a run of as many members, before a line and behind it.
-use Rattle.std.proofs.Common.{◌≡◌, ℕ, ◌+◌, ◌<◌, ◌≤◌, List, Option, Some, sym, ◌∙◌, ap, subst, arith}
+use Rattle.std.proofs.Common.{◌≡◌, ℕ, ◌+◌, ◌<◌, List, [], Option, Some, sym, ◌∙◌, ap, subst, arith}
 use Rattle.call_engine.specs.Objects.{partition_object}
-use Rattle.partition_world.specs.Worlds.{node_count}
 use Rattle.script_lang.specs.Limits.{most_lines, most_line_bytes}
 use Rattle.script_lang.specs.Lines.{IsWithin}
 use Rattle.script_lang.specs.declared.line.Line.{Line}
 use Rattle.replay_run.specs.declared.grid.Grid.{Grid}
-use Rattle.replay_run.specs.Grids.{FormOf, GridWorld, IsWorld, Stands, MayRun, HasRun as HasRunLine}
+use Rattle.replay_run.specs.Grids.{FormOf, Stands, MayRun, HasRun as HasRunLine}
 use Rattle.replay_run.specs.AfterLines.{after_line}
-use Rattle.replay_run.proofs.Asking.{nodes_of}
 use Rattle.grid_cli.proofs.LineLimits.{within_more}
 use Rattle.grid_cli.proofs.Members.{members_stay}
-use Rattle.running_grid.specs.Runs.{HasRun, RunsSo}
+use Rattle.replay_run.specs.Runs.{Run}
+use Rattle.call_engine.specs.Calls.{Settings}
+use Rattle.running_grid.specs.declared.running.RunningGrid.{RunningGrid}
+use Rattle.running_grid.specs.Runs.{HasRun, RunsSo, StandsFor}
 
 module _ {V : Type 0} {T : V → Type 0} {form : FormOf V T} where
   -- of a grid that wasn't given up
@@ -40,9 +41,13 @@ module _ {V : Type 0} {T : V → Type 0} {form : FormOf V T} where
     same = has.same ∙ sym (members_stay (partition_object has.settings) ran.skips has.run line);
   }
 
-  -- Each partition's world has a node of each member.
-  pub has_node : (members member p : ℕ) (grid : Grid V T) (world : GridWorld) (has : HasRun form members grid) → IsWorld has.settings world has.run p → member < members → member < node_count world
-  has_node members member p grid world has is below =
-      let nodes = nodes_of has.settings world has.run p is in
-      let same = has.same in
-      omega (arith, nodes, same, below)
+  -- The grid that is taken out is the one that stands for the run.
+  pub same_grid : (settings : Settings) (running : RunningGrid V T) (r : Run) (here : Grid V T) → StandsFor form settings running r → running.grid ≡ Some here → Stands form settings here r
+  same_grid settings running r here stands is =
+      let both : Some stands.grid ≡ Some here = sym stands.there ∙ is in
+      let same : stands.grid ≡ here = cc in
+      subst (λ grid. Stands form settings grid r) same stands.stands
+
+  -- A text that was begun empty is the line's alone.
+  pub from_empty : (settings : Settings) (new : Grid V T) (r : Run) (line : Line) (written text : List ℕ) → written ≡ [] → HasRunLine form settings new r line written text → HasRunLine form settings new r line [] text
+  from_empty settings new r line written text empty ran = subst (λ w. HasRunLine form settings new r line w text) empty ran

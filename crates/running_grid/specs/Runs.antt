@@ -1,9 +1,10 @@
 -- What the grid of a script stands for.
-use Rattle.std.specs.Prelude.{◌≡◌, ℕ, ◌≤◌, Option, Some, None}
+use Rattle.std.specs.Prelude.{◌≡◌, ℕ, ◌≤◌, List, [], Option, Some, None}
 use Rattle.call_engine.specs.Calls.{Settings}
+use Rattle.script_lang.specs.declared.line.Line.{Line}
 use Rattle.replay_run.specs.declared.grid.Grid.{Grid}
 use Rattle.replay_run.specs.Runs.{Run}
-use Rattle.replay_run.specs.Grids.{FormOf, Stands}
+use Rattle.replay_run.specs.Grids.{FormOf, Stands, HasRun as HasRunLine}
 use Rattle.running_grid.specs.declared.running.RunningGrid.{RunningGrid}
 
 -- The grid stands for a run of so many members.
@@ -23,3 +24,15 @@ pub record IsRunning {V : Type 0} {T : V → Type 0} (form : FormOf V T) (runnin
   pub some : 1 ≤ running.members
   pub most : running.members ≤ 8
   pub so : RunsSo form running.members running.grid
+
+-- It wasn't given up, and stands for that run.
+pub record StandsFor {V : Type 0} {T : V → Type 0} (form : FormOf V T) (settings : Settings) (running : RunningGrid V T) (r : Run) : Type 0 where
+  pub grid : Grid V T
+  pub there : running.grid ≡ Some grid
+  pub stands : Stands form settings grid r
+
+-- The line ran: the grid stands for the run behind it, and the text is the one that a transcript has for it.
+pub record RanLine {V : Type 0} {T : V → Type 0} (form : FormOf V T) (settings : Settings) (new : RunningGrid V T) (r : Run) (line : Line) (text : List ℕ) : Type 0 where
+  pub grid : Grid V T
+  pub there : new.grid ≡ Some grid
+  pub ran : HasRunLine form settings grid r line [] text

@@ -1,3 +1,7 @@
+ghost use Rattle.std.specs.Prelude.{◌≡◌};
+ghost use Rattle.running_grid.specs.Ends.{refused_as, given_up_as};
+ghost use Rattle.running_grid.specs.declared.run_end.RunEnd.TheVariants as RunEnds;
+
 use script_lang::{LineRefused, LineWhy};
 use std::alloc::{AllocError, AllocFailed};
 
@@ -17,6 +21,8 @@ pub enum RunEnd {
 }
 
 impl From<LineRefused> for RunEnd {
+    ghost from_gives = { λ refused end. end ≡ refused_as refused };
+
     fn from(refused: LineRefused) -> RunEnd {
         match refused {
             LineRefused::Why(why) => RunEnd::Refused(why),
@@ -26,6 +32,8 @@ impl From<LineRefused> for RunEnd {
 }
 
 impl From<replay_run::RunEnd> for RunEnd {
+    ghost from_gives = { λ given_up end. end ≡ given_up_as given_up };
+
     fn from(end: replay_run::RunEnd) -> RunEnd {
         match end {
             replay_run::RunEnd::InFlight => RunEnd::InFlight,
@@ -35,12 +43,16 @@ impl From<replay_run::RunEnd> for RunEnd {
 }
 
 impl From<AllocError> for RunEnd {
+    ghost from_gives = { λ _ end. end ≡ RunEnds.Memory };
+
     fn from(_error: AllocError) -> RunEnd {
         RunEnd::Memory
     }
 }
 
 impl<T: Drop> From<AllocFailed<T>> for RunEnd {
+    ghost from_gives = { λ _ end. end ≡ RunEnds.Memory };
+
     fn from(_error: AllocFailed<T>) -> RunEnd {
         RunEnd::Memory
     }

@@ -1,10 +1,13 @@
 //! The grid of a script, of which each line is one that its script can have next.
 
-ghost use Rattle.std.specs.Prelude.{◌≡◌, ◌≤◌, IfOk, IfSome};
-ghost use Rattle.script_lang.specs.Lines.{IsWithin};
+ghost use Rattle.std.specs.Prelude.{◌≡◌, ◌<◌, ◌≤◌, false, IfOk, IfSome, IsErrOf, length, map};
+ghost use Rattle.call_engine.specs.Calls.{Settings};
+ghost use Rattle.script_lang.specs.Lines.{line_of, IsWithin};
+ghost use Rattle.script_lang.specs.declared.refusal.LineWhy.{LineWhy};
 ghost use Rattle.script_lang.specs.Limits.{most_line_bytes};
-ghost use Rattle.replay_run.specs.Grids.{boxed};
-ghost use Rattle.running_grid.specs.Runs.{IsRunning};
+ghost use Rattle.replay_run.specs.Runs.{Run, begun};
+ghost use Rattle.replay_run.specs.Grids.{boxed, IsGivenUp};
+ghost use Rattle.running_grid.specs.Runs.{IsRunning, StandsFor, RanLine};
 
 use crate::run_end::RunEnd;
 use call_engine::GridShelf;
@@ -37,7 +40,8 @@ impl RunningGrid {
     ) -> Result<RunningGrid, Memory>
         requires some { 1 ≤ members }
         requires most { members ≤ 8 }
-        ensures { IfOk result (λ running. IsRunning form running) }
+        ensures stands { IfOk result (λ running. IsRunning form running) }
+        ensures run { IfOk result (λ running. StandsFor form (record { forms = map form processors.items; capacity = capacity }) running (begun members backups)) }
     {
         let grid = Grid::new(alloc, members, backups, capacity, processors)?;
         Ok(RunningGrid {
@@ -64,7 +68,10 @@ impl RunningGrid {
     /// Reads a line behind the first.
     pub fn read(&self, alloc: Global, text: &[u8]) -> Result<Line, RunEnd>
         requires { IsRunning (boxed form) self.now }
-        ensures { IfOk result (λ line. IsWithin self.now.members most_line_bytes line) }
+        ensures line { IfOk result (λ line. line_of false self.now.members text.now ≡ Ok line) }
+        ensures within { IfOk result (λ line. IsWithin self.now.members most_line_bytes line) }
+        ensures why { (why : LineWhy) → IsErrOf result (RunEnd.Refused why) → line_of false self.now.members text.now ≡ Err why }
+        ensures long { IsErrOf result RunEnd.Long → most_line_bytes < length text.now }
     {
         if text.len() > MOST_LINE_BYTES {
             return Err(RunEnd::Long);
@@ -78,6 +85,8 @@ impl RunningGrid {
         requires stands { IsRunning (boxed form) self.old }
         ensures same { self.new.members ≡ self.old.members }
         ensures stands { IsRunning (boxed form) self.new }
+        ensures ran { (settings : Settings) (r : Run) → StandsFor (boxed form) settings self.old r → IfOk result (λ text. RanLine (boxed form) settings self.new r line.now text.items) }
+        ensures full { (settings : Settings) (r : Run) → StandsFor (boxed form) settings self.old r → IsErrOf result RunEnd.InFlight → IsGivenUp settings r line.now }
     {
         let Some(mut grid) = self.grid.take() else {
             return Err(RunEnd::Memory);

@@ -2,7 +2,7 @@
 
 use crate::clients::ClientMessage;
 use crate::notes::Notes;
-use crate::printed::{Appended, appended, outcome_of};
+use crate::printed::{Appended, all_appended, outcome_of};
 use grid_base::{CallId, Memory};
 use run_tale::{Happening, Tale};
 use run_words::{Output, fault_words};
@@ -91,7 +91,7 @@ impl Notes {
     /// What a line appended to connections.
     fn appendings(&mut self, alloc: Global, text: &str) -> Result<Appendings, Memory> {
         let mut all = Appendings::new(alloc);
-        for appended in appended(alloc, text)? {
+        for appended in all_appended(alloc, text)? {
             match appended {
                 Appended::Output { conn, output } => self.add_output(conn, output, &mut all)?,
                 Appended::Close { conn, at, why } => {

@@ -76,7 +76,7 @@ fn appended_in<'a>(alloc: Global, line: &'a str) -> Result<Option<Appended<'a>>,
 }
 
 /// What a text tells of connections, in order.
-pub(crate) fn appended(alloc: Global, text: &str) -> Result<Vec<Appended<'_>>, Memory> {
+pub(crate) fn all_appended(alloc: Global, text: &str) -> Result<Vec<Appended<'_>>, Memory> {
     let mut told = Vec::new(alloc);
     for line in text.split('\n') {
         if let Some(appended) = appended_in(alloc, line)? {
