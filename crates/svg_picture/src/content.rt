@@ -123,7 +123,8 @@ impl Content {
         attributes: &[Attribute],
     ) -> Result<String, AllocError>
         requires { HasEachOnce attributes.now }
-        ensures { IfOk result (λ text. IsDocument (string_bytes text)) }
+        ensures document { IfOk result (λ text. IsDocument (string_bytes text)) }
+        ensures text { IfOk result (λ text. string_bytes text ≡ element_text Tag.Svg attributes.now self.now) }
     {
         let text = element_text(alloc, Tag::Svg, attributes, self.text.as_str())?;
         Ok(text)

@@ -1,10 +1,12 @@
 //! What is drawn.
-ghost use Rattle.std.specs.Prelude.{IfOk, string_bytes};
+ghost use Rattle.std.specs.Prelude.{◌≡◌, [], OnOk, OnErr, IfOk, string_bytes};
 ghost use Rattle.svg_picture.specs.Markup.{IsDocument};
+ghost use Rattle.svg_picture.specs.Drawn.{line_text, rectangle_text, bar_text, cross_text, words_text, text_text, with_back, with_strokes, with_texts, HasDrawn};
 
 use crate::content::Content;
 use crate::words::{Anchor, Attribute, Field, Fixed, Look, Tag, Value};
 use std::alloc::{AllocError, Global};
+use std::marker::Model;
 
 /// How the parts of a picture look.
 const STYLE: &str = "
@@ -41,8 +43,8 @@ pub struct Point {
     pub y: u64,
 }
 
-/// A picture that is being drawn: what stands behind, what is drawn over it, and the texts on top. After an `Err`, which
-/// is want of memory, it has what it had, or half of a cross more.
+/// A picture that is being drawn. Contracts see what stands behind, what is drawn over it, and the texts on top. After an
+/// `Err`, which is want of memory, it has what it had.
 #[derive(Drop)]
 pub struct Picture {
     back: Content,
@@ -50,8 +52,18 @@ pub struct Picture {
     texts: Content,
 }
 
+impl Model for Picture {
+    ghost use Rattle.svg_picture.specs.Drawn.{Drawn};
+
+    ghost Value = { Drawn };
+
+    ghost view = { λ picture. record { back = picture.back; strokes = picture.strokes; texts = picture.texts } };
+}
+
 /// A line from one place to another.
-fn line(alloc: Global, look: Look, from: Point, to: Point) -> Result<Content, AllocError> {
+fn line(alloc: Global, look: Look, from: Point, to: Point) -> Result<Content, AllocError>
+    ensures { IfOk result (λ content. content ≡ line_text look from to) }
+{
     let attributes = [
         Attribute::look(look),
         Attribute::number(Field::FromX, from.x),
@@ -69,7 +81,9 @@ fn rectangle(
     at: Point,
     width: u64,
     height: u64,
-) -> Result<Content, AllocError> {
+) -> Result<Content, AllocError>
+    ensures { IfOk result (λ content. content ≡ rectangle_text look at width height) }
+{
     let attributes = [
         Attribute::look(look),
         Attribute::number(Field::X, at.x),
@@ -100,8 +114,20 @@ fn arrow_head(alloc: Global) -> Result<Content, AllocError> {
     Content::of_element(alloc, Tag::Defs, &[], &marker)
 }
 
+/// How things look, and the ground of a picture of that size.
+fn head(alloc: Global, width: u64, height: u64) -> Result<Content, AllocError> {
+    let style = Content::of_text(alloc, STYLE)?;
+    let mut head = Content::of_element(alloc, Tag::Style, &[], &style)?;
+    head.append(&arrow_head(alloc)?)?;
+    let corner = Point { x: 0, y: 0 };
+    head.append(&rectangle(alloc, Look::Ground, corner, width, height)?)?;
+    Ok(head)
+}
+
 /// What a text is, and what is shown when one points at it, if that isn't empty.
-fn words(alloc: Global, text: &str, more: &str) -> Result<Content, AllocError> {
+fn words(alloc: Global, text: &str, more: &str) -> Result<Content, AllocError>
+    ensures { IfOk result (λ content. content ≡ words_text text.now more.now) }
+{
     let text = Content::of_text(alloc, text)?;
     if more.is_empty() {
         return Ok(text);
@@ -114,7 +140,9 @@ fn words(alloc: Global, text: &str, more: &str) -> Result<Content, AllocError> {
 
 impl Picture {
     /// Nothing is drawn. Takes no memory.
-    pub fn new(alloc: Global) -> Self {
+    pub fn new(alloc: Global) -> Self
+        ensures { result ≡ record { back = []; strokes = []; texts = [] } }
+    {
         Picture {
             back: Content::new(alloc),
             strokes: Content::new(alloc),
@@ -129,7 +157,10 @@ impl Picture {
         look: Look,
         from: Point,
         to: Point,
-    ) -> Result<(), AllocError> {
+    ) -> Result<(), AllocError>
+        ensures ok { OnOk result (self.new ≡ with_back self.old (line_text look from to)) }
+        ensures err { OnErr result (self.new ≡ self.old) }
+    {
         self.back.append(&line(alloc, look, from, to)?)
     }
 
@@ -140,7 +171,10 @@ impl Picture {
         look: Look,
         from: Point,
         to: Point,
-    ) -> Result<(), AllocError> {
+    ) -> Result<(), AllocError>
+        ensures ok { OnOk result (self.new ≡ with_strokes self.old (line_text look from to)) }
+        ensures err { OnErr result (self.new ≡ self.old) }
+    {
         self.strokes.append(&line(alloc, look, from, to)?)
     }
 
@@ -151,7 +185,10 @@ impl Picture {
         look: Look,
         from: Point,
         until: u64,
-    ) -> Result<(), AllocError> {
+    ) -> Result<(), AllocError>
+        ensures ok { OnOk result (self.new ≡ with_back self.old (bar_text look from until)) }
+        ensures err { OnErr result (self.new ≡ self.old) }
+    {
         let at = Point {
             x: from.x.saturating_sub(HALF_BAR),
             y: from.y,
@@ -162,15 +199,19 @@ impl Picture {
     }
 
     /// Draws a cross.
-    pub fn cross(&mut self, alloc: Global, at: Point) -> Result<(), AllocError> {
+    pub fn cross(&mut self, alloc: Global, at: Point) -> Result<(), AllocError>
+        ensures ok { OnOk result (self.new ≡ with_strokes self.old (cross_text at)) }
+        ensures err { OnErr result (self.new ≡ self.old) }
+    {
         let left = at.x.saturating_sub(HALF_CROSS);
         let right = at.x.saturating_add(HALF_CROSS);
         let top = at.y.saturating_sub(HALF_CROSS);
         let foot = at.y.saturating_add(HALF_CROSS);
         let falling = (Point { x: left, y: top }, Point { x: right, y: foot });
         let rising = (Point { x: left, y: foot }, Point { x: right, y: top });
-        self.line(alloc, Look::Cross, falling.0, falling.1)?;
-        self.line(alloc, Look::Cross, rising.0, rising.1)
+        let mut cross = line(alloc, Look::Cross, falling.0, falling.1)?;
+        cross.append(&line(alloc, Look::Cross, rising.0, rising.1)?)?;
+        self.strokes.append(&cross)
     }
 
     /// Writes a text, and what is shown when one points at it, if that isn't empty. A character that can't stand in SVG is
@@ -183,7 +224,10 @@ impl Picture {
         anchor: Anchor,
         text: &str,
         more: &str,
-    ) -> Result<(), AllocError> {
+    ) -> Result<(), AllocError>
+        ensures ok { OnOk result (self.new ≡ with_texts self.old (text_text look at anchor text.now more.now)) }
+        ensures err { OnErr result (self.new ≡ self.old) }
+    {
         let attributes = [
             Attribute::look(look),
             Attribute::number(Field::X, at.x),
@@ -198,15 +242,13 @@ impl Picture {
         self.texts.append(&text)
     }
 
-    /// The picture of that size, in pixels: one element `svg`. Costs what was drawn.
+    /// The picture of that size, in pixels. Costs what was drawn.
     pub fn finish(self, alloc: Global, width: u64, height: u64) -> Result<String, AllocError>
-        ensures { IfOk result (λ text. IsDocument (string_bytes text)) }
+        // It is one well-formed element `svg`, and has what was drawn.
+        ensures document { IfOk result (λ text. IsDocument (string_bytes text)) }
+        ensures drawn { IfOk result (λ text. HasDrawn self width height (string_bytes text)) }
     {
-        let style = Content::of_text(alloc, STYLE)?;
-        let mut inside = Content::of_element(alloc, Tag::Style, &[], &style)?;
-        inside.append(&arrow_head(alloc)?)?;
-        let corner = Point { x: 0, y: 0 };
-        inside.append(&rectangle(alloc, Look::Ground, corner, width, height)?)?;
+        let mut inside = head(alloc, width, height)?;
         inside.append(&self.back)?;
         inside.append(&self.strokes)?;
         inside.append(&self.texts)?;

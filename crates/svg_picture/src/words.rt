@@ -1,6 +1,7 @@
 //! The words of SVG that a picture needs.
 ghost use Rattle.std.specs.Prelude.{◌≡◌};
 ghost use Rattle.svg_picture.specs.Words.{tag_text, field_text, look_text, anchor_text, fixed_text};
+ghost use Rattle.svg_picture.specs.Drawn.{number_of, class_of, fixed_of};
 
 /// An element.
 #[derive(Clone, Copy)]
@@ -211,7 +212,7 @@ pub(crate) struct Attribute {
 
 impl Attribute {
     pub(crate) fn number(field: Field, number: u64) -> Attribute
-        ensures { result.field ≡ field }
+        ensures { result ≡ number_of field number }
     {
         Attribute {
             field,
@@ -220,7 +221,7 @@ impl Attribute {
     }
 
     pub(crate) fn look(look: Look) -> Attribute
-        ensures { result.field ≡ Field.Class }
+        ensures { result ≡ class_of look }
     {
         Attribute {
             field: Field::Class,
@@ -229,7 +230,7 @@ impl Attribute {
     }
 
     pub(crate) fn fixed(field: Field, fixed: Fixed) -> Attribute
-        ensures { result.field ≡ field }
+        ensures { result ≡ fixed_of field fixed }
     {
         Attribute {
             field,

@@ -3,8 +3,8 @@ use Rattle.svg_picture.specs.declared.words.Tag.TheVariants.{Svg}
 use Rattle.svg_picture.specs.Markup.{element_text}
 use Rattle.svg_picture.proofs.content.Content.picture.Goals as goal
 
-pub returns : goal.returns
-returns c = record {
+pub returns-clause-document : goal.returns-clause-document
+returns-clause-document c = record {
   attributes = c.args.attributes.now;
   once = c.requires;
   inside = string_bytes c.self.inside.text;
