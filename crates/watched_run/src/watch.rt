@@ -89,14 +89,29 @@ impl Watch {
         self.to_come = self.to_come.saturating_sub(1);
         told.go_on();
         let line = self.running.read(alloc, text)?;
-        match &line {
-            Line::Flow { partition, most } => self.flow(alloc, *partition, *most, told)?,
-            Line::FlowAll { most } => self.flow_all(alloc, *most, told)?,
-            Line::Comment => self.run_comment(alloc, text, told)?,
-            Line::Rebalance { most } => self.run_rebalance(alloc, &line, *most, told)?,
-            line => self.run_line(alloc, line, told)?,
-        }
+        self.run_read(alloc, &line, text, told)?;
         Ok(line)
+    }
+
+    /// Runs a line that is the one of a text.
+    fn run_read(
+        &mut self,
+        alloc: Global,
+        line: &Line,
+        text: &[u8],
+        told: &mut Tale,
+    ) -> Result<(), RunEnd>
+        requires within { IsWithin self.old.running.members most_line_bytes line.now }
+        requires stands { IsRunning (boxed form) self.old.running }
+        ensures { IsRunning (boxed form) self.new.running }
+    {
+        match line {
+            Line::Flow { partition, most } => self.flow(alloc, *partition, *most, told),
+            Line::FlowAll { most } => self.flow_all(alloc, *most, told),
+            Line::Comment => self.run_comment(alloc, text, told),
+            Line::Rebalance { most } => self.run_rebalance(alloc, line, *most, told),
+            line => self.run_line(alloc, line, told),
+        }
     }
 
     /// A comment says what stands behind its `#`.
