@@ -1,7 +1,7 @@
 //! A script's run, of which each line is told.
 
-ghost use Rattle.std.specs.Prelude.{◌≤◌, IfOk};
-ghost use Rattle.script_lang.specs.Lines.{IsWithin};
+ghost use Rattle.std.specs.Prelude.{◌≡◌, ◌≤◌, false, IfOk};
+ghost use Rattle.script_lang.specs.Lines.{line_of, IsWithin};
 ghost use Rattle.script_lang.specs.Limits.{most_line_bytes};
 ghost use Rattle.replay_run.specs.Grids.{boxed};
 ghost use Rattle.running_grid.specs.Runs.{IsRunning};
@@ -83,7 +83,8 @@ impl Watch {
     /// `Memory` for want of memory. Then the run is given up, and what was told of the line doesn't count.
     pub fn run(&mut self, alloc: Global, text: &[u8], told: &mut Tale) -> Result<Line, RunEnd>
         requires { IsRunning (boxed form) self.old.running }
-        ensures { IsRunning (boxed form) self.new.running }
+        ensures stands { IsRunning (boxed form) self.new.running }
+        ensures line { IfOk result (λ line. line_of false self.old.running.members text.now ≡ Ok line) }
     {
         self.notes.line = self.notes.line.saturating_add(1);
         self.to_come = self.to_come.saturating_sub(1);
