@@ -11,7 +11,7 @@ use script_lang::Line;
 use std::alloc::Global;
 
 /// The place that a line names on a link.
-pub(crate) fn place_of(line: &Line) -> Option<LinkPlace> {
+fn place_of(line: &Line) -> Option<LinkPlace> {
     match line {
         Line::Deliver {
             partition,
@@ -124,11 +124,14 @@ impl Notes {
         &mut self,
         alloc: Global,
         running: &RunningGrid,
-        at: LinkPlace,
-        flight: Flight,
+        line: &Line,
+        flight: Option<Flight>,
         text: &str,
         told: &mut Tale,
     ) -> Result<(), Memory> {
+        let (Some(at), Some(flight)) = (place_of(line), flight) else {
+            return Ok(());
+        };
         self.tell_taken(alloc, running, at, flight, text, told)?;
         self.note_sent(running, at.partition, at.link.to, told)?;
         self.tell_appended(alloc, text, told)

@@ -6,7 +6,6 @@ ghost use Rattle.script_lang.specs.Limits.{most_line_bytes};
 ghost use Rattle.replay_run.specs.Grids.{boxed};
 ghost use Rattle.running_grid.specs.Runs.{IsRunning};
 
-use crate::deliveries::place_of;
 use crate::printed::{as_text, number_in, outcome_of};
 use crate::watch::Watch;
 use grid_base::{PARTITIONS, PartitionId};
@@ -24,7 +23,7 @@ impl Watch {
         self.spare() > KEPT
     }
 
-    /// Delivers the first message of a link as a line of its own.
+    /// Delivers a message as a line of its own.
     fn deliver(&mut self, alloc: Global, line: &Line, told: &mut Tale) -> Result<(), RunEnd>
         requires within { IsWithin self.old.running.members most_line_bytes line.now }
         requires stands { IsRunning (boxed form) self.old.running }
@@ -32,13 +31,12 @@ impl Watch {
     {
         let flight = self.notes.flight_of(alloc, &self.running, line)?;
         let text = self.take(alloc, line)?;
+        let text = as_text(text.as_slice());
         told.go_on();
-        if let (Some(at), Some(flight)) = (place_of(line), flight) {
-            let text = as_text(text.as_slice());
+        Ok(
             self.notes
-                .tell_flowed(alloc, &self.running, at, flight, text, told)?;
-        }
-        Ok(())
+                .tell_flowed(alloc, &self.running, line, flight, text, told)?,
+        )
     }
 
     /// Delivers up to so many messages of a partition, each as a line of its own, while there are such lines. Tells how
@@ -104,10 +102,14 @@ impl Watch {
 
     /// Delivers up to so many messages of each partition. Tells how many.
     fn flow_in_all(&mut self, alloc: Global, most: u32, told: &mut Tale) -> Result<u32, RunEnd>
+        requires some { 1 ≤ most }
         requires most { most ≤ 1000 }
         requires stands { IsRunning (boxed form) self.old.running }
         ensures { IsRunning (boxed form) self.new.running }
     {
+        if !self.has_spare() {
+            return self.flow_untold(alloc, &Line::FlowAll { most }, told);
+        }
         let mut count: u32 = 0;
         for partition in 0..PARTITIONS {
             count = count.saturating_add(self.flow_in(alloc, partition, most, told)?);
@@ -144,11 +146,7 @@ impl Watch {
         requires stands { IsRunning (boxed form) self.old.running }
         ensures { IsRunning (boxed form) self.new.running }
     {
-        let count = if self.has_spare() {
-            self.flow_in_all(alloc, most, told)?
-        } else {
-            self.flow_untold(alloc, &Line::FlowAll { most }, told)?
-        };
+        let count = self.flow_in_all(alloc, most, told)?;
         Ok(told.push(Happening::Flowed { count })?)
     }
 }

@@ -1,7 +1,7 @@
 //! A script's run, of which each line is told.
 
-ghost use Rattle.std.specs.Prelude.{◌≤◌, IfOk};
-ghost use Rattle.script_lang.specs.Lines.{IsWithin};
+ghost use Rattle.std.specs.Prelude.{◌≡◌, ◌≤◌, false, IfOk};
+ghost use Rattle.script_lang.specs.Lines.{line_of, IsWithin};
 ghost use Rattle.script_lang.specs.Limits.{most_line_bytes};
 ghost use Rattle.replay_run.specs.Grids.{boxed};
 ghost use Rattle.running_grid.specs.Runs.{IsRunning};
@@ -83,20 +83,36 @@ impl Watch {
     /// `Memory` for want of memory. Then the run is given up, and what was told of the line doesn't count.
     pub fn run(&mut self, alloc: Global, text: &[u8], told: &mut Tale) -> Result<Line, RunEnd>
         requires { IsRunning (boxed form) self.old.running }
-        ensures { IsRunning (boxed form) self.new.running }
+        ensures stands { IsRunning (boxed form) self.new.running }
+        ensures line { IfOk result (λ line. line_of false self.old.running.members text.now ≡ Ok line) }
     {
         self.notes.line = self.notes.line.saturating_add(1);
         self.to_come = self.to_come.saturating_sub(1);
         told.go_on();
         let line = self.running.read(alloc, text)?;
-        match &line {
-            Line::Flow { partition, most } => self.flow(alloc, *partition, *most, told)?,
-            Line::FlowAll { most } => self.flow_all(alloc, *most, told)?,
-            Line::Comment => self.run_comment(alloc, text, told)?,
-            Line::Rebalance { most } => self.run_rebalance(alloc, &line, *most, told)?,
-            line => self.run_line(alloc, line, told)?,
-        }
+        self.run_read(alloc, &line, text, told)?;
         Ok(line)
+    }
+
+    /// Runs a line that is the one of a text.
+    fn run_read(
+        &mut self,
+        alloc: Global,
+        line: &Line,
+        text: &[u8],
+        told: &mut Tale,
+    ) -> Result<(), RunEnd>
+        requires within { IsWithin self.old.running.members most_line_bytes line.now }
+        requires stands { IsRunning (boxed form) self.old.running }
+        ensures { IsRunning (boxed form) self.new.running }
+    {
+        match line {
+            Line::Flow { partition, most } => self.flow(alloc, *partition, *most, told),
+            Line::FlowAll { most } => self.flow_all(alloc, *most, told),
+            Line::Comment => self.run_comment(alloc, text, told),
+            Line::Rebalance { most } => self.run_rebalance(alloc, line, *most, told),
+            line => self.run_line(alloc, line, told),
+        }
     }
 
     /// A comment says what stands behind its `#`.
