@@ -1,4 +1,5 @@
--- What the grid of a story stands for.
+-- What the grid of a story stands for, and how far it is.
+use Rattle.std.specs.Prelude.{ℕ}
 use Rattle.replay_run.specs.Grids.{FormOf}
 use Rattle.running_grid.specs.Runs.{IsRunning}
 use Rattle.explain_run.specs.declared.story.Stage.{Stage}
@@ -14,3 +15,16 @@ RunsLines form Ended = Unit {0}
 -- between two lines of a story
 abbrev pub GoesOn : {V : Type 0} {T : V → Type 0} → FormOf V T → Story V T → Type 0
 GoesOn form story = RunsLines form story.stage
+
+abbrev pub HasEnded : {V : Type 0} {T : V → Type 0} → Stage V T → Type 0
+HasEnded (Waiting processors) = ⊥
+HasEnded (Running watch) = ⊥
+HasEnded Ended = Unit {0}
+
+-- Nothing more is run.
+abbrev pub IsOver : {V : Type 0} {T : V → Type 0} → Story V T → Type 0
+IsOver story = HasEnded story.stage
+
+-- how many of its lines ran, with the one that ended it
+abbrev pub lines_of : {V : Type 0} {T : V → Type 0} → Story V T → ℕ
+lines_of story = story.lines

@@ -1,8 +1,9 @@
 //! A script that runs line by line, each of which is told.
 
-ghost use Rattle.std.specs.Prelude.{◌≡◌, ◌≢◌};
+ghost use Rattle.std.specs.Prelude.{◌≡◌, ◌≢◌, ◌+◌, ◌<◌, Err, OnOk, OnErr, IfOk};
+ghost use Rattle.script_lang.specs.Limits.{most_lines};
 ghost use Rattle.running_grid.specs.Runs.{IsRunning};
-ghost use Rattle.explain_run.specs.Stories.{GoesOn};
+ghost use Rattle.explain_run.specs.Stories.{GoesOn, IsOver, lines_of};
 
 use crate::script::{Script, ScriptEnd};
 use entry_processors::Processor;
@@ -143,7 +144,8 @@ pub struct Story {
 impl Story {
     /// A script of which no line ran. Its grid is to have these processors, whose numbers go from 1.
     pub fn new(alloc: Global, script: Script, processors: Vec<Box<dyn Processor>>) -> Self
-        ensures { GoesOn form result }
+        ensures goes_on { GoesOn form result }
+        ensures lines { lines_of result ≡ 0 }
     {
         Story {
             script,
@@ -155,7 +157,9 @@ impl Story {
     }
 
     /// The next line's text, and where the one behind it begins.
-    fn next_text(&self) -> Result<(&[u8], usize), Stop> {
+    fn next_text(&self) -> Result<(&[u8], usize), Stop>
+        ensures { OnOk result (lines_of self.now < most_lines) }
+    {
         let rest = self.script.text.as_slice().get(self.at..).unwrap_or(&[]);
         let newline = memchr(b'\n', rest);
         let length = newline.unwrap_or(rest.len());
@@ -183,12 +187,16 @@ impl Story {
         processors: Vec<Box<dyn Processor>>,
         text: &[u8],
     ) -> Result<Place, Stop>
-        requires { GoesOn form self.old }
-        ensures { GoesOn form self.new }
+        requires { IsOver self.old }
+        ensures goes_on { GoesOn form self.new }
+        ensures counts { lines_of self.new ≡ lines_of self.old }
+        ensures at { IfOk result (λ place. place.line ≡ lines_of self.old) }
+        ensures over { OnErr result (IsOver self.new) }
     {
+        let number = self.lines;
         let line = match read_line(alloc, text, true, 0) {
             Ok(line) => line,
-            Err(LineRefused::Why(why)) => return Err(Stop::Refused { line: 1, why }),
+            Err(LineRefused::Why(why)) => return Err(Stop::Refused { line: number, why }),
             Err(LineRefused::Memory) => return Err(Stop::Memory),
         };
         let Line::Grid {
@@ -198,14 +206,14 @@ impl Story {
         } = line
         else {
             let why = LineWhy::NoGrid;
-            return Err(Stop::Refused { line: 1, why });
+            return Err(Stop::Refused { line: number, why });
         };
         let lines = count_lines(self.script.text.as_slice());
         let watch = Watch::new(alloc, members, backups, capacity, processors, lines)?;
         self.told.begin(members, backups, capacity)?;
         self.stage = Stage::Running(watch);
         Ok(Place {
-            line: 1,
+            line: number,
             members,
             partition: None,
         })
@@ -213,9 +221,12 @@ impl Story {
 
     /// Runs a line behind the first.
     fn go_on(&mut self, alloc: Global, mut watch: Watch, text: &[u8]) -> Result<Place, Stop>
-        requires waits { GoesOn form self.old }
+        requires over { IsOver self.old }
         requires stands { IsRunning form watch.running }
-        ensures { GoesOn form self.new }
+        ensures goes_on { GoesOn form self.new }
+        ensures counts { lines_of self.new ≡ lines_of self.old }
+        ensures at { IfOk result (λ place. place.line ≡ lines_of self.old) }
+        ensures over { OnErr result (IsOver self.new) }
     {
         let ran = watch.run(alloc, text, &mut self.told);
         let line = match ran {
@@ -238,7 +249,11 @@ impl Story {
     /// Runs the next line.
     fn run_next(&mut self, alloc: Global) -> Result<Place, Stop>
         requires { GoesOn form self.old }
-        ensures { GoesOn form self.new }
+        ensures goes_on { GoesOn form self.new }
+        ensures counts { OnOk result (lines_of self.new ≡ lines_of self.old + 1) }
+        ensures at { IfOk result (λ place. place.line ≡ lines_of self.new) }
+        ensures over { OnErr result (IsOver self.new) }
+        ensures done { IsOver self.old → result ≡ Err Stop.Done }
     {
         let stage = mem::replace(&mut self.stage, Stage::Ended);
         if matches!(&stage, Stage::Ended) {
@@ -256,11 +271,18 @@ impl Story {
     }
 
     /// Runs the next line, and tells what happened. An `Err` is how the run ended: behind a line `end`, or at a line that
-    /// didn't run, of which nothing is told. After an `Err` nothing more is run. Costs what the line costs the grid, the
-    /// words of what happened, and a copy of the line.
+    /// didn't run, of which nothing is told. Costs what the line costs the grid, the words of what happened, and a copy of
+    /// the line.
     pub fn next(&mut self, alloc: Global) -> Result<LineTold, Stop>
         requires { GoesOn form self.old }
-        ensures { GoesOn form self.new }
+        ensures goes_on { GoesOn form self.new }
+        // Lines run and are told in order, each by its number.
+        ensures counts { OnOk result (lines_of self.new ≡ lines_of self.old + 1) }
+        ensures at { IfOk result (λ told. told.at.line ≡ lines_of self.new) }
+
+        // After an `Err` nothing more is run.
+        ensures over { OnErr result (IsOver self.new) }
+        ensures done { IsOver self.old → result ≡ Err Stop.Done }
     {
         let at = self.run_next(alloc)?;
         let told = self.told.take(alloc);
