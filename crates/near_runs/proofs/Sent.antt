@@ -98,17 +98,15 @@ module _ (r : Run) (own : Option ℕ) (c m : ℕ) (name : List ℕ) (near : IsNe
   listens_here =
       let yes : (near.connection.member == m) ≡ true = number_same near.connection.member m near.member in
       let first : listens_at r own m (record { conn = c; registration = registration.Invalidations invalidations_correlation name }) ≡ true = listens_as m (registration.Invalidations invalidations_correlation name) ∙ yes in
-      let second : listens_at r own m (record { conn = c; registration = registration.Rows rows_correlation }) ≡ true = listens_as m (registration.Rows rows_correlation) ∙ yes in
       let order : nat_lt c c ≡ false = is_not_less c c (le_refl c) in
-      on_it m ∙ rw (first, second) rw order refl
+      on_it m ∙ rw first (rw order refl)
 
   -- and at no other
   pub listens_nowhere : (k : ℕ) → k ≢ m → filter (is_of c) (listening r own k) ≡ []
   listens_nowhere k apart =
       let none : (near.connection.member == k) ≡ false = number_other near.connection.member k (λ e. apart (sym e ∙ near.member)) in
       let first : listens_at r own k (record { conn = c; registration = registration.Invalidations invalidations_correlation name }) ≡ false = listens_as k (registration.Invalidations invalidations_correlation name) ∙ none in
-      let second : listens_at r own k (record { conn = c; registration = registration.Rows rows_correlation }) ≡ false = listens_as k (registration.Rows rows_correlation) ∙ none in
-      on_it k ∙ rw (first, second) refl
+      on_it k ∙ rw first refl
 
 -- ---- what a near client's listeners are sent
 

@@ -1,5 +1,5 @@
 -- What a map is to the machine of a near client, where partitions are those of the grid.
-use Rattle.std.specs.Prelude.{ℕ, bytes_eq, if◌then◌else◌, List, [], ◌∷◌, Option, Some, None}
+use Rattle.std.specs.Prelude.{ℕ, false, bytes_eq, if◌then◌else◌, List, [], ◌∷◌, Option, Some, None}
 use Rattle.grid_base.specs.declared.calls.Change.{Change}
 use Rattle.grid_base.specs.declared.calls.Request.{Request}
 use Rattle.message_frames.specs.Messages.{messages_of}
