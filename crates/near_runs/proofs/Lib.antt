@@ -5,3 +5,5 @@ pub mod Sent
 pub mod Answers
 pub mod Says
 pub mod Runs
+pub mod Sessions
+pub mod Readings

@@ -295,16 +295,16 @@ module _ (settings : Settings) (r : Run) (c m : ℕ) (name : List ℕ) (client :
   silent : a.member ≢ m → AreSaid name (sent_to c (refused_by a.line a.request outcome) ++ sent_to c (messages_by (partition_object settings) r own a.request.partition a.member before after)) (told_rows ++ (refusal ++ given))
   silent d =
       let other : (a.request.id.conn == c) ≡ false = number_other a.request.id.conn c (λ s. d ((right.1 s).0)) in
-      let none : refusal ≡ [] = ap (λ b. cond (is_refused outcome && b) (Refusal a.request.id.number ∷ []) []) other ∙ no_refusal (is_refused outcome) in
+      let none : refusal ≡ [] = ap (λ b. cond (is_refused outcome && b) (Refusal a.request.id.number ∷ []) []) other ∙ no_refusal (is_refused outcome) (Refusal a.request.id.number ∷ []) in
       subst (λ xs. AreSaid name (sent_to c (refused_by a.line a.request outcome) ++ xs) (told_rows ++ (refusal ++ given)))
       (sym (unsent settings r c m name client one near a.request.partition (call_of a) right named own a.member d (λ j z. sym z)))
       (subst (λ ys. AreSaid name (sent_to c (refused_by a.line a.request outcome) ++ []) (told_rows ++ (ys ++ given))) (sym none)
       (subst (λ ys. AreSaid name (sent_to c (refused_by a.line a.request outcome) ++ []) ys) (sym (unsaid settings r c m name client one near a.request.partition (call_of a) right named (λ z. d z)))
       (said-append name (sent_to c (refused_by a.line a.request outcome)) [] [] [] (subst (AreSaid name (sent_to c (refused_by a.line a.request outcome))) none refused) tt)))
     where
-      no_refusal : (b : Bool) → cond (b && false) (Refusal {K = List ℕ} a.request.id.number ∷ []) [] ≡ []
-      no_refusal true = refl
-      no_refusal false = refl
+      no_refusal : (b : Bool) (ms : List (Said (List ℕ))) → cond (b && false) ms [] ≡ []
+      no_refusal true ms = refl
+      no_refusal false ms = refl
 
   pub call_says : AreSaid name (sent_to c (happening (partition_object settings) r a)) (told_rows ++ (refusal ++ given))
   call_says = subst
