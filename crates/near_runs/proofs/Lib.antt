@@ -7,3 +7,7 @@ pub mod Says
 pub mod Runs
 pub mod Sessions
 pub mod Readings
+pub mod Attaching
+pub mod Following
+pub mod Hearings
+pub mod NearRuns

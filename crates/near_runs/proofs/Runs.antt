@@ -108,7 +108,7 @@ arrived_event {C} (e ∷ es) a i = ⊎_elim (λ j. let f = asked_event e a j in 
 
 -- ---- events that are no calls
 
-quiet_right : (c m p : ℕ) (e : Event Request) → asked_by e ≡ [] → IsRight c m p e
+pub quiet_right : (c m p : ℕ) (e : Event Request) → asked_by e ≡ [] → IsRight c m p e
 quiet_right c m p (Call k conn number request now) none = absurd cc
 quiet_right c m p (Deliver f t k) none = tt
 quiet_right c m p (Lose f t k) none = tt

@@ -3,3 +3,7 @@ pub mod Messages
 pub mod NearConnections
 pub mod Sessions
 pub mod Readings
+pub mod Attaching
+pub mod Following
+pub mod Hearings
+pub mod NearRuns

@@ -4,8 +4,13 @@
 //! The functions compute nothing: their contracts are what holds of every run.
 #![tactic(auto)]
 
+ghost use Rattle.near_runs.specs.Attaching.{EveryOpeningAttaches};
+ghost use Rattle.near_runs.specs.Following.{EveryEventIsFollowed, EveryHearingIsFollowed, EveryHitIsFollowed, EveryMissIsFollowed, EveryOtherCallIsFollowed, EveryOtherStepIsAside};
+ghost use Rattle.near_runs.specs.Hearings.{EveryAnswerIsHeard, EveryRefusalIsHeard};
 ghost use Rattle.near_runs.specs.Maps.{EveryMapIsKeyed};
 ghost use Rattle.near_runs.specs.NearConnections.{EveryCallSays, EveryEventSays};
+ghost use Rattle.near_runs.specs.NearRuns.{EveryNearRunGoesWell};
+ghost use Rattle.near_runs.specs.Readings.{EveryOutputIsHeard};
 ghost use Rattle.near_runs.specs.Sessions.{EveryGetIsHeard, EveryGetIsServed, EveryOpeningIsHeard, EveryOpeningIsServed};
 
 /// Each map of a grid is one that the near cache's machine can go by: it tells keys apart, has each key in its partition, and
@@ -33,4 +38,40 @@ pub fn every_opening_is_heard()
 pub fn every_get_is_heard()
     ensures item { EveryGetIsHeard }
     ensures line { EveryGetIsServed }
+{}
+
+/// However a near client reads its connection's output, it hears its messages in order, each once, as its bytes are complete.
+pub fn every_output_is_heard()
+    ensures { EveryOutputIsHeard }
+{}
+
+/// After its opening a near client is attached as the machine's is: it listens, and is told all rows that its member knows.
+pub fn every_opening_attaches()
+    ensures { EveryOpeningAttaches }
+{}
+
+/// A run goes with the machine of a near client, step by step: its grid is the machine's, and what was sent on the client's
+/// connection since it came is what the machine said.
+pub fn every_run_is_followed()
+    ensures aside { EveryOtherStepIsAside }
+    ensures event { EveryEventIsFollowed }
+    ensures call { EveryOtherCallIsFollowed }
+    ensures miss { EveryMissIsFollowed }
+    ensures hit { EveryHitIsFollowed }
+    ensures hearing { EveryHearingIsFollowed }
+{}
+
+/// The reply to a get, and a refusal, are each heard as one message, under the correlation of their get: the reply brings the
+/// value, and the refusal a code.
+pub fn every_answer_is_heard()
+    ensures answer { EveryAnswerIsHeard }
+    ensures refusal { EveryRefusalIsHeard }
+{}
+
+/// Whatever steps a run takes that a near client came to: it goes with the client's machine, and where the machine hits a value,
+/// that is the reply of a get of the client that stands in the key's history, after each write that an invalidation of the key
+/// named which the client has handled. Where no invalidation of the key and no row of its partition is unread, it also stands
+/// after each answered write, and each reset, of a version up to the one that the client's member knows.
+pub fn every_near_run_goes_well()
+    ensures { EveryNearRunGoesWell }
 {}
