@@ -1,5 +1,5 @@
 -- After its opening a near client is attached.
-use Rattle.std.proofs.Common.{◌≡◌, ◌≢◌, ℕ, zero, suc, ◌<◌, ◌≤◌, Bool, true, false, cond, not, ◌==◌, List, [], ◌∷◌, ◌++◌, map, filter, length, Option, Some, None, option_map, is_some, slice_get, refl, ap, sym, ◌∙◌, subst, append_assoc, append-nil, arith, le_of_suc-le-suc}
+use Rattle.std.proofs.Common.{◌≡◌, ◌≢◌, ℕ, zero, suc, ◌+◌, ◌<◌, ◌≤◌, Bool, true, false, cond, not, ◌==◌, List, [], ◌∷◌, ◌++◌, map, filter, length, Option, Some, None, option_map, is_some, slice_get, refl, ap, sym, ◌∙◌, subst, append_assoc, append-nil, arith, le_of_suc-le-suc}
 use Rattle.std.specs.List.{find, filter_map, cons_option}
 use Rattle.std.proofs.lemmas.List.Elements.{filter-append}
 use Rattle.grid_base.specs.Objects.{Object}
@@ -126,7 +126,7 @@ module _ (settings : Settings) (r : Run) (k : Connection) (client : ℕ) (name :
           → map row_told (p ∷ ps) ≡ map row_said (cons_option (known_at o next k.member p) (filter_map (known_at o next k.member) ps))
       go (n, at) ih =
           let version : known_version k.member (world o (grid_of settings k.conn name client next) p) ≡ n.known.version =
-              ap (known_version k.member) (world_is settings k.conn name client next p) ∙ ap (λ x. map_or x 0 (λ (node : Node). node.known.version)) at
+          ap (known_version k.member) (world_is settings k.conn name client next p) ∙ ap (λ x. map_or x 0 (λ (node : Node). node.known.version)) at
           in
           ap (λ v. record { partition = p; version = v } ∷ map row_told ps) version
           ∙ ap (λ rs. record { partition = p; version = n.known.version } ∷ rs) ih

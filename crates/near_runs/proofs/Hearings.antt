@@ -56,8 +56,8 @@ every_answer_is_heard number value small writable = record {
     kind_is = kind_read (get_kind + 1) (int64_bytes (correlation_of number) ++ 0 ∷ []) (lit< tt);
     correlation_is = int64_read (to_le_bytes w32 (get_kind + 1)) (to_le_bytes w32 (get_kind + 1) ++ int64_bytes (correlation_of number)) (int64_bytes (correlation_of number)) (correlation_of number) (fits_number number small) refl refl (0 ∷ []);
   };
-  value = its_value number value;
-  brought = ap (λ (h : Heard). value_said h.messages) only ∙ its_value number value;
+  brings = its_value number value;
+  read = ap (λ (h : Heard). value_said h.messages) only ∙ its_value number value;
 }
   where
     only : heard false (reply_bytes get_kind (correlation_of number) (Maybe value)) ≡ record { messages = record { frames = answer_frames number value } ∷ []; fault = None }

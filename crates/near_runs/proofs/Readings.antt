@@ -77,7 +77,7 @@ heard_part sent text done stream (later, order, inl all) =
 heard_part sent text done stream (later, order, inr (frames, more_sent, begun, more, first, part, whole, some)) =
     ap (heard false) (part ∙ ap (λ b. b ++ begun) (sym (stream_sent done)))
     ∙ so_far_heard false (pieces_sent done) (Unfragmented frames) begun more
-        (stream_front (shortest_start false) (pieces_sent done ++ Unfragmented frames ∷ []) (pieces_sent more_sent) (subst (IsStream (shortest_start false)) parted stream)) whole some
+    (stream_front (shortest_start false) (pieces_sent done ++ Unfragmented frames ∷ []) (pieces_sent more_sent) (subst (IsStream (shortest_start false)) parted stream)) whole some
     ∙ ap (λ (ms : List Message). record { messages = ms; fault = None }) (merged_sent done)
   where
     parted : pieces_sent sent ≡ (pieces_sent done ++ Unfragmented frames ∷ []) ++ pieces_sent more_sent

@@ -288,7 +288,7 @@ module _ (settings : Settings) (r : Run) (c m : ℕ) (name : List ℕ) (client :
   says_at : a.member ≡ m → AreSaid name (sent_to c (refused_by a.line a.request outcome) ++ sent_to c (messages_by (partition_object settings) r own a.request.partition m before after)) (told_rows ++ (refusal ++ given))
   says_at s =
       let both = said-append name (sent_to c (refused_by a.line a.request outcome)) (sent_to c (messages_by (partition_object settings) r own a.request.partition m before after)) refusal (told_rows ++ given)
-          refused (here settings r c m name client one near a.request.partition (call_of a) right named own (λ k z. sym z ∙ s)) in
+      refused (here settings r c m name client one near a.request.partition (call_of a) right named own (λ k z. sym z ∙ s)) in
       subst (λ ys. AreSaid name (sent_to c (refused_by a.line a.request outcome) ++ sent_to c (messages_by (partition_object settings) r own a.request.partition m before after)) (ys ++ (refusal ++ given))) (sym (no_rows s))
       (subst (λ ys. AreSaid name (sent_to c (refused_by a.line a.request outcome) ++ sent_to c (messages_by (partition_object settings) r own a.request.partition m before after)) (refusal ++ (ys ++ given))) (no_rows s) both)
 

@@ -156,10 +156,11 @@ module _ (settings : Settings) (r : Run) (own : Option ℕ) (c m : ℕ) (name : 
           let f : (a.known.version == n.known.version) ≡ false = number_other a.known.version n.known.version (λ q. absurd (omega (arith, s, q))) in
           let t : nat_lt n.known.version a.known.version ≡ true = is_less n.known.version a.known.version s in
           let it : AreSaid name (sent_to c (row_messages r.lines p (listening r own m) (Some a.known))) (Rows (record { partition = p; version = a.known.version } ∷ []) ∷ []) =
-              subst (λ xs. AreSaid name xs (Rows (record { partition = p; version = a.known.version } ∷ []) ∷ []))
-              (sym (rows_sent c r.lines ((p, a.known) ∷ []) (listening r own m) name (listens_here r own c m name near))) (((p, a.known) ∷ [], (refl, refl)), tt)
+          subst (λ xs. AreSaid name xs (Rows (record { partition = p; version = a.known.version } ∷ []) ∷ []))
+          (sym (rows_sent c r.lines ((p, a.known) ∷ []) (listening r own m) name (listens_here r own c m name near))) (((p, a.known) ∷ [], (refl, refl)), tt)
           in
           rw (f, t) it
+
       by : (b : Node) × (Some a ≡ Some b) × GoesOn n b → AreSaid name (sent_to c (row_messages r.lines p (listening r own m) (if_newer n.known.version a.known))) (rows_said p (Some n) (Some a))
       by (b, s, g) = let same : b ≡ a = cc in ⊎_elim stays rises (subst (GoesOn n) same g)
 

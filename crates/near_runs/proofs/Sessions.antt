@@ -139,11 +139,11 @@ module _ (client : ℕ) (name : List ℕ) (may : MayOpen client name) where
   hello = Hello (record { client = Some client; name = codes "dev" })
 
   says_hello : Say (pos 1) hello (bytes_of (pos 1) hello)
-  says_hello = said_bytes (pos 1) hello fits_first tt (record { fits = may.client; text = IsUtf8-from_ascii (codes "dev") is_dev })
+  says_hello = said_bytes (pos 1) hello fits_first tt (record { fits = may.small; text = IsUtf8-from_ascii (codes "dev") is_dev })
       (record { each = within (authentication_frames (pos 1) client) ((lit< tt, lit≤ tt), ((lit< tt, lit≤ tt), tt)); all = refl })
 
   says_map : Say (pos 2) (Listen (listening.Invalidations name)) (bytes_of (pos 2) (Listen (listening.Invalidations name)))
-  says_map = said_bytes (pos 2) (Listen (listening.Invalidations name)) fits_second tt may.name (fitting (listener_frames (Some name)) may.fits)
+  says_map = said_bytes (pos 2) (Listen (listening.Invalidations name)) fits_second tt may.text (fitting (listener_frames (Some name)) may.fits)
 
   says_rows : Say (pos 3) (Listen listening.Rows) (bytes_of (pos 3) (Listen listening.Rows))
   says_rows = said_bytes (pos 3) (Listen listening.Rows) fits_third tt tt (record { each = within view_frames ((lit< tt, lit≤ tt), tt); all = refl })
@@ -192,14 +192,14 @@ module _ (conn member client : ℕ) (name key text : List ℕ) (sent : HasSent c
   the_get = Get name key (record { client = Known client; thread = pos 0 })
 
   says_get : Say (correlation_of (length (messages_of true text))) (OnMap the_get) (get_bytes name client (length (messages_of true text)) key)
-  says_get = said_bytes (correlation_of (length (messages_of true text))) (OnMap the_get) (fits_number (length (messages_of true text)) may.number) tt
-      (record { name = may.name; key = may.key; numbers = All-cons (FitsSigned w64) (pos 0) [] fits_thread (All-nil (FitsSigned w64)); processor = tt })
+  says_get = said_bytes (correlation_of (length (messages_of true text))) (OnMap the_get) (fits_number (length (messages_of true text)) may.room) tt
+      (record { name = may.text; key = may.whole; numbers = All-cons (FitsSigned w64) (pos 0) [] fits_thread (All-nil (FitsSigned w64)); processor = tt })
       (fitting (message_of (correlation_of (length (messages_of true text))) (OnMap the_get)).frames may.fits)
 
   gets : Goes conn member (text ++ get_bytes name client (length (messages_of true text)) key) (items_of conn member (messages_of true text) ++ Call (get_request conn name client (length (messages_of true text)) key) ∷ []) (Some (Known client))
   gets = goes_on conn member text (items_of conn member (messages_of true text)) (Some (Known client))
       (record { pieces = sent.pieces; is = sent.is; stream = sent.stream; items_are = refl; identity_is = sent.known; whole = sent.whole })
-      (correlation_of (length (messages_of true text))) (OnMap the_get) (get_bytes name client (length (messages_of true text)) key) says_get may.number
+      (correlation_of (length (messages_of true text))) (OnMap the_get) (get_bytes name client (length (messages_of true text)) key) says_get may.room
 
 pub every_get_is_heard : EveryGetIsHeard
 every_get_is_heard conn member client name key text sent may =

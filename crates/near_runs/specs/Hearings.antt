@@ -39,8 +39,8 @@ pub record IsAnswer (number : ℕ) (value : Value) (reply : List ℕ) : Type 0 w
   pub message : Message
   pub only : IsOnly reply message
   pub head : HasHead message (get_kind + 1) (correlation_of number)
-  pub value : value_of message ≡ Some value
-  pub brought : value_in reply ≡ Some value
+  pub brings : value_of message ≡ Some value
+  pub read : value_in reply ≡ Some value
 
 -- The reply to a get is heard as one message, under its correlation, which brings the value.
 abbrev pub EveryAnswerIsHeard : Type 0

@@ -35,8 +35,8 @@ pub record HasSent (conn client : ℕ) (text : List ℕ) : Type 0 where
 -- ---- the opening
 
 pub record MayOpen (client : ℕ) (name : List ℕ) : Type 0 where
-  pub client : client < 2 ^ 128
-  pub name : IsUtf8 name
+  pub small : client < 2 ^ 128
+  pub text : IsUtf8 name
   pub fits : IsWritable (listener_frames (Some name))
 
 -- It is answered that it is known, and registered twice.
@@ -59,9 +59,9 @@ abbrev pub get_bytes : List ℕ → ℕ → ℕ → List ℕ → List ℕ
 get_bytes name client number key = request_bytes (correlation_of number) (partition_of_key key) (get_of name key client)
 
 pub record MayGet (name : List ℕ) (client number : ℕ) (key : List ℕ) : Type 0 where
-  pub name : IsUtf8 name
-  pub key : 8 ≤ length key
-  pub number : number < most_messages
+  pub text : IsUtf8 name
+  pub whole : 8 ≤ length key
+  pub room : number < most_messages
   pub fits : IsWritable (request (correlation_of number) (partition_of_key key) (get_of name key client)).frames
 
 -- It is heard as the call that the machine makes, under the number of its message.
