@@ -13,7 +13,7 @@ use Rattle.call_engine.specs.Objects.{partition_object}
 use Rattle.request_codecs.specs.Openings.{opening}
 use Rattle.near_protocol.specs.Keyed.{Keyed}
 use Rattle.near_protocol.specs.Client.{Said, hit}
-use Rattle.near_protocol.specs.Near.{At as MachineAt, Near, Move, Occurs, LooksUp, Hears, new_grid, world, happened, all_happened, attached, occurred as machine_occurred, opening_at, looked_up, hears, is_call_on, moved, all_moved}
+use Rattle.near_protocol.specs.Near.{At as MachineAt, Near, Move, Occurs, LooksUp, LooksUpInVain, Hears, new_grid, world, happened, all_happened, attached, occurred as machine_occurred, opening_at, looked_up, looked_up_in_vain, hears, is_call_on, moved, all_moved}
 use Rattle.near_protocol.specs.Claims.{IsNew, AreNamedOnce, IsHit}
 use Rattle.near_protocol.proofs.Moves.{IsLater, named_later, move_later}
 use Rattle.near_protocol.proofs.Theorem.{every_hit_stands}
@@ -25,10 +25,11 @@ use Rattle.near_runs.specs.NearConnections.{machine_events, grid_of, grid_after}
 use Rattle.near_runs.specs.Sessions.{MayOpen, near_opened}
 use Rattle.near_runs.specs.Attaching.{IsFresh, IsAttached}
 use Rattle.near_runs.specs.Following.{Machine, Follows, step, IsNextGet}
-use Rattle.near_runs.specs.NearRuns.{IsNearRun, client_came, went_aside, event_happened, call_arrived, client_missed, client_hit, client_heard, GoesWell, EveryNearRunGoesWell}
+use Rattle.near_runs.specs.NearRuns.{IsNearRun, client_came, went_aside, event_happened, call_arrived, client_missed, client_missed_in_vain, client_hit, client_heard, GoesWell, EveryNearRunGoesWell}
 use Rattle.near_runs.proofs.Maps.{every_map_is_keyed}
 use Rattle.near_runs.proofs.Attaching.{every_opening_attaches}
 use Rattle.near_runs.proofs.Following.{every_other_step_is_aside, every_event_is_followed, every_other_call_is_followed, every_miss_is_followed, every_hit_is_followed, every_hearing_is_followed, no_call_on, missed}
+use Rattle.near_runs.proofs.FollowingInVain.{every_miss_in_vain_is_followed}
 use Rattle.partition_protocol.proofs.RowFacts.{number_other}
 
 -- ---- moves
@@ -53,6 +54,11 @@ same_conn {C} {K = K} {V} o l s (LooksUp k now) = by (hit l k s.client)
     by : (x : Option V) → (looked_up o l s k now x).conn ≡ s.conn
     by (Some v) = refl
     by None = on (is_live (world o s.grid (l.partition k)) s.member)
+same_conn {C} {K = K} {V} o l s (LooksUpInVain k) = by (hit l k s.client)
+  where
+    by : (x : Option V) → (looked_up_in_vain l s k x).conn ≡ s.conn
+    by (Some v) = refl
+    by None = refl
 same_conn {C} {K = K} {V} o l s Hears = by s.unread
   where
     by : (ms : List (Said K)) → (hears l s ms).conn ≡ s.conn
@@ -168,6 +174,13 @@ module _ (settings : Settings) (client : ℕ) (name : List ℕ) where
         members = subst (λ n. 1 ≤ n) (sym (asked_members r a skips)) b.members;
         made = made_step s b.made (LooksUp key a.now);
         follows = every_miss_is_followed settings client name key r s a skips b.members b.follows next none once found;
+      }
+  both (client_missed_in_vain r s key a skips run request none skipped) named =
+      let b = both run (before s (LooksUpInVain key) named) in
+      record {
+        members = subst (λ n. 1 ≤ n) (sym (asked_members r a skips)) b.members;
+        made = made_step s b.made (LooksUpInVain key);
+        follows = every_miss_in_vain_is_followed settings client name key r s a skips b.follows request none skipped;
       }
   both (client_hit r s key value now run found) named =
       let b = both run (before s (LooksUp key now) named) in

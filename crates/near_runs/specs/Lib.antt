@@ -5,5 +5,9 @@ pub mod Sessions
 pub mod Readings
 pub mod Attaching
 pub mod Following
+pub mod FollowingInVain
 pub mod Hearings
 pub mod NearRuns
+pub mod Clients
+pub mod Looks
+pub mod Pieces

@@ -1,5 +1,5 @@
 -- Runs with a near client, made step by step with its machine, and what its hits are worth.
-use Rattle.std.specs.Prelude.{◌≡◌, ◌≢◌, ℕ, ◌<◌, ◌≤◌, false, List, [], ◌∷◌, Some, None}
+use Rattle.std.specs.Prelude.{◌≡◌, ◌≢◌, ℕ, ◌<◌, ◌≤◌, true, false, List, [], ◌∷◌, Some, None}
 use Rattle.grid_base.specs.declared.calls.Request.{Request}
 use Rattle.grid_base.specs.declared.names.CallId.{CallId}
 use Rattle.call_engine.specs.Calls.{Settings}
@@ -8,11 +8,11 @@ use Rattle.partition_protocol.specs.Events.{Event}
 use Rattle.partition_protocol.specs.Arrivals.{asked_by}
 use Rattle.request_codecs.specs.Openings.{opening}
 use Rattle.near_protocol.specs.Client.{Said, hit}
-use Rattle.near_protocol.specs.Near.{Occurs, LooksUp, Hears, attached}
+use Rattle.near_protocol.specs.Near.{Occurs, LooksUp, LooksUpInVain, Hears, attached}
 use Rattle.near_protocol.specs.Claims.{IsNew, AreNamedOnce, IsHit}
 use Rattle.grid_client.specs.Nears.{Value}
 use Rattle.replay_run.specs.Runs.{Run, Connection, Arrival, partitions, call_of, is_skipped, asked, occurred}
-use Rattle.near_runs.specs.Maps.{keyed}
+use Rattle.near_runs.specs.Maps.{keyed, get_request}
 use Rattle.near_runs.specs.NearConnections.{IsRight, machine_events, grid_of}
 use Rattle.near_runs.specs.Sessions.{MayOpen, near_opened}
 use Rattle.near_runs.specs.Attaching.{IsFresh}
@@ -33,6 +33,9 @@ pub data IsNearRun (settings : Settings) (client : ℕ) (name : List ℕ) : Run 
   -- the client looks a key up, and misses or hits
   client_missed : (r : Run) (s : Machine) (key : List ℕ) (a : Arrival) (skips : List CallId) → IsNearRun settings client name r s → IsNextGet settings client name key r s a → hit (keyed settings s.conn name client) key s.client ≡ None → is_skipped skips a.request.id ≡ false
       → IsNearRun settings client name (asked (partition_object settings) skips r a) (step settings client name s (LooksUp key a.now))
+  -- its get finds no memory
+  client_missed_in_vain : (r : Run) (s : Machine) (key : List ℕ) (a : Arrival) (skips : List CallId) → IsNearRun settings client name r s → a.request ≡ get_request s.conn name client s.next_number key → hit (keyed settings s.conn name client) key s.client ≡ None
+      → is_skipped skips a.request.id ≡ true → IsNearRun settings client name (asked (partition_object settings) skips r a) (step settings client name s (LooksUpInVain key))
   client_hit : (r : Run) (s : Machine) (key : List ℕ) (value : Value) (now : ℕ) → IsNearRun settings client name r s → hit (keyed settings s.conn name client) key s.client ≡ Some value → IsNearRun settings client name r (step settings client name s (LooksUp key now))
   -- it hears the next message
   client_heard : (r : Run) (s : Machine) (message : Said (List ℕ)) (rest : List (Said (List ℕ))) → IsNearRun settings client name r s → s.unread ≡ message ∷ rest → IsNearRun settings client name r (step settings client name s Hears)

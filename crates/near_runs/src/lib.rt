@@ -6,10 +6,14 @@
 
 ghost use Rattle.near_runs.specs.Attaching.{EveryOpeningAttaches};
 ghost use Rattle.near_runs.specs.Following.{EveryEventIsFollowed, EveryHearingIsFollowed, EveryHitIsFollowed, EveryMissIsFollowed, EveryOtherCallIsFollowed, EveryOtherStepIsAside};
+ghost use Rattle.near_runs.specs.Clients.{EveryMessageIsHeard};
+ghost use Rattle.near_runs.specs.FollowingInVain.{EveryMissInVainIsFollowed};
 ghost use Rattle.near_runs.specs.Hearings.{EveryAnswerIsHeard, EveryRefusalIsHeard};
+ghost use Rattle.near_runs.specs.Looks.{EveryHitIsTheMachines, EveryMissIsTheMachines};
 ghost use Rattle.near_runs.specs.Maps.{EveryMapIsKeyed};
 ghost use Rattle.near_runs.specs.NearConnections.{EveryCallSays, EveryEventSays};
 ghost use Rattle.near_runs.specs.NearRuns.{EveryNearRunGoesWell};
+ghost use Rattle.near_runs.specs.Pieces.{EveryPieceIsHeard};
 ghost use Rattle.near_runs.specs.Readings.{EveryOutputIsHeard};
 ghost use Rattle.near_runs.specs.Sessions.{EveryGetIsHeard, EveryGetIsServed, EveryOpeningIsHeard, EveryOpeningIsServed};
 
@@ -57,6 +61,7 @@ pub fn every_run_is_followed()
     ensures event { EveryEventIsFollowed }
     ensures call { EveryOtherCallIsFollowed }
     ensures miss { EveryMissIsFollowed }
+    ensures vain { EveryMissInVainIsFollowed }
     ensures hit { EveryHitIsFollowed }
     ensures hearing { EveryHearingIsFollowed }
 {}
@@ -74,4 +79,21 @@ pub fn every_answer_is_heard()
 /// after each answered write, and each reset, of a version up to the one that the client's member knows.
 pub fn every_near_run_goes_well()
     ensures { EveryNearRunGoesWell }
+{}
+
+/// What a near client makes of a message is what the machine makes of what that says, also where no call waits for it: it goes
+/// on with the machine's client.
+pub fn every_message_is_heard()
+    ensures { EveryMessageIsHeard }
+{}
+
+/// A near client's look-up hits what the machine's does. Where it misses, both open one under the client's next number.
+pub fn every_look_up_is_the_machines()
+    ensures hit { EveryHitIsTheMachines }
+    ensures miss { EveryMissIsTheMachines }
+{}
+
+/// A piece of its connection's output tells a near client what its messages say, one after the other, as the machine hears it.
+pub fn every_piece_is_heard()
+    ensures { EveryPieceIsHeard }
 {}
