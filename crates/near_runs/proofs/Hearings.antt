@@ -40,7 +40,7 @@ alone frames w head =
 
 -- ---- the answer
 
-its_bytes : (number : ℕ) (value : Value) → reply_bytes get_kind (correlation_of number) (Maybe value) ≡ spelled (answer_frames number value)
+pub its_bytes : (number : ℕ) (value : Value) → reply_bytes get_kind (correlation_of number) (Maybe value) ≡ spelled (answer_frames number value)
 its_bytes number None = ap (λ b. frame_bytes (record { flags = 0xC000; payload = head_bytes (get_kind + 1) (correlation_of number) }) ++ b) (sym (append-nil (frame_bytes (value_frame None))))
 its_bytes number (Some value) = ap (λ b. frame_bytes (record { flags = 0xC000; payload = head_bytes (get_kind + 1) (correlation_of number) }) ++ b) (sym (append-nil (frame_bytes (value_frame (Some value)))))
 
@@ -50,7 +50,6 @@ its_value number (Some value) = refl
 
 pub every_answer_is_heard : EveryAnswerIsHeard
 every_answer_is_heard number value small writable = record {
-  message = record { frames = answer_frames number value };
   only = only;
   head = record {
     kind_is = kind_read (get_kind + 1) (int64_bytes (correlation_of number) ++ 0 ∷ []) (lit< tt);
@@ -77,7 +76,6 @@ error_writable correlation code first = record {
 
 pub every_refusal_is_heard : EveryRefusalIsHeard
 every_refusal_is_heard number code first small fits = record {
-  message = record { frames = error_frame (correlation_of number) code first ∷ [] };
   only = ap (heard false) (sym (append-nil (frame_bytes (error_frame (correlation_of number) code first)))) ∙ alone (error_frame (correlation_of number) code first ∷ []) (error_writable (correlation_of number) code first) (lit≤ tt);
   head = record {
     kind_is = kind_read 0 (int64_bytes (correlation_of number) ++ 0 ∷ int32_bytes code ++ int32_bytes first ++ int32_bytes (pos 0)) (lit< tt);

@@ -35,8 +35,7 @@ value_frame (Some value) = record { flags = final; payload = value }
 abbrev pub answer_frames : ℕ → Value → List Frame
 answer_frames number value = record { flags = unfragmented; payload = response_head get_kind (correlation_of number) } ∷ value_frame value ∷ []
 
-pub record IsAnswer (number : ℕ) (value : Value) (reply : List ℕ) : Type 0 where
-  pub message : Message
+pub record IsAnswer (number : ℕ) (value : Value) (reply : List ℕ) (message : Message) : Type 0 where
   pub only : IsOnly reply message
   pub head : HasHead message (get_kind + 1) (correlation_of number)
   pub brings : value_of message ≡ Some value
@@ -45,16 +44,18 @@ pub record IsAnswer (number : ℕ) (value : Value) (reply : List ℕ) : Type 0 w
 -- The reply to a get is heard as one message, under its correlation, which brings the value.
 abbrev pub EveryAnswerIsHeard : Type 0
 EveryAnswerIsHeard = (number : ℕ) (value : Value) → number < most_messages → IsWritable (answer_frames number value)
-    → IsAnswer number value (reply_bytes get_kind (correlation_of number) (Maybe value))
+    → IsAnswer number value (reply_bytes get_kind (correlation_of number) (Maybe value)) (record { frames = answer_frames number value })
 
 -- ---- a refusal
 
-pub record IsRefusal (number : ℕ) (code : ℤ) (bytes : List ℕ) : Type 0 where
-  pub message : Message
+abbrev pub refusal_frames : ℕ → ℤ → ℤ → List Frame
+refusal_frames number code first = record { flags = single; payload = head_bytes 0 (correlation_of number) ++ int32_bytes code ++ int32_bytes first ++ int32_bytes (pos 0) } ∷ []
+
+pub record IsRefusal (number : ℕ) (code : ℤ) (bytes : List ℕ) (message : Message) : Type 0 where
   pub only : IsOnly bytes message
   pub head : HasHead message 0 (correlation_of number)
   pub code_is : int32_at (first_payload message.frames) 13 ≡ Some code
 
 abbrev pub EveryRefusalIsHeard : Type 0
 EveryRefusalIsHeard = (number : ℕ) (code first : ℤ) → number < most_messages → FitsSigned w32 code
-    → IsRefusal number code (error_bytes (correlation_of number) code first (pos 0))
+    → IsRefusal number code (error_bytes (correlation_of number) code first (pos 0)) (record { frames = refusal_frames number code first })

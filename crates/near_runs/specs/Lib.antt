@@ -11,3 +11,6 @@ pub mod NearRuns
 pub mod Clients
 pub mod Looks
 pub mod Pieces
+pub mod Speaking
+pub mod NearHits
+pub mod Lines

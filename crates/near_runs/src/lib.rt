@@ -9,12 +9,15 @@ ghost use Rattle.near_runs.specs.Following.{EveryEventIsFollowed, EveryHearingIs
 ghost use Rattle.near_runs.specs.Clients.{EveryMessageIsHeard};
 ghost use Rattle.near_runs.specs.FollowingInVain.{EveryMissInVainIsFollowed};
 ghost use Rattle.near_runs.specs.Hearings.{EveryAnswerIsHeard, EveryRefusalIsHeard};
+ghost use Rattle.near_runs.specs.Lines.{EveryOtherLineIsFollowed};
 ghost use Rattle.near_runs.specs.Looks.{EveryHitIsTheMachines, EveryMissIsTheMachines};
 ghost use Rattle.near_runs.specs.Maps.{EveryMapIsKeyed};
 ghost use Rattle.near_runs.specs.NearConnections.{EveryCallSays, EveryEventSays};
+ghost use Rattle.near_runs.specs.NearHits.{EveryHitOfANearClientStands};
 ghost use Rattle.near_runs.specs.NearRuns.{EveryNearRunGoesWell};
 ghost use Rattle.near_runs.specs.Pieces.{EveryPieceIsHeard};
 ghost use Rattle.near_runs.specs.Readings.{EveryOutputIsHeard};
+ghost use Rattle.near_runs.specs.Speaking.{EveryMessageSaysIt};
 ghost use Rattle.near_runs.specs.Sessions.{EveryGetIsHeard, EveryGetIsServed, EveryOpeningIsHeard, EveryOpeningIsServed};
 
 /// Each map of a grid is one that the near cache's machine can go by: it tells keys apart, has each key in its partition, and
@@ -93,7 +96,22 @@ pub fn every_look_up_is_the_machines()
     ensures miss { EveryMissIsTheMachines }
 {}
 
+/// Frames whose bytes are those of something that the machine says are heard as a message that says it.
+pub fn every_message_says_it()
+    ensures { EveryMessageSaysIt }
+{}
+
 /// A piece of its connection's output tells a near client what its messages say, one after the other, as the machine hears it.
 pub fn every_piece_is_heard()
     ensures { EveryPieceIsHeard }
+{}
+
+/// Where a near client goes with the machine of a run, what it hits is a hit of the run, and stands as the machine's does.
+pub fn every_hit_of_a_near_client_stands()
+    ensures { EveryHitOfANearClientStands }
+{}
+
+/// Whatever line another one's is, the run goes on with the near client's machine, whose client does nothing.
+pub fn every_other_line_is_followed()
+    ensures { EveryOtherLineIsFollowed }
 {}
