@@ -35,7 +35,7 @@ use Rattle.near_runs.proofs.Runs.{world_is}
 use Rattle.near_runs.proofs.Sessions.{every_opening_is_heard}
 
 -- the connection, with more bytes
-find_updated : (new : Connection) (ks : List Connection) (k : Connection) → find (is_connection new.conn) ks ≡ Some k → find (is_connection new.conn) (updated new ks) ≡ Some new
+pub find_updated : (new : Connection) (ks : List Connection) (k : Connection) → find (is_connection new.conn) ks ≡ Some k → find (is_connection new.conn) (updated new ks) ≡ Some new
 find_updated new [] k e = absurd cc
 find_updated new (j ∷ ks) k e = go (j.conn == new.conn) refl e (find_updated new ks k)
   where

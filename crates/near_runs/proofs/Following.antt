@@ -109,10 +109,10 @@ every_other_step_is_aside settings client name r next s f aside = record {
       ∙ ap (λ n. all_happened (partition_object settings) (keyed settings s.conn name client) (new_grid r.members n) (machine_events next.events)) aside.backups
       ∙ ap (λ es. all_happened (partition_object settings) (keyed settings s.conn name client) (new_grid r.members r.backups) (machine_events es)) aside.events);
   near = record {
-    connection = f.near.connection;
-    there = aside.connection ∙ f.near.there;
-    member = f.near.member;
-    opened = f.near.opened;
+    connection = (aside.connection f.near.connection f.near.there f.near.opened).0;
+    there = (aside.connection f.near.connection f.near.there f.near.opened).1;
+    member = (aside.connection f.near.connection f.near.there f.near.opened).2 ∙ f.near.member;
+    opened = (aside.connection f.near.connection f.near.there f.near.opened).3;
     listens = aside.registered ∙ f.near.listens;
     events = λ p e i. f.near.events p e (subst (λ es. Contains (replay.events_at p es) e) aside.events i);
   };

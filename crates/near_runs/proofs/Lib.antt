@@ -18,3 +18,4 @@ pub mod Pieces
 pub mod Speaking
 pub mod NearHits
 pub mod Lines
+pub mod OwnLines

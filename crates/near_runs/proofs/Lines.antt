@@ -101,10 +101,10 @@ module _ (settings : Settings) (client : ℕ) (name : List ℕ) (s : Machine) wh
   aside r next g a = record { machine = g.machine; run = went_aside r next g.machine g.run (subst (λ n. IsAside n r next) (sym g.conn) a); conn = g.conn; idle = g.idle; number = g.number }
 
   counted : (r : Run) → Goes r → Goes (next_line r)
-  counted r g = aside r (next_line r) g (record { members = refl; backups = refl; events = refl; connection = refl; registered = refl; sent = refl })
+  counted r g = aside r (next_line r) g (record { members = refl; backups = refl; events = refl; connection = λ k e still. (k, e, refl, still); registered = refl; sent = refl })
 
   given : (r : Run) → Goes r → Goes (given_up r)
-  given r g = aside r (given_up r) g (record { members = refl; backups = refl; events = refl; connection = refl; registered = refl; sent = refl })
+  given r g = aside r (given_up r) g (record { members = refl; backups = refl; events = refl; connection = λ k e still. (k, e, refl, still); registered = refl; sent = refl })
 
   -- a step of the machine's grid
   stepped : (r next : Run) (g : Goes r) (p : ℕ) (e : Event Request) → IsNearRun settings client name next (step settings client name g.machine (Occurs p e)) → Goes next
@@ -127,7 +127,7 @@ module _ (settings : Settings) (client : ℕ) (name : List ℕ) (s : Machine) wh
 
   -- a call that makes no event
   unmade : (r : Run) (a : Arrival) (new : List Appended) → sent_to s.conn new ≡ [] → Goes r → Goes (arrived r a [] new)
-  unmade r a new none g = aside r (arrived r a [] new) g (record { members = refl; backups = refl; events = append-nil r.events; connection = refl; registered = refl; sent = nothing_to s.conn r.appended new none })
+  unmade r a new none g = aside r (arrived r a [] new) g (record { members = refl; backups = refl; events = append-nil r.events; connection = λ k e still. (k, e, refl, still); registered = refl; sent = nothing_to s.conn r.appended new none })
 
   asked_on : (skips : List CallId) (r : Run) (a : Arrival) → a.request.id.conn ≢ s.conn → home a.request ≡ a.request.partition → Goes r → Goes (asked o skips r a)
   asked_on skips r a apart placed g = by (is_skipped skips a.request.id) refl
@@ -144,10 +144,10 @@ module _ (settings : Settings) (client : ℕ) (name : List ℕ) (s : Machine) wh
   -- ---- items of another connection
 
   told_on : (r : Run) (k : ℕ) (bytes : List ℕ) → k ≢ s.conn → Goes r → Goes (told r k bytes)
-  told_on r k bytes apart g = aside r (told r k bytes) g (record { members = refl; backups = refl; events = refl; connection = refl; registered = refl; sent = nothing_to s.conn r.appended (own_answer r.lines k bytes ∷ []) (another s.conn (own_answer r.lines k bytes) apart) })
+  told_on r k bytes apart g = aside r (told r k bytes) g (record { members = refl; backups = refl; events = refl; connection = λ k e still. (k, e, refl, still); registered = refl; sent = nothing_to s.conn r.appended (own_answer r.lines k bytes ∷ []) (another s.conn (own_answer r.lines k bytes) apart) })
 
   registers_on : (r : Run) (k member : ℕ) (registration : Registration) → k ≢ s.conn → Goes r → Goes (registers o r k member registration)
-  registers_on r k member registration apart g = aside listens (registers o r k member registration) listens_on (record { members = refl; backups = refl; events = refl; connection = refl; registered = refl; sent = nothing_to s.conn listens.appended (events_to r.lines (rows_of (rows_known o r member) (record { conn = k; registration = registration } ∷ []))) none })
+  registers_on r k member registration apart g = aside listens (registers o r k member registration) listens_on (record { members = refl; backups = refl; events = refl; connection = λ k e still. (k, e, refl, still); registered = refl; sent = nothing_to s.conn listens.appended (events_to r.lines (rows_of (rows_known o r member) (record { conn = k; registration = registration } ∷ []))) none })
     where
       listener : Listener
       listener = record { conn = k; registration = registration }
@@ -166,7 +166,7 @@ module _ (settings : Settings) (client : ℕ) (name : List ℕ) (s : Machine) wh
         members = refl;
         backups = refl;
         events = refl;
-        connection = refl;
+        connection = λ k e still. (k, e, refl, still);
         registered = filter-append (is_of s.conn) r.registered (record { conn = k; registration = registration } ∷ []) ∙ ap (λ b. filter (is_of s.conn) r.registered ++ cond b (record { conn = k; registration = registration } ∷ []) []) other ∙ append-nil (filter (is_of s.conn) r.registered);
         sent = refl;
       })
@@ -192,7 +192,7 @@ module _ (settings : Settings) (client : ℕ) (name : List ℕ) (s : Machine) wh
   bytes_on : (skips : List CallId) (r : Run) (k : Connection) (bytes : List ℕ) → k.conn ≢ s.conn → Goes r → Goes (bytes_arrived o skips r k bytes)
   bytes_on skips r k bytes apart g = on_if Goes (takes_bytes o r k) (handled_all o skips (took_bytes r k bytes) k (items_by k bytes)) (next_line r)
       (handled_on skips k apart (items_by k bytes) (length (messages_on k)) (took_bytes r k bytes) (items_room k bytes).0
-      (aside r (took_bytes r k bytes) g (record { members = refl; backups = refl; events = refl; connection = not_updated s.conn (with_bytes k bytes) r.connections apart; registered = refl; sent = refl })))
+      (aside r (took_bytes r k bytes) g (record { members = refl; backups = refl; events = refl; connection = λ j e still. (j, not_updated s.conn (with_bytes k bytes) r.connections apart ∙ e, refl, still); registered = refl; sent = refl })))
       (counted r g)
 
   arrives_on : (skips : List CallId) (r : Run) (c : ℕ) (bytes : List ℕ) (found : Option Connection) → connection_of r c ≡ found → c ≢ s.conn → Goes r → Goes (elim found [ None ↦ next_line r | Some k ↦ bytes_arrived o skips r k bytes ])
@@ -200,7 +200,7 @@ module _ (settings : Settings) (client : ℕ) (name : List ℕ) (s : Machine) wh
   arrives_on skips r c bytes (Some k) e apart g = bytes_on skips r k bytes (λ z. apart (sym (same_number k.conn c (find_in (is_connection c) r.connections k e).1) ∙ z)) g
 
   opens_on : (r : Run) (c member : ℕ) → c ≢ s.conn → Goes r → Goes (opened r c member)
-  opens_on r c member apart g = aside r (opened r c member) g (record { members = refl; backups = refl; events = refl; connection = not_last (is_connection s.conn) r.connections (record { conn = c; member = member; bytes = [] }) (number_other c s.conn apart); registered = refl; sent = refl })
+  opens_on r c member apart g = aside r (opened r c member) g (record { members = refl; backups = refl; events = refl; connection = λ k e still. (k, not_last (is_connection s.conn) r.connections (record { conn = c; member = member; bytes = [] }) (number_other c s.conn apart) ∙ e, refl, still); registered = refl; sent = refl })
 
   after_on : (r : Run) (e : Option At) → quiet_at e → Goes r → Goes (after_event o r e)
   after_on r None quiet g = g
@@ -209,7 +209,7 @@ module _ (settings : Settings) (client : ℕ) (name : List ℕ) (s : Machine) wh
   line_on : (skips : List CallId) (r : Run) (line : Line) → IsOthers s.conn line → Goes r → Goes (after_line o skips r line)
   line_on skips r (OpenConn c member) others g = on_if Goes (not (is_some (connection_of r c)) && lives o r member) (opened r c member) (next_line r) (opens_on r c member others g) (counted r g)
   line_on skips r (Arrive c bytes) others g = arrives_on skips r c bytes (connection_of r c) refl others g
-  line_on skips r (Clock member moment) others g = aside r (clock_set r member moment) g (record { members = refl; backups = refl; events = refl; connection = refl; registered = refl; sent = refl })
+  line_on skips r (Clock member moment) others g = aside r (clock_set r member moment) g (record { members = refl; backups = refl; events = refl; connection = λ k e still. (k, e, refl, still); registered = refl; sent = refl })
   line_on skips r (Flow partition most) others g = flowed_keeps o Goes partition (λ x l h. event_on x partition (delivery_on l) refl h) (next_line r) most (counted r g)
   line_on skips r (FlowAll most) others g = flowed_in_keeps o Goes (λ x p l h. event_on x p (delivery_on l) refl h) (next_line r) most (numbers_below partitions) (counted r g)
   line_on skips r (Crash member) others g = takes_in_keeps o Goes (event.Crash member) (λ x p h. event_on x p (event.Crash member) refl h) (next_line r) (numbers_below partitions) (counted r g)

@@ -12,7 +12,7 @@ use Rattle.near_protocol.specs.Client.{Said, hit}
 use Rattle.near_protocol.specs.Near.{Near, Move, Occurs, LooksUp, Hears, moved}
 use Rattle.near_protocol.specs.Claims.{AreNamedOnce}
 use Rattle.grid_client.specs.Nears.{Value}
-use Rattle.replay_run.specs.Runs.{Run, Arrival, world_at, connection_of, call_of, is_skipped, asked, occurred}
+use Rattle.replay_run.specs.Runs.{Run, Connection, Arrival, world_at, connection_of, is_open, call_of, is_skipped, asked, occurred}
 use Rattle.near_runs.specs.Maps.{keyed, get_request}
 use Rattle.near_runs.specs.Messages.{sent_to, AreSaid}
 use Rattle.near_runs.specs.NearConnections.{is_of, IsRight, IsNear, grid_of, grid_after}
@@ -34,12 +34,16 @@ pub record Follows (settings : Settings) (client : ℕ) (name : List ℕ) (r : R
 abbrev pub step : Settings → ℕ → List ℕ → Machine → Move Request (List ℕ) → Machine
 step settings client name s move = moved (partition_object settings) (keyed settings s.conn name client) s move
 
+-- The connection is there still, to the same member, and open.
+abbrev pub StaysOpen : ℕ → Run → Run → Type 0
+StaysOpen c r next = (k : Connection) → connection_of r c ≡ Some k → is_open (Some k) ≡ true → (j : Connection) × (connection_of next c ≡ Some j) × (j.member ≡ k.member) × (is_open (Some j) ≡ true)
+
 -- what changes nothing that the machine sees
 pub record IsAside (c : ℕ) (r next : Run) : Type 0 where
   pub members : next.members ≡ r.members
   pub backups : next.backups ≡ r.backups
   pub events : next.events ≡ r.events
-  pub connection : connection_of next c ≡ connection_of r c
+  pub connection : StaysOpen c r next
   pub registered : filter (is_of c) next.registered ≡ filter (is_of c) r.registered
   pub sent : sent_to c next.appended ≡ sent_to c r.appended
 

@@ -15,6 +15,7 @@ ghost use Rattle.near_runs.specs.Maps.{EveryMapIsKeyed};
 ghost use Rattle.near_runs.specs.NearConnections.{EveryCallSays, EveryEventSays};
 ghost use Rattle.near_runs.specs.NearHits.{EveryHitOfANearClientStands};
 ghost use Rattle.near_runs.specs.NearRuns.{EveryNearRunGoesWell};
+ghost use Rattle.near_runs.specs.OwnLines.{EveryGetLineIsFollowed, EveryOpeningLineIsFollowed};
 ghost use Rattle.near_runs.specs.Pieces.{EveryPieceIsHeard};
 ghost use Rattle.near_runs.specs.Readings.{EveryOutputIsHeard};
 ghost use Rattle.near_runs.specs.Speaking.{EveryMessageSaysIt};
@@ -114,4 +115,11 @@ pub fn every_hit_of_a_near_client_stands()
 /// Whatever line another one's is, the run goes on with the near client's machine, whose client does nothing.
 pub fn every_other_line_is_followed()
     ensures { EveryOtherLineIsFollowed }
+{}
+
+/// The line of a near client's opening attaches it, and the line of a get opens the machine's look-up, also where the get finds
+/// no memory.
+pub fn every_own_line_is_followed()
+    ensures opening { EveryOpeningLineIsFollowed }
+    ensures get { EveryGetLineIsFollowed }
 {}
