@@ -1,22 +1,23 @@
 -- Every move of a near client keeps the invariant.
 use Rattle.std.proofs.Common.{◌≡◌, ℕ, ◌≤◌, Bool, true, false, cond, not, ◌==◌, List, [], ◌∷◌, ◌++◌, map, Option, Some, None, refl, ap, sym, ◌∙◌, subst, ⊎_elim, inl, inr, arith, append_assoc, append-nil}
-use Rattle.std.specs.List.{find}
+use Rattle.std.specs.List.{find, flat_map}
 use Rattle.grid_base.specs.Objects.{Object}
 use Rattle.partition_protocol.specs.World.{is_live}
 use Rattle.partition_protocol.specs.Events.{Event, Call, Deliver, Lose, Repeat, Resend, Crash, Detect, BeginMove, BeginJoin, BeginHandover, Advance, Reopen}
 use Rattle.partition_protocol.specs.Arrivals.{Asked, name, asked_by, arrivals, NamedOnce}
 use Rattle.partition_protocol.specs.HistorySizes.{asked_of}
 use Rattle.partition_protocol.proofs.HistorySizes.{in_calls}
-use Rattle.partition_protocol.proofs.Lists.{In, in_cases}
+use Rattle.partition_protocol.proofs.Lists.{In, in_left, in_cases}
 use Rattle.partition_protocol.proofs.RowFacts.{number_same, not_both}
 use Rattle.partition_protocol.proofs.Answers.{map_append, once_left}
 use Rattle.near_protocol.specs.Keyed.{Keyed, IsKeyed}
-use Rattle.near_protocol.specs.Client.{Kept, LookUp, Said, is_for, hit, others, used}
-use Rattle.near_protocol.specs.Near.{At, Grid, Near, Move, Occurs, LooksUp, Hears, events_at, world, happened, occurred, opening_at, looked_up, hears, is_call_on, moved, all_moved}
+use Rattle.near_protocol.specs.Client.{Kept, LookUp, Said, Refusal, Invalidation, RowHeard, is_for, hit, others, used, known_in}
+use Rattle.near_protocol.specs.Near.{At, Grid, Near, Move, Occurs, LooksUp, LooksUpInVain, Hears, events_at, world, known_version, happened, occurred, opening_at, looked_up, missed_in_vain, looked_up_in_vain, hears, is_call_on, moved, all_moved}
 use Rattle.near_protocol.specs.Claims.{AreNamedOnce}
 use Rattle.near_protocol.proofs.Parts.{in_filtered}
 use Rattle.near_protocol.proofs.Worlds.{Sound, sound, events_at-append}
-use Rattle.near_protocol.proofs.Invariant.{WaitOk, Inv}
+use Rattle.near_protocol.proofs.Invariant.{SaidOk, versions_in, listed, ClimbsTo, Beyond, WaitOk, Inv}
+use Rattle.near_protocol.proofs.Saying.{flat_map_append}
 use Rattle.near_protocol.proofs.Occur.{OwnOk, OwnAt, occurs}
 use Rattle.near_protocol.proofs.Hear.{Keeps, goes_on, find_in}
 use Rattle.near_protocol.proofs.HearRows.{hears_next}
@@ -59,6 +60,10 @@ module _ {C State K V : Type 0} (o : Object C State) (l : Keyed C State K V) whe
   looked_later s k now None = later_if s (is_live (world o s.grid (l.partition k)) s.member) (occurred o l (opening_at s k) (l.partition k) (Call s.member s.conn s.next_number (l.get s.next_number k) now)) s
       (event_later s.grid (l.partition k) (Call s.member s.conn s.next_number (l.get s.next_number k) now)) (same_grid s.grid)
 
+  pub vain_later : (s : Near C K V) (k : K) (x : Option V) → IsLater s.grid (looked_up_in_vain l s k x).grid
+  vain_later s k (Some v) = same_grid s.grid
+  vain_later s k None = same_grid s.grid
+
   pub heard_later : (s : Near C K V) (ms : List (Said K)) → IsLater s.grid (hears l s ms).grid
   heard_later s [] = same_grid s.grid
   heard_later s (m ∷ ms) = same_grid s.grid
@@ -66,6 +71,7 @@ module _ {C State K V : Type 0} (o : Object C State) (l : Keyed C State K V) whe
   pub move_later : (s : Near C K V) (m : Move C K) → IsLater s.grid (moved o l s m).grid
   move_later s (Occurs p e) = later_if s (is_call_on s.conn e) s (occurred o l s p e) (same_grid s.grid) (event_later s.grid p e)
   move_later s (LooksUp k now) = looked_later s k now (hit l k s.client)
+  move_later s (LooksUpInVain k) = vain_later s k (hit l k s.client)
   move_later s Hears = heard_later s s.unread
 
   pub moves_later : (s : Near C K V) (ms : List (Move C K)) → IsLater s.grid (all_moved o l s ms).grid
@@ -93,6 +99,32 @@ module _ {C State K V : Type 0} (o : Object C State) (l : Keyed C State K V) whe
 
   pub not_at : (s : Near C K V) (e : Event C) → is_call_on s.conn e ≡ false → OwnAt s e
   not_at s e f m conn number call now is own = absurd (not_both (is_call_on s.conn e) (ap (is_call_on s.conn) is ∙ number_same conn s.conn own) f)
+
+  -- a refusal that is yet to be read
+  module _ (partitions : ℕ) (s : Near C K V) (inv : Inv o l partitions s) (n : ℕ) where
+    abbrev pub refusals : List (Said K)
+    refusals = s.unread ++ Refusal n ∷ []
+
+    pub no_more : (p : ℕ) → flat_map (versions_in p) s.unread ≡ flat_map (versions_in p) refusals
+    no_more p = sym (flat_map_append (versions_in p) s.unread (Refusal n ∷ []) ∙ append-nil (flat_map (versions_in p) s.unread))
+
+    pub refused_in : Inv o l partitions (record s { unread = s.unread ++ Refusal n ∷ [] })
+    refused_in = goes_on o l partitions s inv s.client refusals [] s.processed (λ r i. (r, i, refl, refl, λ z. (z, keeps r.key))) (λ e i. (inv.entries e i, keeps e.key))
+        said (λ i j. absurd j) (λ i j. inl j) (λ p b. subst (λ vs. ClimbsTo (listed (known_in p s.client.rows) ++ vs) (known_version s.member (world o s.grid p))) (no_more p) (inv.rows p b))
+      where
+        keeps : (q : K) → Keeps l s s.client (s.unread ++ Refusal n ∷ []) [] q
+        keeps q = record {
+          told = λ v m i. in_left (Invalidation q v m) s.unread (Refusal n ∷ []) i;
+          others = λ i j. absurd j;
+          beyond = λ m b. subst (λ vs. Beyond (listed (known_in (l.partition q) s.client.rows) ++ vs) m) (no_more (l.partition q)) b;
+        }
+
+        new : (m : Said K) → In m (Refusal n ∷ []) → SaidOk o l s.grid s.conn m
+        new m (inl e) = subst (SaidOk o l s.grid s.conn) e tt
+        new m (inr i) = absurd i
+
+        said : (m : Said K) → In m (s.unread ++ Refusal n ∷ []) → SaidOk o l s.grid s.conn m
+        said m i = ⊎_elim (λ j. inv.unread m j) (λ j. new m j) (in_cases m s.unread (Refusal n ∷ []) i)
 
   module _ (partitions : ℕ) (keyed : IsKeyed o l partitions) (s : Near C K V) (inv : Inv o l partitions s) (one : 1 ≤ s.grid.members) (named : AreNamedOnce s.grid) where
     pub occurs_if : (p : ℕ) (e : Event C) (b : Bool) → is_call_on s.conn e ≡ b → AreNamedOnce (cond b s (occurred o l s p e)).grid → Inv o l partitions (cond b s (occurred o l s p e))
@@ -172,9 +204,18 @@ module _ {C State K V : Type 0} (o : Object C State) (l : Keyed C State K V) whe
     looks_up k now (Some v) n = uses k
     looks_up k now None n = asks_if k now (is_live (world o s.grid (l.partition k)) s.member) n
 
+    -- a refusal says nothing of values and rows
+    pub refuses : (k : K) → Inv o l partitions (missed_in_vain s k)
+    refuses k = refused_in partitions (opening_at s k) (opens k) s.next_number
+
+    pub looks_up_in_vain : (k : K) (x : Option V) → Inv o l partitions (looked_up_in_vain l s k x)
+    looks_up_in_vain k (Some v) = uses k
+    looks_up_in_vain k None = refuses k
+
     pub moves : (m : Move C K) → AreNamedOnce (moved o l s m).grid → Inv o l partitions (moved o l s m)
     moves (Occurs p e) n = occurs_if p e (is_call_on s.conn e) refl n
     moves (LooksUp k now) n = looks_up k now (hit l k s.client) n
+    moves (LooksUpInVain k) n = looks_up_in_vain k (hit l k s.client)
     moves Hears n = hears_next o l partitions keyed s inv s.unread refl
 
   pub all_moves : (partitions : ℕ) → IsKeyed o l partitions → (ms : List (Move C K)) (s : Near C K V) → Inv o l partitions s → 1 ≤ s.grid.members → AreNamedOnce (all_moved o l s ms).grid → Inv o l partitions (all_moved o l s ms)

@@ -4,7 +4,7 @@ use Rattle.grid_base.specs.Objects.{Object}
 use Rattle.partition_protocol.specs.Events.{Call, Deliver, Crash, Detect, BeginJoin}
 use Rattle.near_protocol.specs.Keyed.{Keyed}
 use Rattle.near_protocol.specs.Client.{Answer, Refusal, Invalidation, hit}
-use Rattle.near_protocol.specs.Near.{Near, Move, Occurs, LooksUp, Hears, new_grid, attached, all_moved}
+use Rattle.near_protocol.specs.Near.{Near, Move, Occurs, LooksUp, LooksUpInVain, Hears, new_grid, attached, all_moved}
 
 -- a call above 0 writes that number to the key, and 0 reads. Each answers what was there
 pub record Op : Type 0 where
@@ -86,6 +86,13 @@ a_later_row_clears = refl
 -- a member that isn't primary refuses the get
 a_refused_look_up_keeps_nothing : (client_at 3 0 1 (Hears ∷ LooksUp 5 0 ∷ [])).unread ≡ Refusal 3 ∷ []
 a_refused_look_up_keeps_nothing = refl
+
+-- so does a get that finds no memory, and the next one brings the value
+a_get_in_vain_is_refused : (client_at 3 0 2 (Hears ∷ LooksUpInVain 5 ∷ [])).unread ≡ Refusal 3 ∷ []
+a_get_in_vain_is_refused = refl
+
+and_the_next_one_brings_the_value : hit5 (client_at 3 0 2 (Hears ∷ LooksUpInVain 5 ∷ Hears ∷ LooksUp 5 0 ∷ Hears ∷ [])) ≡ Some 0
+and_the_next_one_brings_the_value = refl
 
 -- with one backup a write is told as it is released
 a_held_write_is_not_told : (client_at 3 1 2 (Hears ∷ write 2 0 5 7 ∷ [])).unread ≡ []

@@ -182,6 +182,14 @@ abbrev pub looked_up :
 looked_up o l s k now None = missed o l s k now
 looked_up o l s k now (Some v) = record s { client = used l k s.client }
 
+-- A miss whose get finds no memory at the member: it is refused, and nothing happens in its partition
+abbrev pub missed_in_vain : {C K V : Type 0} → Near C K V → K → Near C K V
+missed_in_vain s k = record (opening_at s k) { unread = s.unread ++ Refusal s.next_number ∷ [] }
+
+abbrev pub looked_up_in_vain : {C State K V : Type 0} → Keyed C State K V → Near C K V → K → Option V → Near C K V
+looked_up_in_vain l s k None = missed_in_vain s k
+looked_up_in_vain l s k (Some v) = record s { client = used l k s.client }
+
 -- the client handles the next message
 abbrev pub invalidated_by : {K : Type 0} → Said K → List (Invalidated K)
 invalidated_by (Invalidation k v n) = record { key = k; version = v; number = n } ∷ []
@@ -201,6 +209,8 @@ pub data Move (C K : Type 0) : Type 0 where
   Occurs : (partition : ℕ) (event : Event C) → Move C K
   -- the client looks a key up
   LooksUp : (key : K) (now : ℕ) → Move C K
+  -- the same, where the get of a miss finds no memory
+  LooksUpInVain : (key : K) → Move C K
   -- it is handed the next message
   Hears : Move C K
 
@@ -212,6 +222,7 @@ is_call_on conn _ = false
 abbrev pub moved : {C State K V : Type 0} → Object C State → Keyed C State K V → Near C K V → Move C K → Near C K V
 moved o l s (Occurs p e) = if is_call_on s.conn e then s else occurred o l s p e
 moved o l s (LooksUp k now) = looked_up o l s k now (hit l k s.client)
+moved o l s (LooksUpInVain k) = looked_up_in_vain l s k (hit l k s.client)
 moved o l s Hears = hears l s s.unread
 
 abbrev pub all_moved : {C State K V : Type 0} → Object C State → Keyed C State K V → Near C K V → List (Move C K) → Near C K V

@@ -1,0 +1,17 @@
+pub mod Maps
+pub mod Messages
+pub mod NearConnections
+pub mod Sessions
+pub mod Readings
+pub mod Attaching
+pub mod Following
+pub mod FollowingInVain
+pub mod Hearings
+pub mod NearRuns
+pub mod Clients
+pub mod Looks
+pub mod Pieces
+pub mod Speaking
+pub mod NearHits
+pub mod Lines
+pub mod OwnLines

@@ -1,0 +1,29 @@
+-- A line that isn't a near client's leaves its run one that goes with the machine.
+use Rattle.std.specs.Prelude.{◌≡◌, ◌≢◌, ℕ, List}
+use Rattle.grid_base.specs.declared.names.CallId.{CallId}
+use Rattle.call_engine.specs.Calls.{Settings}
+use Rattle.call_engine.specs.Objects.{partition_object}
+use Rattle.script_lang.specs.declared.line.Line.{Line}
+use Rattle.script_lang.specs.declared.line.Line.TheVariants.{OpenConn, Arrive}
+use Rattle.replay_run.specs.Runs.{Run}
+use Rattle.replay_run.specs.AfterLines.{after_line}
+use Rattle.near_runs.specs.Following.{Machine}
+use Rattle.near_runs.specs.NearRuns.{IsNearRun}
+
+-- It opens another connection, or brings bytes on another one, or is of no connection.
+abbrev pub IsOthers : ℕ → Line → Type 0
+IsOthers c (OpenConn k member) = k ≢ c
+IsOthers c (Arrive k bytes) = k ≢ c
+IsOthers c line = Unit {0}
+
+-- The run goes on with its machine, whose client does nothing.
+pub record GoesOn (settings : Settings) (client : ℕ) (name : List ℕ) (s : Machine) (next : Run) : Type 0 where
+  pub machine : Machine
+  pub run : IsNearRun settings client name next machine
+  pub conn : machine.conn ≡ s.conn
+  pub idle : machine.client ≡ s.client
+  pub number : machine.next_number ≡ s.next_number
+
+abbrev pub EveryOtherLineIsFollowed : Type 0
+EveryOtherLineIsFollowed = (settings : Settings) (client : ℕ) (name : List ℕ) (r : Run) (s : Machine) (skips : List CallId) (line : Line)
+    → IsNearRun settings client name r s → IsOthers s.conn line → GoesOn settings client name s (after_line (partition_object settings) skips r line)
