@@ -19,3 +19,4 @@ pub mod Speaking
 pub mod NearHits
 pub mod Lines
 pub mod OwnLines
+pub mod Feeds

@@ -5,6 +5,7 @@
 #![tactic(auto)]
 
 ghost use Rattle.near_runs.specs.Attaching.{EveryOpeningAttaches};
+ghost use Rattle.near_runs.specs.Feeds.{EveryFeedIsFollowed};
 ghost use Rattle.near_runs.specs.Following.{EveryEventIsFollowed, EveryHearingIsFollowed, EveryHitIsFollowed, EveryMissIsFollowed, EveryOtherCallIsFollowed, EveryOtherStepIsAside};
 ghost use Rattle.near_runs.specs.Clients.{EveryMessageIsHeard};
 ghost use Rattle.near_runs.specs.FollowingInVain.{EveryMissInVainIsFollowed};
@@ -122,4 +123,9 @@ pub fn every_other_line_is_followed()
 pub fn every_own_line_is_followed()
     ensures opening { EveryOpeningLineIsFollowed }
     ensures get { EveryGetLineIsFollowed }
+{}
+
+/// A near client that is handed a piece of its connection's output goes on with the machine, which hears as many messages.
+pub fn every_feed_is_followed()
+    ensures { EveryFeedIsFollowed }
 {}
