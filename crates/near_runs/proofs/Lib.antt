@@ -20,3 +20,4 @@ pub mod NearHits
 pub mod Lines
 pub mod OwnLines
 pub mod Feeds
+pub mod ClientRuns

@@ -16,3 +16,4 @@ pub mod NearHits
 pub mod Lines
 pub mod OwnLines
 pub mod Feeds
+pub mod ClientRuns
