@@ -1,10 +1,9 @@
 -- The answers that are released are those of the calls of their names in the log.
-use Rattle.std.proofs.Common.{◌≡◌, ◌≢◌, ℕ, Bool, true, false, cond, ◌&&◌, ◌==◌, List, [], ◌∷◌, ◌++◌, map, reverse, Option, Some, None, option_map, refl, ap, sym, ◌∙◌, subst, inl, inr}
+use Rattle.std.proofs.Common.{◌≡◌, ℕ, Bool, true, false, cond, List, [], ◌∷◌, ◌++◌, map, reverse, Option, Some, None, option_map, refl, ap, sym, ◌∙◌, inl, inr}
 use Rattle.std.specs.List.{find, filter_map, flat_map, cons_option}
 use Rattle.std.specs.Option.{option_and_then}
 use Rattle.std.proofs.lemmas.List.{reverse-append}
 use Rattle.grid_base.specs.Objects.{Object}
-use Rattle.grid_base.specs.Names.{is_same_call}
 use Rattle.grid_base.specs.declared.names.CallId.{CallId}
 use Rattle.grid_base.specs.declared.calls.Change.{Change}
 use Rattle.partition_protocol.specs.Node.{Held}
@@ -14,7 +13,7 @@ use Rattle.partition_protocol.specs.Answers.{answered_call}
 use Rattle.partition_protocol.proofs.Lists.{In}
 use Rattle.partition_protocol.proofs.RowFacts.{false_or_not}
 use Rattle.partition_protocol.proofs.Answers.{map_append}
-use Rattle.partition_world.specs.Answers.{id_of, is_call, executed_in, newest_call, answer_of, held_answer}
+use Rattle.partition_world.specs.Answers.{is_call, executed_in, newest_call, answer_of, held_answer}
 use Rattle.partition_world.proofs.HeldAnswers.{in_reverse}
 use Rattle.near_protocol.specs.Near.{is_same_name, name_of, called_in}
 use Rattle.near_protocol.proofs.Orders.{IsOnce, not_again}

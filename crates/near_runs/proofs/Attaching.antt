@@ -1,5 +1,5 @@
 -- After its opening a near client is attached.
-use Rattle.std.proofs.Common.{◌≡◌, ◌≢◌, ℕ, zero, suc, ◌+◌, ◌<◌, ◌≤◌, Bool, true, false, cond, not, ◌==◌, List, [], ◌∷◌, ◌++◌, map, filter, length, Option, Some, None, option_map, is_some, slice_get, refl, ap, sym, ◌∙◌, subst, append_assoc, append-nil, arith, le_of_suc-le-suc}
+use Rattle.std.proofs.Common.{◌≡◌, ℕ, zero, suc, ◌+◌, ◌<◌, ◌≤◌, Bool, true, false, cond, not, ◌==◌, List, [], ◌∷◌, ◌++◌, map, filter, length, Some, None, option_map, is_some, slice_get, refl, ap, sym, ◌∙◌, subst, append_assoc, append-nil, arith, le_of_suc-le-suc}
 use Rattle.std.specs.List.{find, filter_map, cons_option}
 use Rattle.std.proofs.lemmas.List.Elements.{filter-append}
 use Rattle.grid_base.specs.Objects.{Object}
@@ -10,8 +10,7 @@ use Rattle.client_codecs.specs.Replies.{authentication_reply}
 use Rattle.partition_table.specs.declared.Row.{Row}
 use Rattle.partition_protocol.specs.Node.{Node}
 use Rattle.partition_protocol.specs.Service.{numbers_below}
-use Rattle.partition_protocol.specs.World.{World, start, map_or}
-use Rattle.partition_protocol.specs.Events.{run}
+use Rattle.partition_protocol.specs.World.{map_or}
 use Rattle.partition_protocol.proofs.RowFacts.{number_same}
 use Rattle.partition_protocol.proofs.WellFormed.{every_run_is_well_formed}
 use Rattle.event_codecs.specs.Writing.{rows_frames}
@@ -23,10 +22,10 @@ use Rattle.call_engine.specs.Calls.{Settings}
 use Rattle.call_engine.specs.Objects.{partition_object}
 use Rattle.request_codecs.specs.Openings.{authentication_correlation, invalidations_correlation, rows_correlation, opening}
 use Rattle.near_protocol.specs.Client.{RowHeard}
-use Rattle.near_protocol.specs.Near.{Grid, world, known_version}
+use Rattle.near_protocol.specs.Near.{world, known_version}
 use Rattle.replay_run.specs.Runs.{Run, Connection, Appended, world_at, is_connection, connection_of, is_open, updated, with_bytes, took_bytes, own_answer, events_to, registered_reply, known_at, rows_known, partitions}
 use Rattle.replay_run.specs.Runs as replay
-use Rattle.near_runs.specs.Messages.{sent_to, near_listeners, row_said}
+use Rattle.near_runs.specs.Messages.{sent_to, row_said}
 use Rattle.near_runs.specs.NearConnections.{is_of, IsNear, grid_of}
 use Rattle.near_runs.specs.Sessions.{MayOpen, near_opened}
 use Rattle.near_runs.specs.Attaching.{IsFresh, IsAttached, EveryOpeningAttaches}

@@ -1,14 +1,13 @@
 -- The changes that a grid records as calls are executed are those that their answers tell of as they are released.
-use Rattle.std.proofs.Common.{◌≡◌, ◌≢◌, ℕ, ◌≤◌, Bool, true, false, cond, ◌&&◌, ◌==◌, if◌then◌else◌, List, [], ◌∷◌, ◌++◌, map, Option, Some, None, slice_get, refl, ap, sym, ◌∙◌, subst, ◌⊎◌, ⊎_elim, inl, inr, append_assoc, append-nil}
+use Rattle.std.proofs.Common.{◌≡◌, ◌≢◌, ℕ, ◌≤◌, Bool, true, false, cond, ◌&&◌, ◌==◌, if◌then◌else◌, List, [], ◌∷◌, ◌++◌, map, Option, Some, None, refl, ap, sym, ◌∙◌, subst, ◌⊎◌, ⊎_elim, inl, inr, append-nil}
 use Rattle.std.specs.List.{flat_map}
 use Rattle.grid_base.specs.Objects.{Object}
-use Rattle.grid_base.specs.declared.calls.Change.{Change as ValueChange}
 use Rattle.partition_protocol.specs.Node.{Node}
-use Rattle.partition_protocol.specs.Execution.{Reached, Executes, reached, executing}
-use Rattle.partition_protocol.specs.History.{Executed, Entry, Called, Reset}
+use Rattle.partition_protocol.specs.Execution.{Executes, reached, executing}
+use Rattle.partition_protocol.specs.History.{Executed, Called, Reset}
 use Rattle.partition_protocol.specs.World.{World, is_live, map_or, pair_state}
-use Rattle.partition_protocol.specs.Events.{Event, Call, Deliver, Lose, Repeat, Resend, Crash, Detect, BeginMove, BeginJoin, BeginHandover, Advance, Reopen, Happened, executes, entry_of, happens}
-use Rattle.partition_protocol.specs.Arrivals.{Asked, CallName, name, asked_by, arrivals, NamedOnce}
+use Rattle.partition_protocol.specs.Events.{Event, Call, Deliver, Lose, Repeat, Resend, Crash, Detect, BeginMove, BeginJoin, BeginHandover, Advance, Reopen, Happened, entry_of, happens}
+use Rattle.partition_protocol.specs.Arrivals.{CallName, name, asked_by, arrivals, NamedOnce}
 use Rattle.partition_protocol.specs.HistorySizes.{asked_of}
 use Rattle.partition_protocol.proofs.Lists.{In, in_left, in_right, in_cases}
 use Rattle.partition_protocol.proofs.Invariant.{NodeAt}

@@ -1,11 +1,9 @@
 -- The client of a near connection goes with the machine's.
-use Rattle.std.proofs.Common.{◌≡◌, ◌≢◌, ℕ, suc, ◌+◌, ◌<◌, Bool, true, false, not, cond, ◌&&◌, ◌||◌, ◌==◌, nat_lt, bytes_eq, List, [], ◌∷◌, map, filter, Option, Some, None, option_map, refl, ap, sym, ◌∙◌, subst, ◌⊎◌, ⊎_elim, inl, inr, arith}
-use Rattle.std.specs.Prelude.{ℤ, pos, Result, Ok, Err, drop}
+use Rattle.std.proofs.Common.{◌≡◌, ◌≢◌, ℕ, suc, ◌+◌, Bool, true, false, not, cond, ◌&&◌, ◌||◌, ◌==◌, nat_lt, bytes_eq, List, [], ◌∷◌, map, filter, Option, Some, None, option_map, refl, ap, sym, ◌∙◌, subst, ⊎_elim, arith}
+use Rattle.std.specs.Prelude.{ℤ, pos, Ok, Err, drop}
 use Rattle.std.specs.List.{find, list_any, AllByRecursion}
 use Rattle.std.specs.Option.{option_map_or}
 use Rattle.std.specs.Result.{result_ok}
-use Rattle.std.proofs.lemmas.Slice.Eq.{bytes_eq-Decides}
-use Rattle.grid_base.specs.declared.refusal.CallRefused.{CallRefused}
 use Rattle.grid_base.specs.declared.refusal.CallRefused.TheVariants.{UnknownType}
 use Rattle.grid_base.specs.declared.calls.Request.{Request}
 use Rattle.object_store.specs.Partitions.{Partition}
@@ -25,18 +23,18 @@ use Rattle.near_cache.specs.Scopes.{is_in_partition}
 use Rattle.near_protocol.specs.Client.{Client, Said, Answer, Refusal, Invalidation, Rows, LookUp, Overtaking, handled}
 use Rattle.near_protocol.specs.Client as machine
 use Rattle.grid_client.specs.Lists.{erased_by, changed_by}
-use Rattle.grid_client.specs.Nears.{Near, Value, Look, has_number, look_up, closed, kept, filled, answered, overtaking, dropping, invalidated, cleared}
+use Rattle.grid_client.specs.Nears.{Near, Value, Look, has_number, look_up, closed, kept, filled, answered, overtaking, invalidated, cleared}
 use Rattle.grid_client.specs.Calls.{correlation_of, number_in, is_answered_by, is_elsewhere, refusing, settled, awaited_number, answered_number}
 use Rattle.grid_client.specs.Messages.{head_of, code_of, value_of, accepted_of}
 use Rattle.grid_client.specs.Rows.{version_in}
 use Rattle.grid_client.specs.States.{State}
-use Rattle.grid_client.specs.Hearing.{Told, nothing, followed, near_answered, told_by_answer, is_near_map, told_by_invalidation, clearing, knowing_row, cleared_by, told_by_row, told_by_rows, told_by_event, is_welcome, welcomed, told_otherwise, told_by_number, told_by_head, told_by_message}
-use Rattle.grid_client.specs.Ties.{GoesByKeys, AreBelow, IsTied, IsTiedTo, IsAnswerTo, IsNoAnswer, row_heard}
+use Rattle.grid_client.specs.Hearing.{Told, nothing, near_answered, told_by_answer, is_near_map, told_by_invalidation, clearing, knowing_row, cleared_by, told_by_row, told_by_rows, told_by_event, is_welcome, welcomed, told_by_number, told_by_head, told_by_message}
+use Rattle.grid_client.specs.Ties.{GoesByKeys, AreBelow, IsTiedTo, IsAnswerTo, IsNoAnswer}
 use Rattle.grid_client.specs.declared.heard.Heard.TheVariants as sayings
 use Rattle.grid_client.proofs.Ties.{every_message_is_the_machines}
-use Rattle.near_runs.specs.Maps.{value_in, keyed}
+use Rattle.near_runs.specs.Maps.{keyed}
 use Rattle.near_runs.specs.Hearings.{HasHead}
-use Rattle.near_runs.specs.Clients.{Call, Head, is_waiting, AreGets, AreAwaited, GoesWith, SaysIt, EveryMessageIsHeard}
+use Rattle.near_runs.specs.Clients.{Call, Head, is_waiting, AreGets, AreAwaited, GoesWith, EveryMessageIsHeard}
 use Rattle.near_runs.proofs.Maps.{every_map_is_keyed}
 
 -- ---- heads

@@ -1,5 +1,5 @@
 -- A run goes with a near client's machine, event by event.
-use Rattle.std.proofs.Common.{◌≡◌, ◌≢◌, ℕ, ◌≤◌, Bool, true, false, cond, ◌==◌, List, [], ◌∷◌, ◌++◌, map, filter, Option, Some, None, Contains, refl, ap, sym, ◌∙◌, subst, ◌⊎◌, ⊎_elim, inl, inr, append_assoc, append-nil}
+use Rattle.std.proofs.Common.{◌≡◌, ℕ, ◌≤◌, Bool, true, false, cond, ◌==◌, List, [], ◌∷◌, ◌++◌, map, filter, None, Contains, refl, ap, sym, ◌∙◌, subst, ◌⊎◌, ⊎_elim, inl, inr, append_assoc}
 use Rattle.std.specs.Prelude.{pos}
 use Rattle.std.specs.List.{find}
 use Rattle.std.proofs.lemmas.List.Elements.{filter-append}
@@ -7,28 +7,28 @@ use Rattle.grid_base.specs.Errors.{want_of_memory}
 use Rattle.grid_base.specs.Objects.{Object}
 use Rattle.grid_base.specs.declared.calls.Request.{Request}
 use Rattle.grid_base.specs.declared.names.CallId.{CallId}
-use Rattle.partition_protocol.specs.World.{World, is_live}
+use Rattle.partition_protocol.specs.World.{is_live}
 use Rattle.partition_protocol.specs.Events.{Event, Call, Deliver, Lose, Repeat, Resend, Crash, Detect, BeginMove, BeginJoin, BeginHandover, Advance, Reopen}
 use Rattle.partition_protocol.specs.Arrivals.{asked_by}
 use Rattle.partition_protocol.proofs.Lists.{In, in_cases, in_contains, contains_in}
-use Rattle.partition_protocol.proofs.RowFacts.{same_number, number_same, number_other}
+use Rattle.partition_protocol.proofs.RowFacts.{same_number, number_other}
 use Rattle.partition_protocol.proofs.Answers.{map_append}
 use Rattle.object_store.specs.Partitions.{Partition}
 use Rattle.call_engine.specs.Calls.{Settings}
 use Rattle.call_engine.specs.Objects.{partition_object}
 use Rattle.near_protocol.specs.Keyed.{Keyed}
-use Rattle.near_protocol.specs.Client.{Said, hit}
-use Rattle.near_protocol.specs.Near.{At as MachineAt, Grid, Near, Occurs, LooksUp, Hears, new_grid, world, happened, all_happened, said_by, occurred as machine_occurred, opening_at, looked_up, hears, is_call_on, moved}
+use Rattle.near_protocol.specs.Client.{hit}
+use Rattle.near_protocol.specs.Near.{At as MachineAt, Grid, Occurs, LooksUp, new_grid, world, happened, all_happened, said_by, occurred as machine_occurred, opening_at, looked_up, hears, is_call_on}
 use Rattle.near_protocol.specs.Claims.{AreNamedOnce}
 use Rattle.grid_client.specs.Nears.{Value}
 use Rattle.grid_client.specs.Calls.{correlation_of}
 use Rattle.replay_run.specs.ScriptRuns.{home}
 use Rattle.replay_run.specs.Runs.{Run, At, Arrival, Appended, world_at, connection_of, is_open, call_of, arrived, is_skipped, asked, happening, given_out, occurred}
 use Rattle.replay_run.specs.Runs as replay
-use Rattle.near_runs.specs.Maps.{keyed, get_request}
+use Rattle.near_runs.specs.Maps.{keyed}
 use Rattle.near_runs.specs.Messages.{sent_to, AreSaid}
 use Rattle.near_runs.specs.NearConnections.{machine_events, is_of, IsRight, IsNear, grid_of, grid_after}
-use Rattle.near_runs.specs.Following.{Machine, Follows, step, IsAside, IsNextGet, EveryOtherStepIsAside, EveryEventIsFollowed, EveryOtherCallIsFollowed, EveryMissIsFollowed, EveryHitIsFollowed, EveryHearingIsFollowed}
+use Rattle.near_runs.specs.Following.{Machine, Follows, step, IsNextGet, EveryOtherStepIsAside, EveryEventIsFollowed, EveryOtherCallIsFollowed, EveryMissIsFollowed, EveryHitIsFollowed, EveryHearingIsFollowed}
 use Rattle.near_runs.proofs.Sent.{sent_to-append, said-append}
 use Rattle.near_runs.proofs.Runs.{world_is, quiet_right, every_call_says, every_event_says}
 

@@ -1,5 +1,5 @@
 -- A look-up whose get finds no memory is followed too.
-use Rattle.std.proofs.Common.{◌≡◌, ℕ, Bool, true, cond, ◌==◌, List, [], ◌∷◌, ◌++◌, map, None, Contains, refl, ap, sym, ◌∙◌, subst, append_assoc, append-nil}
+use Rattle.std.proofs.Common.{◌≡◌, true, cond, ◌==◌, [], ◌∷◌, ◌++◌, map, Contains, refl, ap, sym, ◌∙◌, subst, append_assoc, append-nil}
 use Rattle.std.specs.Prelude.{pos}
 use Rattle.std.specs.Int.{w32, cast_signed}
 use Rattle.grid_base.specs.Errors.{want_of_memory}
@@ -7,14 +7,14 @@ use Rattle.grid_base.specs.declared.calls.Request.{Request}
 use Rattle.fixed_fields.specs.Responses.{error_bytes}
 use Rattle.partition_protocol.proofs.RowFacts.{number_same}
 use Rattle.call_engine.specs.Objects.{partition_object}
-use Rattle.near_protocol.specs.Client.{Said, Refusal}
+use Rattle.near_protocol.specs.Client.{Refusal}
 use Rattle.near_protocol.specs.Near.{LooksUpInVain, new_grid, all_happened, looked_up_in_vain, missed_in_vain}
 use Rattle.grid_client.specs.Calls.{correlation_of}
-use Rattle.replay_run.specs.Runs.{Run, Arrival, Appended, call_of, arrived, refusal, asked, happening, events_at}
-use Rattle.near_runs.specs.Maps.{keyed, get_request}
+use Rattle.replay_run.specs.Runs.{Run, Appended, call_of, arrived, refusal, asked, happening, events_at}
+use Rattle.near_runs.specs.Maps.{keyed}
 use Rattle.near_runs.specs.Messages.{sent_to, AreSaid}
-use Rattle.near_runs.specs.NearConnections.{machine_events, grid_of}
-use Rattle.near_runs.specs.Following.{Machine, Follows, step}
+use Rattle.near_runs.specs.NearConnections.{machine_events}
+use Rattle.near_runs.specs.Following.{Follows, step}
 use Rattle.near_runs.specs.FollowingInVain.{EveryMissInVainIsFollowed}
 use Rattle.near_runs.proofs.Sent.{sent_to-append, said-append}
 

@@ -1,5 +1,5 @@
 -- The answer to a get, and a refusal, are heard.
-use Rattle.std.proofs.Common.{◌≡◌, ℕ, ◌+◌, ◌<◌, ◌≤◌, false, List, [], ◌∷◌, ◌++◌, length, Option, Some, None, refl, ap, sym, ◌∙◌, append-nil, arith, lit<, lit≤}
+use Rattle.std.proofs.Common.{◌≡◌, ℕ, ◌+◌, ◌<◌, ◌≤◌, false, List, [], ◌∷◌, ◌++◌, length, Some, None, refl, ap, sym, ◌∙◌, append-nil, arith, lit<, lit≤}
 use Rattle.std.specs.Prelude.{ℤ, pos, All}
 use Rattle.std.specs.Int.{w32, w64, to_le_bytes}
 use Rattle.std.specs.Int.RustNames.{FitsSigned}
@@ -11,14 +11,13 @@ use Rattle.frame_codec.specs.Laws.{spelled, IsWithinLimits}
 use Rattle.frame_codec.specs.declared.frames.Frame.{Frame}
 use Rattle.fixed_fields.specs.Fields.{int32_bytes, int64_bytes}
 use Rattle.fixed_fields.specs.Replies.{reply_bytes}
-use Rattle.fixed_fields.specs.Responses.{single, head_bytes, error_bytes}
+use Rattle.fixed_fields.specs.Responses.{single, head_bytes}
 use Rattle.fixed_fields.proofs.Written.{int64_read, int32_read, kind_read}
 use Rattle.message_frames.specs.Assembly.{most_messages, first_payload}
 use Rattle.message_frames.specs.Grammar.{Piece, Unfragmented, piece_frames}
 use Rattle.message_frames.specs.Laws.{IsStream}
 use Rattle.message_frames.specs.Messages.{Heard, heard}
 use Rattle.message_frames.specs.Writing.{IsWritable}
-use Rattle.message_frames.specs.declared.message.Message.{Message}
 use Rattle.message_frames.proofs.HeardPieces.{grammar_heard}
 use Rattle.message_frames.proofs.Written.{written_message_heard}
 use Rattle.map_codecs.specs.Calls.{get_kind}
@@ -26,7 +25,7 @@ use Rattle.grid_client.specs.Nears.{Value}
 use Rattle.grid_client.specs.Calls.{correlation_of}
 use Rattle.grid_client.specs.Messages.{value_of}
 use Rattle.near_runs.specs.Maps.{value_said}
-use Rattle.near_runs.specs.Hearings.{HasHead, value_frame, answer_frames, EveryAnswerIsHeard, EveryRefusalIsHeard}
+use Rattle.near_runs.specs.Hearings.{value_frame, answer_frames, EveryAnswerIsHeard, EveryRefusalIsHeard}
 
 fits_number : (number : ℕ) → number < most_messages → FitsSigned w64 (correlation_of number)
 fits_number number small = omega (arith, ints, small)

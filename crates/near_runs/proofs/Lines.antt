@@ -1,5 +1,5 @@
 -- A line that isn't a near client's is followed by its machine.
-use Rattle.std.proofs.Common.{◌≡◌, ◌≢◌, ℕ, ◌+◌, Bool, true, false, cond, not, ◌&&◌, ◌||◌, ◌==◌, List, [], ◌∷◌, ◌++◌, map, filter, length, Option, Some, None, refl, ap, sym, ◌∙◌, subst, append-nil}
+use Rattle.std.proofs.Common.{◌≡◌, ◌≢◌, ℕ, ◌+◌, Bool, true, false, cond, not, ◌&&◌, ◌==◌, List, [], ◌∷◌, ◌++◌, map, filter, length, Option, Some, None, refl, ap, sym, ◌∙◌, subst, append-nil}
 use Rattle.std.specs.Prelude.{pos, is_some}
 use Rattle.std.specs.List.{find}
 use Rattle.std.proofs.lemmas.List.Elements.{filter-append}
@@ -15,7 +15,7 @@ use Rattle.partition_protocol.specs.Events.{Event}
 use Rattle.partition_protocol.specs.Events as event
 use Rattle.partition_protocol.specs.Arrivals.{asked_by}
 use Rattle.partition_protocol.proofs.Lists.{on_if}
-use Rattle.partition_protocol.proofs.RowFacts.{same_number, number_same, number_other}
+use Rattle.partition_protocol.proofs.RowFacts.{same_number, number_other}
 use Rattle.event_codecs.specs.declared.registration.Registration.{Registration}
 use Rattle.listeners.specs.Standing.{is_about_rows}
 use Rattle.listeners.specs.Telling.{row_event, rows_of}
@@ -27,14 +27,14 @@ use Rattle.script_lang.specs.declared.line.Line.TheVariants.{OpenConn, Arrive, C
 use Rattle.near_protocol.specs.Near.{Occurs, occurred as machine_occurred, is_call_on}
 use Rattle.near_protocol.proofs.Hear.{find_in}
 use Rattle.replay_run.specs.ScriptRuns.{home}
-use Rattle.replay_run.specs.Runs.{Run, Connection, Arrival, Appended, At, world_at, is_connection, connection_of, is_full, updated, with_bytes, took_bytes, takes_bytes, lives, opened, next_line, clock_set, told, listener_registered, registered_reply, sends, rows_known, registers, events_to, refusal, arrival_at, call_of, arrived, is_skipped, given_up, asked, asks, happening, occurred, takes, delivery_on, own_answer, event_by, unserved, handled, handled_all, items_by, bytes_arrived, partitions, messages_on}
+use Rattle.replay_run.specs.Runs.{Run, Connection, Arrival, Appended, At, world_at, is_connection, connection_of, is_full, updated, with_bytes, took_bytes, takes_bytes, lives, opened, next_line, clock_set, told, listener_registered, registered_reply, rows_known, registers, events_to, refusal, arrival_at, call_of, arrived, is_skipped, given_up, asked, asks, happening, occurred, takes, delivery_on, own_answer, event_by, unserved, handled_all, items_by, bytes_arrived, partitions, messages_on}
 use Rattle.replay_run.specs.AfterLines.{after_event, after_line}
 use Rattle.replay_run.proofs.EventRuns.{takes_keeps, takes_in_keeps, flowed_keeps, flowed_in_keeps}
 use Rattle.replay_run.proofs.Rebalanced.{rebalance_keeps}
 use Rattle.replay_run.proofs.Items.{AreNumbered, items_room}
 use Rattle.near_runs.specs.Maps.{keyed}
 use Rattle.near_runs.specs.Messages.{sent_to}
-use Rattle.near_runs.specs.NearConnections.{is_of, IsRight}
+use Rattle.near_runs.specs.NearConnections.{is_of}
 use Rattle.near_runs.specs.Following.{Machine, step, IsAside}
 use Rattle.near_runs.specs.NearRuns.{IsNearRun, went_aside, event_happened, call_arrived}
 use Rattle.near_runs.specs.Lines.{IsOthers, GoesOn, EveryOtherLineIsFollowed}

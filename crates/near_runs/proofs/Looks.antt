@@ -1,19 +1,18 @@
 -- A near client's look-ups are the machine's.
-use Rattle.std.proofs.Common.{◌≡◌, ℕ, ◌≤◌, Bool, true, false, cond, not, ◌&&◌, ◌||◌, ◌==◌, List, [], ◌∷◌, ◌++◌, length, Option, Some, None, option_map, refl, ap, sym, ◌∙◌, subst}
+use Rattle.std.proofs.Common.{◌≡◌, Bool, true, false, ◌&&◌, ◌||◌, ◌==◌, List, [], ◌∷◌, ◌++◌, Some, None, option_map, refl, ap, sym, ◌∙◌, subst}
 use Rattle.std.specs.List.{list_any, AllByRecursion}
 use Rattle.partition_protocol.proofs.RowFacts.{number_same}
 use Rattle.session_core.specs.Places.{partition_of_key}
 use Rattle.map_codecs.specs.Calls.{get_kind}
-use Rattle.call_engine.specs.Calls.{Settings}
 use Rattle.near_protocol.specs.Client.{Client, LookUp}
 use Rattle.near_protocol.specs.Client as machine
-use Rattle.grid_client.specs.Nears.{Near, Value, Look, hit, used, opened}
+use Rattle.grid_client.specs.Nears.{Near, Look, used, opened}
 use Rattle.grid_client.specs.Calls.{asked_call, sending_of}
-use Rattle.grid_client.specs.States.{State, target, asking, looked, opening_look_up, get_of, HasHit, HasMissed}
+use Rattle.grid_client.specs.States.{State, asking, looked, opening_look_up, get_of}
 use Rattle.grid_client.specs.Ties.{GoesByKeys, IsTiedTo}
 use Rattle.grid_client.proofs.Ties.{every_look_is_the_machines, every_hit_is_the_machines, every_miss_is_the_machines}
 use Rattle.near_runs.specs.Maps.{keyed}
-use Rattle.near_runs.specs.Clients.{Call, is_waiting, AreGets, AreAwaited, GoesWith}
+use Rattle.near_runs.specs.Clients.{Call, is_waiting, AreAwaited, GoesWith}
 use Rattle.near_runs.specs.Looks.{EveryHitIsTheMachines, EveryMissIsTheMachines}
 use Rattle.near_runs.proofs.Maps.{every_map_is_keyed}
 

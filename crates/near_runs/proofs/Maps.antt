@@ -1,9 +1,8 @@
 -- Each map is one that the machine of a near client can go by.
-use Rattle.std.proofs.Common.{◌≡◌, ℕ, Bool, true, false, cond, nat_eq, bytes_eq, List, [], ◌∷◌, Option, Some, None, is_some, refl, ap, sym, ◌∙◌}
+use Rattle.std.proofs.Common.{◌≡◌, ℕ, Bool, true, false, nat_eq, List, Option, Some, None, is_some, refl, ap, sym, ◌∙◌}
 use Rattle.std.specs.Option.{option_eq}
 use Rattle.std.specs.Cmp.Lexicographic.{pointwise}
 use Rattle.std.proofs.lemmas.Slice.Eq.{bytes_eq-Decides}
-use Rattle.grid_base.specs.declared.calls.Change.{Change}
 use Rattle.grid_base.specs.declared.calls.GridCall.{GridCall}
 use Rattle.grid_base.specs.declared.calls.GridCall.TheVariants as call
 use Rattle.grid_base.specs.declared.calls.Request.{Request}
@@ -14,11 +13,8 @@ use Rattle.call_engine.specs.Effects.{effect_of}
 use Rattle.call_engine.specs.Objects.{target_of, partition_object}
 use Rattle.call_engine.specs.ShelfLaws.{changes_by_effect, same_without_effect}
 use Rattle.session_core.proofs.CallsAt.{below_partitions}
-use Rattle.near_protocol.specs.Keyed.{IsKeyed}
-use Rattle.grid_client.specs.Ties.{GoesByKeys}
-use Rattle.replay_run.specs.Changes.{entry_change, change_between, change_by}
-use Rattle.replay_run.specs.Runs.{partitions}
-use Rattle.near_runs.specs.Maps.{key_changed, keyed, EveryMapIsKeyed}
+use Rattle.replay_run.specs.Changes.{change_between, change_by}
+use Rattle.near_runs.specs.Maps.{key_changed, EveryMapIsKeyed}
 
 same_value : (v : Option (List ℕ)) → option_eq (pointwise nat_eq) v v ≡ true
 same_value None = refl

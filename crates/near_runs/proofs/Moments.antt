@@ -1,5 +1,5 @@
 -- What an event does to a member that it doesn't reach, and what becomes of a call.
-use Rattle.std.proofs.Common.{◌≡◌, ◌≢◌, ℕ, Bool, true, false, cond, ◌==◌, List, [], ◌∷◌, ◌++◌, map, Option, Some, None, slice_get, slice_set, refl, ap, sym, ◌∙◌, subst, ◌⊎◌, ⊎_elim, inl, inr}
+use Rattle.std.proofs.Common.{◌≡◌, ℕ, Bool, true, false, cond, ◌==◌, List, [], ◌∷◌, ◌++◌, map, Option, Some, None, slice_get, slice_set, refl, ap, sym, ◌∙◌, subst, ◌⊎◌, inl, inr}
 use Rattle.grid_base.specs.Objects.{Object}
 use Rattle.partition_protocol.specs.Messages.{Packet}
 use Rattle.partition_protocol.specs.Node.{Node, settled}
@@ -7,7 +7,7 @@ use Rattle.partition_protocol.specs.Replica.{taking}
 use Rattle.partition_protocol.specs.Execution.{Reached, Executes, PartitionLost, WrongTarget, Migrating, reached, executing}
 use Rattle.partition_protocol.specs.World.{World, is_live, map_or, pair_state}
 use Rattle.partition_protocol.specs.Links.{is_on, link}
-use Rattle.partition_protocol.specs.Events.{Event, Call, Deliver, Happened, nothing, calling, executes, happens}
+use Rattle.partition_protocol.specs.Events.{Event, Call, Happened, nothing, calling, happens}
 use Rattle.partition_protocol.specs.Arrivals.{CallName, name, asked_by, arrivals, NamedOnce}
 use Rattle.partition_protocol.proofs.Lists.{In, in_right, set_get_same, set_get_other}
 use Rattle.partition_protocol.proofs.Invariant.{NodeAt}
@@ -15,8 +15,8 @@ use Rattle.partition_protocol.proofs.Histories.{filter_in}
 use Rattle.partition_protocol.proofs.RowFacts.{same_number, both_right}
 use Rattle.partition_protocol.proofs.Answers.{map_append, once_right, once_apart}
 use Rattle.partition_protocol.proofs.Events.{get_in}
-use Rattle.partition_protocol.proofs.EventFacts.{call_dead, call_live, call_executed, call_refused}
-use Rattle.partition_protocol.proofs.EventCases.{EventCases, every_event}
+use Rattle.partition_protocol.proofs.EventFacts.{call_dead, call_executed, call_refused}
+use Rattle.partition_protocol.proofs.EventCases.{every_event}
 use Rattle.near_protocol.specs.Laws.{IsStepOf}
 
 -- whom a call reached

@@ -1,5 +1,5 @@
 -- Each run with a near client goes with its machine, whose hits stand.
-use Rattle.std.proofs.Common.{◌≡◌, ◌≢◌, ℕ, ◌≤◌, Bool, true, false, cond, List, [], ◌∷◌, ◌++◌, Option, Some, None, refl, ap, sym, ◌∙◌, subst, append_assoc}
+use Rattle.std.proofs.Common.{◌≡◌, ℕ, ◌≤◌, Bool, true, false, cond, List, [], ◌∷◌, ◌++◌, Option, Some, None, refl, ap, sym, ◌∙◌, subst, append_assoc}
 use Rattle.std.specs.Prelude.{pos}
 use Rattle.grid_base.specs.Errors.{want_of_memory}
 use Rattle.grid_base.specs.declared.names.CallId.{CallId}
@@ -10,22 +10,19 @@ use Rattle.partition_protocol.specs.World.{is_live}
 use Rattle.partition_protocol.specs.Events.{Event, Call}
 use Rattle.call_engine.specs.Calls.{Settings}
 use Rattle.call_engine.specs.Objects.{partition_object}
-use Rattle.request_codecs.specs.Openings.{opening}
 use Rattle.near_protocol.specs.Keyed.{Keyed}
 use Rattle.near_protocol.specs.Client.{Said, hit}
 use Rattle.near_protocol.specs.Near.{At as MachineAt, Near, Move, Occurs, LooksUp, LooksUpInVain, Hears, new_grid, world, happened, all_happened, attached, occurred as machine_occurred, opening_at, looked_up, looked_up_in_vain, hears, is_call_on, moved, all_moved}
 use Rattle.near_protocol.specs.Claims.{IsNew, AreNamedOnce, IsHit}
-use Rattle.near_protocol.proofs.Moves.{IsLater, named_later, move_later}
+use Rattle.near_protocol.proofs.Moves.{named_later, move_later}
 use Rattle.near_protocol.proofs.Theorem.{every_hit_stands}
 use Rattle.grid_client.specs.Nears.{Value}
-use Rattle.replay_run.specs.Runs.{Run, Connection, Arrival, partitions, call_of, arrived, refusal, is_skipped, asked, happening}
-use Rattle.near_runs.specs.Maps.{keyed, get_request}
+use Rattle.replay_run.specs.Runs.{Run, Arrival, partitions, call_of, arrived, refusal, is_skipped, asked, happening}
+use Rattle.near_runs.specs.Maps.{keyed}
 use Rattle.near_runs.specs.Messages.{sent_to}
-use Rattle.near_runs.specs.NearConnections.{machine_events, grid_of, grid_after}
-use Rattle.near_runs.specs.Sessions.{MayOpen, near_opened}
-use Rattle.near_runs.specs.Attaching.{IsFresh, IsAttached}
-use Rattle.near_runs.specs.Following.{Machine, Follows, step, IsNextGet}
-use Rattle.near_runs.specs.NearRuns.{IsNearRun, client_came, went_aside, event_happened, call_arrived, client_missed, client_missed_in_vain, client_hit, client_heard, GoesWell, EveryNearRunGoesWell}
+use Rattle.near_runs.specs.NearConnections.{machine_events, grid_after}
+use Rattle.near_runs.specs.Following.{Machine, Follows, step}
+use Rattle.near_runs.specs.NearRuns.{IsNearRun, client_came, went_aside, event_happened, call_arrived, client_missed, client_missed_in_vain, client_hit, client_heard, EveryNearRunGoesWell}
 use Rattle.near_runs.proofs.Maps.{every_map_is_keyed}
 use Rattle.near_runs.proofs.Attaching.{every_opening_attaches}
 use Rattle.near_runs.proofs.Following.{every_other_step_is_aside, every_event_is_followed, every_other_call_is_followed, every_miss_is_followed, every_hit_is_followed, every_hearing_is_followed, no_call_on, missed}

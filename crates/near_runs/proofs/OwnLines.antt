@@ -1,30 +1,25 @@
 -- A near client's own lines are followed by its machine.
-use Rattle.std.proofs.Common.{◌≡◌, ◌≢◌, ℕ, ◌+◌, ◌<◌, ◌≤◌, Bool, true, false, cond, not, ◌==◌, List, [], ◌∷◌, ◌++◌, length, Option, Some, None, refl, ap, sym, ◌∙◌, subst}
+use Rattle.std.proofs.Common.{◌≡◌, ℕ, Bool, true, false, cond, not, List, [], ◌++◌, Some, None, refl, ap, sym, ◌∙◌, subst}
 use Rattle.std.specs.Prelude.{is_some}
-use Rattle.std.specs.List.{find}
 use Rattle.grid_base.specs.Objects.{Object}
 use Rattle.grid_base.specs.declared.calls.Request.{Request}
 use Rattle.grid_base.specs.declared.names.CallId.{CallId}
 use Rattle.object_store.specs.Partitions.{Partition}
-use Rattle.message_frames.specs.Messages.{messages_of, fault_of}
-use Rattle.session_core.specs.Places.{partition_of_key}
+use Rattle.message_frames.specs.Messages.{fault_of}
 use Rattle.call_engine.specs.Calls.{Settings}
 use Rattle.call_engine.specs.Objects.{partition_object}
 use Rattle.partition_protocol.proofs.RowFacts.{same_number}
 use Rattle.script_lang.specs.declared.line.Line.TheVariants.{Arrive}
 use Rattle.request_codecs.specs.Openings.{opening}
-use Rattle.near_protocol.specs.Keyed.{Keyed}
-use Rattle.near_protocol.specs.Client.{Client, hit, opened}
-use Rattle.near_protocol.specs.Near.{LooksUp, LooksUpInVain, occurred as machine_occurred, opening_at, looked_up_in_vain, missed_in_vain, attached}
+use Rattle.near_protocol.specs.Client.{hit}
+use Rattle.near_protocol.specs.Near.{LooksUp, LooksUpInVain, looked_up_in_vain, missed_in_vain, attached}
 use Rattle.near_protocol.specs.Claims.{AreNamedOnce}
 use Rattle.near_protocol.proofs.Hear.{find_in}
-use Rattle.grid_client.specs.Nears.{Value}
-use Rattle.replay_run.specs.Runs.{Run, Connection, Arrival, connection_of, is_connection, is_open, takes_bytes, took_bytes, with_bytes, world_at, is_full, arrival_at, call_of, is_skipped, arrived, given_up, asked, asks, next_line, bytes_arrived, partitions}
+use Rattle.replay_run.specs.Runs.{Run, Connection, Arrival, connection_of, is_connection, took_bytes, with_bytes, arrival_at, is_skipped, arrived, given_up, asked, asks, next_line, bytes_arrived, partitions}
 use Rattle.replay_run.specs.AfterLines.{after_line}
 use Rattle.near_runs.specs.Maps.{keyed, get_request}
-use Rattle.near_runs.specs.NearConnections.{machine_events, grid_of}
-use Rattle.near_runs.specs.Sessions.{HasSent, MayOpen, MayGet, get_bytes, near_opened}
-use Rattle.near_runs.specs.Attaching.{IsFresh}
+use Rattle.near_runs.specs.NearConnections.{grid_of}
+use Rattle.near_runs.specs.Sessions.{MayGet, get_bytes}
 use Rattle.near_runs.specs.Following.{Machine, Follows, step, IsNextGet}
 use Rattle.near_runs.specs.NearRuns.{IsNearRun, client_came, went_aside, client_missed, client_missed_in_vain}
 use Rattle.near_runs.specs.OwnLines.{EveryOpeningLineIsFollowed, MayMiss, HasOpened, EveryGetLineIsFollowed}

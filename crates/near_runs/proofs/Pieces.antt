@@ -1,24 +1,20 @@
 -- A piece of its output tells a near client what its messages say.
-use Rattle.std.proofs.Common.{◌≡◌, ℕ, ◌+◌, Bool, true, false, cond, ◌||◌, ◌==◌, List, [], ◌∷◌, ◌++◌, Option, Some, None, refl, ap, sym, ◌∙◌, subst}
-use Rattle.std.specs.Prelude.{ℤ, Err}
+use Rattle.std.proofs.Common.{◌≡◌, ℕ, Bool, true, false, cond, List, [], ◌∷◌, ◌++◌, Option, Some, None, refl, ap, sym, ◌∙◌, subst}
 use Rattle.std.specs.Result.{result_ok}
-use Rattle.grid_base.specs.declared.refusal.CallRefused.TheVariants.{UnknownType}
-use Rattle.frame_codec.specs.declared.frames.Frame.{Frame}
 use Rattle.message_frames.specs.declared.message.Message.{Message}
-use Rattle.event_codecs.specs.Events.{event_of}
 use Rattle.call_engine.specs.Calls.{Settings}
 use Rattle.near_protocol.specs.Client.{Client, Said, handled}
 use Rattle.grid_client.specs.Nears.{Value}
-use Rattle.grid_client.specs.Calls.{number_in, awaited_number, answered_number}
+use Rattle.grid_client.specs.Calls.{number_in, awaited_number}
 use Rattle.grid_client.specs.Messages.{accepted_of}
 use Rattle.grid_client.specs.States.{State}
-use Rattle.grid_client.specs.Hearing.{nothing, is_welcome, welcomed, told_by_event, told_by_number, told_by_head, told_by_message, told_by_messages, reading, told_by_piece}
+use Rattle.grid_client.specs.Hearing.{nothing, is_welcome, welcomed, told_by_event, told_by_number, told_by_head, told_by_message, told_by_messages, reading}
 use Rattle.near_runs.specs.Maps.{keyed}
-use Rattle.near_runs.specs.Readings.{messages_sent, HearsNext}
+use Rattle.near_runs.specs.Readings.{messages_sent}
 use Rattle.grid_client.specs.Rows.{version_in}
 use Rattle.grid_client.specs.Ties.{AreBelow}
-use Rattle.near_runs.specs.Clients.{AreGets, AreAwaited, GoesWith, SaysIt}
-use Rattle.near_runs.specs.Pieces.{IsQuiet, Means, AllMean, all_handled, EveryPieceIsHeard}
+use Rattle.near_runs.specs.Clients.{AreGets, AreAwaited, GoesWith}
+use Rattle.near_runs.specs.Pieces.{IsQuiet, AllMean, all_handled, EveryPieceIsHeard}
 use Rattle.near_runs.proofs.Clients.{the_head, head_is, none_answered, every_message_is_heard}
 
 -- other connections' facts don't touch it

@@ -1,13 +1,11 @@
 -- However an output is cut, its messages are heard in their order.
-use Rattle.std.proofs.Common.{◌≡◌, ◌≢◌, ℕ, Bool, true, false, List, [], ◌∷◌, ◌++◌, map, length, drop, Option, Some, None, refl, ap, sym, ◌∙◌, subst, ◌⊎◌, ⊎_elim, inl, inr, append_assoc, append-nil}
-use Rattle.std.specs.List.{flat_map}
+use Rattle.std.proofs.Common.{◌≡◌, ◌≢◌, ℕ, false, List, [], ◌∷◌, ◌++◌, length, drop, None, refl, ap, sym, ◌∙◌, subst, ◌⊎◌, inl, inr, append_assoc}
 use Rattle.std.proofs.Math.Seq.{drop-append_seam}
 use Rattle.frame_codec.specs.Laws.{spelled}
 use Rattle.frame_codec.specs.declared.frames.Frame.{Frame}
-use Rattle.message_frames.specs.Grammar.{Piece, Unfragmented, piece_bytes, stream_of}
+use Rattle.message_frames.specs.Grammar.{Unfragmented, stream_of}
 use Rattle.message_frames.specs.Laws.{IsStream, messages_in}
-use Rattle.message_frames.specs.Merging.{merged}
-use Rattle.message_frames.specs.Messages.{Heard, shortest_start, heard, messages_of, fault_of}
+use Rattle.message_frames.specs.Messages.{Heard, shortest_start, heard, messages_of}
 use Rattle.message_frames.specs.declared.message.Message.{Message}
 use Rattle.message_frames.proofs.HeardPieces.{grammar_heard, stream_front}
 use Rattle.message_frames.proofs.SoFar.{so_far_heard}

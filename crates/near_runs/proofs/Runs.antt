@@ -1,5 +1,5 @@
 -- Of every run: what an event brings to a near connection is what the machine says at it.
-use Rattle.std.proofs.Common.{◌≡◌, ◌≢◌, ℕ, ◌≤◌, Bool, true, false, cond, ◌&&◌, ◌==◌, List, [], ◌∷◌, ◌++◌, map, filter, length, drop, Option, Some, None, nat_lt, slice_get, Contains, refl, ap, sym, ◌∙◌, subst, ◌⊎◌, ⊎_elim, inl, inr, append_assoc, append-nil, le_refl}
+use Rattle.std.proofs.Common.{◌≡◌, ◌≢◌, ℕ, ◌≤◌, Bool, true, false, cond, ◌&&◌, ◌==◌, List, [], ◌∷◌, ◌++◌, map, filter, length, drop, Option, Some, None, nat_lt, slice_get, refl, ap, sym, ◌∙◌, subst, ◌⊎◌, ⊎_elim, inl, inr, append_assoc, append-nil, le_refl}
 use Rattle.std.specs.List.{flat_map}
 use Rattle.grid_base.specs.Objects.{Object}
 use Rattle.grid_base.specs.declared.calls.Request.{Request}
@@ -8,12 +8,11 @@ use Rattle.partition_protocol.specs.Node.{Held, Node}
 use Rattle.partition_protocol.specs.History.{Executed, Called}
 use Rattle.partition_protocol.specs.World.{World, start}
 use Rattle.partition_protocol.specs.Events.{Event, Call, Deliver, Lose, Repeat, Resend, Crash, Detect, BeginMove, BeginJoin, BeginHandover, Advance, Reopen, Outcome, happens, run}
-use Rattle.partition_protocol.specs.Arrivals.{Asked, CallName, name as name_asked, asked_by, arrivals, NamedOnce}
+use Rattle.partition_protocol.specs.Arrivals.{Asked, asked_by, arrivals}
 use Rattle.partition_protocol.specs.Answers.{answered_call}
 use Rattle.partition_protocol.specs.HistorySizes.{asked_of}
 use Rattle.partition_protocol.proofs.Lists.{In, in_cases, in_contains, contains_in}
-use Rattle.partition_protocol.proofs.Invariant.{NodeAt}
-use Rattle.partition_protocol.proofs.RowFacts.{number_same, number_other, number_cases, is_not_less}
+use Rattle.partition_protocol.proofs.RowFacts.{number_other, number_cases, is_not_less}
 use Rattle.partition_protocol.proofs.HistorySizes.{every_logged_call_arrived}
 use Rattle.partition_protocol.proofs.Theorem.{every_run_is_safe}
 use Rattle.object_store.specs.Partitions.{Partition}
@@ -22,7 +21,7 @@ use Rattle.call_engine.specs.Objects.{partition_object}
 use Rattle.partition_world.specs.Answers.{state_before}
 use Rattle.near_protocol.specs.Keyed.{Keyed}
 use Rattle.near_protocol.specs.Client.{Said, Refusal}
-use Rattle.near_protocol.specs.Near.{At as MachineAt, Grid, new_grid, is_at, events_at, world, happened, all_happened, name_of, released_between, invalidations, said_of, rows_said, is_refused, refusal_said, said_by}
+use Rattle.near_protocol.specs.Near.{At as MachineAt, Grid, new_grid, is_at, events_at, world, happened, all_happened, name_of, released_between, invalidations, said_of, rows_said, is_refused, refusal_said}
 use Rattle.near_protocol.specs.Claims.{AreNamedOnce}
 use Rattle.near_protocol.specs.Laws.{IsStepOf}
 use Rattle.near_protocol.proofs.Orders.{IsOnce}
@@ -30,7 +29,6 @@ use Rattle.near_protocol.proofs.Holders.{every_answer_is_of_its_member}
 use Rattle.near_protocol.proofs.Attaching.{all_members}
 use Rattle.near_protocol.proofs.Moves.{event_later, named_later}
 use Rattle.grid_client.specs.Nears.{Value}
-use Rattle.grid_client.specs.Calls.{correlation_of}
 use Rattle.replay_run.specs.Changes.{change_by}
 use Rattle.replay_run.specs.ScriptRuns.{home}
 use Rattle.replay_run.specs.Runs.{Run, Arrival, At, Appended, world_at, call_of, refused_by, messages_by, happening, taker_of, given_to, given_out}

@@ -1,7 +1,7 @@
 -- What an event brings to a near connection is what the machine says at it.
-use Rattle.std.proofs.Common.{◌≡◌, ◌≢◌, ℕ, ◌<◌, ◌≤◌, Bool, true, false, cond, ◌&&◌, ◌==◌, bytes_eq, List, [], ◌∷◌, ◌++◌, map, filter, length, drop, Option, Some, None, nat_lt, slice_get, Contains, refl, ap, sym, ◌∙◌, subst, ◌⊎◌, ⊎_elim, inl, inr, append_assoc, append-nil, le_refl, arith}
-use Rattle.std.specs.Prelude.{ℤ, pos, negsuc, nat_eq, if◌then◌else◌}
-use Rattle.std.specs.List.{flat_map, filter_map}
+use Rattle.std.proofs.Common.{◌≡◌, ◌≢◌, ℕ, ◌<◌, ◌≤◌, Bool, true, false, cond, ◌&&◌, ◌==◌, bytes_eq, List, [], ◌∷◌, ◌++◌, map, length, drop, Option, Some, None, nat_lt, slice_get, refl, ap, sym, ◌∙◌, subst, ◌⊎◌, ⊎_elim, inl, inr, le_refl, arith}
+use Rattle.std.specs.Prelude.{ℤ, pos, nat_eq}
+use Rattle.std.specs.List.{flat_map}
 use Rattle.std.specs.Option.{option_and_then, option_eq}
 use Rattle.std.specs.Cmp.Lexicographic.{pointwise}
 use Rattle.std.specs.Int.{w32, cast_signed}
@@ -12,49 +12,44 @@ use Rattle.grid_base.specs.Names.{key_of}
 use Rattle.grid_base.specs.declared.calls.Change.{Change}
 use Rattle.grid_base.specs.declared.calls.GridCall.{GridCall}
 use Rattle.grid_base.specs.declared.calls.GridCall.TheVariants as call
-use Rattle.grid_base.specs.declared.calls.MapCall.{MapCall}
 use Rattle.grid_base.specs.declared.calls.Request.{Request}
-use Rattle.map_records.specs.declared.records.MapRecord.{MapRecord}
 use Rattle.frame_codec.specs.Laws.{spelled}
 use Rattle.fixed_fields.specs.Responses.{error_bytes}
 use Rattle.partition_table.specs.declared.Row.{Row}
 use Rattle.partition_protocol.specs.Node.{Held, Node}
 use Rattle.partition_protocol.specs.Execution.{Reached, Executes, PartitionLost, WrongTarget, Migrating, reached}
-use Rattle.partition_protocol.specs.History.{Executed, Entry, Called}
+use Rattle.partition_protocol.specs.History.{Executed, Called}
 use Rattle.partition_protocol.specs.World.{World, map_or}
-use Rattle.partition_protocol.specs.Events.{Event, Call, Deliver, Lose, Repeat, Resend, Crash, Detect, BeginMove, BeginJoin, BeginHandover, Advance, Reopen, Outcome, NothingDone, Done, HeldAt, ReleasedAt, Refused, TookMessage, RowMadeAt, MoveIsRefused, ReopenIsRefused, Happened, happens}
-use Rattle.partition_protocol.specs.Arrivals.{CallName, asked_by}
+use Rattle.partition_protocol.specs.Events.{Event, Call, Outcome, NothingDone, Done, HeldAt, ReleasedAt, Refused, TookMessage, RowMadeAt, MoveIsRefused, ReopenIsRefused, Happened, happens}
 use Rattle.partition_protocol.specs.Answers.{answered_call}
-use Rattle.partition_protocol.proofs.Lists.{In, in_contains, contains_in}
-use Rattle.partition_protocol.proofs.Invariant.{NodeAt}
+use Rattle.partition_protocol.proofs.Lists.{In}
 use Rattle.partition_protocol.proofs.RowFacts.{same_number, number_same, number_other, is_less, is_not_less}
 use Rattle.partition_protocol.proofs.RowRules.{GoesOn, node_on}
 use Rattle.partition_protocol.proofs.EventFacts.{call_executed, call_refused}
 use Rattle.primary_hold.specs.declared.answer.CallAnswer.{CallAnswer}
-use Rattle.event_codecs.specs.Writing.{invalidation_frames, rows_frames}
-use Rattle.listeners.specs.Telling.{Sent, change_events}
-use Rattle.listeners.specs.declared.listener.Listener.{Listener}
+use Rattle.event_codecs.specs.Writing.{invalidation_frames}
+use Rattle.listeners.specs.Telling.{change_events}
 use Rattle.object_store.specs.Records.{Record, entry_in}
 use Rattle.object_store.specs.Partitions.{Partition}
 use Rattle.call_engine.specs.Calls.{Settings}
 use Rattle.call_engine.specs.Objects.{partition_object}
 use Rattle.session_core.specs.Places.{partition_of_key}
-use Rattle.request_codecs.specs.Openings.{invalidations_correlation, rows_correlation}
-use Rattle.partition_world.specs.Answers.{answer_of, state_before, released_by, held_answer}
-use Rattle.near_protocol.specs.Client.{Said, Answer, Refusal, Invalidation, Rows, RowHeard}
-use Rattle.near_protocol.specs.Near.{Change as MachineChange, name_of, called_in, released_between, invalidations, said_of, rows_said, is_refused, refusal_said, said_by}
+use Rattle.request_codecs.specs.Openings.{invalidations_correlation}
+use Rattle.partition_world.specs.Answers.{answer_of, state_before, released_by}
+use Rattle.near_protocol.specs.Client.{Answer, Refusal, Rows}
+use Rattle.near_protocol.specs.Near.{Change as MachineChange, name_of, called_in, released_between, invalidations, said_of, rows_said, is_refused}
 use Rattle.near_protocol.specs.Laws.{IsStepOf}
 use Rattle.near_protocol.proofs.Orders.{IsOnce, flat_map_in}
 use Rattle.near_protocol.proofs.Saying.{called_is}
 use Rattle.near_protocol.proofs.Worlds.{node_back}
 use Rattle.grid_client.specs.Calls.{correlation_of}
-use Rattle.replay_run.specs.Changes.{entry_change, change_between, change_by}
+use Rattle.replay_run.specs.Changes.{change_between, change_by}
 use Rattle.replay_run.specs.ScriptRuns.{home, home_of}
 use Rattle.replay_run.specs.Runs.{Run, Appended, listening, hears, events_to, message_of, refusal, refused_at, refused_by, version_known, if_newer, adopted_since, row_messages, answer_messages, release_messages, messages_by}
 use Rattle.near_runs.specs.Maps.{key_changed, keyed}
-use Rattle.near_runs.specs.Messages.{is_to, sent_to, AreBytesOf, AreSaid}
-use Rattle.near_runs.specs.NearConnections.{is_of, IsNear}
-use Rattle.near_runs.proofs.Moments.{WasCalled, untouched, ReachesNone, IsExecuted, IsRefused, call_goes, none_happens, call_keeps_row}
+use Rattle.near_runs.specs.Messages.{sent_to, AreSaid}
+use Rattle.near_runs.specs.NearConnections.{IsNear}
+use Rattle.near_runs.proofs.Moments.{WasCalled, untouched, ReachesNone, IsExecuted, IsRefused, call_goes, none_happens}
 use Rattle.near_runs.proofs.Changes.{said_change}
 use Rattle.near_runs.proofs.Sent.{sent_to-append, sent_to-flat_map, it_hears, listens_here, listens_nowhere, rows_sent, no_rows_sent, change_sent, no_change_sent, said-append, said-flat_map}
 use Rattle.near_runs.proofs.Answers.{flat_map_map, answers_listed}

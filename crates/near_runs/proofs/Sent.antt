@@ -1,5 +1,5 @@
 -- What is sent to one connection, of what is sent to all who listen.
-use Rattle.std.proofs.Common.{◌≡◌, ◌≢◌, ℕ, Bool, true, false, cond, not, ◌&&◌, ◌||◌, ◌==◌, bytes_eq, List, [], ◌∷◌, ◌++◌, map, filter, fold, nat_lt, Option, Some, None, option_map, refl, ap, sym, ◌∙◌, le_refl, inl, inr}
+use Rattle.std.proofs.Common.{◌≡◌, ◌≢◌, ℕ, Bool, true, false, cond, ◌&&◌, ◌||◌, ◌==◌, bytes_eq, List, [], ◌∷◌, ◌++◌, map, filter, fold, nat_lt, Option, Some, None, option_map, refl, ap, sym, ◌∙◌, le_refl, inl, inr}
 use Rattle.std.specs.List.{filter_map, flat_map, cons_option}
 use Rattle.std.proofs.lemmas.List.Elements.{filter-append}
 use Rattle.grid_base.specs.declared.calls.Change.{Change}
@@ -14,13 +14,13 @@ use Rattle.event_codecs.specs.declared.registration.Registration.{Registration}
 use Rattle.event_codecs.specs.declared.registration.Registration.TheVariants as registration
 use Rattle.listeners.specs.Standing.{placed, is_about, is_about_rows}
 use Rattle.listeners.specs.Tables.{AreInOrder}
-use Rattle.listeners.specs.Telling.{Sent, told, change_event, row_event}
+use Rattle.listeners.specs.Telling.{told, change_event, row_event}
 use Rattle.listeners.specs.declared.listener.Listener.{Listener}
 use Rattle.listeners.proofs.Placing.{order-placed, filter-placed, filter-placed_other}
 use Rattle.request_codecs.specs.Openings.{invalidations_correlation, rows_correlation}
 use Rattle.near_protocol.specs.Client.{Said}
-use Rattle.replay_run.specs.Runs.{Run, Connection, Appended, connection_of, is_open, hears, is_own, is_to as goes_to, listens_at, placed_in, listening, event_to, events_to}
-use Rattle.near_runs.specs.Messages.{is_to, sent_to, near_listeners, AreSaid, AreBytesOf}
+use Rattle.replay_run.specs.Runs.{Run, Appended, is_open, hears, is_own, is_to as goes_to, listens_at, placed_in, listening, event_to, events_to}
+use Rattle.near_runs.specs.Messages.{is_to, sent_to, near_listeners, AreSaid}
 use Rattle.near_runs.specs.NearConnections.{is_of, IsNear}
 
 -- ---- lists

@@ -1,16 +1,14 @@
 -- The session of a near connection hears the opening, and each get.
-use Rattle.std.proofs.Common.{◌≡◌, ◌≢◌, ℕ, zero, suc, ◌+◌, take, ◌<◌, ◌≤◌, Bool, true, false, cond, List, [], ◌∷◌, ◌++◌, length, drop, Option, Some, None, refl, ap, sym, ◌∙◌, subst, arith, append_assoc, append-nil, lit<, lit≤}
+use Rattle.std.proofs.Common.{◌≡◌, ℕ, zero, suc, ◌+◌, take, ◌<◌, true, cond, List, [], ◌∷◌, ◌++◌, length, drop, Option, Some, None, refl, ap, sym, ◌∙◌, subst, arith, append_assoc, append-nil, lit<, lit≤}
 use Rattle.std.specs.Prelude.{ℤ, pos, codes, All, slice_index}
 use Rattle.std.specs.List.{flat_map}
 use Rattle.std.specs.Int.{w64}
 use Rattle.std.specs.Int.RustNames.{FitsSigned}
-use Rattle.std.specs.Str.{IsUtf8}
 use Rattle.std.proofs.lemmas.Int.{ints}
 use Rattle.std.proofs.lemmas.Str.{IsUtf8-from_ascii}
 use Rattle.std.proofs.lemmas.List.Concat.{flat_map-append}
 use Rattle.std.proofs.lemmas.List.Elements.{All-nil, All-cons}
 use Rattle.std.proofs.Math.Seq.{drop-append_seam}
-use Rattle.grid_base.specs.declared.names.CallId.{CallId}
 use Rattle.grid_base.specs.declared.names.ClientKey.{ClientKey}
 use Rattle.grid_base.specs.declared.names.ClientKey.TheVariants.{Known}
 use Rattle.grid_base.specs.declared.calls.MapCall.{MapCall}
@@ -19,28 +17,24 @@ use Rattle.frame_codec.specs.Laws.{spelled, IsWithinLimits}
 use Rattle.frame_codec.specs.Frames.{frame_bytes}
 use Rattle.frame_codec.specs.declared.frames.Frame.{Frame}
 use Rattle.message_frames.specs.Assembly.{most_messages}
-use Rattle.message_frames.specs.Grammar.{Piece, Unfragmented, piece_frames, piece_bytes, stream_of}
+use Rattle.message_frames.specs.Grammar.{Piece, piece_frames, piece_bytes, stream_of}
 use Rattle.message_frames.specs.Laws.{IsStream, messages_in}
-use Rattle.message_frames.specs.Messages.{Heard, prefix_of, shortest_start, heard, messages_of, fault_of}
+use Rattle.message_frames.specs.Messages.{Heard, prefix_of, shortest_start, messages_of, fault_of}
 use Rattle.message_frames.specs.declared.message.Message.{Message}
 use Rattle.message_frames.specs.Writing.{IsWritable}
 use Rattle.message_frames.proofs.HeardPieces.{grammar_heard, unheard}
-use Rattle.client_codecs.specs.declared.authentications.Authentication.{Authentication}
-use Rattle.session_core.specs.Items.{identity_after, identity_after_all, item_of, items_from, items_of}
+use Rattle.session_core.specs.Items.{identity_after, identity_after_all, items_from, items_of}
 use Rattle.session_core.specs.declared.item.Item.{Item}
 use Rattle.session_core.specs.declared.item.Item.TheVariants.{Call}
-use Rattle.session_core.specs.Places.{partition_of_key}
-use Rattle.compose_words.specs.Sayings.{FitMessage, IsPlaced, message_of, bytes_of}
+use Rattle.compose_words.specs.Sayings.{FitMessage, message_of, bytes_of}
 use Rattle.compose_words.specs.Sessions.{Say, item_said, identity_said}
 use Rattle.compose_words.specs.declared.saying.Saying.{Saying}
 use Rattle.compose_words.specs.declared.saying.Saying.TheVariants.{Hello, OnMap, Listen}
 use Rattle.compose_words.specs.declared.saying.Listening.TheVariants as listening
-use Rattle.compose_words.proofs.Items.{CanBeSaid}
 use Rattle.compose_words.proofs.Streams.{said_bytes}
 use Rattle.request_codecs.specs.Openings.{authentication_frames, listener_frames, view_frames, opening}
 use Rattle.grid_client.specs.Calls.{correlation_of}
-use Rattle.grid_client.specs.States.{get_of}
-use Rattle.replay_run.specs.Runs.{Run, Connection, items_on, with_bytes, items_by, takes_bytes, took_bytes, handled_all, next_line, bytes_arrived}
+use Rattle.replay_run.specs.Runs.{Run, items_on, with_bytes, items_by, took_bytes, handled_all, next_line}
 use Rattle.near_runs.specs.Maps.{get_request}
 use Rattle.near_runs.specs.Sessions.{HasSent, MayOpen, opening_items, EveryOpeningIsHeard, get_bytes, MayGet, EveryGetIsHeard, EveryOpeningIsServed, EveryGetIsServed}
 

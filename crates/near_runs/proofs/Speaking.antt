@@ -1,31 +1,24 @@
 -- The message of frames that say something says it.
-use Rattle.std.proofs.Common.{◌≡◌, ℕ, ◌<◌, List, [], ◌∷◌, ◌++◌, map, Option, Some, None, refl, ap, sym, ◌∙◌, subst, append-nil, arith, lit<}
-use Rattle.std.specs.Prelude.{ℤ, pos, negsuc, Ok}
+use Rattle.std.proofs.Common.{◌≡◌, ℕ, List, [], ◌∷◌, ◌++◌, map, refl, ap, sym, ◌∙◌, subst, append-nil, arith, lit<}
+use Rattle.std.specs.Prelude.{pos, negsuc}
 use Rattle.std.specs.Int.{w32, w64, to_le_bytes}
 use Rattle.std.specs.Int.RustNames.{FitsSigned}
 use Rattle.std.proofs.lemmas.Int.{ints}
-use Rattle.frame_codec.specs.Frames.{frame_bytes}
 use Rattle.frame_codec.specs.Laws.{spelled}
-use Rattle.frame_codec.specs.declared.frames.Frame.{Frame}
 use Rattle.fixed_fields.specs.Fields.{int32_bytes, int64_bytes}
 use Rattle.fixed_fields.proofs.Written.{int64_read, kind_read}
-use Rattle.message_frames.specs.declared.message.Message.{Message}
-use Rattle.map_codecs.specs.Calls.{get_kind}
 use Rattle.partition_table.specs.declared.Row.{Row}
-use Rattle.event_codecs.specs.Events.{invalidation_kind, rows_kind, event_of}
+use Rattle.event_codecs.specs.Events.{invalidation_kind, rows_kind}
 use Rattle.event_codecs.specs.Writing.{invalidation_frames, rows_frames, seen}
-use Rattle.event_codecs.specs.declared.events.ClientEvent.TheVariants as event
 use Rattle.event_codecs.proofs.Hearing.{invalidation_heard, rows_heard}
 use Rattle.request_codecs.specs.Openings.{invalidations_correlation, rows_correlation}
-use Rattle.near_protocol.specs.Client.{Said, Answer, Refusal, Invalidation, Rows, RowHeard}
-use Rattle.grid_client.specs.Nears.{Value}
-use Rattle.grid_client.specs.Calls.{correlation_of}
+use Rattle.near_protocol.specs.Client.{Answer, Refusal, Invalidation, Rows, RowHeard}
 use Rattle.grid_client.specs.Ties.{row_heard}
 use Rattle.near_runs.specs.Maps.{value_in}
 use Rattle.near_runs.specs.Messages.{row_said, AreBytesOf}
-use Rattle.near_runs.specs.Hearings.{HasHead, answer_frames, refusal_frames}
+use Rattle.near_runs.specs.Hearings.{HasHead}
 use Rattle.near_runs.specs.Clients.{SaysIt}
-use Rattle.near_runs.specs.Speaking.{Speak, EveryMessageSaysIt}
+use Rattle.near_runs.specs.Speaking.{EveryMessageSaysIt}
 use Rattle.near_runs.proofs.Hearings.{its_bytes, every_answer_is_heard, every_refusal_is_heard}
 
 fits_second : FitsSigned w64 (pos 2)

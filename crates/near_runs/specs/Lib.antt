@@ -15,3 +15,5 @@ pub mod Speaking
 pub mod NearHits
 pub mod Lines
 pub mod OwnLines
+pub mod Feeds
+pub mod ClientRuns

@@ -1,5 +1,5 @@
 -- Near connections in a run, and what each event says on one.
-use Rattle.std.specs.Prelude.{◌≡◌, ℕ, ◌≤◌, true, ◌==◌, Bool, List, [], ◌∷◌, ◌++◌, map, filter, Some, Contains}
+use Rattle.std.specs.Prelude.{◌≡◌, ℕ, ◌≤◌, true, ◌==◌, Bool, List, [], map, filter, Some, Contains}
 use Rattle.grid_base.specs.declared.calls.Request.{Request}
 use Rattle.call_engine.specs.Calls.{Settings}
 use Rattle.call_engine.specs.Objects.{partition_object}

@@ -1,5 +1,5 @@
 -- A near client's own lines leave its run one that goes with the machine.
-use Rattle.std.specs.Prelude.{◌≡◌, ◌≢◌, ℕ, ◌+◌, ◌<◌, ◌≤◌, true, false, List, [], length, Some, None}
+use Rattle.std.specs.Prelude.{◌≡◌, ℕ, ◌+◌, ◌<◌, ◌≤◌, true, false, List, length, Some, None}
 use Rattle.grid_base.specs.declared.names.CallId.{CallId}
 use Rattle.message_frames.specs.Messages.{messages_of}
 use Rattle.session_core.specs.Places.{partition_of_key}
@@ -8,11 +8,10 @@ use Rattle.call_engine.specs.Objects.{partition_object}
 use Rattle.partition_protocol.specs.World.{is_live}
 use Rattle.script_lang.specs.declared.line.Line.TheVariants.{Arrive}
 use Rattle.request_codecs.specs.Openings.{opening}
-use Rattle.near_protocol.specs.Client.{Client, hit, opened}
+use Rattle.near_protocol.specs.Client.{hit, opened}
 use Rattle.near_protocol.specs.Near.{attached}
 use Rattle.near_protocol.specs.Claims.{IsNew, AreNamedOnce}
-use Rattle.grid_client.specs.Nears.{Value}
-use Rattle.replay_run.specs.Runs.{Run, Connection, connection_of, takes_bytes, took_bytes, world_at, is_full, partitions}
+use Rattle.replay_run.specs.Runs.{Run, Connection, connection_of, takes_bytes, world_at, is_full, partitions}
 use Rattle.replay_run.specs.AfterLines.{after_line}
 use Rattle.near_runs.specs.Maps.{keyed}
 use Rattle.near_runs.specs.NearConnections.{machine_events, grid_of}

@@ -1,5 +1,5 @@
 -- What a client hears that reads an output piece by piece.
-use Rattle.std.specs.Prelude.{◌≡◌, ℕ, false, List, [], ◌∷◌, ◌++◌, map, None}
+use Rattle.std.specs.Prelude.{◌≡◌, ℕ, false, List, ◌++◌, map, None}
 use Rattle.std.specs.List.{flat_map}
 use Rattle.frame_codec.specs.Laws.{spelled}
 use Rattle.frame_codec.specs.declared.frames.Frame.{Frame}

@@ -5,7 +5,9 @@
 #![tactic(auto)]
 
 ghost use Rattle.near_runs.specs.Attaching.{EveryOpeningAttaches};
+ghost use Rattle.near_runs.specs.Feeds.{EveryFeedIsFollowed};
 ghost use Rattle.near_runs.specs.Following.{EveryEventIsFollowed, EveryHearingIsFollowed, EveryHitIsFollowed, EveryMissIsFollowed, EveryOtherCallIsFollowed, EveryOtherStepIsAside};
+ghost use Rattle.near_runs.specs.ClientRuns.{EveryHitOfAClientRunStands};
 ghost use Rattle.near_runs.specs.Clients.{EveryMessageIsHeard};
 ghost use Rattle.near_runs.specs.FollowingInVain.{EveryMissInVainIsFollowed};
 ghost use Rattle.near_runs.specs.Hearings.{EveryAnswerIsHeard, EveryRefusalIsHeard};
@@ -122,4 +124,15 @@ pub fn every_other_line_is_followed()
 pub fn every_own_line_is_followed()
     ensures opening { EveryOpeningLineIsFollowed }
     ensures get { EveryGetLineIsFollowed }
+{}
+
+/// A near client that is handed a piece of its connection's output goes on with the machine, which hears as many messages.
+pub fn every_feed_is_followed()
+    ensures { EveryFeedIsFollowed }
+{}
+
+/// In a run of lines with a near client that begins with its opening's line, and goes on by lines of others, look-ups and what it
+/// reads, each value that it hits is a hit of the run, and stands as the machine's does.
+pub fn every_hit_of_a_client_run_stands()
+    ensures { EveryHitOfAClientRunStands }
 {}
