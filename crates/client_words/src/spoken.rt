@@ -19,12 +19,19 @@ use std::alloc::{AllocError, Global};
 /// Where the first payload of a message has the correlation.
 const CORRELATION: usize = 4;
 
+/// How many bytes a message may have for one `bytes` line to bring it, with the connection's prefix: a line has 65,536
+/// characters, and each byte two digits.
+const MOST_SAID: usize = 32_760;
+
+/// How many bytes its words may have for one `say` line, with its connection and a correlation.
+const MOST_WORDS: usize = 65_500;
+
 /// How a client's message is told.
 #[derive(Clone, Copy, Debug, PartialEq, Eq)]
 pub enum Form {
     /// A `say` line of its words gives the message's bytes.
     Said,
-    /// It says this in another form, as in fragments or with bytes behind its fields.
+    /// It says this in another form, as in fragments or with bytes behind its fields, or is longer than a line may say.
     Heard,
     /// It is told as its bytes.
     Bytes,
@@ -41,7 +48,7 @@ pub struct Spoken {
     pub partition: Option<PartitionId>,
 }
 
-/// The bytes that a `say` line gives for a saying, if it gives any.
+/// The bytes that a `say` line gives for a saying, if it gives any and they aren't too long for a line.
 fn bytes_said(alloc: Global, correlation: i64, saying: &Saying) -> Result<Option<Bytes>, Memory>
     ensures { IfOk result (λ said. IfSome said (λ bytes. IsPlaced saying.now × (bytes ≡ bytes_of correlation saying.now))) }
 {
@@ -49,6 +56,7 @@ fn bytes_said(alloc: Global, correlation: i64, saying: &Saying) -> Result<Option
         return Ok(None);
     }
     match say(alloc, correlation, saying) {
+        Ok(bytes) if bytes.len() > MOST_SAID => Ok(None),
         Ok(bytes) => Ok(Some(bytes)),
         Err(SayRefused::Memory) => Err(AllocError),
         Err(_) => Ok(None),
@@ -118,6 +126,17 @@ fn as_bytes(alloc: Global, message: &Message, correlation: i64) -> Result<Spoken
     })
 }
 
+/// The form of a message whose words are so long: what is said fits a line.
+fn form_within(form: Form, length: usize) -> Form
+    ensures { result ≡ Form.Said → form ≡ Form.Said }
+{
+    if form == Form::Said && length > MOST_WORDS {
+        Form::Heard
+    } else {
+        form
+    }
+}
+
 /// A message that says this, in words or as its bytes.
 fn told_as(
     alloc: Global,
@@ -134,7 +153,7 @@ fn told_as(
     let mut words = String::new(alloc);
     push_saying(alloc, &mut words, saying)?;
     Ok(Spoken {
-        form,
+        form: form_within(form, words.len()),
         words,
         correlation,
         partition: partition_called(message, saying),
