@@ -1,0 +1,86 @@
+-- The near clients of the code, found by their connections, are those of the run.
+use Rattle.std.proofs.Common.{◌≡◌, ℕ, zero, suc, ◌+◌, ◌*◌, ◌≤◌, ◌<◌, ◌==◌, Bool, true, false, cond, List, [], ◌∷◌, ◌++◌, length, map, take, drop, Option, Some, None, refl, ap, sym, ◌∙◌, subst, arith}
+use Rattle.std.specs.Prelude.{slice_get, slice_set}
+use Rattle.std.specs.List.{find, position, position_or_len}
+use Rattle.grid_client.specs.Lists.{changed_by}
+use Rattle.grid_client.specs.States.{State}
+use Rattle.script_run.specs.declared.client.NearClient.{NearClient as KeptClient}
+use Rattle.script_run.specs.NearClients.{NearClient, is_near}
+use Rattle.script_run.specs.Grids.{IsNear, AreNear}
+
+abbrev pub is_kept : ℕ → KeptClient → Bool
+is_kept c k = k.conn == c
+
+-- a client of the code and the one of the run
+pub record Pair (c : ℕ) (ks : List KeptClient) (ns : List NearClient) (kept : KeptClient) : Type 0 where
+  pub near : NearClient
+  pub found : find (is_near c) ns ≡ Some near
+  pub is : IsNear kept near
+
+same_test : (c : ℕ) (k : KeptClient) (n : NearClient) → IsNear k n → is_kept c k ≡ is_near c n
+same_test c k n is = ap (λ x. x == c) is.conn
+
+-- where one is found
+
+pub pair_found : (c : ℕ) (ks : List KeptClient) (ns : List NearClient) (kept : KeptClient) → AreNear ks ns → find (is_kept c) ks ≡ Some kept → Pair c ks ns kept
+pair_found c [] [] kept are found = absurd cc
+pair_found c [] (n ∷ ns) kept are found = absurd are
+pair_found c (k ∷ ks) [] kept are found = absurd are
+pair_found c (k ∷ ks) (n ∷ ns) kept are found = go (is_kept c k) refl found
+  where
+    go : (b : Bool) → is_kept c k ≡ b → cond b (Some k) (find (is_kept c) ks) ≡ Some kept → Pair c (k ∷ ks) (n ∷ ns) kept
+    go true e f =
+        let same : k ≡ kept = cc in
+        let test : is_near c n ≡ true = sym (same_test c k n are.0) ∙ e in
+        record { near = n; found = rw test refl; is = subst (λ x. IsNear x n) same are.0 }
+    go false e f =
+        let rest = pair_found c ks ns kept are.1 f in
+        let test : is_near c n ≡ false = sym (same_test c k n are.0) ∙ e in
+        record { near = rest.near; found = rw test rest.found; is = rest.is }
+
+pub none_found : (c : ℕ) (ks : List KeptClient) (ns : List NearClient) → AreNear ks ns → find (is_kept c) ks ≡ None → find (is_near c) ns ≡ None
+none_found c [] [] are found = refl
+none_found c [] (n ∷ ns) are found = absurd are
+none_found c (k ∷ ks) [] are found = absurd are
+none_found c (k ∷ ks) (n ∷ ns) are found = go (is_kept c k) refl found
+  where
+    go : (b : Bool) → is_kept c k ≡ b → cond b (Some k) (find (is_kept c) ks) ≡ None → find (is_near c) (n ∷ ns) ≡ None
+    go true e f = absurd cc
+    go false e f =
+        let test : is_near c n ≡ false = sym (same_test c k n are.0) ∙ e in
+        rw test (none_found c ks ns are.1 f)
+
+-- where one is changed, and where none is there to be changed
+
+pub pair_changed : (c : ℕ) (change : KeptClient → KeptClient) (into : NearClient → NearClient) (ks : List KeptClient) (ns : List NearClient) (kept : KeptClient) (near : NearClient)
+    → AreNear ks ns → find (is_kept c) ks ≡ Some kept → find (is_near c) ns ≡ Some near → IsNear (change kept) (into near) → AreNear (changed_by (is_kept c) change ks) (changed_by (is_near c) into ns)
+pair_changed c change into [] [] kept near are found there is = tt
+pair_changed c change into [] (n ∷ ns) kept near are found there is = absurd are
+pair_changed c change into (k ∷ ks) [] kept near are found there is = absurd are
+pair_changed c change into (k ∷ ks) (n ∷ ns) kept near are found there is = go (is_kept c k) (is_near c n) (same_test c k n are.0) found there
+  where
+    go : (b d : Bool) → b ≡ d → cond b (Some k) (find (is_kept c) ks) ≡ Some kept → cond d (Some n) (find (is_near c) ns) ≡ Some near
+        → AreNear (cond b (change k ∷ ks) (k ∷ changed_by (is_kept c) change ks)) (cond d (into n ∷ ns) (n ∷ changed_by (is_near c) into ns))
+    go true true e f g =
+        let one : k ≡ kept = cc in
+        let other : n ≡ near = cc in
+        (subst (λ x. IsNear (change x) (into n)) (sym one) (subst (λ x. IsNear (change kept) (into x)) (sym other) is), are.1)
+    go true false e f g = absurd cc
+    go false true e f g = absurd cc
+    go false false e f g = (are.0, pair_changed c change into ks ns kept near are.1 f g is)
+
+pub none_changed : (c : ℕ) (into : NearClient → NearClient) (ns : List NearClient) → find (is_near c) ns ≡ None → changed_by (is_near c) into ns ≡ ns
+none_changed c into [] found = refl
+none_changed c into (n ∷ ns) found = go (is_near c n) found
+  where
+    go : (b : Bool) → cond b (Some n) (find (is_near c) ns) ≡ None → cond b (into n ∷ ns) (n ∷ changed_by (is_near c) into ns) ≡ n ∷ ns
+    go true f = absurd cc
+    go false f = ap (λ ms. n ∷ ms) (none_changed c into ns f)
+
+-- one more
+
+pub one_more : (ks : List KeptClient) (ns : List NearClient) (k : KeptClient) (n : NearClient) → AreNear ks ns → IsNear k n → AreNear (ks ++ k ∷ []) (ns ++ n ∷ [])
+one_more [] [] k n are is = (is, tt)
+one_more [] (m ∷ ns) k n are is = absurd are
+one_more (j ∷ ks) [] k n are is = absurd are
+one_more (j ∷ ks) (m ∷ ns) k n are is = (are.0, one_more ks ns k n are.1 is)
