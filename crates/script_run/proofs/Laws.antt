@@ -6,7 +6,7 @@ use Rattle.call_engine.specs.Objects.{partition_object}
 use Rattle.script_lang.specs.declared.line.Line.{Line}
 use Rattle.replay_run.specs.Runs.{Run}
 use Rattle.replay_run.specs.Runs as grid
-use Rattle.replay_run.specs.Printing.{line_text}
+use Rattle.replay_run.specs.Appending.{new_messages}
 use Rattle.replay_run.specs.Linearizability.{IsLinearizable}
 use Rattle.replay_run.specs.SkippedCalls.{TellsOfSkips, TellsOfNoSkip}
 use Rattle.replay_run.specs.Counts.{CountsOnce}
@@ -47,7 +47,7 @@ pub whole_line_none : (settings : Settings) (skips : List CallId) (s : ScriptRun
 whole_line_none settings skips s line none =
     let o = partition_object settings in
     let asked = grid_line o s line in
-    let after : Run → ScriptRun = λ (next : Run). record { run = next; nears = map (noting next.lines (line_text settings s.run asked next)) (nears_by o s line) } in
+    let after : Run → ScriptRun = λ (next : Run). record { run = next; nears = map (noting (new_messages s.run next)) (nears_by o s line) } in
     ap after (line_none o skips s.run asked none)
 
 -- a line asks of the skips only which of its own calls are among them
@@ -56,7 +56,7 @@ pub whole_line_alike : (settings : Settings) (s k : List CallId) (r : ScriptRun)
 whole_line_alike settings s k r line alike =
     let o = partition_object settings in
     let asked = grid_line o r line in
-    let after : Run → ScriptRun = λ (next : Run). record { run = next; nears = map (noting next.lines (line_text settings r.run asked next)) (nears_by o r line) } in
+    let after : Run → ScriptRun = λ (next : Run). record { run = next; nears = map (noting (new_messages r.run next)) (nears_by o r line) } in
     ap after (skips_alike o s k r.run asked alike)
 
 pub whole_line_counts : (settings : Settings) (k : List CallId) (r : ScriptRun) (line : Line)

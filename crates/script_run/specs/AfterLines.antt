@@ -1,24 +1,25 @@
 -- The run of a script after a line, and after several.
-use Rattle.std.specs.Prelude.{ℕ, List, [], ◌∷◌, ◌++◌, map}
+use Rattle.std.specs.Prelude.{List, [], ◌∷◌, ◌++◌, map}
 use Rattle.grid_base.specs.declared.names.CallId.{CallId}
 use Rattle.call_engine.specs.Calls.{Settings}
 use Rattle.call_engine.specs.Objects.{partition_object}
 use Rattle.script_lang.specs.declared.line.Line.{Line}
 use Rattle.replay_run.specs.AfterLines as grid
-use Rattle.replay_run.specs.Printing as grid_text
+use Rattle.replay_run.specs.Appending.{new_messages}
+use Rattle.replay_run.specs.Runs.{Appended}
 use Rattle.script_run.specs.NearClients.{NearClient}
-use Rattle.script_run.specs.Outputs.{beginning, sent_in}
+use Rattle.script_run.specs.Outputs.{sent_to}
 use Rattle.script_run.specs.Runs.{ScriptRun, grid_line, nears_by}
 
--- what the text of a line says was sent to the connection is yet to be read
-abbrev pub noting : ℕ → List ℕ → NearClient → NearClient
-noting line text n = record n { unread = n.unread ++ sent_in (beginning line n.conn) text }
+-- what was appended to the connection is yet to be read
+abbrev pub noting : List Appended → NearClient → NearClient
+noting messages n = record n { unread = n.unread ++ sent_to n.conn messages }
 
 -- The grid runs a line, and each near connection's output grows by what that appends.
 abbrev pub played : Settings → List CallId → ScriptRun → Line → ScriptRun
 played settings skips s line =
     let next = grid.after_line (partition_object settings) skips s.run line in
-    record { run = next; nears = map (noting next.lines (grid_text.line_text settings s.run line next)) s.nears }
+    record { run = next; nears = map (noting (new_messages s.run next)) s.nears }
 
 -- A line is something to the near clients, and something to the grid.
 abbrev pub after_line : Settings → List CallId → ScriptRun → Line → ScriptRun

@@ -32,6 +32,7 @@ pub record IsOnOne (c : ℕ) (text : List ℕ) (s : State) : Type 0 where
 
 pub record IsNear (kept : KeptClient) (n : NearClient) : Type 0 where
   pub conn : kept.conn ≡ n.conn
+  pub within : n.conn ≤ 63
   pub client : kept.client ≡ n.state
   pub unread : kept.unread.items ≡ n.unread
   pub one : IsOnOne n.conn n.read n.state

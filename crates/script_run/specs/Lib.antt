@@ -4,4 +4,5 @@ pub mod Laws
 pub mod NearClients
 pub mod Outputs
 pub mod Printing
+pub mod Reading
 pub mod Runs

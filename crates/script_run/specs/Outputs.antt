@@ -1,23 +1,18 @@
--- The output of a connection: what the text of a line says was sent to it.
-use Rattle.std.specs.Prelude.{ℕ, ◌==◌, if◌then◌else◌, nat_eq, List, [], ◌++◌, length, take, drop, codes, Result, Ok, Err}
-use Rattle.std.specs.List.{flat_map, slice_split}
-use Rattle.std.specs.Cmp.Lexicographic.{pointwise}
-use Rattle.hex.specs.Hex.{decode_of}
-use Rattle.hex.specs.declared.error.FromHexError.{FromHexError}
-use Rattle.replay_run.specs.Dumps.{number}
+-- The output of a connection: what is appended to it.
+use Rattle.std.specs.Prelude.{ℕ, ◌==◌, Bool, not, if◌then◌else◌, List, []}
+use Rattle.std.specs.List.{flat_map}
+use Rattle.script_lang.specs.declared.line.Line.{Line}
+use Rattle.replay_run.specs.Runs.{Appended}
+use Rattle.replay_run.specs.WorldCalls.{is_quiet}
 
--- with what the text of a message to a connection begins: `I to C `
-abbrev pub beginning : ℕ → ℕ → List ℕ
-beginning line c = number line ++ codes "to " ++ number c
+-- what a message is to a connection: its bytes, or nothing
+abbrev pub bytes_to : ℕ → Appended → List ℕ
+bytes_to c m = if m.conn == c then m.bytes else []
 
-abbrev pub bytes_spelled : Result (List ℕ) FromHexError → List ℕ
-bytes_spelled (Ok bytes) = bytes
-bytes_spelled (Err why) = []
+-- what messages bring to a connection, in order
+abbrev pub sent_to : ℕ → List Appended → List ℕ
+sent_to c messages = flat_map (bytes_to c) messages
 
--- the bytes of one line of the text, where it begins so
-abbrev pub told_in : List ℕ → List ℕ → List ℕ
-told_in begins text = if pointwise nat_eq (take (length begins) text) begins then bytes_spelled (decode_of (drop (length begins) text)) else []
-
--- the bytes that a text says were sent to a connection at a line
-abbrev pub sent_in : List ℕ → List ℕ → List ℕ
-sent_in begins text = flat_map (told_in begins) (slice_split (λ b. b == 10) text)
+-- whether a line may append messages
+abbrev pub appends : Line → Bool
+appends line = not (is_quiet line)

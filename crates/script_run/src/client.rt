@@ -5,7 +5,8 @@ ghost use Rattle.script_lang.specs.Limits.{most_line_bytes};
 ghost use Rattle.script_run.specs.NearClients.{NearClient as NearClientOf, opening_of, new_near, told, fed, piece};
 ghost use Rattle.script_run.specs.Grids.{IsNear, AreNear};
 ghost use Rattle.script_run.specs.AfterLines.{noting};
-ghost use Rattle.script_run.specs.Outputs.{sent_in, beginning};
+ghost use Rattle.replay_run.specs.Runs.{Appended};
+ghost use Rattle.script_run.specs.Reading.{beginning, lines_in, Grows, Tells};
 
 use crate::outputs::{beginning, push_sent};
 use grid_base::{Bytes, Memory};
@@ -51,12 +52,12 @@ fn attached(
 }
 
 impl NearClient {
-    /// What a line's text says was sent to the connection is yet to be read.
-    pub(crate) fn note(&mut self, alloc: Global, line: u32, text: &[u8]) -> Result<(), Memory>
-        ensures unread { OnOk result (self.new.unread.items ≡ self.old.unread.items ++ sent_in (beginning line self.old.conn) text.now) }
+    /// What a line's text says was appended to the connection is yet to be read.
+    pub(crate) fn note(&mut self, alloc: Global, text: &[u8]) -> Result<(), Memory>
+        ensures unread { OnOk result (Grows (beginning self.old.conn) (lines_in text.now) self.old.unread.items self.new.unread.items) }
         ensures rest { (record self.new { unread = self.old.unread }) ≡ self.old }
     {
-        let begins = beginning(alloc, line, self.conn)?;
+        let begins = beginning(alloc, self.conn)?;
         push_sent(alloc, begins.as_slice(), text, &mut self.unread)
     }
 
@@ -78,17 +79,16 @@ impl NearClient {
     }
 }
 
-/// What a line's text says was sent to near connections is yet to be read there.
+/// What a line's text says was appended to near connections is yet to be read there.
 pub(crate) fn note_all(
     nears: &mut Vec<NearClient>,
     alloc: Global,
-    line: u32,
     text: &[u8],
 ) -> Result<(), Memory>
-    ensures { (all : List NearClientOf) → AreNear nears.old.items all → OnOk result (AreNear nears.new.items (map (noting line text.now) all)) }
+    ensures { (all : List NearClientOf) (messages : List Appended) → AreNear nears.old.items all → Tells text.now messages → OnOk result (AreNear nears.new.items (map (noting messages) all)) }
 {
     for near in nears {
-        near.note(alloc, line, text)?;
+        near.note(alloc, text)?;
     }
     Ok(())
 }
@@ -101,6 +101,7 @@ pub(crate) fn begin(
     name: &Bytes,
     capacity: u32,
 ) -> Result<Bytes, Memory>
+    requires within { conn ≤ 63 }
     requires some { 1 ≤ capacity }
     requires short { 2 * length name.now ≤ most_line_bytes }
     ensures nears { (all : List NearClientOf) → AreNear nears.old.items all → OnOk result (AreNear nears.new.items (all ++ new_near conn name.now capacity ∷ [])) }

@@ -11,6 +11,7 @@ ghost use Rattle.script_run.specs.AfterLines.{played};
 ghost use Rattle.script_run.specs.Grids.{AreSpoken, Goes, Stands, MayRun, HasRun, IsGivenUp, MayPlay, HasPlayed, IsGivenUpAt, HasCounted};
 
 use crate::client::{NearClient, note_all};
+use crate::outputs::appends;
 use entry_processors::Processor;
 use grid_base::Memory;
 use replay_run::{Grid, RunEnd, push_nothing};
@@ -144,7 +145,10 @@ impl ScriptGrid {
     {
         let from = out.len();
         self.grid.run_line(alloc, number, line, out)?;
-        Ok(note_all(&mut self.nears, alloc, number, &out[from..])?)
+        if appends(line) {
+            note_all(&mut self.nears, alloc, &out[from..])?;
+        }
+        Ok(())
     }
 
     /// Counts a line at which nothing happens on the grid.
