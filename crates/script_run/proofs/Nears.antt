@@ -1,11 +1,15 @@
 -- The near clients of the code, found by their connections, are those of the run.
-use Rattle.std.proofs.Common.{◌≡◌, ℕ, zero, suc, ◌+◌, ◌*◌, ◌≤◌, ◌<◌, ◌==◌, Bool, true, false, cond, List, [], ◌∷◌, ◌++◌, length, map, take, drop, Option, Some, None, refl, ap, sym, ◌∙◌, subst, arith}
+use Rattle.std.proofs.Common.{◌≡◌, ℕ, zero, suc, ◌+◌, ◌*◌, ◌≤◌, ◌<◌, ◌==◌, Bool, true, false, cond, List, [], ◌∷◌, ◌++◌, length, map, get_or, set, take, drop, Option, Some, None, refl, ap, sym, ◌∙◌, subst, append-nil, arith}
 use Rattle.std.specs.Prelude.{slice_get, slice_set}
 use Rattle.std.specs.List.{find, position, position_or_len}
 use Rattle.grid_client.specs.Lists.{changed_by}
 use Rattle.grid_client.specs.States.{State}
+use Rattle.replay_run.specs.Runs.{Appended}
 use Rattle.script_run.specs.declared.client.NearClient.{NearClient as KeptClient}
+use Rattle.script_run.specs.AfterLines.{noting}
 use Rattle.script_run.specs.NearClients.{NearClient, is_near}
+use Rattle.script_run.specs.Outputs.{sent_to}
+use Rattle.script_run.specs.Reading.{beginning, lines_in, Adds, Tells}
 use Rattle.script_run.specs.Grids.{IsNear, AreNear}
 
 abbrev pub is_kept : ℕ → KeptClient → Bool
@@ -84,3 +88,54 @@ one_more [] [] k n are is = (is, tt)
 one_more [] (m ∷ ns) k n are is = absurd are
 one_more (j ∷ ks) [] k n are is = absurd are
 one_more (j ∷ ks) (m ∷ ns) k n are is = (are.0, one_more ks ns k n are.1 is)
+
+-- what lines appended is noted, of so many clients in their order
+
+abbrev pub noted : List Appended → ℕ → List NearClient → List NearClient
+noted messages zero ns = ns
+noted messages (suc i) [] = []
+noted messages (suc i) (n ∷ ns) = noting messages n ∷ noted messages i ns
+
+pub noted_step : (messages : List Appended) (i : ℕ) (ks : List KeptClient) (ns : List NearClient) (k new : KeptClient) → AreNear ks (noted messages i ns) → i < length ks → k ≡ get_or ks i k
+    → ((n : NearClient) → IsNear k n → IsNear new (noting messages n)) → AreNear (set ks i new) (noted messages (suc i) ns)
+noted_step messages i [] ns k new are within at next = absurd (omega (arith, within))
+noted_step messages zero (k0 ∷ ks) [] k new are within at next = absurd are
+noted_step messages (suc i) (k0 ∷ ks) [] k new are within at next = absurd are
+noted_step messages zero (k0 ∷ ks) (n ∷ ns) k new are within at next = (next n (subst (λ x. IsNear x n) (sym at) are.0), are.1)
+noted_step messages (suc i) (k0 ∷ ks) (n ∷ ns) k new are within at next = (are.0, noted_step messages i ks ns k new are.1 (omega (arith, within)) at next)
+
+pub noted_all : (messages : List Appended) (i : ℕ) (ks : List KeptClient) (ns : List NearClient) → AreNear ks (noted messages i ns) → length ks ≤ i → AreNear ks (map (noting messages) ns)
+noted_all messages zero [] [] are past = tt
+noted_all messages (suc i) [] [] are past = tt
+noted_all messages zero [] (n ∷ ns) are past = absurd are
+noted_all messages (suc i) [] (n ∷ ns) are past = absurd are
+noted_all messages i (k ∷ ks) [] are past = at i are
+  where
+    at : (i : ℕ) → AreNear (k ∷ ks) (noted messages i []) → ⊥
+    at zero are = are
+    at (suc i) are = are
+noted_all messages zero (k ∷ ks) (n ∷ ns) are past = absurd (omega (arith, past))
+noted_all messages (suc i) (k ∷ ks) (n ∷ ns) are past = (are.0, noted_all messages i ks ns are.1 (omega (arith, past)))
+
+-- one of them
+pub noted_one : (messages : List Appended) (text : List ℕ) (k new : KeptClient) (n : NearClient) → Tells text messages → IsNear k n
+    → Adds (beginning k.conn) (lines_in text) k.unread.items new.unread.items → (record new { unread = k.unread }) ≡ k → IsNear new (noting messages n)
+noted_one messages text k new n tells is adds rest =
+    let within : k.conn ≤ 63 = let at = is.conn in let few = is.within in omega (arith, at, few) in
+    record {
+      conn = ap (λ (x : KeptClient). x.conn) rest ∙ is.conn;
+      within = is.within;
+      client = ap (λ (x : KeptClient). x.client) rest ∙ is.client;
+      unread =
+          tells k.conn k.unread.items new.unread.items within adds
+          ∙ ap (λ (xs : List ℕ). xs ++ sent_to k.conn messages) is.unread ∙ ap (λ (c : ℕ). n.unread ++ sent_to c messages) is.conn;
+      one = is.one;
+    }
+
+-- Where nothing is appended, all stays.
+pub none_noted : (ks : List KeptClient) (ns : List NearClient) → AreNear ks ns → AreNear ks (map (noting []) ns)
+none_noted [] [] are = tt
+none_noted [] (n ∷ ns) are = absurd are
+none_noted (k ∷ ks) [] are = absurd are
+none_noted (k ∷ ks) (n ∷ ns) are =
+    (record { conn = are.0.conn; within = are.0.within; client = are.0.client; unread = are.0.unread ∙ sym (append-nil n.unread); one = are.0.one }, none_noted ks ns are.1)

@@ -28,11 +28,11 @@ digits_told begins line = stripped begins (behind_word line)
 abbrev pub lines_in : List ℕ → List (List ℕ)
 lines_in text = slice_split (λ b. b == 10) text
 
--- A list of bytes grows by what the digits of these lines spell.
-abbrev pub Grows : List ℕ → List (List ℕ) → List ℕ → List ℕ → Type 0
-Grows begins [] old new = new ≡ old
-Grows begins (line ∷ lines) old new = (told : List ℕ) × (decode_of (digits_told begins line) ≡ Ok told) × Grows begins lines (old ++ told) new
+-- A list of bytes has in addition what the digits of these lines spell.
+abbrev pub Adds : List ℕ → List (List ℕ) → List ℕ → List ℕ → Type 0
+Adds begins [] old new = new ≡ old
+Adds begins (line ∷ lines) old new = (told : List ℕ) × (decode_of (digits_told begins line) ≡ Ok told) × Adds begins lines (old ++ told) new
 
 -- Where what a text spells can be read, it is these messages: of each of the connections that a script can open, the bytes that they bring to it.
 abbrev pub Tells : List ℕ → List Appended → Type 0
-Tells text messages = (c : ℕ) (old new : List ℕ) → c ≤ 63 → Grows (beginning c) (lines_in text) old new → new ≡ old ++ sent_to c messages
+Tells text messages = (c : ℕ) (old new : List ℕ) → c ≤ 63 → Adds (beginning c) (lines_in text) old new → new ≡ old ++ sent_to c messages

@@ -6,7 +6,7 @@ ghost use Rattle.script_run.specs.NearClients.{NearClient as NearClientOf, openi
 ghost use Rattle.script_run.specs.Grids.{IsNear, AreNear};
 ghost use Rattle.script_run.specs.AfterLines.{noting};
 ghost use Rattle.replay_run.specs.Runs.{Appended};
-ghost use Rattle.script_run.specs.Reading.{beginning, lines_in, Grows, Tells};
+ghost use Rattle.script_run.specs.Reading.{beginning, lines_in, Adds, Tells};
 
 use crate::outputs::{beginning, push_sent};
 use grid_base::{Bytes, Memory};
@@ -54,7 +54,7 @@ fn attached(
 impl NearClient {
     /// What a line's text says was appended to the connection is yet to be read.
     pub(crate) fn note(&mut self, alloc: Global, text: &[u8]) -> Result<(), Memory>
-        ensures unread { OnOk result (Grows (beginning self.old.conn) (lines_in text.now) self.old.unread.items self.new.unread.items) }
+        ensures unread { OnOk result (Adds (beginning self.old.conn) (lines_in text.now) self.old.unread.items self.new.unread.items) }
         ensures rest { (record self.new { unread = self.old.unread }) ≡ self.old }
     {
         let begins = beginning(alloc, self.conn)?;

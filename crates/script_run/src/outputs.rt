@@ -3,7 +3,7 @@
 ghost use Rattle.std.specs.Prelude.{◌≡◌, ◌++◌, List, ℕ, map, Ok, IfOk, OnOk};
 ghost use Rattle.hex.specs.Hex.{decode_of};
 ghost use Rattle.script_run.specs.Outputs.{appends};
-ghost use Rattle.script_run.specs.Reading.{beginning, behind_word, digits_told, lines_in, Grows};
+ghost use Rattle.script_run.specs.Reading.{beginning, behind_word, digits_told, lines_in, Adds};
 
 use grid_base::Memory;
 use replay_run::{push_number, push_text};
@@ -84,7 +84,7 @@ fn push_lines(
     lines: &[&[u8]],
     sent: &mut Vec<u8>,
 ) -> Result<(), Memory>
-    ensures { OnOk result (Grows begins.now (map (λ x. x.now) lines.now) sent.old.items sent.new.items) }
+    ensures { OnOk result (Adds begins.now (map (λ x. x.now) lines.now) sent.old.items sent.new.items) }
 {
     for line in lines {
         push_told(alloc, begins, line, sent)?;
@@ -99,7 +99,7 @@ pub(crate) fn push_sent(
     text: &[u8],
     sent: &mut Vec<u8>,
 ) -> Result<(), Memory>
-    ensures { OnOk result (Grows begins.now (lines_in text.now) sent.old.items sent.new.items) }
+    ensures { OnOk result (Adds begins.now (lines_in text.now) sent.old.items sent.new.items) }
 {
     let lines = lines_of(alloc, text)?;
     push_lines(alloc, begins, lines.as_slice(), sent)
