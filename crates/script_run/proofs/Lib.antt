@@ -3,4 +3,8 @@ pub mod Laws
 pub mod LineReadings
 pub mod Nears
 pub mod OneConnection
+pub mod Places
+pub mod Playing
 pub mod ReadBack
+pub mod Sizes
+pub mod Spoken

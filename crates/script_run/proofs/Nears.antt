@@ -1,7 +1,8 @@
 -- The near clients of the code, found by their connections, are those of the run.
-use Rattle.std.proofs.Common.{◌≡◌, ℕ, zero, suc, ◌+◌, ◌*◌, ◌≤◌, ◌<◌, ◌==◌, Bool, true, false, cond, List, [], ◌∷◌, ◌++◌, length, map, get_or, set, take, drop, Option, Some, None, refl, ap, sym, ◌∙◌, subst, append-nil, arith}
+use Rattle.std.proofs.Common.{◌≡◌, ℕ, zero, suc, ◌+◌, ◌*◌, ◌≤◌, ◌<◌, ◌==◌, Bool, true, false, not, cond, List, [], ◌∷◌, ◌++◌, length, map, get_or, set, take, drop, Option, Some, None, refl, ap, sym, ◌∙◌, subst, append-nil, arith}
 use Rattle.std.specs.Prelude.{slice_get, slice_set}
-use Rattle.std.specs.List.{find, position, position_or_len}
+use Rattle.std.specs.List.{find, position}
+use Rattle.std.specs.Option.{is_some, is_none}
 use Rattle.grid_client.specs.Lists.{changed_by}
 use Rattle.grid_client.specs.States.{State}
 use Rattle.replay_run.specs.Runs.{Appended}
@@ -10,10 +11,8 @@ use Rattle.script_run.specs.AfterLines.{noting}
 use Rattle.script_run.specs.NearClients.{NearClient, is_near}
 use Rattle.script_run.specs.Outputs.{sent_to}
 use Rattle.script_run.specs.Reading.{beginning, lines_in, Adds, Tells}
-use Rattle.script_run.specs.Grids.{IsNear, AreNear}
-
-abbrev pub is_kept : ℕ → KeptClient → Bool
-is_kept c k = k.conn == c
+use Rattle.script_run.specs.Grids.{IsNear, AreNear, is_kept}
+use Rattle.script_run.proofs.Places.{IsFirst, first_placed, found_at, none_placed}
 
 -- a client of the code and the one of the run
 pub record Pair (c : ℕ) (ks : List KeptClient) (ns : List NearClient) (kept : KeptClient) : Type 0 where
@@ -139,3 +138,17 @@ none_noted [] (n ∷ ns) are = absurd are
 none_noted (k ∷ ks) [] are = absurd are
 none_noted (k ∷ ks) (n ∷ ns) are =
     (record { conn = are.0.conn; within = are.0.within; client = are.0.client; unread = are.0.unread ∙ sym (append-nil n.unread); one = are.0.one }, none_noted ks ns are.1)
+
+-- a connection has a client in the code where it has one in the run
+
+is_there : (c : ℕ) (ks : List KeptClient) (ns : List NearClient) (place : ℕ) → AreNear ks ns → IsFirst (is_kept c) ks place → (n : NearClient) × (find (is_near c) ns ≡ Some n)
+is_there c [] ns place are first = absurd (let low = first.within in omega (arith, low))
+is_there c (k ∷ ks) ns place are first =
+    let pair = pair_found c (k ∷ ks) ns (get_or (k ∷ ks) place k) are (found_at (is_kept c) (k ∷ ks) place k first) in (pair.near, pair.found)
+
+pub placed_or_not : (c : ℕ) (ks : List KeptClient) (ns : List NearClient) → AreNear ks ns → is_none (position (is_kept c) ks) ≡ not (is_some (find (is_near c) ns))
+placed_or_not c ks ns are = by (position (is_kept c) ks) refl
+  where
+    by : (place : Option ℕ) → position (is_kept c) ks ≡ place → is_none place ≡ not (is_some (find (is_near c) ns))
+    by None e = ap (λ found. not (is_some found)) (sym (none_found c ks ns are (none_placed (is_kept c) ks e)))
+    by (Some place) e = ap (λ found. not (is_some found)) (sym (is_there c ks ns place are (first_placed (is_kept c) ks place e)).1)

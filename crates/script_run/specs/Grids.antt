@@ -1,5 +1,6 @@
 -- The grid of the code, with its near clients, stands for the run of a script.
-use Rattle.std.specs.Prelude.{◌≡◌, ℕ, ◌+◌, ◌*◌, ◌≤◌, true, false, not, Bool, length, List, [], ◌∷◌, ◌++◌, Option, Some, None, slice_get}
+use Rattle.std.specs.Prelude.{◌≡◌, ℕ, ◌+◌, ◌*◌, ◌==◌, ◌≤◌, true, false, not, Bool, length, List, [], ◌∷◌, ◌++◌, Option, Some, None, slice_get}
+use Rattle.std.specs.List.{position}
 use Rattle.message_frames.specs.MessageReaders.{standing}
 use Rattle.grid_base.specs.declared.names.CallId.{CallId}
 use Rattle.call_engine.specs.Calls.{Settings}
@@ -41,6 +42,13 @@ abbrev pub AreNear : List KeptClient → List NearClient → Type 0
 AreNear [] [] = Unit {0}
 AreNear (k ∷ ks) (n ∷ ns) = IsNear k n × AreNear ks ns
 AreNear ks ns = ⊥
+
+-- the place of the client of a near connection
+abbrev pub is_kept : ℕ → KeptClient → Bool
+is_kept c kept = kept.conn == c
+
+abbrev pub place_in : {V : Type 0} {T : V → Type 0} → ScriptGrid V T → ℕ → Option ℕ
+place_in all c = position (is_kept c) all.nears.items
 
 -- whether bytes have arrived on a connection
 abbrev pub has_spoken : Option Connection → Bool

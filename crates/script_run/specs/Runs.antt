@@ -63,9 +63,13 @@ abbrev pub look_of : List ℕ → Option NearClient → Look
 look_of key None = Unmade
 look_of key (Some n) = look_at n (value_kept n key)
 
--- `nearget C KEY`: the key has eight bytes at least, and bytes can arrive on the connection.
+-- the key has eight bytes at least, and bytes can arrive on the connection
+abbrev pub may_look : {State : Type 0} → Object Request State → ScriptRun → ℕ → List ℕ → Bool
+may_look o s c key = not (nat_lt (length key) 8) && takes o s.run (connection_of s.run c)
+
+-- `nearget C KEY`
 abbrev pub look : {State : Type 0} → Object Request State → ScriptRun → ℕ → List ℕ → Look
-look o s c key = if not (nat_lt (length key) 8) && takes o s.run (connection_of s.run c) then look_of key (near_of s c) else Unmade
+look o s c key = if may_look o s c key then look_of key (near_of s c) else Unmade
 
 -- what a line is to the grid
 

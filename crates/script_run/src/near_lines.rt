@@ -1,26 +1,28 @@
 //! The lines of near clients: `near`, `nearget` and `nearfeed`.
 
-ghost use Rattle.std.specs.Prelude.{◌≡◌, ℕ, ◌==◌, ◌+◌, ◌≤◌, ◌++◌, List, Some, length, IfOk, OnOk, IsErrOf};
-ghost use Rattle.std.specs.List.{position};
+ghost use Rattle.std.specs.Prelude.{◌≡◌, ℕ, ◌≤◌, ◌++◌, if◌then◌else◌, List, None, length, IfOk, OnOk, IsErrOf};
 ghost use Rattle.std.specs.Str.{is_utf8};
 ghost use Rattle.call_engine.specs.Calls.{Settings};
+ghost use Rattle.call_engine.specs.Objects.{partition_object};
 ghost use Rattle.replay_run.specs.Grids.{boxed};
 ghost use Rattle.replay_run.specs.declared.run_end.RunEnd.TheVariants as RunEnds;
 ghost use Rattle.script_lang.specs.declared.line.Line.TheVariants.{Near, NearGet, NearFeed, Arrive};
-ghost use Rattle.script_run.specs.declared.client.NearClient.{NearClient as KeptClient};
 ghost use Rattle.replay_run.specs.Printing.{ok_text};
-ghost use Rattle.script_run.specs.Runs.{ScriptRun, can_begin};
-ghost use Rattle.script_run.specs.Grids.{Stands, MayRun, HasRun, IsGivenUp, MaySend, HasSent, IsGivenUpAt};
+ghost use Rattle.script_run.specs.Runs.{ScriptRun, can_begin, may_look};
+ghost use Rattle.script_run.specs.Grids.{Stands, MayRun, HasRun, IsGivenUp, MaySend, HasSent, IsGivenUpAt, place_in};
 
 use crate::client::begin;
 use crate::grid::ScriptGrid;
 use crate::print::{push_all_heard, push_fed, push_hit, push_words};
 use grid_base::{Bytes, Memory};
-use grid_client::{ClientRefused, NearLook};
+use grid_client::NearLook;
 use replay_run::{RunEnd, push_ok, push_text};
 use script_lang::Line;
 use simdutf8::basic::from_utf8;
 use std::alloc::Global;
+
+/// How many bytes a key has at least.
+const SHORTEST_KEY: usize = 8;
 
 /// Whether a name is one.
 fn is_name(name: &Bytes) -> bool
@@ -55,7 +57,7 @@ fn push_brought(
 impl ScriptGrid {
     /// The place of the client of a near connection.
     pub(crate) fn place_of(&self, conn: u32) -> Option<usize>
-        ensures { result ≡ position (λ (near : KeptClient). near.conn == conn) self.now.nears.items }
+        ensures { result ≡ place_in self.now conn }
     {
         self.nears.iter().position(|near| near.conn == conn)
     }
@@ -69,6 +71,19 @@ impl ScriptGrid {
             && self.grid.is_open(conn)
             && !self.spoken[conn as usize]
             && is_name(name)
+    }
+
+    /// The place of the client that may look a key up: the key has eight bytes at least, and bytes can arrive on the
+    /// connection.
+    fn place_asked(&self, conn: u32, key: &Bytes) -> Option<usize>
+        requires { (settings : Settings) × (s : ScriptRun) × Stands (boxed form) settings self.now s }
+        ensures { (settings : Settings) (s : ScriptRun) → Stands (boxed form) settings self.now s
+            → result ≡ (if may_look (partition_object settings) s conn key.now then place_in self.now conn else None) }
+    {
+        if key.len() < SHORTEST_KEY || !self.grid.takes_bytes(conn) {
+            return None;
+        }
+        self.place_of(conn)
     }
 
     /// `near C NAME CAP`: an open connection on which no byte has arrived becomes a near connection. What its client sends
@@ -108,12 +123,9 @@ impl ScriptGrid {
         ensures ok { (settings : Settings) (s : ScriptRun) → Stands (boxed form) settings self.old s → OnOk result (HasRun (boxed form) settings self.new s (NearGet conn key.now) out.old.items out.new.items) }
         ensures full { (settings : Settings) (s : ScriptRun) → Stands (boxed form) settings self.old s → IsErrOf result RunEnds.InFlight → IsGivenUp settings s (NearGet conn key.now) }
     {
-        let Some(place) = self.place_of(conn) else {
+        let Some(place) = self.place_asked(conn, key) else {
             return self.pass(alloc, number, out);
         };
-        if !self.grid.takes_bytes(conn) {
-            return self.pass(alloc, number, out);
-        }
         let looked = self.nears[place].client.near_get(key);
         match looked {
             Ok(NearLook::Hit(value)) => {
@@ -124,7 +136,6 @@ impl ScriptGrid {
                 push_words(out, number, b"miss")?;
                 self.send(alloc, number, conn, sending.bytes, out)
             }
-            Err(ClientRefused::ShortKey) => self.pass(alloc, number, out),
             Err(_) => Err(RunEnd::Memory),
         }
     }
