@@ -23,7 +23,7 @@ use Rattle.replay_run.specs.WorldCalls.{is_quiet}
 use Rattle.script_run.specs.declared.client.NearClient.{NearClient as KeptClient}
 use Rattle.script_run.specs.declared.grid.ScriptGrid.{ScriptGrid}
 use Rattle.script_run.specs.NearClients.{NearClient}
-use Rattle.script_run.specs.Runs.{ScriptRun, grid_line, nears_by}
+use Rattle.script_run.specs.Runs.{ScriptRun, grid_line, nears_by, is_near_connection}
 use Rattle.script_run.specs.AfterLines.{noting, played, after_line}
 use Rattle.script_run.specs.Printing.{line_text}
 use Rattle.script_run.specs.Reading.{Tells}
@@ -153,3 +153,36 @@ module _ {V : Type 0} {T : V → Type 0} {form : FormOf V T} {settings : Setting
       ran_counted all is stands.spoken same (nothing_text number) written text
       (subst (λ (m : ScriptRun). HasCounted form settings new m (nothing_text number) written text) (sym one) counted)
       (ap nothing_text at_line ∙ sym (says (played settings [] mid Comment)))
+
+-- A line that is none of a near client's, and brings no bytes, is the grid's.
+
+pub record IsGrids (settings : Settings) (s : ScriptRun) (line : Line) : Type 0 where
+  pub asked : grid_line (partition_object settings) s line ≡ line
+  pub stay : nears_by (partition_object settings) s line ≡ s.nears
+  pub says : (next : ScriptRun) → line_text settings s line next ≡ grid_text.line_text settings s.run line next.run
+
+pub is_grids : (settings : Settings) (s : ScriptRun) (line : Line) → ((c : ℕ) (name : List ℕ) (capacity : ℕ) → line ≢ Near c name capacity) → ((c : ℕ) (key : List ℕ) → line ≢ NearGet c key)
+    → ((c most : ℕ) → line ≢ NearFeed c most) → ((c : ℕ) (bytes : List ℕ) → line ≢ Arrive c bytes) → IsGrids settings s line
+is_grids settings s (Near c name capacity) begins asks feeds arrives = absurd (begins c name capacity refl)
+is_grids settings s (NearGet c key) begins asks feeds arrives = absurd (asks c key refl)
+is_grids settings s (NearFeed c most) begins asks feeds arrives = absurd (feeds c most refl)
+is_grids settings s (Arrive c bytes) begins asks feeds arrives = absurd (arrives c bytes refl)
+is_grids settings s line begins asks feeds arrives = record { asked = refl; stay = refl; says = λ next. refl }
+
+-- so are bytes on a connection that is no near connection
+pub is_grids_bytes : (settings : Settings) (s : ScriptRun) (c : ℕ) (bytes : List ℕ) → is_near_connection s c ≡ false → IsGrids settings s (Arrive c bytes)
+is_grids_bytes settings s c bytes free = record { asked = rw free refl; stay = refl; says = λ next. rw free refl }
+
+module _ {V : Type 0} {T : V → Type 0} {form : FormOf V T} {settings : Settings} (new : ScriptGrid V T) (s : ScriptRun) (line : Line) (grids : IsGrids settings s line) where
+  stayed : mid {settings = settings} new s line ≡ s
+  stayed = ap (λ (ns : List NearClient). record s { nears = ns }) grids.stay
+
+  pub ran_grids : (written text : List ℕ) (ran : HasPlayed form settings new s line written text) → AreSpoken new.spoken.items (played settings ran.skips s line).run → HasRun form settings new s line written text
+  ran_grids written text ran spoken =
+      let next = played settings ran.skips s line in
+      ran_as new s line line grids.asked ran.skips ran.of_line
+      (subst (λ (m : ScriptRun). Stands form settings new (played settings ran.skips m line)) (sym stayed) (record { goes = ran.goes; spoken = spoken })) written text
+      (ran.added ∙ ap (λ (t : List ℕ). written ++ t) (sym (grids.says next) ∙ ap (λ (m : ScriptRun). line_text settings s line (played settings ran.skips m line)) (sym stayed)))
+
+  pub given_up_grids : IsGivenUpAt settings s line → IsGivenUp settings s line
+  given_up_grids given = given_up_at new s line line grids.asked (subst (λ (m : ScriptRun). IsGivenUpAt settings m line) (sym stayed) given)

@@ -2,6 +2,7 @@
 use Rattle.std.proofs.Common.{◌≡◌, ◌≢◌, ℕ, zero, suc, ◌+◌, ◌≤◌, ◌<◌, ◌==◌, ◌||◌, Bool, true, false, not, cond, List, [], ◌∷◌, ◌++◌, length, Option, Some, None, option_map, refl, ap, sym, ◌∙◌, subst, ⊎_elim, arith}
 use Rattle.std.specs.Prelude.{slice_get, slice_set, is_some, option_and_then}
 use Rattle.std.specs.List.{find}
+use Rattle.std.specs.declared.alloc.Global.{Global}
 use Rattle.std.proofs.lemmas.Bool.{cases_eq}
 use Rattle.std.proofs.lemmas.Bool.Decides.{nat_tests}
 use Rattle.grid_base.specs.Objects.{Object}
@@ -196,3 +197,8 @@ inside (y ∷ xs) (suc i) x e = let rest = inside xs i x e in omega (arith, rest
 
 pub spoken_within : (spoken : List Bool) (r : Run) (c : ℕ) → AreSpoken spoken r → c ≤ 63 → c < length spoken
 spoken_within spoken r c are within = inside spoken c (has_spoken (connection_of r c)) (are c within)
+
+pub are_spoken_as : (settings : Settings) (skips : List CallId) (r : Run) (old new : Vec Bool Global) (line : Line) → ((k : ℕ) (bytes : List ℕ) → line ≢ Arrive k bytes) → new ≡ old → AreSpoken old.items r
+    → AreSpoken new.items (after_line (partition_object settings) skips r line)
+are_spoken_as settings skips r old new line other same are =
+    subst (λ (xs : Vec Bool Global). AreSpoken xs.items (after_line (partition_object settings) skips r line)) (sym same) (are_spoken_kept (partition_object settings) skips r old.items line other are)
