@@ -6,5 +6,6 @@ pub mod OneConnection
 pub mod Places
 pub mod Playing
 pub mod ReadBack
+pub mod Sending
 pub mod Sizes
 pub mod Spoken

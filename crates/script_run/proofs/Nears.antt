@@ -2,7 +2,7 @@
 use Rattle.std.proofs.Common.{◌≡◌, ℕ, zero, suc, ◌+◌, ◌*◌, ◌≤◌, ◌<◌, ◌==◌, Bool, true, false, not, cond, List, [], ◌∷◌, ◌++◌, length, map, get_or, set, take, drop, Option, Some, None, refl, ap, sym, ◌∙◌, subst, append-nil, arith}
 use Rattle.std.specs.Prelude.{slice_get, slice_set}
 use Rattle.std.specs.List.{find, position}
-use Rattle.std.specs.Option.{is_some, is_none}
+use Rattle.std.specs.Option.{is_some}
 use Rattle.grid_client.specs.Lists.{changed_by}
 use Rattle.grid_client.specs.States.{State}
 use Rattle.replay_run.specs.Runs.{Appended}
@@ -12,7 +12,7 @@ use Rattle.script_run.specs.NearClients.{NearClient, is_near}
 use Rattle.script_run.specs.Outputs.{sent_to}
 use Rattle.script_run.specs.Reading.{beginning, lines_in, Adds, Tells}
 use Rattle.script_run.specs.Grids.{IsNear, AreNear, is_kept}
-use Rattle.script_run.proofs.Places.{IsFirst, first_placed, found_at, none_placed}
+use Rattle.script_run.proofs.Places.{IsFirst, first_placed, found_at, found_placed, none_placed, set_placed}
 
 -- a client of the code and the one of the run
 pub record Pair (c : ℕ) (ks : List KeptClient) (ns : List NearClient) (kept : KeptClient) : Type 0 where
@@ -146,9 +146,31 @@ is_there c [] ns place are first = absurd (let low = first.within in omega (arit
 is_there c (k ∷ ks) ns place are first =
     let pair = pair_found c (k ∷ ks) ns (get_or (k ∷ ks) place k) are (found_at (is_kept c) (k ∷ ks) place k first) in (pair.near, pair.found)
 
-pub placed_or_not : (c : ℕ) (ks : List KeptClient) (ns : List NearClient) → AreNear ks ns → is_none (position (is_kept c) ks) ≡ not (is_some (find (is_near c) ns))
-placed_or_not c ks ns are = by (position (is_kept c) ks) refl
+found_or_not : (c : ℕ) (ks : List KeptClient) (ns : List NearClient) → AreNear ks ns → is_some (position (is_kept c) ks) ≡ is_some (find (is_near c) ns)
+found_or_not c ks ns are = by (position (is_kept c) ks) refl
   where
-    by : (place : Option ℕ) → position (is_kept c) ks ≡ place → is_none place ≡ not (is_some (find (is_near c) ns))
-    by None e = ap (λ found. not (is_some found)) (sym (none_found c ks ns are (none_placed (is_kept c) ks e)))
-    by (Some place) e = ap (λ found. not (is_some found)) (sym (is_there c ks ns place are (first_placed (is_kept c) ks place e)).1)
+    by : (place : Option ℕ) → position (is_kept c) ks ≡ place → is_some place ≡ is_some (find (is_near c) ns)
+    by None e = ap (λ found. is_some found) (sym (none_found c ks ns are (none_placed (is_kept c) ks e)))
+    by (Some place) e = ap (λ found. is_some found) (sym (is_there c ks ns place are (first_placed (is_kept c) ks place e)).1)
+
+pub near_here : (c : ℕ) (ks : List KeptClient) (ns : List NearClient) → AreNear ks ns → is_some (position (is_kept c) ks) ≡ true → is_some (find (is_near c) ns) ≡ true
+near_here c ks ns are e = sym (found_or_not c ks ns are) ∙ e
+
+pub not_near_here : (c : ℕ) (ks : List KeptClient) (ns : List NearClient) → AreNear ks ns → is_some (position (is_kept c) ks) ≡ false → is_some (find (is_near c) ns) ≡ false
+not_near_here c ks ns are e = sym (found_or_not c ks ns are) ∙ e
+
+-- One was changed at its place.
+
+pub near_at : (c : ℕ) (ks : List KeptClient) (ns : List NearClient) (place : ℕ) (kept : KeptClient) → AreNear ks ns → position (is_kept c) ks ≡ Some place → kept ≡ get_or ks place kept → Pair c ks ns kept
+near_at c ks ns place kept are e at = pair_found c ks ns kept are (found_placed (is_kept c) ks place kept (first_placed (is_kept c) ks place e) at)
+
+pub near_set : (c : ℕ) (ks : List KeptClient) (ns : List NearClient) (place : ℕ) (kept new : KeptClient) (into : NearClient → NearClient) (are : AreNear ks ns) (e : position (is_kept c) ks ≡ Some place) (at : kept ≡ get_or ks place kept)
+    → IsNear new (into (near_at c ks ns place kept are e at).near) → AreNear (set ks place new) (changed_by (is_near c) into ns)
+near_set c ks ns place kept new into are e at is =
+    let first = first_placed (is_kept c) ks place e in
+    let pair = near_at c ks ns place kept are e at in
+    subst (λ (xs : List KeptClient). AreNear xs (changed_by (is_near c) into ns)) (sym (set_placed (is_kept c) ks place new first))
+    (pair_changed c (λ k. new) into ks ns kept pair.near are (found_placed (is_kept c) ks place kept first at) pair.found is)
+
+pub none_set : (c : ℕ) (ks : List KeptClient) (ns : List NearClient) (into : NearClient → NearClient) → AreNear ks ns → position (is_kept c) ks ≡ None → changed_by (is_near c) into ns ≡ ns
+none_set c ks ns into are e = none_changed c into ns (none_found c ks ns are (none_placed (is_kept c) ks e))

@@ -1,5 +1,5 @@
 -- What the grid runs at a line, and what that makes of the run of a script.
-use Rattle.std.proofs.Common.{◌≡◌, ◌≢◌, ℕ, ◌+◌, ◌*◌, ◌≤◌, true, false, List, [], ◌∷◌, ◌++◌, length, map, drop, refl, ap, sym, ◌∙◌, subst, arith}
+use Rattle.std.proofs.Common.{◌≡◌, ◌≢◌, ℕ, ◌+◌, ◌*◌, ◌≤◌, true, false, List, [], ◌∷◌, ◌++◌, length, map, drop, refl, ap, sym, ◌∙◌, subst, arith, Vec, Global, Bool}
 use Rattle.std.proofs.lemmas.List.{drop_at}
 use Rattle.grid_base.specs.Objects.{Object}
 use Rattle.grid_base.specs.declared.names.CallId.{CallId}
@@ -186,3 +186,32 @@ module _ {V : Type 0} {T : V → Type 0} {form : FormOf V T} {settings : Setting
 
   pub given_up_grids : IsGivenUpAt settings s line → IsGivenUp settings s line
   given_up_grids given = given_up_at new s line line grids.asked (subst (λ (m : ScriptRun). IsGivenUpAt settings m line) (sym stayed) given)
+
+-- Who has spoken is no matter of what the grid runs.
+pub goes_as : {V : Type 0} {T : V → Type 0} {form : FormOf V T} {settings : Settings} {old new : ScriptGrid V T} {s : ScriptRun} → (record new { spoken = old.spoken }) ≡ old → Goes form settings old s → Goes form settings new s
+goes_as {form = form} {settings = settings} {s = s} same goes = record {
+  grid = subst (λ all. grid.Stands form settings all.grid s.run) (sym same) goes.grid;
+  nears = subst (λ all. AreNear all.nears.items s.nears) (sym same) goes.nears;
+}
+
+pub may_play_as : {V : Type 0} {T : V → Type 0} {form : FormOf V T} {old new : ScriptGrid V T} {number : ℕ} {line : Line} → (record new { spoken = old.spoken }) ≡ old → MayPlay form old number line → MayPlay form new number line
+may_play_as same may = record { settings = may.settings; run = may.run; goes = goes_as same may.goes; read = may.read; next = may.next; within = may.within }
+
+-- bytes on a connection that is no near connection
+module _ {V : Type 0} {T : V → Type 0} {form : FormOf V T} {settings : Settings} (new marked : ScriptGrid V T) (s : ScriptRun) (line : Line) (c : ℕ) (bytes : List ℕ) (is : line ≡ Arrive c bytes) (free : is_near_connection s c ≡ false) where
+  pub ran_bytes : ((skips : List CallId) → AreSpoken marked.spoken.items (played settings skips s (Arrive c bytes)).run) → new.spoken ≡ marked.spoken → (written text : List ℕ) → HasPlayed form settings new s line written text
+      → HasRun form settings new s line written text
+  ran_bytes spoken same written text ran =
+      let these = subst (λ (l : Line). HasPlayed form settings new s l written text) is ran in
+      let now = played settings these.skips s (Arrive c bytes) in
+      has_run_as is (ran_grids new s (Arrive c bytes) (is_grids_bytes settings s c bytes free) written text these
+      (subst (λ (xs : Vec Bool Global). AreSpoken xs.items now.run) (sym same) (spoken these.skips)))
+
+  pub given_up_bytes : IsGivenUpAt settings s line → IsGivenUp settings s line
+  given_up_bytes given = given_up_as is (given_up_grids new s (Arrive c bytes) (is_grids_bytes settings s c bytes free) (subst (IsGivenUpAt settings s) is given))
+
+-- and on one that is
+pub ran_refused : {V : Type 0} {T : V → Type 0} {form : FormOf V T} {settings : Settings} (new all : ScriptGrid V T) (s : ScriptRun) (line : Line) (c : ℕ) (bytes : List ℕ) (number : ℕ) → line ≡ Arrive c bytes → Stands form settings all s
+    → number ≡ s.run.lines + 1 → is_near_connection s c ≡ true → new.spoken ≡ all.spoken → (written text : List ℕ) → HasCounted form settings new s (nothing_text number) written text → HasRun form settings new s line written text
+ran_refused new all s line c bytes number is stands at_line near same written text counted =
+    has_run_as is (ran_passed new s (Arrive c bytes) all number stands at_line (rw near refl) refl (λ next. rw near refl) same written text counted)
