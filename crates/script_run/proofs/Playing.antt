@@ -1,5 +1,5 @@
 -- What the grid runs at a line, and what that makes of the run of a script.
-use Rattle.std.proofs.Common.{◌≡◌, ◌≢◌, ℕ, ◌+◌, ◌*◌, ◌≤◌, true, false, List, [], ◌∷◌, ◌++◌, length, map, drop, refl, ap, sym, ◌∙◌, subst, arith, Vec, Global, Bool}
+use Rattle.std.proofs.Common.{◌≡◌, ◌≢◌, ℕ, ◌+◌, ◌*◌, ◌≤◌, true, false, cond, List, [], ◌∷◌, ◌++◌, length, map, drop, refl, ap, sym, ◌∙◌, subst, arith, Vec, Global, Bool}
 use Rattle.std.proofs.lemmas.List.{drop_at}
 use Rattle.grid_base.specs.Objects.{Object}
 use Rattle.grid_base.specs.declared.names.CallId.{CallId}
@@ -31,6 +31,14 @@ use Rattle.script_run.specs.Grids.{AreNear, AreSpoken, Goes, Stands, MayRun, Has
 use Rattle.script_run.proofs.LineReadings.{line_tells, quiet_none}
 use Rattle.script_run.proofs.Nears.{none_noted}
 use Rattle.script_run.proofs.Spoken.{are_spoken_kept}
+
+pub if_true : {X : Type 0} (b : Bool) (x y : X) → b ≡ true → cond b x y ≡ x
+if_true true x y e = refl
+if_true false x y e = absurd cc
+
+pub if_false : {X : Type 0} (b : Bool) (x y : X) → b ≡ false → cond b x y ≡ y
+if_false true x y e = absurd cc
+if_false false x y e = refl
 
 -- the same of another line
 
@@ -171,7 +179,11 @@ is_grids settings s line begins asks feeds arrives = record { asked = refl; stay
 
 -- so are bytes on a connection that is no near connection
 pub is_grids_bytes : (settings : Settings) (s : ScriptRun) (c : ℕ) (bytes : List ℕ) → is_near_connection s c ≡ false → IsGrids settings s (Arrive c bytes)
-is_grids_bytes settings s c bytes free = record { asked = rw free refl; stay = refl; says = λ next. rw free refl }
+is_grids_bytes settings s c bytes free = record {
+  asked = if_false (is_near_connection s c) Comment (Arrive c bytes) free;
+  stay = refl;
+  says = λ next. if_false (is_near_connection s c) (nothing_text next.run.lines) (grid_text.line_text settings s.run (Arrive c bytes) next.run) free;
+}
 
 module _ {V : Type 0} {T : V → Type 0} {form : FormOf V T} {settings : Settings} (new : ScriptGrid V T) (s : ScriptRun) (line : Line) (grids : IsGrids settings s line) where
   stayed : mid {settings = settings} new s line ≡ s
@@ -214,4 +226,6 @@ module _ {V : Type 0} {T : V → Type 0} {form : FormOf V T} {settings : Setting
 pub ran_refused : {V : Type 0} {T : V → Type 0} {form : FormOf V T} {settings : Settings} (new all : ScriptGrid V T) (s : ScriptRun) (line : Line) (c : ℕ) (bytes : List ℕ) (number : ℕ) → line ≡ Arrive c bytes → Stands form settings all s
     → number ≡ s.run.lines + 1 → is_near_connection s c ≡ true → new.spoken ≡ all.spoken → (written text : List ℕ) → HasCounted form settings new s (nothing_text number) written text → HasRun form settings new s line written text
 ran_refused new all s line c bytes number is stands at_line near same written text counted =
-    has_run_as is (ran_passed new s (Arrive c bytes) all number stands at_line (rw near refl) refl (λ next. rw near refl) same written text counted)
+    has_run_as is
+    (ran_passed new s (Arrive c bytes) all number stands at_line (if_true (is_near_connection s c) Comment (Arrive c bytes) near) refl
+    (λ next. if_true (is_near_connection s c) (nothing_text next.run.lines) _ near) same written text counted)

@@ -1,0 +1,123 @@
+-- The lines of near clients: what they come to in the run of a script.
+use Rattle.std.proofs.Common.{◌≡◌, ℕ, ◌+◌, ◌*◌, ◌≤◌, Bool, true, false, not, cond, List, [], ◌∷◌, ◌++◌, length, Option, Some, None, refl, ap, sym, ◌∙◌, subst, append_assoc, arith}
+use Rattle.std.specs.Prelude.{codes}
+use Rattle.grid_base.specs.Objects.{Object}
+use Rattle.grid_base.specs.declared.calls.Request.{Request}
+use Rattle.call_engine.specs.Calls.{Settings}
+use Rattle.call_engine.specs.Objects.{partition_object}
+use Rattle.object_store.specs.Partitions.{Partition}
+use Rattle.grid_client.specs.Nears.{Value}
+use Rattle.script_lang.specs.Limits.{most_lines, most_line_bytes}
+use Rattle.script_lang.specs.declared.line.Line.{Line}
+use Rattle.script_lang.specs.declared.line.Line.TheVariants.{Arrive, Near, NearGet, NearFeed, Comment}
+use Rattle.replay_run.specs.Grids.{FormOf, most_arriving}
+use Rattle.replay_run.specs.Printing.{ok_text, nothing_text, words_line}
+use Rattle.replay_run.specs.Runs.{Run}
+use Rattle.replay_run.proofs.SkipLaws.{line_counts}
+use Rattle.script_run.specs.declared.grid.ScriptGrid.{ScriptGrid}
+use Rattle.script_run.specs.NearClients.{NearClient, opening_of, new_near, used, get_sent, missed, fed}
+use Rattle.script_run.specs.Runs.{ScriptRun, Look, Unmade, Hit, Miss, near_of, can_begin, look, asked_line, after_look, changed, grid_line, nears_by}
+use Rattle.script_run.specs.AfterLines.{played}
+use Rattle.script_run.specs.Printing.{brought, hit_text, look_text, fed_text, line_text}
+use Rattle.script_run.specs.Grids.{AreSpoken, Stands, MayRun, HasRun, IsGivenUp, IsGivenUpAt, HasCounted, HasSent, MaySend, IsOnOne, Goes}
+use Rattle.script_run.proofs.Playing.{if_true, if_false, mid, ran_as, ran_counted, ran_passed, given_up_at}
+use Rattle.script_run.proofs.Sizes.{opening_fits, get_fits}
+
+module _ {V : Type 0} {T : V → Type 0} {form : FormOf V T} {settings : Settings} (new : ScriptGrid V T) (s : ScriptRun) (line : Line) where
+  abbrev o : Object Request Partition
+  o = partition_object settings
+
+  -- What a near client sends arrives: the line's outcome, and then what that brings.
+  module _ (ns : List NearClient) (c : ℕ) (bytes : List ℕ) (stay : nears_by o s line ≡ ns) (asked : grid_line o s line ≡ Arrive c bytes) where
+    abbrev with_nears : ScriptRun
+    with_nears = record s { nears = ns }
+
+    same_mid : mid {settings = settings} new s line ≡ with_nears
+    same_mid = ap (λ (xs : List NearClient). record s { nears = xs }) stay
+
+    pub ran_sent : (number : ℕ) (outcome : ℕ → List ℕ) → ((next : ScriptRun) → line_text settings s line next ≡ outcome next.run.lines ++ brought settings s.run c bytes next.run) → number ≡ s.run.lines + 1
+        → (written text : List ℕ) → HasSent form settings new with_nears c bytes (written ++ outcome number) text → HasRun form settings new s line written text
+    ran_sent number outcome says at_line written text sent =
+        let next = played settings sent.skips with_nears (Arrive c bytes) in
+        let lines : number ≡ next.run.lines = at_line ∙ sym (line_counts o sent.skips s.run (Arrive c bytes)).lines in
+        let shown : text ≡ written ++ line_text settings s line next =
+        sent.added ∙ append_assoc written (outcome number) (brought settings s.run c bytes next.run)
+        ∙ ap (λ (n : ℕ). written ++ (outcome n ++ brought settings s.run c bytes next.run)) lines ∙ ap (λ (t : List ℕ). written ++ t) (sym (says next)) in
+        ran_as new s line (Arrive c bytes) asked sent.skips sent.of_line
+        (subst (λ (m : ScriptRun). Stands form settings new (played settings sent.skips m (Arrive c bytes))) (sym same_mid) sent.stands) written text
+        (subst (λ (m : ScriptRun). text ≡ written ++ line_text settings s line (played settings sent.skips m (Arrive c bytes))) (sym same_mid) shown)
+
+    pub given_up_sent : IsGivenUpAt settings with_nears (Arrive c bytes) → IsGivenUp settings s line
+    given_up_sent given = given_up_at new s line (Arrive c bytes) asked (subst (λ (m : ScriptRun). IsGivenUpAt settings m (Arrive c bytes)) (sym same_mid) given)
+
+-- `near`
+
+module _ {V : Type 0} {T : V → Type 0} {form : FormOf V T} {settings : Settings} (new : ScriptGrid V T) (s : ScriptRun) (c : ℕ) (name : List ℕ) (capacity number : ℕ) where
+  pub ran_not_begun : (all : ScriptGrid V T) → Stands form settings all s → number ≡ s.run.lines + 1 → can_begin s c name ≡ false → new.spoken ≡ all.spoken → (written text : List ℕ)
+      → HasCounted form settings new s (nothing_text number) written text → HasRun form settings new s (Near c name capacity) written text
+  ran_not_begun all stands at_line cannot same written text counted =
+      ran_passed new s (Near c name capacity) all number stands at_line (if_false (can_begin s c name) (Arrive c (opening_of c name)) Comment cannot)
+      (if_false (can_begin s c name) (s.nears ++ new_near c name capacity ∷ []) s.nears cannot) (λ next. if_false (can_begin s c name) _ (nothing_text next.run.lines) cannot) same written text counted
+
+  module _ (can : can_begin s c name ≡ true) where
+    abbrev begun : List NearClient
+    begun = s.nears ++ new_near c name capacity ∷ []
+
+    pub ran_begun : number ≡ s.run.lines + 1 → (written text : List ℕ) → HasSent form settings new (record s { nears = begun }) c (opening_of c name) (written ++ ok_text number) text → HasRun form settings new s (Near c name capacity) written text
+    ran_begun at_line written text sent =
+        ran_sent new s (Near c name capacity) begun c (opening_of c name) (if_true (can_begin s c name) begun s.nears can) (if_true (can_begin s c name) (Arrive c (opening_of c name)) Comment can)
+        number ok_text (λ next. if_true (can_begin s c name) (ok_text next.run.lines ++ brought settings s.run c (opening_of c name) next.run) (nothing_text next.run.lines) can) at_line written text sent
+
+    pub given_up_begun : IsGivenUpAt settings (record s { nears = begun }) (Arrive c (opening_of c name)) → IsGivenUp settings s (Near c name capacity)
+    given_up_begun given =
+        given_up_sent {settings = settings} new s (Near c name capacity) begun c (opening_of c name) (if_true (can_begin s c name) begun s.nears can) (if_true (can_begin s c name) (Arrive c (opening_of c name)) Comment can) given
+
+-- `nearget`
+
+module _ {V : Type 0} {T : V → Type 0} {form : FormOf V T} {settings : Settings} (new : ScriptGrid V T) (s : ScriptRun) (c : ℕ) (key : List ℕ) (number : ℕ) where
+  abbrev looked : Look
+  looked = look (partition_object settings) s c key
+
+  pub ran_not_looked : (all : ScriptGrid V T) → Stands form settings all s → number ≡ s.run.lines + 1 → looked ≡ Unmade → new.spoken ≡ all.spoken → (written text : List ℕ)
+      → HasCounted form settings new s (nothing_text number) written text → HasRun form settings new s (NearGet c key) written text
+  ran_not_looked all stands at_line unmade same written text counted =
+      ran_passed new s (NearGet c key) all number stands at_line (ap (asked_line c key) unmade) (ap (λ (l : Look). after_look c key l s.nears) unmade)
+      (λ next. ap (look_text settings s.run c key next.run) unmade) same written text counted
+
+  -- a hit
+  pub ran_hit : (all : ScriptGrid V T) (n : NearClient) (value : Value) → Stands form settings all s → number ≡ s.run.lines + 1 → looked ≡ Hit n value → new.spoken ≡ all.spoken → (written text : List ℕ)
+      → HasCounted form settings new (record s { nears = changed c (used key) s.nears }) (hit_text number value) written text → HasRun form settings new s (NearGet c key) written text
+  ran_hit all n value stands at_line hit same written text counted =
+      let o = partition_object settings in
+      let line = NearGet c key in
+      let stay : nears_by o s line ≡ changed c (used key) s.nears = ap (λ (l : Look). after_look c key l s.nears) hit in
+      let one : mid {settings = settings} new s line ≡ record s { nears = changed c (used key) s.nears } = ap (λ (xs : List NearClient). record s { nears = xs }) stay in
+      ran_counted new s line all (ap (asked_line c key) hit) stands.spoken same (hit_text number value) written text
+      (subst (λ (m : ScriptRun). HasCounted form settings new m (hit_text number value) written text) (sym one) counted)
+      (ap (λ (k : ℕ). hit_text k value) at_line ∙ sym (ap (look_text settings s.run c key (played settings [] (mid {settings = settings} new s line) Comment).run) hit))
+
+  -- a miss
+  module _ (n : NearClient) (miss : looked ≡ Miss n) where
+    abbrev opened : List NearClient
+    opened = changed c (missed key) s.nears
+
+    pub ran_missed : number ≡ s.run.lines + 1 → (written text : List ℕ) → HasSent form settings new (record s { nears = opened }) c (get_sent n key).request (written ++ words_line number (codes "miss")) text
+        → HasRun form settings new s (NearGet c key) written text
+    ran_missed at_line written text sent =
+        ran_sent new s (NearGet c key) opened c (get_sent n key).request (ap (λ (l : Look). after_look c key l s.nears) miss) (ap (asked_line c key) miss)
+        number (λ k. words_line k (codes "miss")) (λ next. ap (look_text settings s.run c key next.run) miss) at_line written text sent
+
+    pub given_up_missed : IsGivenUpAt settings (record s { nears = opened }) (Arrive c (get_sent n key).request) → IsGivenUp settings s (NearGet c key)
+    given_up_missed given = given_up_sent {settings = settings} new s (NearGet c key) opened c (get_sent n key).request (ap (λ (l : Look). after_look c key l s.nears) miss) (ap (asked_line c key) miss) given
+
+-- `nearfeed`
+
+-- Who has spoken is as it was.
+abbrev pub AreSpokenStill : {V : Type 0} {T : V → Type 0} → ScriptGrid V T → ScriptGrid V T → ScriptRun → Type 0
+AreSpokenStill all new s = AreSpoken all.spoken.items s.run × (new.spoken ≡ all.spoken)
+
+module _ {V : Type 0} {T : V → Type 0} {form : FormOf V T} {settings : Settings} (new : ScriptGrid V T) (s : ScriptRun) (c most number : ℕ) where
+  pub ran_fed : (all : ScriptGrid V T) → AreSpokenStill all new s → number ≡ s.run.lines + 1 → (added written text : List ℕ)
+      → HasCounted form settings new (record s { nears = changed c (fed most) s.nears }) added written text → added ≡ fed_text number most (near_of s c) → HasRun form settings new s (NearFeed c most) written text
+  ran_fed all still at_line added written text counted shown =
+      ran_counted new s (NearFeed c most) all refl still.0 still.1 added written text counted (shown ∙ ap (λ (k : ℕ). fed_text k most (near_of s c)) at_line)
