@@ -1,6 +1,7 @@
 pub mod Digits
 pub mod Laws
 pub mod LineReadings
+pub mod LookUps
 pub mod NearLines
 pub mod Nears
 pub mod OneConnection

@@ -1,8 +1,9 @@
 -- The lines of near clients: what they come to in the run of a script.
-use Rattle.std.proofs.Common.{◌≡◌, ℕ, ◌+◌, ◌*◌, ◌≤◌, Bool, true, false, not, cond, List, [], ◌∷◌, ◌++◌, length, Option, Some, None, refl, ap, sym, ◌∙◌, subst, append_assoc, arith}
+use Rattle.std.proofs.Common.{◌≡◌, ℕ, ◌+◌, ◌*◌, ◌≤◌, Bool, true, false, not, cond, List, [], ◌∷◌, ◌++◌, length, Option, Some, None, refl, ap, sym, ◌∙◌, subst, append_assoc, append-nil, arith, Vec, Global}
 use Rattle.std.specs.Prelude.{codes}
 use Rattle.grid_base.specs.Objects.{Object}
 use Rattle.grid_base.specs.declared.calls.Request.{Request}
+use Rattle.grid_base.specs.declared.names.CallId.{CallId}
 use Rattle.call_engine.specs.Calls.{Settings}
 use Rattle.call_engine.specs.Objects.{partition_object}
 use Rattle.object_store.specs.Partitions.{Partition}
@@ -12,16 +13,17 @@ use Rattle.script_lang.specs.declared.line.Line.{Line}
 use Rattle.script_lang.specs.declared.line.Line.TheVariants.{Arrive, Near, NearGet, NearFeed, Comment}
 use Rattle.replay_run.specs.Grids.{FormOf, most_arriving}
 use Rattle.replay_run.specs.Printing.{ok_text, nothing_text, words_line}
-use Rattle.replay_run.specs.Runs.{Run}
+use Rattle.replay_run.specs.Runs.{Run, connection_of}
 use Rattle.replay_run.proofs.SkipLaws.{line_counts}
+use Rattle.script_run.specs.declared.client.NearClient.{NearClient as KeptClient}
 use Rattle.script_run.specs.declared.grid.ScriptGrid.{ScriptGrid}
 use Rattle.script_run.specs.NearClients.{NearClient, opening_of, new_near, used, get_sent, missed, fed}
-use Rattle.script_run.specs.Runs.{ScriptRun, Look, Unmade, Hit, Miss, near_of, can_begin, look, asked_line, after_look, changed, grid_line, nears_by}
+use Rattle.script_run.specs.Runs.{ScriptRun, Look, Unmade, Hit, Miss, near_of, can_begin, look, asked_line, after_look, changed, grid_line, nears_by, takes}
 use Rattle.script_run.specs.AfterLines.{played}
 use Rattle.script_run.specs.Printing.{brought, hit_text, look_text, fed_text, line_text}
-use Rattle.script_run.specs.Grids.{AreSpoken, Stands, MayRun, HasRun, IsGivenUp, IsGivenUpAt, HasCounted, HasSent, MaySend, IsOnOne, Goes}
+use Rattle.script_run.specs.Grids.{AreNear, AreSpoken, Stands, MayRun, HasRun, IsGivenUp, IsGivenUpAt, HasPlayed, HasCounted, HasSent, MaySend, IsOnOne, Goes}
 use Rattle.script_run.proofs.Playing.{if_true, if_false, mid, ran_as, ran_counted, ran_passed, given_up_at}
-use Rattle.script_run.proofs.Sizes.{opening_fits, get_fits}
+use Rattle.script_run.proofs.Sending.{text_of_bytes, nothing_brought}
 
 module _ {V : Type 0} {T : V → Type 0} {form : FormOf V T} {settings : Settings} (new : ScriptGrid V T) (s : ScriptRun) (line : Line) where
   abbrev o : Object Request Partition
@@ -121,3 +123,46 @@ module _ {V : Type 0} {T : V → Type 0} {form : FormOf V T} {settings : Setting
       → HasCounted form settings new (record s { nears = changed c (fed most) s.nears }) added written text → added ≡ fed_text number most (near_of s c) → HasRun form settings new s (NearFeed c most) written text
   ran_fed all still at_line added written text counted shown =
       ran_counted new s (NearFeed c most) all refl still.0 still.1 added written text counted (shown ∙ ap (λ (k : ℕ). fed_text k most (near_of s c)) at_line)
+
+-- The near clients have done their part, and one may send.
+
+pub stands_with : {V : Type 0} {T : V → Type 0} {form : FormOf V T} {settings : Settings} {all : ScriptGrid V T} {s : ScriptRun} (nears : Vec KeptClient Global) (ns : List NearClient) → Stands form settings all s → AreNear nears.items ns
+    → Stands form settings (record all { nears = nears }) (record s { nears = ns })
+stands_with nears ns stands are = record { goes = record { grid = stands.goes.grid; nears = are }; spoken = stands.spoken }
+
+pub may_send : {V : Type 0} {T : V → Type 0} {form : FormOf V T} {settings : Settings} {all : ScriptGrid V T} {s : ScriptRun} {number c : ℕ} {bytes : List ℕ} → Stands form settings all s → c ≤ 63 → (1 ≤ length bytes) × (2 * length bytes ≤ most_arriving)
+    → number ≡ s.run.lines + 1 → number ≤ most_lines → MaySend form all number c bytes
+may_send {settings = settings} {s = s} stands low size at_line within = record { settings = settings; run = s; stands = stands; read = (low, size.0, size.1); next = at_line; within = within }
+
+-- What a near client sends ran on the grid, by itself.
+
+module _ {V : Type 0} {T : V → Type 0} {form : FormOf V T} {settings : Settings} (new marked : ScriptGrid V T) (s : ScriptRun) (c : ℕ) (bytes : List ℕ) (number : ℕ) (at_line : number ≡ s.run.lines + 1)
+    (spoken : (skips : List CallId) → AreSpoken marked.spoken.items (played settings skips s (Arrive c bytes)).run) (same : new.spoken ≡ marked.spoken)
+    (printed : List ℕ) (ran : HasPlayed form settings new s (Arrive c bytes) [] printed) where
+  abbrev after : ScriptRun
+  after = played settings ran.skips s (Arrive c bytes)
+
+  stands_after : Stands form settings new after
+  stands_after = record { goes = ran.goes; spoken = subst (λ (xs : Vec Bool Global). AreSpoken xs.items after.run) (sym same) (spoken ran.skips) }
+
+  lines_after : after.run.lines ≡ number
+  lines_after = (line_counts (partition_object settings) ran.skips s.run (Arrive c bytes)).lines ∙ sym at_line
+
+  -- Bytes can arrive: the text is that of a line of bytes.
+  printed_is : takes (partition_object settings) s.run (connection_of s.run c) ≡ true → printed ≡ ok_text number ++ brought settings s.run c bytes after.run
+  printed_is taking = ran.added ∙ text_of_bytes settings s.run c bytes after.run taking ∙ ap (λ (n : ℕ). ok_text n ++ brought settings s.run c bytes after.run) lines_after
+
+  pub printed_brings : takes (partition_object settings) s.run (connection_of s.run c) ≡ true → (more : List ℕ) × (printed ≡ ok_text number ++ more)
+  printed_brings taking = (brought settings s.run c bytes after.run, printed_is taking)
+
+  pub sent_taking : takes (partition_object settings) s.run (connection_of s.run c) ≡ true → (written text : List ℕ) → ((more : List ℕ) → printed ≡ ok_text number ++ more → text ≡ written ++ more) → HasSent form settings new s c bytes written text
+  sent_taking taking written text added = record { skips = ran.skips; of_line = ran.of_line; stands = stands_after; added = added (brought settings s.run c bytes after.run) (printed_is taking) }
+
+  -- They can't: nothing is brought.
+  pub sent_idle : takes (partition_object settings) s.run (connection_of s.run c) ≡ false → (written : List ℕ) → HasSent form settings new s c bytes written written
+  sent_idle idle written = record {
+    skips = ran.skips;
+    of_line = ran.of_line;
+    stands = stands_after;
+    added = sym (append-nil written) ∙ ap (λ (t : List ℕ). written ++ t) (sym (nothing_brought settings s.run c bytes after.run idle));
+  }
