@@ -2,6 +2,7 @@
 use Rattle.std.proofs.Common.{◌≡◌, ℕ, Bool, true, false, cond, List, [], Option, Some, None, option_map, refl, ap, sym, ◌∙◌, subst}
 use Rattle.std.specs.Prelude.{option_and_then}
 use Rattle.std.specs.Option.{option_map_or}
+use Rattle.std.specs.List.{position}
 use Rattle.grid_base.specs.Objects.{Object}
 use Rattle.grid_base.specs.declared.calls.Request.{Request}
 use Rattle.object_store.specs.Partitions.{Partition}
@@ -13,8 +14,10 @@ use Rattle.grid_client.specs.declared.heard.Sending.{Sending}
 use Rattle.script_run.specs.declared.client.NearClient.{NearClient as KeptClient}
 use Rattle.script_run.specs.NearClients.{NearClient, value_kept, map_name, used, get_sent, missed}
 use Rattle.script_run.specs.Runs.{ScriptRun, Look, Unmade, Hit, Miss, near_of, may_look, look, look_of, look_at}
-use Rattle.script_run.specs.Grids.{IsNear, IsOnOne}
+use Rattle.script_run.specs.Grids.{IsNear, AreNear, IsOnOne, is_kept}
+use Rattle.script_run.proofs.Nears.{none_found}
 use Rattle.script_run.proofs.OneConnection.{target_one, used_one, missed_one}
+use Rattle.script_run.proofs.Places.{none_placed}
 use Rattle.script_run.proofs.Playing.{if_true, if_false}
 
 -- what the look-up of the run comes to
@@ -74,3 +77,16 @@ module _ (n : NearClient) (key : List ℕ) (sending : Sending) (new : State) (on
 
   pub miss_near : (kept : KeptClient) → IsNear kept n → IsNear (record kept { client = new }) (missed key n)
   miss_near kept is = record { conn = is.conn; within = is.within; client = miss_state; unread = is.unread; one = missed_one key n is.one }
+
+-- where the client is
+
+pub may_if : (b : Bool) (found : Option ℕ) (place : ℕ) → cond b found None ≡ Some place → (b ≡ true) × (found ≡ Some place)
+may_if true found place e = (refl, e)
+may_if false found place e = absurd cc
+
+pub unmade_if : (o : Object Request Partition) (s : ScriptRun) (c : ℕ) (key : List ℕ) (ks : List KeptClient) → AreNear ks s.nears → cond (may_look o s c key) (position (is_kept c) ks) None ≡ None → look o s c key ≡ Unmade
+unmade_if o s c key ks are e = by (may_look o s c key) refl e
+  where
+    by : (b : Bool) → may_look o s c key ≡ b → cond b (position (is_kept c) ks) None ≡ None → look o s c key ≡ Unmade
+    by true is e = none_there o s c key (none_found c ks s.nears are (none_placed (is_kept c) ks e))
+    by false is e = not_made o s c key is

@@ -25,104 +25,91 @@ use Rattle.script_run.specs.Grids.{AreNear, AreSpoken, Stands, MayRun, HasRun, I
 use Rattle.script_run.proofs.Playing.{if_true, if_false, mid, ran_as, ran_counted, ran_passed, given_up_at}
 use Rattle.script_run.proofs.Sending.{text_of_bytes, nothing_brought}
 
-module _ {V : Type 0} {T : V → Type 0} {form : FormOf V T} {settings : Settings} (new : ScriptGrid V T) (s : ScriptRun) (line : Line) where
-  abbrev o : Object Request Partition
-  o = partition_object settings
+-- What a near client sends arrives: the line's outcome, and then what that brings.
 
-  -- What a near client sends arrives: the line's outcome, and then what that brings.
-  module _ (ns : List NearClient) (c : ℕ) (bytes : List ℕ) (stay : nears_by o s line ≡ ns) (asked : grid_line o s line ≡ Arrive c bytes) where
-    abbrev with_nears : ScriptRun
-    with_nears = record s { nears = ns }
+same_mid : {settings : Settings} (s : ScriptRun) (line : Line) (ns : List NearClient) → nears_by (partition_object settings) s line ≡ ns → mid settings s line ≡ record s { nears = ns }
+same_mid s line ns stay = ap (λ (xs : List NearClient). record s { nears = xs }) stay
 
-    same_mid : mid {settings = settings} new s line ≡ with_nears
-    same_mid = ap (λ (xs : List NearClient). record s { nears = xs }) stay
+pub ran_sent : {V : Type 0} {T : V → Type 0} {form : FormOf V T} {settings : Settings} (new : ScriptGrid V T) (s : ScriptRun) (line : Line) (ns : List NearClient) (c : ℕ) (bytes : List ℕ) → nears_by (partition_object settings) s line ≡ ns
+    → grid_line (partition_object settings) s line ≡ Arrive c bytes → (number : ℕ) (outcome : ℕ → List ℕ) → ((next : ScriptRun) → line_text settings s line next ≡ outcome next.run.lines ++ brought settings s.run c bytes next.run)
+    → number ≡ s.run.lines + 1 → (written text : List ℕ) → HasSent form settings new (record s { nears = ns }) c bytes (written ++ outcome number) text → HasRun form settings new s line written text
+ran_sent {form = form} {settings = settings} new s line ns c bytes stay asked number outcome says at_line written text sent =
+    let next = played settings sent.skips (record s { nears = ns }) (Arrive c bytes) in
+    let one = same_mid {settings = settings} s line ns stay in
+    let lines : number ≡ next.run.lines = at_line ∙ sym (line_counts (partition_object settings) sent.skips s.run (Arrive c bytes)).lines in
+    let shown : text ≡ written ++ line_text settings s line next =
+    sent.added ∙ append_assoc written (outcome number) (brought settings s.run c bytes next.run)
+    ∙ ap (λ (n : ℕ). written ++ (outcome n ++ brought settings s.run c bytes next.run)) lines ∙ ap (λ (t : List ℕ). written ++ t) (sym (says next)) in
+    ran_as new s line (Arrive c bytes) asked sent.skips sent.of_line (subst (λ (m : ScriptRun). Stands form settings new (played settings sent.skips m (Arrive c bytes))) (sym one) sent.stands) written text
+    (subst (λ (m : ScriptRun). text ≡ written ++ line_text settings s line (played settings sent.skips m (Arrive c bytes))) (sym one) shown)
 
-    pub ran_sent : (number : ℕ) (outcome : ℕ → List ℕ) → ((next : ScriptRun) → line_text settings s line next ≡ outcome next.run.lines ++ brought settings s.run c bytes next.run) → number ≡ s.run.lines + 1
-        → (written text : List ℕ) → HasSent form settings new with_nears c bytes (written ++ outcome number) text → HasRun form settings new s line written text
-    ran_sent number outcome says at_line written text sent =
-        let next = played settings sent.skips with_nears (Arrive c bytes) in
-        let lines : number ≡ next.run.lines = at_line ∙ sym (line_counts o sent.skips s.run (Arrive c bytes)).lines in
-        let shown : text ≡ written ++ line_text settings s line next =
-        sent.added ∙ append_assoc written (outcome number) (brought settings s.run c bytes next.run)
-        ∙ ap (λ (n : ℕ). written ++ (outcome n ++ brought settings s.run c bytes next.run)) lines ∙ ap (λ (t : List ℕ). written ++ t) (sym (says next)) in
-        ran_as new s line (Arrive c bytes) asked sent.skips sent.of_line
-        (subst (λ (m : ScriptRun). Stands form settings new (played settings sent.skips m (Arrive c bytes))) (sym same_mid) sent.stands) written text
-        (subst (λ (m : ScriptRun). text ≡ written ++ line_text settings s line (played settings sent.skips m (Arrive c bytes))) (sym same_mid) shown)
-
-    pub given_up_sent : IsGivenUpAt settings with_nears (Arrive c bytes) → IsGivenUp settings s line
-    given_up_sent given = given_up_at new s line (Arrive c bytes) asked (subst (λ (m : ScriptRun). IsGivenUpAt settings m (Arrive c bytes)) (sym same_mid) given)
+pub given_up_sent : {settings : Settings} (s : ScriptRun) (line : Line) (ns : List NearClient) (c : ℕ) (bytes : List ℕ) → nears_by (partition_object settings) s line ≡ ns → grid_line (partition_object settings) s line ≡ Arrive c bytes
+    → IsGivenUpAt settings (record s { nears = ns }) (Arrive c bytes) → IsGivenUp settings s line
+given_up_sent {settings = settings} s line ns c bytes stay asked given =
+    given_up_at s line (Arrive c bytes) asked (subst (λ (m : ScriptRun). IsGivenUpAt settings m (Arrive c bytes)) (sym (same_mid {settings = settings} s line ns stay)) given)
 
 -- `near`
 
-module _ {V : Type 0} {T : V → Type 0} {form : FormOf V T} {settings : Settings} (new : ScriptGrid V T) (s : ScriptRun) (c : ℕ) (name : List ℕ) (capacity number : ℕ) where
-  pub ran_not_begun : (all : ScriptGrid V T) → Stands form settings all s → number ≡ s.run.lines + 1 → can_begin s c name ≡ false → new.spoken ≡ all.spoken → (written text : List ℕ)
-      → HasCounted form settings new s (nothing_text number) written text → HasRun form settings new s (Near c name capacity) written text
-  ran_not_begun all stands at_line cannot same written text counted =
-      ran_passed new s (Near c name capacity) all number stands at_line (if_false (can_begin s c name) (Arrive c (opening_of c name)) Comment cannot)
-      (if_false (can_begin s c name) (s.nears ++ new_near c name capacity ∷ []) s.nears cannot) (λ next. if_false (can_begin s c name) _ (nothing_text next.run.lines) cannot) same written text counted
+abbrev pub begun : ScriptRun → ℕ → List ℕ → ℕ → List NearClient
+begun s c name capacity = s.nears ++ new_near c name capacity ∷ []
 
-  module _ (can : can_begin s c name ≡ true) where
-    abbrev begun : List NearClient
-    begun = s.nears ++ new_near c name capacity ∷ []
+pub ran_not_begun : {V : Type 0} {T : V → Type 0} {form : FormOf V T} {settings : Settings} (new all : ScriptGrid V T) (s : ScriptRun) (c : ℕ) (name : List ℕ) (capacity number : ℕ) → Stands form settings all s → number ≡ s.run.lines + 1
+    → can_begin s c name ≡ false → new.spoken ≡ all.spoken → (written text : List ℕ) → HasCounted form settings new s (nothing_text number) written text → HasRun form settings new s (Near c name capacity) written text
+ran_not_begun new all s c name capacity number stands at_line cannot same written text counted =
+    ran_passed new all s (Near c name capacity) number stands at_line (if_false (can_begin s c name) (Arrive c (opening_of c name)) Comment cannot)
+    (if_false (can_begin s c name) (begun s c name capacity) s.nears cannot) (λ next. if_false (can_begin s c name) _ (nothing_text next.run.lines) cannot) same written text counted
 
-    pub ran_begun : number ≡ s.run.lines + 1 → (written text : List ℕ) → HasSent form settings new (record s { nears = begun }) c (opening_of c name) (written ++ ok_text number) text → HasRun form settings new s (Near c name capacity) written text
-    ran_begun at_line written text sent =
-        ran_sent new s (Near c name capacity) begun c (opening_of c name) (if_true (can_begin s c name) begun s.nears can) (if_true (can_begin s c name) (Arrive c (opening_of c name)) Comment can)
-        number ok_text (λ next. if_true (can_begin s c name) (ok_text next.run.lines ++ brought settings s.run c (opening_of c name) next.run) (nothing_text next.run.lines) can) at_line written text sent
+pub ran_begun : {V : Type 0} {T : V → Type 0} {form : FormOf V T} {settings : Settings} (new : ScriptGrid V T) (s : ScriptRun) (c : ℕ) (name : List ℕ) (capacity number : ℕ) → can_begin s c name ≡ true → number ≡ s.run.lines + 1
+    → (written text : List ℕ) → HasSent form settings new (record s { nears = begun s c name capacity }) c (opening_of c name) (written ++ ok_text number) text → HasRun form settings new s (Near c name capacity) written text
+ran_begun {settings = settings} new s c name capacity number can at_line written text sent =
+    ran_sent new s (Near c name capacity) (begun s c name capacity) c (opening_of c name) (if_true (can_begin s c name) (begun s c name capacity) s.nears can)
+    (if_true (can_begin s c name) (Arrive c (opening_of c name)) Comment can) number ok_text
+    (λ next. if_true (can_begin s c name) (ok_text next.run.lines ++ brought settings s.run c (opening_of c name) next.run) (nothing_text next.run.lines) can) at_line written text sent
 
-    pub given_up_begun : IsGivenUpAt settings (record s { nears = begun }) (Arrive c (opening_of c name)) → IsGivenUp settings s (Near c name capacity)
-    given_up_begun given =
-        given_up_sent {settings = settings} new s (Near c name capacity) begun c (opening_of c name) (if_true (can_begin s c name) begun s.nears can) (if_true (can_begin s c name) (Arrive c (opening_of c name)) Comment can) given
+pub given_up_begun : {settings : Settings} (s : ScriptRun) (c : ℕ) (name : List ℕ) (capacity : ℕ) → can_begin s c name ≡ true → IsGivenUpAt settings (record s { nears = begun s c name capacity }) (Arrive c (opening_of c name))
+    → IsGivenUp settings s (Near c name capacity)
+given_up_begun s c name capacity can given =
+    given_up_sent s (Near c name capacity) (begun s c name capacity) c (opening_of c name) (if_true (can_begin s c name) (begun s c name capacity) s.nears can)
+    (if_true (can_begin s c name) (Arrive c (opening_of c name)) Comment can) given
 
 -- `nearget`
 
-module _ {V : Type 0} {T : V → Type 0} {form : FormOf V T} {settings : Settings} (new : ScriptGrid V T) (s : ScriptRun) (c : ℕ) (key : List ℕ) (number : ℕ) where
-  abbrev looked : Look
-  looked = look (partition_object settings) s c key
+pub ran_not_looked : {V : Type 0} {T : V → Type 0} {form : FormOf V T} {settings : Settings} (new all : ScriptGrid V T) (s : ScriptRun) (c : ℕ) (key : List ℕ) (number : ℕ) → Stands form settings all s → number ≡ s.run.lines + 1
+    → look (partition_object settings) s c key ≡ Unmade → new.spoken ≡ all.spoken → (written text : List ℕ) → HasCounted form settings new s (nothing_text number) written text → HasRun form settings new s (NearGet c key) written text
+ran_not_looked {settings = settings} new all s c key number stands at_line unmade same written text counted =
+    ran_passed new all s (NearGet c key) number stands at_line (ap (asked_line c key) unmade) (ap (λ (l : Look). after_look c key l s.nears) unmade)
+    (λ next. ap (look_text settings s.run c key next.run) unmade) same written text counted
 
-  pub ran_not_looked : (all : ScriptGrid V T) → Stands form settings all s → number ≡ s.run.lines + 1 → looked ≡ Unmade → new.spoken ≡ all.spoken → (written text : List ℕ)
-      → HasCounted form settings new s (nothing_text number) written text → HasRun form settings new s (NearGet c key) written text
-  ran_not_looked all stands at_line unmade same written text counted =
-      ran_passed new s (NearGet c key) all number stands at_line (ap (asked_line c key) unmade) (ap (λ (l : Look). after_look c key l s.nears) unmade)
-      (λ next. ap (look_text settings s.run c key next.run) unmade) same written text counted
+-- a hit
+pub ran_hit : {V : Type 0} {T : V → Type 0} {form : FormOf V T} {settings : Settings} (new all : ScriptGrid V T) (s : ScriptRun) (c : ℕ) (key : List ℕ) (number : ℕ) (n : NearClient) (value : Value) → AreSpoken all.spoken.items s.run
+    → number ≡ s.run.lines + 1 → look (partition_object settings) s c key ≡ Hit n value → new.spoken ≡ all.spoken → (written text : List ℕ)
+    → HasCounted form settings new (record s { nears = changed c (used key) s.nears }) (hit_text number value) written text → HasRun form settings new s (NearGet c key) written text
+ran_hit {form = form} {settings = settings} new all s c key number n value spoken at_line hit same written text counted =
+    let line = NearGet c key in
+    let one = same_mid {settings = settings} s line (changed c (used key) s.nears) (ap (λ (l : Look). after_look c key l s.nears) hit) in
+    ran_counted new all s line (ap (asked_line c key) hit) spoken same (hit_text number value) written text
+    (subst (λ (m : ScriptRun). HasCounted form settings new m (hit_text number value) written text) (sym one) counted)
+    (ap (λ (k : ℕ). hit_text k value) at_line ∙ sym (ap (look_text settings s.run c key (played settings [] (mid settings s line) Comment).run) hit))
 
-  -- a hit
-  pub ran_hit : (all : ScriptGrid V T) (n : NearClient) (value : Value) → Stands form settings all s → number ≡ s.run.lines + 1 → looked ≡ Hit n value → new.spoken ≡ all.spoken → (written text : List ℕ)
-      → HasCounted form settings new (record s { nears = changed c (used key) s.nears }) (hit_text number value) written text → HasRun form settings new s (NearGet c key) written text
-  ran_hit all n value stands at_line hit same written text counted =
-      let o = partition_object settings in
-      let line = NearGet c key in
-      let stay : nears_by o s line ≡ changed c (used key) s.nears = ap (λ (l : Look). after_look c key l s.nears) hit in
-      let one : mid {settings = settings} new s line ≡ record s { nears = changed c (used key) s.nears } = ap (λ (xs : List NearClient). record s { nears = xs }) stay in
-      ran_counted new s line all (ap (asked_line c key) hit) stands.spoken same (hit_text number value) written text
-      (subst (λ (m : ScriptRun). HasCounted form settings new m (hit_text number value) written text) (sym one) counted)
-      (ap (λ (k : ℕ). hit_text k value) at_line ∙ sym (ap (look_text settings s.run c key (played settings [] (mid {settings = settings} new s line) Comment).run) hit))
+-- a miss
 
-  -- a miss
-  module _ (n : NearClient) (miss : looked ≡ Miss n) where
-    abbrev opened : List NearClient
-    opened = changed c (missed key) s.nears
+pub ran_missed : {V : Type 0} {T : V → Type 0} {form : FormOf V T} {settings : Settings} (new : ScriptGrid V T) (s : ScriptRun) (c : ℕ) (key : List ℕ) (number : ℕ) (n : NearClient) → look (partition_object settings) s c key ≡ Miss n
+    → number ≡ s.run.lines + 1 → (written text : List ℕ) → HasSent form settings new (record s { nears = changed c (missed key) s.nears }) c (get_sent n key).request (written ++ words_line number (codes "miss")) text
+    → HasRun form settings new s (NearGet c key) written text
+ran_missed {settings = settings} new s c key number n miss at_line written text sent =
+    ran_sent new s (NearGet c key) (changed c (missed key) s.nears) c (get_sent n key).request (ap (λ (l : Look). after_look c key l s.nears) miss) (ap (asked_line c key) miss) number (λ k. words_line k (codes "miss"))
+    (λ next. ap (look_text settings s.run c key next.run) miss) at_line written text sent
 
-    pub ran_missed : number ≡ s.run.lines + 1 → (written text : List ℕ) → HasSent form settings new (record s { nears = opened }) c (get_sent n key).request (written ++ words_line number (codes "miss")) text
-        → HasRun form settings new s (NearGet c key) written text
-    ran_missed at_line written text sent =
-        ran_sent new s (NearGet c key) opened c (get_sent n key).request (ap (λ (l : Look). after_look c key l s.nears) miss) (ap (asked_line c key) miss)
-        number (λ k. words_line k (codes "miss")) (λ next. ap (look_text settings s.run c key next.run) miss) at_line written text sent
-
-    pub given_up_missed : IsGivenUpAt settings (record s { nears = opened }) (Arrive c (get_sent n key).request) → IsGivenUp settings s (NearGet c key)
-    given_up_missed given = given_up_sent {settings = settings} new s (NearGet c key) opened c (get_sent n key).request (ap (λ (l : Look). after_look c key l s.nears) miss) (ap (asked_line c key) miss) given
+pub given_up_missed : {settings : Settings} (s : ScriptRun) (c : ℕ) (key : List ℕ) (n : NearClient) → look (partition_object settings) s c key ≡ Miss n
+    → IsGivenUpAt settings (record s { nears = changed c (missed key) s.nears }) (Arrive c (get_sent n key).request) → IsGivenUp settings s (NearGet c key)
+given_up_missed s c key n miss given =
+    given_up_sent s (NearGet c key) (changed c (missed key) s.nears) c (get_sent n key).request (ap (λ (l : Look). after_look c key l s.nears) miss) (ap (asked_line c key) miss) given
 
 -- `nearfeed`
-
--- Who has spoken is as it was.
-abbrev pub AreSpokenStill : {V : Type 0} {T : V → Type 0} → ScriptGrid V T → ScriptGrid V T → ScriptRun → Type 0
-AreSpokenStill all new s = AreSpoken all.spoken.items s.run × (new.spoken ≡ all.spoken)
-
-module _ {V : Type 0} {T : V → Type 0} {form : FormOf V T} {settings : Settings} (new : ScriptGrid V T) (s : ScriptRun) (c most number : ℕ) where
-  pub ran_fed : (all : ScriptGrid V T) → AreSpokenStill all new s → number ≡ s.run.lines + 1 → (added written text : List ℕ)
-      → HasCounted form settings new (record s { nears = changed c (fed most) s.nears }) added written text → added ≡ fed_text number most (near_of s c) → HasRun form settings new s (NearFeed c most) written text
-  ran_fed all still at_line added written text counted shown =
-      ran_counted new s (NearFeed c most) all refl still.0 still.1 added written text counted (shown ∙ ap (λ (k : ℕ). fed_text k most (near_of s c)) at_line)
+pub ran_fed : {V : Type 0} {T : V → Type 0} {form : FormOf V T} {settings : Settings} (new all : ScriptGrid V T) (s : ScriptRun) (c most number : ℕ) → AreSpoken all.spoken.items s.run → new.spoken ≡ all.spoken → number ≡ s.run.lines + 1
+    → (written text : List ℕ) → HasCounted form settings new (record s { nears = changed c (fed most) s.nears }) (fed_text number most (near_of s c)) written text → HasRun form settings new s (NearFeed c most) written text
+ran_fed new all s c most number spoken same at_line written text counted =
+    ran_counted new all s (NearFeed c most) refl spoken same (fed_text number most (near_of s c)) written text counted (ap (λ (k : ℕ). fed_text k most (near_of s c)) at_line)
 
 -- The near clients have done their part, and one may send.
 

@@ -17,7 +17,7 @@ use Rattle.replay_run.specs.Grids.{FormOf, most_arriving}
 use Rattle.replay_run.specs.Grids as grid
 use Rattle.replay_run.specs.Printing.{nothing_text}
 use Rattle.replay_run.specs.Printing as grid_text
-use Rattle.replay_run.specs.Runs.{Run, next_line}
+use Rattle.replay_run.specs.Runs.{Run, Appended}
 use Rattle.replay_run.specs.Skips.{AreOfLine}
 use Rattle.replay_run.specs.WorldCalls.{is_quiet}
 use Rattle.script_run.specs.declared.client.NearClient.{NearClient as KeptClient}
@@ -30,7 +30,7 @@ use Rattle.script_run.specs.Reading.{Tells}
 use Rattle.script_run.specs.Grids.{AreNear, AreSpoken, Goes, Stands, MayRun, HasRun, IsGivenUp, MayPlay, HasPlayed, IsGivenUpAt, HasCounted}
 use Rattle.script_run.proofs.LineReadings.{line_tells, quiet_none}
 use Rattle.script_run.proofs.Nears.{none_noted}
-use Rattle.script_run.proofs.Spoken.{are_spoken_kept}
+use Rattle.script_run.proofs.Spoken.{are_spoken_as}
 
 pub if_true : {X : Type 0} (b : Bool) (x y : X) → b ≡ true → cond b x y ≡ x
 if_true true x y e = refl
@@ -95,7 +95,7 @@ no_skips settings r line id there = absurd (in_contains id [] there)
 
 -- The grid ran a line.
 
-module _ {V : Type 0} {T : V → Type 0} {form : FormOf V T} {settings : Settings} {new : ScriptGrid V T} {s : ScriptRun} {line : Line} {written text : List ℕ} (ran : grid.HasRun form settings new.grid s.run line written text) where
+module _ {V : Type 0} {T : V → Type 0} {form : FormOf V T} {settings : Settings} (new : ScriptGrid V T) (s : ScriptRun) (line : Line) {written text : List ℕ} (ran : grid.HasRun form settings new.grid s.run line written text) where
   abbrev next : Run
   next = (played settings ran.skips s line).run
 
@@ -113,54 +113,52 @@ module _ {V : Type 0} {T : V → Type 0} {form : FormOf V T} {settings : Setting
   -- or nothing was appended
   pub has_played_quietly : is_quiet line ≡ true → AreNear new.nears.items s.nears → HasPlayed form settings new s line written text
   has_played_quietly quiet nears =
-      has_played (subst (λ ms. AreNear new.nears.items (map (noting ms) s.nears)) (sym (quiet_none settings ran.skips s.run line quiet)) (none_noted new.nears.items s.nears nears))
+      has_played
+      (subst (λ (ms : List Appended). AreNear new.nears.items (map (noting ms) s.nears)) (sym (quiet_none settings ran.skips s.run line quiet)) (none_noted new.nears.items s.nears nears))
 
 -- A line of a script ran.
 
-module _ {V : Type 0} {T : V → Type 0} {form : FormOf V T} {settings : Settings} (new : ScriptGrid V T) (s : ScriptRun) (line : Line) where
-  abbrev o : Object Request Partition
-  o = partition_object settings
+-- The near clients have done their part.
+abbrev pub mid : Settings → ScriptRun → Line → ScriptRun
+mid settings s line = record s { nears = nears_by (partition_object settings) s line }
 
-  -- the near clients have done their part
-  abbrev pub mid : ScriptRun
-  mid = record s { nears = nears_by o s line }
+-- It is this line to the grid.
+pub ran_as : {V : Type 0} {T : V → Type 0} {form : FormOf V T} {settings : Settings} (new : ScriptGrid V T) (s : ScriptRun) (line asked : Line) → grid_line (partition_object settings) s line ≡ asked → (skips : List CallId)
+    → AreOfLine (partition_object settings) s.run asked skips → Stands form settings new (played settings skips (mid settings s line) asked)
+    → (written text : List ℕ) → text ≡ written ++ line_text settings s line (played settings skips (mid settings s line) asked) → HasRun form settings new s line written text
+ran_as {form = form} {settings = settings} new s line asked is skips of_line stands written text added =
+    let whole : after_line settings skips s line ≡ played settings skips (mid settings s line) asked = ap (played settings skips (mid settings s line)) is in
+    record {
+      skips = skips;
+      of_line = subst (λ (l : Line). AreOfLine (partition_object settings) s.run l skips) (sym is) of_line;
+      stands = subst (Stands form settings new) (sym whole) stands;
+      added = added ∙ ap (λ (next : ScriptRun). written ++ line_text settings s line next) (sym whole);
+    }
 
-  -- It is this line to the grid.
-  pub ran_as : (asked : Line) → grid_line o s line ≡ asked → (skips : List CallId) → AreOfLine o s.run asked skips → Stands form settings new (played settings skips mid asked)
-      → (written text : List ℕ) → text ≡ written ++ line_text settings s line (played settings skips mid asked) → HasRun form settings new s line written text
-  ran_as asked is skips of_line stands written text added =
-      let whole : after_line settings skips s line ≡ played settings skips mid asked = ap (played settings skips mid) is in
-      record {
-        skips = skips;
-        of_line = subst (λ (l : Line). AreOfLine o s.run l skips) (sym is) of_line;
-        stands = subst (Stands form settings new) (sym whole) stands;
-        added = added ∙ ap (λ (next : ScriptRun). written ++ line_text settings s line next) (sym whole);
-      }
+pub given_up_at : {settings : Settings} (s : ScriptRun) (line asked : Line) → grid_line (partition_object settings) s line ≡ asked → IsGivenUpAt settings (mid settings s line) asked → IsGivenUp settings s line
+given_up_at {settings = settings} s line asked is given = record {
+  skips = given.skips;
+  of_line = subst (λ (l : Line). AreOfLine (partition_object settings) s.run l given.skips) (sym is) given.of_line;
+  full = ap (λ (l : Line). (played settings given.skips (mid settings s line) l).run.full) is ∙ given.full;
+}
 
-  pub given_up_at : (asked : Line) → grid_line o s line ≡ asked → IsGivenUpAt settings mid asked → IsGivenUp settings s line
-  given_up_at asked is given = record {
-    skips = given.skips;
-    of_line = subst (λ (l : Line). AreOfLine o s.run l given.skips) (sym is) given.of_line;
-    full = ap (λ (l : Line). (played settings given.skips mid l).run.full) is ∙ given.full;
-  }
+-- nothing happens on the grid
+pub ran_counted : {V : Type 0} {T : V → Type 0} {form : FormOf V T} {settings : Settings} (new all : ScriptGrid V T) (s : ScriptRun) (line : Line) → grid_line (partition_object settings) s line ≡ Comment → AreSpoken all.spoken.items s.run
+    → new.spoken ≡ all.spoken → (added written text : List ℕ) → HasCounted form settings new (mid settings s line) added written text → added ≡ line_text settings s line (played settings [] (mid settings s line) Comment)
+    → HasRun form settings new s line written text
+ran_counted {settings = settings} new all s line is spoken same added written text counted shown =
+    let still = are_spoken_as settings [] s.run all.spoken new.spoken Comment (λ k bytes e. cc e) same spoken in
+    ran_as new s line Comment is [] (no_skips settings s.run Comment) (record { goes = counted.goes; spoken = still }) written text (counted.is ∙ ap (λ (t : List ℕ). written ++ t) shown)
 
-  -- nothing happens on the grid
-  pub ran_counted : (all : ScriptGrid V T) → grid_line o s line ≡ Comment → AreSpoken all.spoken.items s.run → new.spoken ≡ all.spoken → (added written text : List ℕ)
-      → HasCounted form settings new mid added written text → added ≡ line_text settings s line (played settings [] mid Comment) → HasRun form settings new s line written text
-  ran_counted all is spoken same added written text counted shown =
-      let still : AreSpoken new.spoken.items (played settings [] mid Comment).run =
-      subst (λ xs. AreSpoken xs.items (played settings [] mid Comment).run) (sym same) (are_spoken_kept o [] s.run all.spoken.items Comment (λ k bytes e. cc e) spoken) in
-      ran_as Comment is [] (no_skips settings s.run Comment) (record { goes = counted.goes; spoken = still }) written text (counted.is ∙ ap (λ (t : List ℕ). written ++ t) shown)
-
-  -- its condition is false
-  pub ran_passed : (all : ScriptGrid V T) (number : ℕ) → Stands form settings all s → number ≡ s.run.lines + 1 → grid_line o s line ≡ Comment → nears_by o s line ≡ s.nears
-      → ((next : ScriptRun) → line_text settings s line next ≡ nothing_text next.run.lines) → new.spoken ≡ all.spoken → (written text : List ℕ)
-      → HasCounted form settings new s (nothing_text number) written text → HasRun form settings new s line written text
-  ran_passed all number stands at_line is stay says same written text counted =
-      let one : mid ≡ s = ap (λ (ns : List NearClient). record s { nears = ns }) stay in
-      ran_counted all is stands.spoken same (nothing_text number) written text
-      (subst (λ (m : ScriptRun). HasCounted form settings new m (nothing_text number) written text) (sym one) counted)
-      (ap nothing_text at_line ∙ sym (says (played settings [] mid Comment)))
+-- its condition is false
+pub ran_passed : {V : Type 0} {T : V → Type 0} {form : FormOf V T} {settings : Settings} (new all : ScriptGrid V T) (s : ScriptRun) (line : Line) (number : ℕ) → Stands form settings all s → number ≡ s.run.lines + 1
+    → grid_line (partition_object settings) s line ≡ Comment → nears_by (partition_object settings) s line ≡ s.nears → ((next : ScriptRun) → line_text settings s line next ≡ nothing_text next.run.lines) → new.spoken ≡ all.spoken
+    → (written text : List ℕ) → HasCounted form settings new s (nothing_text number) written text → HasRun form settings new s line written text
+ran_passed {form = form} {settings = settings} new all s line number stands at_line is stay says same written text counted =
+    let one : mid settings s line ≡ s = ap (λ (ns : List NearClient). record s { nears = ns }) stay in
+    ran_counted new all s line is stands.spoken same (nothing_text number) written text
+    (subst (λ (m : ScriptRun). HasCounted form settings new m (nothing_text number) written text) (sym one) counted)
+    (ap nothing_text at_line ∙ sym (says (played settings [] (mid settings s line) Comment)))
 
 -- A line that is none of a near client's, and brings no bytes, is the grid's.
 
@@ -185,19 +183,19 @@ is_grids_bytes settings s c bytes free = record {
   says = λ next. if_false (is_near_connection s c) (nothing_text next.run.lines) (grid_text.line_text settings s.run (Arrive c bytes) next.run) free;
 }
 
-module _ {V : Type 0} {T : V → Type 0} {form : FormOf V T} {settings : Settings} (new : ScriptGrid V T) (s : ScriptRun) (line : Line) (grids : IsGrids settings s line) where
-  stayed : mid {settings = settings} new s line ≡ s
-  stayed = ap (λ (ns : List NearClient). record s { nears = ns }) grids.stay
+stayed : {settings : Settings} {s : ScriptRun} {line : Line} → IsGrids settings s line → mid settings s line ≡ s
+stayed {s = s} grids = ap (λ (ns : List NearClient). record s { nears = ns }) grids.stay
 
-  pub ran_grids : (written text : List ℕ) (ran : HasPlayed form settings new s line written text) → AreSpoken new.spoken.items (played settings ran.skips s line).run → HasRun form settings new s line written text
-  ran_grids written text ran spoken =
-      let next = played settings ran.skips s line in
-      ran_as new s line line grids.asked ran.skips ran.of_line
-      (subst (λ (m : ScriptRun). Stands form settings new (played settings ran.skips m line)) (sym stayed) (record { goes = ran.goes; spoken = spoken })) written text
-      (ran.added ∙ ap (λ (t : List ℕ). written ++ t) (sym (grids.says next) ∙ ap (λ (m : ScriptRun). line_text settings s line (played settings ran.skips m line)) (sym stayed)))
+pub ran_grids : {V : Type 0} {T : V → Type 0} {form : FormOf V T} {settings : Settings} (new : ScriptGrid V T) (s : ScriptRun) (line : Line) → IsGrids settings s line → (written text : List ℕ)
+    → (ran : HasPlayed form settings new s line written text) → AreSpoken new.spoken.items (played settings ran.skips s line).run → HasRun form settings new s line written text
+ran_grids {form = form} {settings = settings} new s line grids written text ran spoken =
+    ran_as new s line line grids.asked ran.skips ran.of_line
+    (subst (λ (m : ScriptRun). Stands form settings new (played settings ran.skips m line)) (sym (stayed grids)) (record { goes = ran.goes; spoken = spoken })) written text
+    (ran.added
+      ∙ ap (λ (t : List ℕ). written ++ t) (sym (grids.says (played settings ran.skips s line)) ∙ ap (λ (m : ScriptRun). line_text settings s line (played settings ran.skips m line)) (sym (stayed grids))))
 
-  pub given_up_grids : IsGivenUpAt settings s line → IsGivenUp settings s line
-  given_up_grids given = given_up_at new s line line grids.asked (subst (λ (m : ScriptRun). IsGivenUpAt settings m line) (sym stayed) given)
+pub given_up_grids : {settings : Settings} (s : ScriptRun) (line : Line) → IsGrids settings s line → IsGivenUpAt settings s line → IsGivenUp settings s line
+given_up_grids {settings = settings} s line grids given = given_up_at s line line grids.asked (subst (λ (m : ScriptRun). IsGivenUpAt settings m line) (sym (stayed grids)) given)
 
 -- Who has spoken is no matter of what the grid runs.
 pub goes_as : {V : Type 0} {T : V → Type 0} {form : FormOf V T} {settings : Settings} {old new : ScriptGrid V T} {s : ScriptRun} → (record new { spoken = old.spoken }) ≡ old → Goes form settings old s → Goes form settings new s
@@ -210,22 +208,24 @@ pub may_play_as : {V : Type 0} {T : V → Type 0} {form : FormOf V T} {old new :
 may_play_as same may = record { settings = may.settings; run = may.run; goes = goes_as same may.goes; read = may.read; next = may.next; within = may.within }
 
 -- bytes on a connection that is no near connection
-module _ {V : Type 0} {T : V → Type 0} {form : FormOf V T} {settings : Settings} (new marked : ScriptGrid V T) (s : ScriptRun) (line : Line) (c : ℕ) (bytes : List ℕ) (is : line ≡ Arrive c bytes) (free : is_near_connection s c ≡ false) where
-  pub ran_bytes : ((skips : List CallId) → AreSpoken marked.spoken.items (played settings skips s (Arrive c bytes)).run) → new.spoken ≡ marked.spoken → (written text : List ℕ) → HasPlayed form settings new s line written text
-      → HasRun form settings new s line written text
-  ran_bytes spoken same written text ran =
-      let these = subst (λ (l : Line). HasPlayed form settings new s l written text) is ran in
-      let now = played settings these.skips s (Arrive c bytes) in
-      has_run_as is (ran_grids new s (Arrive c bytes) (is_grids_bytes settings s c bytes free) written text these
-      (subst (λ (xs : Vec Bool Global). AreSpoken xs.items now.run) (sym same) (spoken these.skips)))
 
-  pub given_up_bytes : IsGivenUpAt settings s line → IsGivenUp settings s line
-  given_up_bytes given = given_up_as is (given_up_grids new s (Arrive c bytes) (is_grids_bytes settings s c bytes free) (subst (IsGivenUpAt settings s) is given))
+pub ran_bytes : {V : Type 0} {T : V → Type 0} {form : FormOf V T} {settings : Settings} (new marked : ScriptGrid V T) (s : ScriptRun) (line : Line) (c : ℕ) (bytes : List ℕ) → line ≡ Arrive c bytes → is_near_connection s c ≡ false
+    → ((skips : List CallId) → AreSpoken marked.spoken.items (played settings skips s (Arrive c bytes)).run) → new.spoken ≡ marked.spoken → (written text : List ℕ) → HasPlayed form settings new s line written text
+    → HasRun form settings new s line written text
+ran_bytes {form = form} {settings = settings} new marked s line c bytes is free spoken same written text ran =
+    let these = subst (λ (l : Line). HasPlayed form settings new s l written text) is ran in
+    let now = played settings these.skips s (Arrive c bytes) in
+    has_run_as is
+    (ran_grids new s (Arrive c bytes) (is_grids_bytes settings s c bytes free) written text these (subst (λ (xs : Vec Bool Global). AreSpoken xs.items now.run) (sym same) (spoken these.skips)))
+
+pub given_up_bytes : {settings : Settings} (s : ScriptRun) (line : Line) (c : ℕ) (bytes : List ℕ) → line ≡ Arrive c bytes → is_near_connection s c ≡ false → IsGivenUpAt settings s line → IsGivenUp settings s line
+given_up_bytes {settings = settings} s line c bytes is free given =
+    given_up_as is (given_up_grids s (Arrive c bytes) (is_grids_bytes settings s c bytes free) (subst (IsGivenUpAt settings s) is given))
 
 -- and on one that is
 pub ran_refused : {V : Type 0} {T : V → Type 0} {form : FormOf V T} {settings : Settings} (new all : ScriptGrid V T) (s : ScriptRun) (line : Line) (c : ℕ) (bytes : List ℕ) (number : ℕ) → line ≡ Arrive c bytes → Stands form settings all s
     → number ≡ s.run.lines + 1 → is_near_connection s c ≡ true → new.spoken ≡ all.spoken → (written text : List ℕ) → HasCounted form settings new s (nothing_text number) written text → HasRun form settings new s line written text
 ran_refused new all s line c bytes number is stands at_line near same written text counted =
     has_run_as is
-    (ran_passed new s (Arrive c bytes) all number stands at_line (if_true (is_near_connection s c) Comment (Arrive c bytes) near) refl
+    (ran_passed new all s (Arrive c bytes) number stands at_line (if_true (is_near_connection s c) Comment (Arrive c bytes) near) refl
     (λ next. if_true (is_near_connection s c) (nothing_text next.run.lines) _ near) same written text counted)

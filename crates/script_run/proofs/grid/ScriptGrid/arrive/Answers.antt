@@ -38,4 +38,4 @@ pub returns-clause-full : goal.returns-clause-full
 returns-clause-full g c = λ settings s bytes is stands full.
     let all = c.args.self.now in
     let free = not_near_here c.args.conn all.nears.items s.nears stands.goes.nears (sym (c.is_some.ensures ∙ ap is_some c.place_of.ensures) ∙ c.if-is_some.false) in
-    given_up_bytes c.run_on_grid.new.self c.mark_spoken.new.self s c.args.line.now c.args.conn bytes is free (c.run_on_grid.ensures.full settings s (goes_as c.mark_spoken.ensures.rest stands.goes) full)
+    given_up_bytes s c.args.line.now c.args.conn bytes is free (c.run_on_grid.ensures.full settings s (goes_as c.mark_spoken.ensures.rest stands.goes) full)

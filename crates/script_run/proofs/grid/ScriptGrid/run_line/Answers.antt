@@ -55,4 +55,4 @@ pub returns-in_default-clause-full : goal.returns-in_default-clause-full
 returns-in_default-clause-full g c = λ settings s stands full.
     let line = c.args.line.now in
     let grids = is_grids settings s line c.in_default.not-Near c.in_default.not-NearGet c.in_default.not-NearFeed c.in_default.not-Arrive in
-    given_up_grids c.run_on_grid.new.self s line grids (c.run_on_grid.ensures.full settings s stands.goes full)
+    given_up_grids s line grids (c.run_on_grid.ensures.full settings s stands.goes full)

@@ -19,7 +19,7 @@ returns-then-not-can_begin-clause-ok g c = λ settings s stands.
     let all = c.args.self.now in
     let at_line = next_number all c.args.number (Near c.args.conn c.args.name.now c.args.capacity) c.requires s stands in
     on_ok_weaker c.pass.result
-    (ran_not_begun c.pass.new.self s c.args.conn c.args.name.now c.args.capacity c.args.number all stands at_line (sym (c.can_begin.ensures settings s stands) ∙ c.if-not-can_begin.true) c.pass.ensures.spoken
+    (ran_not_begun c.pass.new.self all s c.args.conn c.args.name.now c.args.capacity c.args.number stands at_line (sym (c.can_begin.ensures settings s stands) ∙ c.if-not-can_begin.true) c.pass.ensures.spoken
     c.args.out.now.items c.pass.new.out.items)
     (c.pass.ensures.ok settings s stands.goes)
 
@@ -57,6 +57,6 @@ returns-clause-full g c = λ settings s stands full.
     let ns = s.nears ++ new_near c.args.conn name c.args.capacity ∷ [] in
     let are = c.in_ok-opening.ensures.nears s.nears stands.goes.nears in
     let can = sym (c.can_begin.ensures settings s stands) ∙ c.if-not-can_begin.false in
-    given_up_begun {settings = settings} c.send.new.self s c.args.conn name c.args.capacity c.args.number can
+    given_up_begun s c.args.conn name c.args.capacity can
     (subst (λ bytes. IsGivenUpAt settings (record s { nears = ns }) (Arrive c.args.conn bytes)) c.in_ok-opening.ensures.opening
     (c.send.ensures.full settings (record s { nears = ns }) (stands_with c.begin-opening.new.nears ns stands are) full))
