@@ -70,10 +70,10 @@ spelled_small n c small same =
     ⊎_elim
     (λ (few : n < 100). decimal_injective n c (omega (arith, few)) (omega (arith, small)) same)
     (λ (large : 100 ≤ n).
-      let long = three_digits n large in
-      let short = length-decimal-le 2 c (omega arith) small (omega (arith, small)) in
-      let lengths = ap length same in
-      absurd (omega (arith, long, short, lengths)))
+    let long = three_digits n large in
+    let short = length-decimal-le 2 c (omega arith) small (omega (arith, small)) in
+    let lengths = ap length same in
+    absurd (omega (arith, long, short, lengths)))
     (cases_lt n 100)
 
 -- the digits of bytes
@@ -103,8 +103,8 @@ byte_from_digit b digit =
     ⊎_elim
     (λ (few : b < 256). few)
     (λ (many : 256 ≤ b).
-      let none : slice_index lower_digits (b / 16) ≡ 0 = get_or_past lower_digits (b / 16) 0 (omega (arith, many)) in
-      let clash : false ≡ true = sym (ap is_hex_digit none) ∙ digit in absurd cc)
+    let none : slice_index lower_digits (b / 16) ≡ 0 = get_or_past lower_digits (b / 16) 0 (omega (arith, many)) in
+    let clash : false ≡ true = sym (ap is_hex_digit none) ∙ digit in absurd cc)
     (cases_lt b 256)
 
 bytes_both : (b : ℕ) (xs : List ℕ) → b < 256 → IsBytes xs → IsBytes (b ∷ xs)

@@ -192,7 +192,7 @@ ran_grids {form = form} {settings = settings} new s line grids written text ran 
     ran_as new s line line grids.asked ran.skips ran.of_line
     (subst (λ (m : ScriptRun). Stands form settings new (played settings ran.skips m line)) (sym (stayed grids)) (record { goes = ran.goes; spoken = spoken })) written text
     (ran.added
-      ∙ ap (λ (t : List ℕ). written ++ t) (sym (grids.says (played settings ran.skips s line)) ∙ ap (λ (m : ScriptRun). line_text settings s line (played settings ran.skips m line)) (sym (stayed grids))))
+    ∙ ap (λ (t : List ℕ). written ++ t) (sym (grids.says (played settings ran.skips s line)) ∙ ap (λ (m : ScriptRun). line_text settings s line (played settings ran.skips m line)) (sym (stayed grids))))
 
 pub given_up_grids : {settings : Settings} (s : ScriptRun) (line : Line) → IsGrids settings s line → IsGivenUpAt settings s line → IsGivenUp settings s line
 given_up_grids {settings = settings} s line grids given = given_up_at s line line grids.asked (subst (λ (m : ScriptRun). IsGivenUpAt settings m line) (sym (stayed grids)) given)

@@ -16,6 +16,5 @@ mod print;
 pub use grid::ScriptGrid;
 pub use laws::{
     every_call_counts_once, every_run_is_linearizable, every_run_is_the_grids,
-    every_run_that_tells_of_no_skip_has_none,
-    every_skipped_call_is_told,
+    every_run_that_tells_of_no_skip_has_none, every_skipped_call_is_told,
 };

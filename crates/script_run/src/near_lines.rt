@@ -41,12 +41,7 @@ fn outcome_length(alloc: Global, line: u32) -> Result<usize, Memory>
 }
 
 /// Appends what bytes brought whose line printed this text.
-fn push_brought(
-    alloc: Global,
-    line: u32,
-    text: &[u8],
-    out: &mut Vec<u8>,
-) -> Result<(), Memory>
+fn push_brought(alloc: Global, line: u32, text: &[u8], out: &mut Vec<u8>) -> Result<(), Memory>
     requires { (brought : List ℕ) × (text.now ≡ ok_text line ++ brought) }
     ensures { (brought : List ℕ) → text.now ≡ ok_text line ++ brought → OnOk result (out.new.items ≡ out.old.items ++ brought) }
 {

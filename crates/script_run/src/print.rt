@@ -56,12 +56,7 @@ pub(crate) fn push_fed(out: &mut Vec<u8>, line: u32, bytes: usize) -> Result<(),
 }
 
 /// Appends that a look-up was overtaken.
-fn push_overtaken(
-    out: &mut Vec<u8>,
-    line: u32,
-    version: u32,
-    number: u32,
-) -> Result<(), Memory>
+fn push_overtaken(out: &mut Vec<u8>, line: u32, version: u32, number: u32) -> Result<(), Memory>
     ensures { OnOk result (out.new.items ≡ out.old.items ++ words_line line (codes "overtaken " ++ spaced version ++ decimal number)) }
 {
     push_number(out, u64::from(line))?;

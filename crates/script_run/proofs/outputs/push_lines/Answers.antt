@@ -1,5 +1,4 @@
 use Rattle.std.proofs.Common.{◌≡◌, ◌+◌, ◌++◌, ◌∷◌, List, [], ℕ, zero, suc, ◌<◌, Ok, refl, map, get_or, drop, length, sym, ap, ◌∙◌, subst, arith}
-
 use Rattle.hex.specs.Hex.{decode_of}
 use Rattle.script_run.specs.Reading.{Adds, digits_told}
 use Rattle.script_run.proofs.outputs.push_lines.Goals as goal
