@@ -29,15 +29,15 @@ pub pair_found : (c : ℕ) (ks : List KeptClient) (ns : List NearClient) (kept :
 pair_found c [] [] kept are found = absurd cc
 pair_found c [] (n ∷ ns) kept are found = absurd are
 pair_found c (k ∷ ks) [] kept are found = absurd are
-pair_found c (k ∷ ks) (n ∷ ns) kept are found = go (is_kept c k) refl found
+pair_found c (k ∷ ks) (n ∷ ns) kept are found = go (is_kept c k) refl found (pair_found c ks ns kept are.1)
   where
-    go : (b : Bool) → is_kept c k ≡ b → cond b (Some k) (find (is_kept c) ks) ≡ Some kept → Pair c (k ∷ ks) (n ∷ ns) kept
-    go true e f =
+    go : (b : Bool) → is_kept c k ≡ b → cond b (Some k) (find (is_kept c) ks) ≡ Some kept → (find (is_kept c) ks ≡ Some kept → Pair c ks ns kept) → Pair c (k ∷ ks) (n ∷ ns) kept
+    go true e f more =
         let same : k ≡ kept = cc in
         let test : is_near c n ≡ true = sym (same_test c k n are.0) ∙ e in
         record { near = n; found = rw test refl; is = subst (λ x. IsNear x n) same are.0 }
-    go false e f =
-        let rest = pair_found c ks ns kept are.1 f in
+    go false e f more =
+        let rest = more f in
         let test : is_near c n ≡ false = sym (same_test c k n are.0) ∙ e in
         record { near = rest.near; found = rw test rest.found; is = rest.is }
 
@@ -45,13 +45,13 @@ pub none_found : (c : ℕ) (ks : List KeptClient) (ns : List NearClient) → Are
 none_found c [] [] are found = refl
 none_found c [] (n ∷ ns) are found = absurd are
 none_found c (k ∷ ks) [] are found = absurd are
-none_found c (k ∷ ks) (n ∷ ns) are found = go (is_kept c k) refl found
+none_found c (k ∷ ks) (n ∷ ns) are found = go (is_kept c k) refl found (none_found c ks ns are.1)
   where
-    go : (b : Bool) → is_kept c k ≡ b → cond b (Some k) (find (is_kept c) ks) ≡ None → find (is_near c) (n ∷ ns) ≡ None
-    go true e f = absurd cc
-    go false e f =
+    go : (b : Bool) → is_kept c k ≡ b → cond b (Some k) (find (is_kept c) ks) ≡ None → (find (is_kept c) ks ≡ None → find (is_near c) ns ≡ None) → find (is_near c) (n ∷ ns) ≡ None
+    go true e f more = absurd cc
+    go false e f more =
         let test : is_near c n ≡ false = sym (same_test c k n are.0) ∙ e in
-        rw test (none_found c ks ns are.1 f)
+        rw test (more f)
 
 -- where one is changed, and where none is there to be changed
 
@@ -60,25 +60,27 @@ pub pair_changed : (c : ℕ) (change : KeptClient → KeptClient) (into : NearCl
 pair_changed c change into [] [] kept near are found there is = tt
 pair_changed c change into [] (n ∷ ns) kept near are found there is = absurd are
 pair_changed c change into (k ∷ ks) [] kept near are found there is = absurd are
-pair_changed c change into (k ∷ ks) (n ∷ ns) kept near are found there is = go (is_kept c k) (is_near c n) (same_test c k n are.0) found there
+pair_changed c change into (k ∷ ks) (n ∷ ns) kept near are found there is =
+    go (is_kept c k) (is_near c n) (same_test c k n are.0) found there (λ f g. pair_changed c change into ks ns kept near are.1 f g is)
   where
     go : (b d : Bool) → b ≡ d → cond b (Some k) (find (is_kept c) ks) ≡ Some kept → cond d (Some n) (find (is_near c) ns) ≡ Some near
+        → (find (is_kept c) ks ≡ Some kept → find (is_near c) ns ≡ Some near → AreNear (changed_by (is_kept c) change ks) (changed_by (is_near c) into ns))
         → AreNear (cond b (change k ∷ ks) (k ∷ changed_by (is_kept c) change ks)) (cond d (into n ∷ ns) (n ∷ changed_by (is_near c) into ns))
-    go true true e f g =
+    go true true e f g more =
         let one : k ≡ kept = cc in
         let other : n ≡ near = cc in
         (subst (λ x. IsNear (change x) (into n)) (sym one) (subst (λ x. IsNear (change kept) (into x)) (sym other) is), are.1)
-    go true false e f g = absurd cc
-    go false true e f g = absurd cc
-    go false false e f g = (are.0, pair_changed c change into ks ns kept near are.1 f g is)
+    go true false e f g more = absurd cc
+    go false true e f g more = absurd cc
+    go false false e f g more = (are.0, more f g)
 
 pub none_changed : (c : ℕ) (into : NearClient → NearClient) (ns : List NearClient) → find (is_near c) ns ≡ None → changed_by (is_near c) into ns ≡ ns
 none_changed c into [] found = refl
-none_changed c into (n ∷ ns) found = go (is_near c n) found
+none_changed c into (n ∷ ns) found = go (is_near c n) found (none_changed c into ns)
   where
-    go : (b : Bool) → cond b (Some n) (find (is_near c) ns) ≡ None → cond b (into n ∷ ns) (n ∷ changed_by (is_near c) into ns) ≡ n ∷ ns
-    go true f = absurd cc
-    go false f = ap (λ ms. n ∷ ms) (none_changed c into ns f)
+    go : (b : Bool) → cond b (Some n) (find (is_near c) ns) ≡ None → (find (is_near c) ns ≡ None → changed_by (is_near c) into ns ≡ ns) → cond b (into n ∷ ns) (n ∷ changed_by (is_near c) into ns) ≡ n ∷ ns
+    go true f more = absurd cc
+    go false f more = ap (λ ms. n ∷ ms) (more f)
 
 -- one more
 

@@ -19,7 +19,6 @@ use Rattle.grid_client.specs.Messages.{head_of, code_of, value_of, accepted_of}
 use Rattle.grid_client.specs.States.{State, looked, target}
 use Rattle.grid_client.specs.Hearing.{Told, nothing, near_answered, told_by_answer, is_near_map, told_by_invalidation, clearing, knowing_row, told_by_row, told_by_rows, told_by_event, is_welcome, welcomed, told_otherwise, told_by_number, told_by_head, told_by_message, told_by_messages, HasHeard, messages_by, reading}
 use Rattle.grid_client.specs.declared.connections.Connection.{Connection}
-use Rattle.grid_client.specs.declared.messages.Head.{Head}
 use Rattle.script_lang.specs.Limits.{most_line_bytes}
 use Rattle.script_run.specs.NearClients.{NearClient, piece, told, missed, new_near}
 use Rattle.script_run.specs.Grids.{IsOnOne}
@@ -124,21 +123,24 @@ module _ (c : ℕ) (text : List ℕ) where
       either (is_near_map name s.near) _ (nothing s) (with_near one (invalidated key version number) (λ n. refl) (record s { near = option_map (invalidated key version number) s.near }) refl refl) one
   event_one (Some (Rows correlation rows)) s one = rows_one rows s one
 
-  number_one : (number : Option ℕ) (head : Head) (message : Message) (s : State) → IsOnOne c text s → IsOnOne c text (told_by_number c number head message s).after
-  number_one None head message s one =
-      either (is_welcome head) (nothing (welcomed c (accepted_of message) s)) (told_by_event (result_ok (event_of message)) s)
-      (welcomed_one one (accepted_of message)) (event_one (result_ok (event_of message)) s one)
-  number_one (Some number) head message s one =
-      with_near one (near_answered number (code_of head.kind message) (value_of message)) (near_answered_name number (code_of head.kind message) (value_of message))
-      (told_by_answer c number head message s).after refl refl
-
-  head_one : (head : Option Head) (message : Message) (s : State) → IsOnOne c text s → IsOnOne c text (told_by_head c head message s).after
-  head_one None message s one = one
-  head_one (Some head) message s one = number_one (answered_number c head s.calls) head message s one
+  message_one : (message : Message) (s : State) → IsOnOne c text s → IsOnOne c text (told_by_message c message s).after
+  message_one message s one =
+      elim (head_of message) as (λ head. IsOnOne c text (told_by_head c head message s).after) [
+        | None ↦ one
+        | Some head ↦
+            elim (answered_number c head s.calls) as (λ number. IsOnOne c text (told_by_number c number head message s).after) [
+              | None ↦
+                  either (is_welcome head) (nothing (welcomed c (accepted_of message) s)) (told_by_event (result_ok (event_of message)) s)
+                  (welcomed_one one (accepted_of message)) (event_one (result_ok (event_of message)) s one)
+              | Some number ↦
+                  with_near one (near_answered number (code_of head.kind message) (value_of message)) (near_answered_name number (code_of head.kind message) (value_of message))
+                  (told_by_answer c number head message s).after refl refl
+            ]
+      ]
 
   pub messages_one : (messages : List Message) (s : State) → IsOnOne c text s → IsOnOne c text (told_by_messages c messages s).after
   messages_one [] s one = one
-  messages_one (message ∷ messages) s one = messages_one messages (told_by_message c message s).after (head_one (head_of message) message s one)
+  messages_one (message ∷ messages) s one = messages_one messages (told_by_message c message s).after (message_one message s one)
 
 -- what is read of it
 

@@ -1,6 +1,7 @@
 -- How many bytes near clients send.
 use Rattle.std.proofs.Common.{◌≡◌, ℕ, ◌+◌, ◌*◌, ◌≤◌, ◌++◌, List, [], length, Some, length-append, ap, ◌∙◌, arith}
 use Rattle.std.specs.Option.{option_map_or}
+use Rattle.session_core.specs.Places.{partition_of_key}
 use Rattle.grid_client.specs.Nears.{Near}
 use Rattle.grid_client.specs.Calls.{asked_call}
 use Rattle.grid_client.specs.States.{get_of}
@@ -21,6 +22,6 @@ get_size number conn partition client name key = simp length-append (omega arith
 pub get_fits : (n : NearClient) (key : List ℕ) → IsOnOne n.conn n.read n.state → 2 * length key ≤ most_line_bytes → (1 ≤ length (get_sent n key).request) × (2 * length (get_sent n key).request ≤ most_arriving)
 get_fits n key one short =
     let named : map_name n ≡ one.near.name = ap (λ near. option_map_or (λ (x : Near). x.name) near []) one.keeps in
-    let size = get_size n.state.next n.conn _ n.state.client (map_name n) key in
+    let size = get_size n.state.next n.conn (partition_of_key key) n.state.client (map_name n) key in
     let name = ap length named in
     let few = one.short in (omega (arith, size), omega (arith, size, name, few, short))
