@@ -17,7 +17,7 @@ use Rattle.grid_client.specs.Calls.{answered_number}
 use Rattle.grid_client.specs.Connections.{is_conn, is_to, target_of, with_uuid, with_reader}
 use Rattle.grid_client.specs.Messages.{head_of, code_of, value_of, accepted_of}
 use Rattle.grid_client.specs.States.{State, looked, target}
-use Rattle.grid_client.specs.Hearing.{Told, nothing, near_answered, told_by_answer, is_near_map, told_by_invalidation, clearing, knowing_row, told_by_row, told_by_rows, told_by_event, is_welcome, welcomed, told_otherwise, told_by_number, told_by_head, told_by_message, told_by_messages, HasHeard, messages_by, reading}
+use Rattle.grid_client.specs.Hearing.{Told, nothing, near_answered, told_by_answer, is_near_map, told_by_invalidation, clearing, cleared_by, knowing_row, told_by_row, told_by_rows, told_by_event, is_welcome, welcomed, told_otherwise, told_by_number, told_by_head, told_by_message, told_by_messages, HasHeard, messages_by, reading}
 use Rattle.grid_client.specs.declared.connections.Connection.{Connection}
 use Rattle.script_lang.specs.Limits.{most_line_bytes}
 use Rattle.script_run.specs.NearClients.{NearClient, piece, told, missed, new_near}
@@ -103,13 +103,13 @@ module _ (c : ℕ) (text : List ℕ) where
   row_one row s one = go (version_in row.partition s.rows)
     where
       go : (version : Option ℕ) → IsOnOne c text
-          (elim version [
+          (elim version as (λ (v : Option ℕ). Told) [
             | None ↦ nothing (knowing_row row s)
-            | Some version ↦ cond (nat_lt version row.version) (record { after = knowing_row row (clearing row s); heard = (told_by_row row s).heard }) (nothing s)
+            | Some version ↦ cond (nat_lt version row.version) (record { after = knowing_row row (clearing row s); heard = cleared_by row s.near }) (nothing s)
           ]).after
       go None = with_other one (knowing_row row s) refl refl
       go (Some version) =
-          either (nat_lt version row.version) (record { after = knowing_row row (clearing row s); heard = (told_by_row row s).heard }) (nothing s)
+          either (nat_lt version row.version) (record { after = knowing_row row (clearing row s); heard = cleared_by row s.near }) (nothing s)
           (with_near one (cleared row.partition row.version) (λ n. refl) (knowing_row row (clearing row s)) refl refl) one
 
   rows_one : (rows : List SeenRow) (s : State) → IsOnOne c text s → IsOnOne c text (told_by_rows rows s).after
