@@ -32,7 +32,7 @@ use Rattle.grid_cli.specs.declared.status.Status.{Status}
 use Rattle.grid_cli.specs.declared.status.Status.TheVariants.{Done, Usage}
 use Rattle.grid_cli.proofs.Progress.{continued, later_line, run_line}
 use Rattle.grid_cli.proofs.ReplayRuns.{nothing_said}
-use Rattle.script_run.proofs.Laws.{every_run_is_linearizable}
+use Rattle.script_run.proofs.ScriptLaws.{every_run_is_linearizable}
 
 abbrev has_ended : Ending → Bool
 has_ended Ended = true

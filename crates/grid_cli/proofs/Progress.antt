@@ -15,7 +15,7 @@ use Rattle.replay_run.specs.Printing.{ok_text}
 use Rattle.script_run.specs.Runs.{ScriptRun, begun, grid_line}
 use Rattle.script_run.specs.AfterLines.{after_line}
 use Rattle.script_run.specs.Printing.{line_text}
-use Rattle.script_run.proofs.Laws.{whole_line_alike, whole_line_counts}
+use Rattle.script_run.proofs.ScriptLaws.{whole_line_alike, whole_line_counts}
 use Rattle.replay_run.specs.Skips.{AgreeOn, AreOfLine, calls_at}
 use Rattle.grid_cli.specs.Transcripts.{Transcript, settings, Ended, TooLong, first_line, later_lines, after_first, following, stopped, refused, limit_text, too_long}
 use Rattle.grid_cli.specs.Statuses.{whole}

@@ -20,7 +20,7 @@ use Rattle.script_run.specs.Printing.{line_text}
 use Rattle.replay_run.specs.SkippedCalls.{TellsOfNoSkip}
 use Rattle.replay_run.proofs.Growing.{Grows, grows_refl, grows_trans}
 use Rattle.replay_run.proofs.Skipped.{none_before}
-use Rattle.script_run.proofs.Laws.{whole_line_none, whole_line_grows}
+use Rattle.script_run.proofs.ScriptLaws.{whole_line_none, whole_line_grows}
 use Rattle.grid_cli.specs.Scripts.{lines_of, limit_of}
 use Rattle.grid_cli.specs.Transcripts.{Transcript, Ended, settings, first_line, later_lines, after_first, following, refused, too_long}
 use Rattle.grid_cli.specs.PrintedRuns.{printed_after, printed_by_grid, printed_of}

@@ -1,5 +1,4 @@
 pub mod Digits
-pub mod Laws
 pub mod LineReadings
 pub mod LookUps
 pub mod NearLines
@@ -8,6 +7,7 @@ pub mod OneConnection
 pub mod Places
 pub mod Playing
 pub mod ReadBack
+pub mod ScriptLaws
 pub mod Sending
 pub mod Sizes
 pub mod Spoken

@@ -1,5 +1,5 @@
 use Rattle.std.proofs.Common.{ap, sym, ◌∙◌}
-use Rattle.script_run.proofs.near_lines.ScriptGrid.send.Goals as goal
+use Rattle.script_run.proofs.grid.ScriptGrid.send.Goals as goal
 
 pub takes_bytes-takes-requires : goal.takes_bytes-takes-requires
 takes_bytes-takes-requires g c = (c.requires.settings, c.requires.run.run, c.requires.stands.goes.grid)

@@ -6,7 +6,7 @@ use Rattle.script_run.specs.Grids.{MaySend, HasSent, IsGivenUpAt}
 use Rattle.script_run.proofs.NearLines.{ran_not_begun, ran_begun, given_up_begun, stands_with, may_send}
 use Rattle.script_run.proofs.Playing.{may_count, next_number}
 use Rattle.script_run.proofs.Sizes.{opening_fits}
-use Rattle.script_run.proofs.near_lines.ScriptGrid.begin_near.Goals as goal
+use Rattle.script_run.proofs.grid.ScriptGrid.begin_near.Goals as goal
 
 pub can_begin-requires : goal.can_begin-requires
 can_begin-requires g c = (c.requires.settings, c.requires.run, c.requires.stands, c.requires.read.0)
