@@ -13,9 +13,14 @@ use Rattle.call_engine.specs.Calls.{Settings}
 use Rattle.call_engine.specs.Objects.{partition_object}
 use Rattle.script_lang.specs.Lines.{line_of, is_end}
 use Rattle.script_lang.specs.declared.line.Line.{Line}
-use Rattle.script_lang.specs.declared.line.Line.TheVariants.{Grid, OpenConn, Arrive, Rebalance}
+use Rattle.script_lang.specs.declared.line.Line.TheVariants.{Grid, OpenConn, Arrive, Rebalance, Near, NearGet, NearFeed, Comment}
 use Rattle.script_lang.specs.declared.refusal.LineWhy.{LineWhy}
-use Rattle.replay_run.specs.Runs.{Run, Connection, Appended, begun, connection_of, takes_bytes, can_open, next_line, opened}
+use Rattle.replay_run.specs.Runs.{Run, Connection, Appended, connection_of, takes_bytes, can_open, next_line, opened}
+use Rattle.script_run.specs.Runs.{ScriptRun, Look, Unmade, Hit, Miss, begun, can_begin, is_near_connection, look, asked_line}
+use Rattle.script_run.specs.NearClients.{opening_of, get_sent}
+use Rattle.script_run.specs.AfterLines as script
+use Rattle.script_run.specs.Printing.{brought, look_text}
+use Rattle.script_run.specs.Printing as script_text
 use Rattle.replay_run.specs.AfterLines.{after_line}
 use Rattle.replay_run.specs.Printing.{ok_text, nothing_text, line_text, does_nothing, outcome_text, appended_text, new_messages, line_messages, line_close, line_dump, line_links, entry_text, printed_by}
 use Rattle.replay_run.proofs.SkipLaws.{on_bytes}
@@ -30,14 +35,14 @@ use Rattle.grid_cli.specs.declared.status.LimitWhat.{LimitWhat}
 use Rattle.grid_cli.proofs.Progress.{continued, later_line}
 
 -- the run that is printed after a line that was read
-abbrev pub printed_on : Object Request Partition → List CallId → Run → List (List ℕ) → Line → Run
+abbrev pub printed_on : Settings → List CallId → ScriptRun → List (List ℕ) → Line → ScriptRun
 printed_on o skips r texts line =
-    let next = after_line o skips r line in
-    if next.full then r
+    let next = script.after_line o skips r line in
+    if next.run.full then r
     else if is_end line then next
     else printed_after o skips next texts
 
-abbrev pub printed_at : Object Request Partition → List CallId → Run → List (List ℕ) → Result Line LineWhy → Run
+abbrev pub printed_at : Settings → List CallId → ScriptRun → List (List ℕ) → Result Line LineWhy → ScriptRun
 printed_at o skips r texts read = elim read [ Err why ↦ r | Ok line ↦ printed_on o skips r texts line ]
 
 -- parts
@@ -122,6 +127,9 @@ appends_nothing : (o : Object Request Partition) (skips : List CallId) (r : Run)
 appends_nothing o skips r (Grid members backups capacity) e = refl
 appends_nothing o skips r (OpenConn c member) e = unopened r c member (can_open o r c member)
 appends_nothing o skips r (Arrive c bytes) e = untaken o skips r bytes (connection_of r c) e
+appends_nothing o skips r (Near c name capacity) e = refl
+appends_nothing o skips r (NearGet c key) e = refl
+appends_nothing o skips r (NearFeed c most) e = refl
 appends_nothing o skips r line e = absurd (cc e)
 
 line_prints : (s : Settings) (skips : List CallId) (r : Run) (line : Line) (m : Appended) → let next = after_line (partition_object s) skips r line in
@@ -149,18 +157,82 @@ line_prints s skips r line m i = ⊎_elim idle (λ free. on_new free (in_cases m
         let shown : line_text s r line next ≡ something_text s r line next = ap (λ b. cond b (nothing_text next.lines) (something_text s r line next)) free in
         inr (subst (λ text. HasPart text (appended_text m)) (sym shown) (new_is_printed s r line next m (messages_print s skips r line m (subst (In m) (sym new) j))))
 
+-- bytes that a near client sends
+
+-- what they bring, where they can arrive
+idle_bytes : (b : Bool) (text part : List ℕ) → b ≡ false → HasPart text part → HasPart (cond b [] text) part
+idle_bytes false text part e has = has
+idle_bytes true text part e has = absurd cc
+
+sent_prints : (s : Settings) (skips : List CallId) (r : Run) (c : ℕ) (bytes : List ℕ) (m : Appended) → let next = after_line (partition_object s) skips r (Arrive c bytes) in
+    In m next.appended → In m r.appended ⊎ HasPart (brought s r c bytes next) (appended_text m)
+sent_prints s skips r c bytes m i = ⊎_elim idle (λ free. on_new free (in_cases m r.appended grown.0 (subst (In m) (sym grown.1) i))) (cases (does_nothing o r (Arrive c bytes)))
+  where
+    o : Object Request Partition
+    o = partition_object s
+
+    next : Run
+    next = after_line o skips r (Arrive c bytes)
+
+    grown : (new : List Appended) × (r.appended ++ new ≡ next.appended)
+    grown = (line_grows o skips r (Arrive c bytes)).appended
+
+    idle : does_nothing o r (Arrive c bytes) ≡ true → In m r.appended ⊎ HasPart (brought s r c bytes next) (appended_text m)
+    idle e = inl (subst (In m) (appends_nothing o skips r (Arrive c bytes) e) i)
+
+    new : new_messages r next ≡ grown.0
+    new = ap (drop (length r.appended)) (sym grown.1) ∙ drop-append_seam r.appended grown.0
+
+    on_new : does_nothing o r (Arrive c bytes) ≡ false → In m r.appended ⊎ In m grown.0 → In m r.appended ⊎ HasPart (brought s r c bytes next) (appended_text m)
+    on_new free (inl j) = inl j
+    on_new free (inr j) =
+        inr (idle_bytes (does_nothing o r (Arrive c bytes)) (line_messages s r (Arrive c bytes) next ++ line_close next (Arrive c bytes)) (appended_text m) free
+        (part_left _ (line_close next (Arrive c bytes)) (appended_text m) (messages_print s skips r (Arrive c bytes) m (subst (In m) (sym new) j))))
+
+-- a line of a script
+
+abbrev IsShown : Settings → ScriptRun → Line → ScriptRun → Appended → Type 0
+IsShown s r line next m = In m next.run.appended → In m r.run.appended ⊎ HasPart (script_text.line_text s r line next) (appended_text m)
+
+behind_outcome : (before text part : List ℕ) {X : Type 0} → X ⊎ HasPart text part → X ⊎ HasPart (before ++ text) part
+behind_outcome before text part (inl x) = inl x
+behind_outcome before text part (inr has) = inr (part_right before text part has)
+
+look_prints : (s : Settings) (skips : List CallId) (r : Run) (c : ℕ) (key : List ℕ) (m : Appended) (found : Look) → let next = after_line (partition_object s) skips r (asked_line c key found) in
+    In m next.appended → In m r.appended ⊎ HasPart (look_text s r c key next found) (appended_text m)
+look_prints s skips r c key m Unmade i = inl i
+look_prints s skips r c key m (Hit n value) i = inl i
+look_prints s skips r c key m (Miss n) i = behind_outcome _ _ (appended_text m) (sent_prints s skips r c (get_sent n key).request m i)
+
+begin_prints : (s : Settings) (skips : List CallId) (r : Run) (c : ℕ) (name : List ℕ) (m : Appended) (begins : Bool) → let next = after_line (partition_object s) skips r (cond begins (Arrive c (opening_of c name)) Comment) in
+    In m next.appended → In m r.appended ⊎ HasPart (cond begins (ok_text next.lines ++ brought s r c (opening_of c name) next) (nothing_text next.lines)) (appended_text m)
+begin_prints s skips r c name m true i = behind_outcome _ _ (appended_text m) (sent_prints s skips r c (opening_of c name) m i)
+begin_prints s skips r c name m false i = inl i
+
+bytes_print : (s : Settings) (skips : List CallId) (r : Run) (c : ℕ) (bytes : List ℕ) (m : Appended) (near : Bool) → let next = after_line (partition_object s) skips r (cond near Comment (Arrive c bytes)) in
+    In m next.appended → In m r.appended ⊎ HasPart (cond near (nothing_text next.lines) (line_text s r (Arrive c bytes) next)) (appended_text m)
+bytes_print s skips r c bytes m true i = inl i
+bytes_print s skips r c bytes m false i = line_prints s skips r (Arrive c bytes) m i
+
+script_prints : (s : Settings) (skips : List CallId) (r : ScriptRun) (line : Line) (m : Appended) → IsShown s r line (script.after_line s skips r line) m
+script_prints s skips r (Near c name capacity) m i = begin_prints s skips r.run c name m (can_begin r c name) i
+script_prints s skips r (NearGet c key) m i = look_prints s skips r.run c key m (look (partition_object s) r c key) i
+script_prints s skips r (NearFeed c most) m i = inl i
+script_prints s skips r (Arrive c bytes) m i = bytes_print s skips r.run c bytes m (is_near_connection r c) i
+script_prints s skips r line m i = line_prints s skips r.run line m i
+
 -- lines
 
-abbrev LaterPrint : Settings → List CallId → Option LimitWhat → Appended → Run → List (List ℕ) → Type 0
-LaterPrint s skips limit m r texts = In m (printed_after (partition_object s) skips r texts).appended → In m r.appended ⊎ HasPart (later_lines s skips limit r texts).text (appended_text m)
+abbrev LaterPrint : Settings → List CallId → Option LimitWhat → Appended → ScriptRun → List (List ℕ) → Type 0
+LaterPrint s skips limit m r texts = In m (printed_after s skips r texts).run.appended → In m r.run.appended ⊎ HasPart (later_lines s skips limit r texts).text (appended_text m)
 
-module _ (s : Settings) (skips : List CallId) (limit : Option LimitWhat) (m : Appended) (r : Run) (text : List ℕ) (texts : List (List ℕ)) (rest : (next : Run) → LaterPrint s skips limit m next texts)
-    (line : Line) (read : line_of false r.members text ≡ Ok line) where
-  abbrev o : Object Request Partition
-  o = partition_object s
+module _ (s : Settings) (skips : List CallId) (limit : Option LimitWhat) (m : Appended) (r : ScriptRun) (text : List ℕ) (texts : List (List ℕ)) (rest : (next : ScriptRun) → LaterPrint s skips limit m next texts)
+    (line : Line) (read : line_of false r.run.members text ≡ Ok line) where
+  abbrev o : Settings
+  o = s
 
-  abbrev next : Run
-  next = after_line o skips r line
+  abbrev next : ScriptRun
+  next = script.after_line o skips r line
 
   abbrev shown : Transcript
   shown = later_lines s skips limit r (text ∷ texts)
@@ -172,57 +244,57 @@ module _ (s : Settings) (skips : List CallId) (limit : Option LimitWhat) (m : Ap
   ran = later_line s skips limit r text texts line read
 
   -- what the line appended, where its text begins what is shown
-  on_line : (more : List ℕ) → shown.text ≡ line_text s r line next ++ more → In m next.appended → In m r.appended ⊎ HasPart shown.text (appended_text m)
+  on_line : (more : List ℕ) → shown.text ≡ script_text.line_text s r line next ++ more → In m next.run.appended → In m r.run.appended ⊎ HasPart shown.text (appended_text m)
   on_line more is i =
-      ⊎_elim (λ j. inl j) (λ has. inr (subst (λ all. HasPart all (appended_text m)) (sym is) (part_left (line_text s r line next) more (appended_text m) has)))
-      (line_prints s skips r line m i)
+      ⊎_elim (λ j. inl j) (λ has. inr (subst (λ all. HasPart all (appended_text m)) (sym is) (part_left (script_text.line_text s r line next) more (appended_text m) has)))
+      (script_prints s skips r line m i)
 
-  given_up_there : next.full ≡ true → LaterPrint s skips limit m r (text ∷ texts)
+  given_up_there : next.run.full ≡ true → LaterPrint s skips limit m r (text ∷ texts)
   given_up_there full i =
       let printed : printed_after o skips r (text ∷ texts) ≡ r = printed_here ∙ rw full refl in
-      inl (subst (λ (x : Run). In m x.appended) printed i)
+      inl (subst (λ (x : ScriptRun). In m x.run.appended) printed i)
 
-  ended_there : next.full ≡ false → is_end line ≡ true → LaterPrint s skips limit m r (text ∷ texts)
+  ended_there : next.run.full ≡ false → is_end line ≡ true → LaterPrint s skips limit m r (text ∷ texts)
   ended_there lasts ends i =
       let printed : printed_after o skips r (text ∷ texts) ≡ next = printed_here ∙ rw (lasts, ends) refl in
-      let is : shown ≡ (record { text = line_text s r line next; ending = Ended }) = ran ∙ rw (lasts, ends) refl in
-      on_line [] (ap (λ (t : Transcript). t.text) is ∙ sym (append-nil (line_text s r line next))) (subst (λ (x : Run). In m x.appended) printed i)
+      let is : shown ≡ (record { text = script_text.line_text s r line next; ending = Ended }) = ran ∙ rw (lasts, ends) refl in
+      on_line [] (ap (λ (t : Transcript). t.text) is ∙ sym (append-nil (script_text.line_text s r line next))) (subst (λ (x : ScriptRun). In m x.run.appended) printed i)
 
-  went_on : next.full ≡ false → is_end line ≡ false → LaterPrint s skips limit m r (text ∷ texts)
+  went_on : next.run.full ≡ false → is_end line ≡ false → LaterPrint s skips limit m r (text ∷ texts)
   went_on lasts goes i =
       let later : Transcript = later_lines s skips limit next texts in
       let printed : printed_after o skips r (text ∷ texts) ≡ printed_after o skips next texts = printed_here ∙ rw (lasts, goes) refl in
-      let is : shown ≡ following (line_text s r line next) later = ran ∙ rw (lasts, goes) refl in
-      let is_text : shown.text ≡ line_text s r line next ++ later.text = ap (λ (t : Transcript). t.text) is in
+      let is : shown ≡ following (script_text.line_text s r line next) later = ran ∙ rw (lasts, goes) refl in
+      let is_text : shown.text ≡ script_text.line_text s r line next ++ later.text = ap (λ (t : Transcript). t.text) is in
       ⊎_elim (on_line later.text is_text)
-      (λ has. inr (subst (λ all. HasPart all (appended_text m)) (sym is_text) (part_right (line_text s r line next) later.text (appended_text m) has)))
-      (rest next (subst (λ (x : Run). In m x.appended) printed i))
+      (λ has. inr (subst (λ all. HasPart all (appended_text m)) (sym is_text) (part_right (script_text.line_text s r line next) later.text (appended_text m) has)))
+      (rest next (subst (λ (x : ScriptRun). In m x.run.appended) printed i))
 
-  by_end : next.full ≡ false → (b : Bool) → is_end line ≡ b → LaterPrint s skips limit m r (text ∷ texts)
+  by_end : next.run.full ≡ false → (b : Bool) → is_end line ≡ b → LaterPrint s skips limit m r (text ∷ texts)
   by_end lasts true ends i = ended_there lasts ends i
   by_end lasts false goes i = went_on lasts goes i
 
-  by_full : (b : Bool) → next.full ≡ b → LaterPrint s skips limit m r (text ∷ texts)
+  by_full : (b : Bool) → next.run.full ≡ b → LaterPrint s skips limit m r (text ∷ texts)
   by_full true full i = given_up_there full i
   by_full false lasts i = by_end lasts (is_end line) refl i
 
   read_prints : LaterPrint s skips limit m r (text ∷ texts)
-  read_prints i = by_full next.full refl i
+  read_prints i = by_full next.run.full refl i
 
-later_print : (s : Settings) (skips : List CallId) (limit : Option LimitWhat) (m : Appended) (r : Run) (texts : List (List ℕ)) → LaterPrint s skips limit m r texts
+later_print : (s : Settings) (skips : List CallId) (limit : Option LimitWhat) (m : Appended) (r : ScriptRun) (texts : List (List ℕ)) → LaterPrint s skips limit m r texts
 later_print s skips limit m r [] i = inl i
-later_print s skips limit m r (text ∷ texts) i = by_line (λ next. later_print s skips limit m next texts) (line_of false r.members text) refl i
+later_print s skips limit m r (text ∷ texts) i = by_line (λ next. later_print s skips limit m next texts) (line_of false r.run.members text) refl i
   where
-    by_line : ((next : Run) → LaterPrint s skips limit m next texts) → (x : Result Line LineWhy) → line_of false r.members text ≡ x → LaterPrint s skips limit m r (text ∷ texts)
-    by_line rest (Err why) read j = inl (subst (λ (x : Run). In m x.appended) (ap (printed_at (partition_object s) skips r texts) read) j)
+    by_line : ((next : ScriptRun) → LaterPrint s skips limit m next texts) → (x : Result Line LineWhy) → line_of false r.run.members text ≡ x → LaterPrint s skips limit m r (text ∷ texts)
+    by_line rest (Err why) read j = inl (subst (λ (x : ScriptRun). In m x.run.appended) (ap (printed_at s skips r texts) read) j)
     by_line rest (Ok line) read j = read_prints s skips limit m r text texts rest line read j
 
-first_print : (forms : List ProcessorForm) (skips : List CallId) (limit : Option LimitWhat) (m : Appended) (texts : List (List ℕ)) → In m (printed_of forms skips texts).appended
+first_print : (forms : List ProcessorForm) (skips : List CallId) (limit : Option LimitWhat) (m : Appended) (texts : List (List ℕ)) → In m (printed_of forms skips texts).run.appended
     → HasPart (first_line forms skips limit texts).text (appended_text m)
 first_print forms skips limit m [] i = absurd i
 first_print forms skips limit m (text ∷ texts) i = by_line (line_of true 0 text) refl i
   where
-    by_line : (x : Result Line LineWhy) → line_of true 0 text ≡ x → In m (printed_by_grid forms skips texts x).appended → HasPart (first_line forms skips limit (text ∷ texts)).text (appended_text m)
+    by_line : (x : Result Line LineWhy) → line_of true 0 text ≡ x → In m (printed_by_grid forms skips texts x).run.appended → HasPart (first_line forms skips limit (text ∷ texts)).text (appended_text m)
     by_line (Ok (Grid members backups capacity)) read j =
         let s : Settings = settings forms capacity in
         let later : Transcript = later_lines s skips limit (begun members backups) texts in

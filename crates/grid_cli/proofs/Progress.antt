@@ -10,9 +10,12 @@ use Rattle.entry_processors.specs.Processors.{ProcessorForm}
 use Rattle.object_store.specs.Partitions.{Partition}
 use Rattle.call_engine.specs.Calls.{Settings}
 use Rattle.call_engine.specs.Objects.{partition_object}
-use Rattle.replay_run.specs.Runs.{Run, Arrival, begun, is_skipped}
-use Rattle.replay_run.specs.AfterLines.{after_line}
-use Rattle.replay_run.specs.Printing.{ok_text, line_text}
+use Rattle.replay_run.specs.Runs.{Run, Arrival, is_skipped}
+use Rattle.replay_run.specs.Printing.{ok_text}
+use Rattle.script_run.specs.Runs.{ScriptRun, begun, grid_line}
+use Rattle.script_run.specs.AfterLines.{after_line}
+use Rattle.script_run.specs.Printing.{line_text}
+use Rattle.script_run.proofs.ScriptLaws.{whole_line_alike, whole_line_counts}
 use Rattle.replay_run.specs.Skips.{AgreeOn, AreOfLine, calls_at}
 use Rattle.grid_cli.specs.Transcripts.{Transcript, settings, Ended, TooLong, first_line, later_lines, after_first, following, stopped, refused, limit_text, too_long}
 use Rattle.grid_cli.specs.Statuses.{whole}
@@ -23,7 +26,7 @@ use Rattle.script_lang.specs.declared.refusal.LineWhy.{LineWhy}
 use Rattle.grid_cli.specs.declared.status.LimitWhat.{LimitWhat}
 use Rattle.grid_cli.specs.declared.status.LimitWhat.TheVariants.{InFlight}
 use Rattle.replay_run.proofs.Parts.{in_mapped}
-use Rattle.replay_run.proofs.SkipLaws.{Alike, skipped_by_either, not_skipped, unless_same, skips_alike, Counts, line_counts}
+use Rattle.replay_run.proofs.SkipLaws.{Alike, skipped_by_either, not_skipped, unless_same, Counts}
 
 following-following : (a b : List ℕ) (t : Transcript) → following a (following b t) ≡ following (a ++ b) t
 following-following a b t = ap (λ text. record { text = text; ending = t.ending }) (sym (append_assoc a b t.text))
@@ -40,7 +43,7 @@ pub at_first : (forms : List ProcessorForm) (text : List ℕ) (members backups c
     → IsAt forms capacity (begun members backups) [] (text ∷ []) (ok_text 1)
 at_first forms text members backups capacity e = record {
   goes_on = λ s agree limit texts. ap (λ (x : Result Line LineWhy). elim x [ Err why ↦ refused 1 why | Ok line ↦ after_first forms s limit texts line ]) e;
-  runs = λ s agree texts. ap (λ line. run_after (partition_object (settings forms (capacity_by line))) s (begun_by line) texts) e;
+  runs = λ s agree texts. ap (λ line. run_after (settings forms (capacity_by line)) s (begun_by line) texts) e;
   keeps = λ texts. ap capacity_by e;
   skipped = λ id c. absurd (nothing_in id c);
   count = refl;
@@ -52,70 +55,74 @@ pub refused_first : (forms : List ProcessorForm) (text : List ℕ) (why : LineWh
 refused_first forms text why e s limit texts = ap (λ (x : Result Line LineWhy). elim x [ Err why ↦ refused 1 why | Ok line ↦ after_first forms s limit texts line ]) e
 
 -- what a line that was read gives, and the lines behind it
-abbrev pub continued : Settings → List CallId → Option LimitWhat → List (List ℕ) → Run → Line → Run → Transcript
+abbrev pub continued : Settings → List CallId → Option LimitWhat → List (List ℕ) → ScriptRun → Line → ScriptRun → Transcript
 continued s k limit texts r line next =
-    if next.full then too_long (r.lines + 1) InFlight
+    if next.run.full then too_long (r.run.lines + 1) InFlight
     else if is_end line then (record { text = line_text s r line next; ending = Ended })
     else following (line_text s r line next) (later_lines s k limit next texts)
 
-pub later_line : (s : Settings) (k : List CallId) (limit : Option LimitWhat) (r : Run) (text : List ℕ) (texts : List (List ℕ)) (line : Line) → line_of false r.members text ≡ Ok line
-    → later_lines s k limit r (text ∷ texts) ≡ continued s k limit texts r line (after_line (partition_object s) k r line)
+pub later_line : (s : Settings) (k : List CallId) (limit : Option LimitWhat) (r : ScriptRun) (text : List ℕ) (texts : List (List ℕ)) (line : Line) → line_of false r.run.members text ≡ Ok line
+    → later_lines s k limit r (text ∷ texts) ≡ continued s k limit texts r line (after_line s k r line)
 later_line s k limit r text texts line read =
-    ap (λ (x : Result Line LineWhy). elim x [ Err why ↦ refused (r.lines + 1) why | Ok l ↦ continued s k limit texts r l (after_line (partition_object s) k r l) ]) read
+    ap (λ (x : Result Line LineWhy). elim x [ Err why ↦ refused (r.run.lines + 1) why | Ok l ↦ continued s k limit texts r l (after_line s k r l) ]) read
 
-pub run_line : (o : Object Request Partition) (s : List CallId) (r : Run) (text : List ℕ) (texts : List (List ℕ)) (line : Line) → line_of false r.members text ≡ Ok line
+pub run_line : (o : Settings) (s : List CallId) (r : ScriptRun) (text : List ℕ) (texts : List (List ℕ)) (line : Line) → line_of false r.run.members text ≡ Ok line
     → run_after o s r (text ∷ texts) ≡ run_after o s (after_line o s r line) texts
-run_line o s r text texts line read = ap (λ (x : Result Line LineWhy). elim x [ Err why ↦ r | Ok l ↦ run_after o s (after_line o s r l) texts ]) read
+run_line by s r text texts line read = ap (λ (x : Result Line LineWhy). elim x [ Err why ↦ r | Ok l ↦ run_after o s (after_line o s r l) texts ]) read
 
-module _ (forms : List ProcessorForm) (capacity : ℕ) (r : Run) (skips : List CallId) (done : List (List ℕ)) (written text : List ℕ) (at : IsAt forms capacity r skips done written)
-    (line : Line) (read : line_of false r.members text ≡ Ok line)
-    (k : List CallId) (of_line : AreOfLine (partition_object (settings forms capacity)) r line k) (next : Run) (after : after_line (partition_object (settings forms capacity)) k r line ≡ next)
-    (new : (b : Arrival) (id : CallId) → In b r.arrivals → In id (calls_at (partition_object (settings forms capacity)) r line) → b.request.id ≢ id) where
+module _ (forms : List ProcessorForm) (capacity : ℕ) (r : ScriptRun) (skips : List CallId) (done : List (List ℕ)) (written text : List ℕ) (at : IsAt forms capacity r skips done written)
+    (line : Line) (read : line_of false r.run.members text ≡ Ok line)
+    (k : List CallId) (of_line : AreOfLine (partition_object (settings forms capacity)) r.run (grid_line (partition_object (settings forms capacity)) r line) k) (next : ScriptRun) (after : after_line (settings forms capacity) k r line ≡ next)
+    (new : (b : Arrival) (id : CallId) → In b r.run.arrivals → In id (calls_at (partition_object (settings forms capacity)) r.run (grid_line (partition_object (settings forms capacity)) r line)) → b.request.id ≢ id) where
   abbrev by : Settings
   by = settings forms capacity
 
   abbrev o : Object Request Partition
   o = partition_object by
 
-  counts : Counts r next (calls_at o r line)
-  counts = subst (λ (x : Run). Counts r x (calls_at o r line)) after (line_counts o k r line)
+  -- the calls of the line
+  abbrev calls : List CallId
+  calls = calls_at o r.run (grid_line o r line)
+
+  counts : Counts r.run next.run calls
+  counts = subst (λ (x : ScriptRun). Counts r.run x.run calls) after (whole_line_counts by k r line)
 
   -- those that had arrived are skipped or not as before
-  before_line : (a : Arrival) → In a r.arrivals → is_skipped (k ++ skips) a.request.id ≡ is_skipped skips a.request.id
+  before_line : (a : Arrival) → In a r.run.arrivals → is_skipped (k ++ skips) a.request.id ≡ is_skipped skips a.request.id
   before_line a i =
       skipped_by_either k skips a.request.id ∙ ap (λ b. b || is_skipped skips a.request.id)
-      (not_skipped k a.request.id (λ x j. unless_same a.request.id x (new a x i (in_contains x (calls_at o r line) (of_line x (contains_in x k j))))))
+      (not_skipped k a.request.id (λ x j. unless_same a.request.id x (new a x i (in_contains x calls (of_line x (contains_in x k j))))))
 
   -- the line's own calls are skipped or not by its own skips
-  its_calls : Alike (k ++ skips) k (calls_at o r line)
+  its_calls : Alike (k ++ skips) k calls
   its_calls id is =
       skipped_by_either k skips id ∙ ap (λ b. is_skipped k id || b)
-      (not_skipped skips id (λ x j. let a = at.skipped x (contains_in x skips j) in unless_same id x (λ e. new a.0 id (in_contains a.0 r.arrivals a.1) is (a.2 ∙ sym e))))
+      (not_skipped skips id (λ x j. let a = at.skipped x (contains_in x skips j) in unless_same id x (λ e. new a.0 id (in_contains a.0 r.run.arrivals a.1) is (a.2 ∙ sym e))))
       ∙ or_false (is_skipped k id)
 
-  arrived_stays : (a : Arrival) → Contains r.arrivals a → Contains next.arrivals a
-  arrived_stays a c = contains_in a next.arrivals (subst (In a) (sym counts.arrivals) (in_left a r.arrivals counts.come (in_contains a r.arrivals c)))
+  arrived_stays : (a : Arrival) → Contains r.run.arrivals a → Contains next.run.arrivals a
+  arrived_stays a c = contains_in a next.run.arrivals (subst (In a) (sym counts.arrivals) (in_left a r.run.arrivals counts.come (in_contains a r.run.arrivals c)))
 
-  agree_before : (s : List CallId) → AgreeOn next.arrivals s (k ++ skips) → AgreeOn r.arrivals s skips
-  agree_before s agree a c = agree a (arrived_stays a c) ∙ before_line a (in_contains a r.arrivals c)
+  agree_before : (s : List CallId) → AgreeOn next.run.arrivals s (k ++ skips) → AgreeOn r.run.arrivals s skips
+  agree_before s agree a c = agree a (arrived_stays a c) ∙ before_line a (in_contains a r.run.arrivals c)
 
-  call_arrived : (id : CallId) → In id (calls_at o r line) → (a : Arrival) × Contains next.arrivals a × (a.request.id ≡ id)
+  call_arrived : (id : CallId) → In id calls → (a : Arrival) × Contains next.run.arrivals a × (a.request.id ≡ id)
   call_arrived id i =
       let a = in_mapped (λ (a : Arrival). a.request.id) counts.come id (subst (λ ids. In id ids) (sym counts.names) i) in
-      (a.0, contains_in a.0 next.arrivals (subst (In a.0) (sym counts.arrivals) (in_right a.0 r.arrivals counts.come a.1)), a.2)
+      (a.0, contains_in a.0 next.run.arrivals (subst (In a.0) (sym counts.arrivals) (in_right a.0 r.run.arrivals counts.come a.1)), a.2)
 
-  runs_alike : (s : List CallId) → AgreeOn next.arrivals s (k ++ skips) → after_line o s r line ≡ next
+  runs_alike : (s : List CallId) → AgreeOn next.run.arrivals s (k ++ skips) → after_line by s r line ≡ next
   runs_alike s agree =
-      skips_alike o s k r line (λ id is. let a = call_arrived id is in
+      whole_line_alike by s k r line (λ id is. let a = call_arrived id is in
       subst (λ x. is_skipped s x ≡ is_skipped (k ++ skips) x) a.2 (agree a.0 a.1) ∙ its_calls id is)
       ∙ after
 
-  line_ran : (s : List CallId) → AgreeOn next.arrivals s (k ++ skips) → (limit : Option LimitWhat) (texts : List (List ℕ))
+  line_ran : (s : List CallId) → AgreeOn next.run.arrivals s (k ++ skips) → (limit : Option LimitWhat) (texts : List (List ℕ))
       → later_lines by s limit r (text ∷ texts) ≡ continued by s limit texts r line next
   line_ran s agree limit texts = later_line by s limit r text texts line read ∙ ap (continued by s limit texts r line) (runs_alike s agree)
 
   -- a line that isn't the last leads on, where the run isn't given up
-  pub at_next : next.full ≡ false → is_end line ≡ false → IsAt forms capacity next (k ++ skips) (done ++ text ∷ []) (written ++ line_text by r line next)
+  pub at_next : next.run.full ≡ false → is_end line ≡ false → IsAt forms capacity next (k ++ skips) (done ++ text ∷ []) (written ++ line_text by r line next)
   at_next lasts going = record {
     goes_on = λ s agree limit texts.
         ap (first_line forms s limit) (append_assoc done (text ∷ []) texts)
@@ -125,17 +132,17 @@ module _ (forms : List ProcessorForm) (capacity : ℕ) (r : Run) (skips : List C
     runs = λ s agree texts.
         ap (run_of forms s) (append_assoc done (text ∷ []) texts)
         ∙ at.runs s (agree_before s agree) (text ∷ texts)
-        ∙ run_line o s r text texts line read
-        ∙ ap (λ x. run_after o s x texts) (runs_alike s agree);
+        ∙ run_line by s r text texts line read
+        ∙ ap (λ x. run_after by s x texts) (runs_alike s agree);
     keeps = λ texts. ap capacity_of (append_assoc done (text ∷ []) texts) ∙ at.keeps (text ∷ texts);
-    skipped = λ id c. ⊎_elim (λ i. call_arrived id (in_contains id (calls_at o r line) (of_line id (contains_in id k i)))) (λ i. let a = at.skipped id (contains_in id skips i) in (a.0, arrived_stays a.0 a.1, a.2)) (in_cases id k skips (in_contains id (k ++ skips) c));
+    skipped = λ id c. ⊎_elim (λ i. call_arrived id (in_contains id calls (of_line id (contains_in id k i)))) (λ i. let a = at.skipped id (contains_in id skips i) in (a.0, arrived_stays a.0 a.1, a.2)) (in_cases id k skips (in_contains id (k ++ skips) c));
     count = counts.lines ∙ ap (λ n. n + 1) at.count ∙ sym (length-append done (text ∷ []));
   }
     where
       on_going : (s : List CallId) (limit : Option LimitWhat) (texts : List (List ℕ)) → continued by s limit texts r line next ≡ following (line_text by r line next) (later_lines by s limit next texts)
       on_going s limit texts = rw (lasts, going) refl
 
-  agree_itself : AgreeOn next.arrivals (k ++ skips) (k ++ skips)
+  agree_itself : AgreeOn next.run.arrivals (k ++ skips) (k ++ skips)
   agree_itself a c = refl
 
   -- where the run stops at the line
@@ -146,29 +153,29 @@ module _ (forms : List ProcessorForm) (capacity : ℕ) (r : Run) (skips : List C
       ∙ ap (following written) (line_ran (k ++ skips) agree_itself limit texts ∙ so)
 
   -- the line `end` ends the run
-  pub at_end : next.full ≡ false → is_end line ≡ true → (limit : Option LimitWhat) (texts : List (List ℕ))
+  pub at_end : next.run.full ≡ false → is_end line ≡ true → (limit : Option LimitWhat) (texts : List (List ℕ))
       → first_line forms (k ++ skips) limit (done ++ text ∷ texts) ≡ whole (written ++ line_text by r line next) Ended
   at_end lasts ending limit texts = stops_so limit texts (whole (line_text by r line next) Ended) (rw (lasts, ending) refl)
 
   -- a line at which the run is given up
-  pub at_given_up : next.full ≡ true → (limit : Option LimitWhat) (texts : List (List ℕ))
-      → first_line forms (k ++ skips) limit (done ++ text ∷ texts) ≡ whole (written ++ limit_text (r.lines + 1) InFlight) (TooLong (r.lines + 1) InFlight)
-  at_given_up full limit texts = stops_so limit texts (too_long (r.lines + 1) InFlight) (rw full refl)
+  pub at_given_up : next.run.full ≡ true → (limit : Option LimitWhat) (texts : List (List ℕ))
+      → first_line forms (k ++ skips) limit (done ++ text ∷ texts) ≡ whole (written ++ limit_text (r.run.lines + 1) InFlight) (TooLong (r.run.lines + 1) InFlight)
+  at_given_up full limit texts = stops_so limit texts (too_long (r.run.lines + 1) InFlight) (rw full refl)
 
 agree_with_itself : (come : List Arrival) (skips : List CallId) → AgreeOn come skips skips
 agree_with_itself come skips a c = refl
 
 -- a line that isn't read is refused
-pub at_refused : (forms : List ProcessorForm) (capacity : ℕ) (r : Run) (skips : List CallId) (done : List (List ℕ)) (written text : List ℕ) → IsAt forms capacity r skips done written → (why : LineWhy) → line_of false r.members text ≡ Err why
-    → (limit : Option LimitWhat) (texts : List (List ℕ)) → first_line forms skips limit (done ++ text ∷ texts) ≡ following written (refused (r.lines + 1) why)
+pub at_refused : (forms : List ProcessorForm) (capacity : ℕ) (r : ScriptRun) (skips : List CallId) (done : List (List ℕ)) (written text : List ℕ) → IsAt forms capacity r skips done written → (why : LineWhy) → line_of false r.run.members text ≡ Err why
+    → (limit : Option LimitWhat) (texts : List (List ℕ)) → first_line forms skips limit (done ++ text ∷ texts) ≡ following written (refused (r.run.lines + 1) why)
 at_refused forms capacity r skips done written text at why read limit texts =
-    at.goes_on skips (agree_with_itself r.arrivals skips) limit (text ∷ texts)
-    ∙ ap (following written) (ap (λ (x : Result Line LineWhy). elim x [ Err why ↦ refused (r.lines + 1) why | Ok l ↦ continued (settings forms capacity) skips limit texts r l (after_line (partition_object (settings forms capacity)) skips r l) ]) read)
+    at.goes_on skips (agree_with_itself r.run.arrivals skips) limit (text ∷ texts)
+    ∙ ap (following written) (ap (λ (x : Result Line LineWhy). elim x [ Err why ↦ refused (r.run.lines + 1) why | Ok l ↦ continued (settings forms capacity) skips limit texts r l (after_line (settings forms capacity) skips r l) ]) read)
 
 -- where the lines stop
-pub at_stop : (forms : List ProcessorForm) (capacity : ℕ) (r : Run) (skips : List CallId) (done : List (List ℕ)) (written : List ℕ) → IsAt forms capacity r skips done written → (limit : Option LimitWhat)
+pub at_stop : (forms : List ProcessorForm) (capacity : ℕ) (r : ScriptRun) (skips : List CallId) (done : List (List ℕ)) (written : List ℕ) → IsAt forms capacity r skips done written → (limit : Option LimitWhat)
     → first_line forms skips limit done ≡ following written (stopped limit (length done))
 at_stop forms capacity r skips done written at limit =
     ap (first_line forms skips limit) (sym (append-nil done))
-    ∙ at.goes_on skips (agree_with_itself r.arrivals skips) limit []
+    ∙ at.goes_on skips (agree_with_itself r.run.arrivals skips) limit []
     ∙ ap (λ n. following written (stopped limit n)) at.count

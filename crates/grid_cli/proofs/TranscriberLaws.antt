@@ -16,11 +16,12 @@ use Rattle.entry_processors.specs.Processors.{ProcessorForm}
 use Rattle.object_store.specs.Partitions.{Partition}
 use Rattle.call_engine.specs.Calls.{Settings}
 use Rattle.call_engine.specs.Objects.{partition_object}
-use Rattle.replay_run.specs.Runs.{Run, begun}
-use Rattle.replay_run.specs.AfterLines.{after_line}
+use Rattle.script_run.specs.Runs.{ScriptRun, begun, grid_line}
+use Rattle.script_run.specs.AfterLines.{after_line}
 use Rattle.replay_run.specs.Printing.{ok_text}
-use Rattle.replay_run.specs.Grids.{FormOf, Stands, IsGivenUp, HasRun as RanLine}
-use Rattle.replay_run.specs.declared.grid.Grid.{Grid}
+use Rattle.replay_run.specs.Grids.{FormOf}
+use Rattle.script_run.specs.Grids.{Stands, IsGivenUp, HasRun as RanLine}
+use Rattle.script_run.specs.declared.grid.ScriptGrid.{ScriptGrid}
 use Rattle.grid_cli.specs.Transcripts.{Transcript, settings, Ending, Ended, Refused, TooLong, first_line, later_lines, following, stopped, refused, refused_text, limit_text}
 use Rattle.grid_cli.specs.Statuses.{whole}
 use Rattle.grid_cli.specs.Progress.{IsAt}
@@ -36,58 +37,61 @@ use Rattle.grid_cli.proofs.Members.{members_stay}
 use Rattle.grid_cli.proofs.Progress.{at_first, at_next, at_end, at_given_up, at_refused, at_stop}
 
 -- a line that was read, and then ran
-module _ {V : Type 0} {T : V → Type 0} {form : FormOf V T} {forms : List ProcessorForm} (old new : Grid V T) (skips : List CallId) (done : List (List ℕ)) (written text added : List ℕ) (follows : HasRun form forms old skips done written)
-    (line : Line) (read : line_of false follows.run.members text ≡ Ok line) (ran : RanLine form (settings forms follows.capacity) new follows.run line [] added) where
+module _ {V : Type 0} {T : V → Type 0} {form : FormOf V T} {forms : List ProcessorForm} (old new : ScriptGrid V T) (skips : List CallId) (done : List (List ℕ)) (written text added : List ℕ) (follows : HasRun form forms old skips done written)
+    (line : Line) (read : line_of false follows.run.run.members text ≡ Ok line) (ran : RanLine form (settings forms follows.capacity) new follows.run line [] added) where
+  abbrev by : Settings
+  by = settings forms follows.capacity
+
   abbrev o : Object Request Partition
-  o = partition_object (settings forms follows.capacity)
+  o = partition_object by
 
   pub line_goes : is_end line ≡ false → RanAs form forms Goes (Running new) skips done text written added
   line_goes going =
-      let r : Run = follows.run in
-      let next : Run = after_line o ran.skips r line in (
+      let r : ScriptRun = follows.run in
+      let next : ScriptRun = after_line by ran.skips r line in (
         ran.skips,
         record {
           capacity = follows.capacity;
           run = next;
           stands = ran.stands;
-          few = subst (λ n. n ≤ 8) (sym (members_stay o ran.skips r line)) follows.few;
+          few = subst (λ n. n ≤ 8) (sym (members_stay o ran.skips r.run (grid_line o r line))) follows.few;
           at = subst (λ t. IsAt forms follows.capacity next (ran.skips ++ skips) (done ++ text ∷ []) (written ++ t)) (sym ran.added)
-              (at_next forms follows.capacity r skips done written text follows.at line read ran.skips ran.of_line next refl (λ b id i j. calls_are_new r follows.stands.run b i id line j) ran.stands.holds.goes_on going);
+              (at_next forms follows.capacity r skips done written text follows.at line read ran.skips ran.of_line next refl (λ b id i j. calls_are_new r.run follows.stands.goes.grid.run b i id (grid_line o r line) j) ran.stands.goes.grid.holds.goes_on going);
         },
       )
 
   pub line_ends : is_end line ≡ true → RanAs form forms IsEnded (Running new) skips done text written added
   line_ends ending =
-      let r : Run = follows.run in
-      let next : Run = after_line o ran.skips r line in (
+      let r : ScriptRun = follows.run in
+      let next : ScriptRun = after_line by ran.skips r line in (
         ran.skips,
         λ limit texts.
-            at_end forms follows.capacity r skips done written text follows.at line read ran.skips ran.of_line next refl (λ b id i j. calls_are_new r follows.stands.run b i id line j) ran.stands.holds.goes_on ending limit texts
+            at_end forms follows.capacity r skips done written text follows.at line read ran.skips ran.of_line next refl (λ b id i j. calls_are_new r.run follows.stands.goes.grid.run b i id (grid_line o r line) j) ran.stands.goes.grid.holds.goes_on ending limit texts
             ∙ ap (λ t. whole (written ++ t) Ended) (sym ran.added),
       )
 
 -- a line that was read, and at which the run is given up
-pub line_given_up : {V : Type 0} {T : V → Type 0} {form : FormOf V T} {forms : List ProcessorForm} (old : Grid V T) (new : Stage V T) (skips : List CallId) (done : List (List ℕ)) (written text added : List ℕ) (number : ℕ) (follows : HasRun form forms old skips done written)
-    (line : Line) → line_of false follows.run.members text ≡ Ok line → IsGivenUp (settings forms follows.capacity) follows.run line → number ≡ follows.run.lines + 1 → added ≡ limit_text number InFlight
+pub line_given_up : {V : Type 0} {T : V → Type 0} {form : FormOf V T} {forms : List ProcessorForm} (old : ScriptGrid V T) (new : Stage V T) (skips : List CallId) (done : List (List ℕ)) (written text added : List ℕ) (number : ℕ) (follows : HasRun form forms old skips done written)
+    (line : Line) → line_of false follows.run.run.members text ≡ Ok line → IsGivenUp (settings forms follows.capacity) follows.run line → number ≡ follows.run.run.lines + 1 → added ≡ limit_text number InFlight
     → RanAs form forms GivenUp new skips done text written added
 line_given_up {forms = forms} old new skips done written text added number follows line read given counted shown = (
   given.skips,
   λ limit texts. (
     number,
-    at_given_up forms follows.capacity follows.run skips done written text follows.at line read given.skips given.of_line (after_line (partition_object (settings forms follows.capacity)) given.skips follows.run line) refl
-        (λ b id i j. calls_are_new follows.run follows.stands.run b i id line j) given.full limit texts
+    at_given_up forms follows.capacity follows.run skips done written text follows.at line read given.skips given.of_line (after_line (settings forms follows.capacity) given.skips follows.run line) refl
+        (λ b id i j. calls_are_new follows.run.run follows.stands.goes.grid.run b i id (grid_line (partition_object (settings forms follows.capacity)) follows.run line) j) given.full limit texts
         ∙ ap (λ n. whole (written ++ limit_text n InFlight) (TooLong n InFlight)) (sym counted)
         ∙ ap (λ t. whole (written ++ t) (TooLong number InFlight)) (sym shown),
   ),
 )
 
 -- a line that ran where no text was left before
-pub from_nothing : {V : Type 0} {T : V → Type 0} {form : FormOf V T} {s : Settings} {new : Grid V T} {r : Run} {line : Line} {had added : List ℕ} → had ≡ [] → RanLine form s new r line had added → RanLine form s new r line [] added
+pub from_nothing : {V : Type 0} {T : V → Type 0} {form : FormOf V T} {s : Settings} {new : ScriptGrid V T} {r : ScriptRun} {line : Line} {had added : List ℕ} → had ≡ [] → RanLine form s new r line had added → RanLine form s new r line [] added
 from_nothing {form = form} {s = s} {new = new} {r = r} {line = line} {added = added} none ran = subst (λ t. RanLine form s new r line t added) none ran
 
 -- a line that isn't read
-pub line_refused : {V : Type 0} {T : V → Type 0} {form : FormOf V T} {forms : List ProcessorForm} (old : Grid V T) (new : Stage V T) (skips : List CallId) (done : List (List ℕ)) (written text added : List ℕ) (number : ℕ) (why : LineWhy)
-    (follows : HasRun form forms old skips done written) → line_of false follows.run.members text ≡ Err why → number ≡ follows.run.lines + 1 → added ≡ refused_text number why
+pub line_refused : {V : Type 0} {T : V → Type 0} {form : FormOf V T} {forms : List ProcessorForm} (old : ScriptGrid V T) (new : Stage V T) (skips : List CallId) (done : List (List ℕ)) (written text added : List ℕ) (number : ℕ) (why : LineWhy)
+    (follows : HasRun form forms old skips done written) → line_of false follows.run.run.members text ≡ Err why → number ≡ follows.run.run.lines + 1 → added ≡ refused_text number why
     → RanAs form forms (IsRefused number why) new skips done text written added
 line_refused {forms = forms} old new skips done written text added number why follows read counted shown limit texts =
     at_refused forms follows.capacity follows.run skips done written text follows.at why read limit texts
@@ -95,7 +99,7 @@ line_refused {forms = forms} old new skips done written text added number why fo
     ∙ ap (λ t. whole (written ++ t) (Refused number why)) (sym shown)
 
 -- the first line
-pub first_goes : {V : Type 0} {T : V → Type 0} {form : FormOf V T} {forms : List ProcessorForm} (grid : Grid V T) (processors : List (DynBox V Global T)) (skips : List CallId) (done : List (List ℕ)) (written text added : List ℕ) (members backups capacity : ℕ)
+pub first_goes : {V : Type 0} {T : V → Type 0} {form : FormOf V T} {forms : List ProcessorForm} (grid : ScriptGrid V T) (processors : List (DynBox V Global T)) (skips : List CallId) (done : List (List ℕ)) (written text added : List ℕ) (members backups capacity : ℕ)
     → HasRunNone form forms processors skips done written → line_of true 0 text ≡ Ok (GridLine members backups capacity) → members ≤ 8
     → Stands form (settings (map form processors) capacity) grid (begun members backups) → added ≡ ok_text 1 → RanAs form forms Goes (Running grid) skips done text written added
 first_goes {form = form} {forms = forms} grid processors skips done written text added members backups capacity follows read few stands shown = (

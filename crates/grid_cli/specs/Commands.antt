@@ -9,6 +9,7 @@ use Rattle.entry_processors.specs.Processors.{ProcessorForm}
 use Rattle.call_engine.specs.Calls.{Settings}
 use Rattle.call_engine.specs.Objects.{partition_object}
 use Rattle.replay_run.specs.Runs.{Run}
+use Rattle.script_run.specs.Runs.{ScriptRun}
 use Rattle.replay_run.specs.Printing.{ok_text, entry_text, all_entries}
 use Rattle.replay_run.specs.Linearizability.{IsLinearizable}
 use Rattle.grid_cli.specs.Scripts.{lines_of}
@@ -25,7 +26,7 @@ is_replay (word ∷ []) = are_same (string_bytes word) (codes "replay")
 is_replay (word ∷ other ∷ words) = false
 
 -- the run after the first lines of a script, that many or as many as run
-abbrev pub run_of_script : List ProcessorForm → List CallId → List ℕ → ℕ → Run
+abbrev pub run_of_script : List ProcessorForm → List CallId → List ℕ → ℕ → ScriptRun
 run_of_script forms skips script lines = run_of forms skips (take lines (lines_of script))
 
 -- what objects go by in a script's grid, whose entries are processed by these forms
@@ -40,9 +41,9 @@ ClosesWith s r text = (front : List ℕ) × (text ≡ front ++ ok_text r.lines +
 pub record TellsHistories (forms : List ProcessorForm) (status : Status) (skips : List CallId) (script read text : List ℕ) : Type 0 where
   pub replayed : HasReplayed forms status skips script read text
   -- Whichever line it is that prints histories, each is one that a single thread could have seen.
-  pub linearizable : (lines : ℕ) → IsLinearizable (settings_in forms script) (run_of_script forms skips script lines)
+  pub linearizable : (lines : ℕ) → IsLinearizable (settings_in forms script) (run_of_script forms skips script lines).run
   -- and with the line `end` the text closes with all of them
-  pub closes : status ≡ Done → (lines : ℕ) × ClosesWith (settings_in forms script) (run_of_script forms skips script lines) text
+  pub closes : status ≡ Done → (lines : ℕ) × ClosesWith (settings_in forms script) (run_of_script forms skips script lines).run text
 
 -- What was written tells histories of the script that the source told, for some calls that found no memory.
 abbrev pub PrintsHistories : List ProcessorForm → Status → Option (List ℕ) → Option (List ℕ) → Option (List ℕ) → Option (List ℕ) → Type 0

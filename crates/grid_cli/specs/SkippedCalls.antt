@@ -20,5 +20,5 @@ Agree t u = (t ≡ u) ⊎ AgreeUntilGivenUp t u
 
 -- Where no message that a transcript prints is an error 10, it is the transcript without skips; of a run that was given up this holds of the lines before.
 abbrev pub EveryTranscriptThatTellsOfNoSkipHasNone : Type 0
-EveryTranscriptThatTellsOfNoSkipHasNone = (forms : List ProcessorForm) (skips : List CallId) (script : List ℕ) → TellsOfNoSkip (printed_run forms skips script)
+EveryTranscriptThatTellsOfNoSkipHasNone = (forms : List ProcessorForm) (skips : List CallId) (script : List ℕ) → TellsOfNoSkip (printed_run forms skips script).run
     → Agree (transcript forms skips script) (transcript forms [] script)

@@ -4,7 +4,7 @@ use Rattle.std.specs.declared.alloc.Global.{Global}
 use Rattle.std.specs.declared.dyn_box.DynBox.{DynBox}
 use Rattle.grid_base.specs.declared.names.CallId.{CallId}
 use Rattle.partition_protocol.specs.Sequences.{IsFrontOf}
-use Rattle.replay_run.specs.declared.grid.Grid.{Grid}
+use Rattle.script_run.specs.declared.grid.ScriptGrid.{ScriptGrid}
 use Rattle.grid_cli.specs.declared.status.Status.{Status}
 use Rattle.grid_cli.specs.declared.status.Status.TheVariants.{Done, Usage, ScriptRefused, ReadFault, WriteFault, Limit, DoorFault, Memory}
 use Rattle.grid_cli.specs.declared.transcriber.Begun.{Begun}
@@ -14,24 +14,25 @@ use Rattle.grid_cli.specs.declared.transcriber.Stage.TheVariants.{Waiting, Runni
 use Rattle.grid_cli.specs.declared.transcriber.Ran.{Ran}
 use Rattle.grid_cli.specs.declared.transcriber.Ran.TheVariants.{Goes, Ended as IsEnded, Refused as IsRefused, GivenUp}
 use Rattle.entry_processors.specs.Processors.{ProcessorForm}
-use Rattle.replay_run.specs.Runs.{Run, begun}
+use Rattle.script_run.specs.Runs.{ScriptRun, begun}
 use Rattle.replay_run.specs.Printing.{ok_text}
 use Rattle.script_lang.specs.Lines.{line_of}
 use Rattle.script_lang.specs.declared.line.Line.TheVariants.{Grid as GridLine}
 use Rattle.grid_cli.specs.Transcripts.{settings, Transcript, Ended, Refused, TooLong, first_line, refused}
 use Rattle.grid_cli.specs.Statuses.{whole}
-use Rattle.replay_run.specs.Grids.{FormOf, Stands}
+use Rattle.replay_run.specs.Grids.{FormOf}
+use Rattle.script_run.specs.Grids.{Stands}
 use Rattle.script_lang.specs.Limits.{most_lines, most_line_bytes}
 use Rattle.grid_cli.specs.declared.status.LimitWhat.{LimitWhat}
 use Rattle.grid_cli.specs.declared.status.LimitWhat.TheVariants.{InFlight}
 use Rattle.grid_cli.specs.Progress.{IsAt}
 
 -- The code has run these lines, and their text is this.
-pub record HasRun {V : Type 0} {T : V → Type 0} (form : FormOf V T) (forms : List ProcessorForm) (grid : Grid V T) (skips : List CallId) (done : List (List ℕ)) (written : List ℕ) : Type 0 where
+pub record HasRun {V : Type 0} {T : V → Type 0} (form : FormOf V T) (forms : List ProcessorForm) (grid : ScriptGrid V T) (skips : List CallId) (done : List (List ℕ)) (written : List ℕ) : Type 0 where
   pub capacity : ℕ
-  pub run : Run
+  pub run : ScriptRun
   pub stands : Stands form (settings forms capacity) grid run
-  pub few : run.members ≤ 8
+  pub few : run.run.members ≤ 8
   pub at : IsAt forms capacity run skips done written
 
 -- Before the first line there is no grid, and these are the processors that it will have.

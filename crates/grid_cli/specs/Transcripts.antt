@@ -3,16 +3,16 @@ use Rattle.std.specs.Prelude.{ℕ, ◌+◌, true, false, if◌then◌else◌, Li
 use Rattle.grid_base.specs.declared.names.CallId.{CallId}
 use Rattle.entry_processors.specs.Processors.{ProcessorForm}
 use Rattle.call_engine.specs.Calls.{Settings}
-use Rattle.call_engine.specs.Objects.{partition_object}
 use Rattle.script_lang.specs.Lines.{line_of, is_end, why_text}
 use Rattle.script_lang.specs.declared.line.Line.{Line}
 use Rattle.script_lang.specs.declared.line.Line.TheVariants.{Grid}
 use Rattle.script_lang.specs.declared.refusal.LineWhy.{LineWhy}
 use Rattle.script_lang.specs.declared.refusal.LineWhy.TheVariants.{NoGrid, NoEnd}
-use Rattle.replay_run.specs.Runs.{Run, begun}
-use Rattle.replay_run.specs.AfterLines.{after_line}
+use Rattle.script_run.specs.Runs.{ScriptRun, begun}
+use Rattle.script_run.specs.AfterLines.{after_line}
+use Rattle.script_run.specs.Printing.{line_text}
 use Rattle.replay_run.specs.Dumps.{number, line_end}
-use Rattle.replay_run.specs.Printing.{ok_text, line_text}
+use Rattle.replay_run.specs.Printing.{ok_text}
 use Rattle.grid_cli.specs.Scripts.{lines_of, limit_of}
 use Rattle.grid_cli.specs.declared.status.LimitWhat.{LimitWhat}
 use Rattle.grid_cli.specs.declared.status.LimitWhat.TheVariants.{Bytes, Lines, Line as OneLine, InFlight}
@@ -56,14 +56,14 @@ abbrev pub following : List ℕ → Transcript → Transcript
 following text rest = record { text = text ++ rest.text; ending = rest.ending }
 
 -- The lines after the first. One that isn't in the grammar runs in no part. Of one at which the run is given up nothing is printed. Nothing after `end` is looked at.
-abbrev pub later_lines : Settings → List CallId → Option LimitWhat → Run → List (List ℕ) → Transcript
-later_lines s skips limit r [] = stopped limit r.lines
+abbrev pub later_lines : Settings → List CallId → Option LimitWhat → ScriptRun → List (List ℕ) → Transcript
+later_lines s skips limit r [] = stopped limit r.run.lines
 later_lines s skips limit r (text ∷ texts) =
-    elim (line_of false r.members text) [
-      | Err why ↦ refused (r.lines + 1) why
+    elim (line_of false r.run.members text) [
+      | Err why ↦ refused (r.run.lines + 1) why
       | Ok line ↦
-          let next = after_line (partition_object s) skips r line in
-          if next.full then too_long (r.lines + 1) InFlight
+          let next = after_line s skips r line in
+          if next.run.full then too_long (r.run.lines + 1) InFlight
           else if is_end line then (record { text = line_text s r line next; ending = Ended })
           else following (line_text s r line next) (later_lines s skips limit next texts)
     ]

@@ -4,9 +4,9 @@ ghost use Rattle.grid_base.specs.declared.names.CallId.{CallId};
 ghost use Rattle.grid_edge.specs.Faults.{Rose};
 ghost use Rattle.entry_processors.specs.Processors.{ProcessorForm};
 ghost use Rattle.script_lang.specs.Limits.{most_lines, most_line_bytes};
-ghost use Rattle.replay_run.specs.Runs.{Run};
+ghost use Rattle.script_run.specs.Runs.{ScriptRun};
 ghost use Rattle.script_lang.specs.Lines.{line_of};
-ghost use Rattle.replay_run.specs.Grids.{Stands, MayRun};
+ghost use Rattle.script_run.specs.Grids.{Stands, MayRun};
 ghost use Rattle.grid_cli.specs.Transcripts.{settings};
 ghost use Rattle.grid_cli.specs.Transcribing.{HasRun, Follows, HasRoomFor, IsBegunBy, RanAs, StopsAs, Concludes};
 
@@ -15,8 +15,9 @@ use crate::status::{LimitWhat, Status};
 use entry_processors::Processor;
 use grid_base::Memory;
 use grid_edge::{Sink, write_all};
-use replay_run::{Grid, RunEnd};
+use replay_run::RunEnd;
 use script_lang::{Line, LineRefused, LineWhy, read_line};
+use script_run::ScriptGrid;
 use std::alloc::{AllocError, Global};
 use std::mem;
 
@@ -41,12 +42,12 @@ pub(crate) enum Ran {
 enum Stage {
     /// Before the first line: the processors that the grid will have.
     Waiting(Vec<Box<dyn Processor>>),
-    Running(Grid),
+    Running(ScriptGrid),
 }
 
 /// What the first line of a script made.
 enum Begun {
-    Made(Grid),
+    Made(ScriptGrid),
     Refused(LineWhy),
 }
 
@@ -67,7 +68,7 @@ fn grid_of(
                 capacity,
             },
         ) => {
-            let grid = Grid::new(alloc, members, backups, capacity, processors)?;
+            let grid = ScriptGrid::new(alloc, members, backups, capacity, processors)?;
             out.extend_from_slice(FIRST_OK)?;
             Ok(Begun::Made(grid))
         }
@@ -136,14 +137,14 @@ impl Transcriber {
     fn run_line(
         &mut self,
         alloc: Global,
-        mut grid: Grid,
+        mut grid: ScriptGrid,
         number: u32,
         line: &Line,
     ) -> Result<Ran, Memory>
         requires empty { self.old.text.items ≡ [] }
         requires may { MayRun form grid number line.now }
         ensures { (forms : List ProcessorForm) (skips : List CallId) (done : List (List ℕ)) (written : List ℕ) (follows : HasRun form forms grid skips done written) (text : List ℕ)
-            → line_of false follows.run.members text ≡ Okay line.now → IfOk result (λ ran. RanAs form forms ran self.new.stage skips done text written self.new.text.items) }
+            → line_of false follows.run.run.members text ≡ Okay line.now → IfOk result (λ ran. RanAs form forms ran self.new.stage skips done text written self.new.text.items) }
     {
         match grid.run_line(alloc, number, line, &mut self.text) {
             Ok(()) => {
@@ -160,10 +161,10 @@ impl Transcriber {
     }
 
     /// Runs a line after the first, and goes on with its grid.
-    fn go_on(&mut self, alloc: Global, grid: Grid, text: &[u8]) -> Result<Ran, Memory>
+    fn go_on(&mut self, alloc: Global, grid: ScriptGrid, text: &[u8]) -> Result<Ran, Memory>
         requires empty { self.old.text.items ≡ [] }
         requires room { length text.now ≤ most_line_bytes }
-        requires stands { (forms : List ProcessorForm) × (capacity : ℕ) × (r : Run) × Stands form (settings forms capacity) grid r × (r.lines < most_lines) × (r.members ≤ 8) }
+        requires stands { (forms : List ProcessorForm) × (capacity : ℕ) × (s : ScriptRun) × Stands form (settings forms capacity) grid s × (s.run.lines < most_lines) × (s.run.members ≤ 8) }
         ensures { (forms : List ProcessorForm) (skips : List CallId) (done : List (List ℕ)) (written : List ℕ) → Follows form forms (Stage.Running grid) skips done written
             → IfOk result (λ ran. RanAs form forms ran self.new.stage skips done text.now written self.new.text.items) }
     {

@@ -10,7 +10,7 @@ pub(crate) struct Subject {
 }
 
 /// All of them, in the order in which they run.
-pub(crate) const SUBJECTS: [Subject; 25] = [
+pub(crate) const SUBJECTS: [Subject; 26] = [
     Subject {
         folder: "sessions",
         scenarios: SESSIONS,
@@ -74,6 +74,10 @@ pub(crate) const SUBJECTS: [Subject; 25] = [
     Subject {
         folder: "listeners",
         scenarios: LISTENERS,
+    },
+    Subject {
+        folder: "near",
+        scenarios: NEAR,
     },
     Subject {
         folder: "bad_bytes",
@@ -413,6 +417,41 @@ const LISTENERS: &[(&str, u8)] = &[
     ("rows_of_one_member", 0),
     ("rows_come_before_answers", 0),
     ("rows_of_a_loss_and_a_reopening", 0),
+];
+
+/// Near clients: what they keep, hit and give up, with crashes, moves and reopenings.
+const NEAR: &[(&str, u8)] = &[
+    ("example_near_cache", 0),
+    ("example_cleared", 0),
+    ("kept_then_hit", 0),
+    ("a_fill_is_a_use", 0),
+    ("capacity_of_one", 0),
+    ("cleared_by_a_row", 0),
+    ("conditions_of_the_near_lines", 0),
+    ("expired_value_still_hit", 0),
+    ("feeding_in_pieces", 0),
+    ("held_gets_and_other_writers", 0),
+    ("least_recently_used", 0),
+    ("moves_and_a_near_client", 0),
+    ("near_client_of_a_crashed_member", 0),
+    ("near_clients_of_a_promotion", 0),
+    ("overtaken", 0),
+    ("own_map_alone", 0),
+    ("random_01", 0),
+    ("random_02", 0),
+    ("random_03", 0),
+    ("random_04", 0),
+    ("random_05", 0),
+    ("random_06", 0),
+    ("random_07", 0),
+    ("random_08", 0),
+    ("random_09", 0),
+    ("random_10", 0),
+    ("refused_gets", 0),
+    ("reopened_version_of_a_key", 0),
+    ("reopening_and_a_near_client", 0),
+    ("several_near_clients", 0),
+    ("two_open_gets_one_invalidation", 0),
 ];
 
 /// Bytes at fault: what closes a connection from its first message on, and what was served before.

@@ -120,9 +120,9 @@ const LINES: &[(u8, &str, &str)] = &[
     (1, "rebalance 272", "Err(Why(Number))"),
     (1, "rebalance 00", "Err(Why(Number))"),
     (1, "near 0 6d 0", "Err(Why(Number))"),
-    (1, "near 0 6d 10", "Err(Why(NotBuilt))"),
-    (1, "nearget 0 6d", "Err(Why(NotBuilt))"),
-    (1, "nearfeed 0 1", "Err(Why(NotBuilt))"),
+    (1, "near 0 6d 0", "Err(Why(Number))"),
+    (1, "nearget 0 6", "Err(Why(Hex))"),
+    (1, "nearfeed 0 0", "Err(Why(Number))"),
 ];
 
 #[test]
@@ -141,7 +141,6 @@ const WORDS: &[(LineWhy, &str)] = &[
     (LineWhy::Count, "count"),
     (LineWhy::Number, "number"),
     (LineWhy::Hex, "hex"),
-    (LineWhy::NotBuilt, "notbuilt"),
     (LineWhy::NoEnd, "noend"),
 ];
 

@@ -14,7 +14,7 @@ use Rattle.partition_protocol.proofs.Lists.{In, contains_in, cases, on_if}
 use Rattle.partition_protocol.proofs.RowFacts.{false_or_not}
 use Rattle.session_core.specs.declared.item.Item.{Item}
 use Rattle.session_core.specs.declared.item.Item.TheVariants.{Call as Asks, Wait, Register, Reply}
-use Rattle.script_lang.specs.Limits.{most_lines, most_line_bytes}
+use Rattle.script_lang.specs.Limits.{most_lines}
 use Rattle.script_lang.specs.Lines.{IsWithin}
 use Rattle.script_lang.specs.declared.line.Line.{Line}
 use Rattle.script_lang.specs.declared.line.Line.TheVariants.{OpenConn, Arrive, Clock, Flow, FlowAll, Crash, Detect, Rebalance}
@@ -23,7 +23,7 @@ use Rattle.replay_run.specs.AfterLines.{after_event, after_line}
 use Rattle.replay_run.specs.Linearizability.{Before}
 use Rattle.replay_run.specs.ScriptRuns.{IsRun}
 use Rattle.replay_run.specs.Rebalancing.{most_line_events, rebalanced}
-use Rattle.replay_run.specs.Grids.{IsSmall, AreFew}
+use Rattle.replay_run.specs.Grids.{IsSmall, AreFew, most_arriving}
 use Rattle.replay_run.specs.WorldCalls.{HasRoom}
 use Rattle.replay_run.proofs.Counting.{count}
 use Rattle.replay_run.proofs.Hearing.{header, messages_sized}
@@ -202,14 +202,14 @@ module _ {o : Object Request Partition} (r : Run) (k : Connection) (bytes : List
   messages_taken_more = let sums = taken messages_at in let room = (items_room k bytes).1 in omega (arith, sums, room)
 
   -- There is room for one line more, whatever its bytes.
-  pub room : IsSmall r → r.lines + 1 ≤ most_lines → 2 * length bytes ≤ most_line_bytes → HasRoom r k bytes
+  pub room : IsSmall r → r.lines + 1 ≤ most_lines → 2 * length bytes ≤ most_arriving → HasRoom r k bytes
   room small lines size =
       let come = arrivals_fewer r is in
       let fewer = messages_fewer (took_bytes r k bytes) in
       omega (arith, small, lines, size, come, fewer, bytes_taken_more, messages_taken_more)
 
   -- and its messages have numbers of four bytes
-  pub numbers_room : IsSmall r → r.lines + 1 ≤ most_lines → 2 * length bytes ≤ most_line_bytes → length (messages_on (with_bytes k bytes)) < 2 ^ 32 - 1
+  pub numbers_room : IsSmall r → r.lines + 1 ≤ most_lines → 2 * length bytes ≤ most_arriving → length (messages_on (with_bytes k bytes)) < 2 ^ 32 - 1
   numbers_room small lines size =
       let its = sum_has messages_at r.connections k (find_some (is_connection k.conn) r.connections k there).0 in
       let fewer = messages_fewer (took_bytes r k bytes) in
@@ -363,7 +363,7 @@ module _ {o : Object Request Partition} (skips : List CallId) (r : Run) (is : Is
   line_adds line = kept_no_more (after_event o (next_line r) (event_by line)) (event_kept o (next_line r) (event_by line))
 
   -- and so many lines have no more bytes than their texts have room for
-  pub stays_small : (line : Line) → IsSmall r → 2 * length_of line ≤ most_line_bytes → IsSmall (after_line o skips r line)
+  pub stays_small : (line : Line) → IsSmall r → 2 * length_of line ≤ most_arriving → IsSmall (after_line o skips r line)
   stays_small line small size =
       let adds = line_adds line in
       let lines = (line_counts o skips r line).lines in

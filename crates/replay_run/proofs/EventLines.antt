@@ -11,7 +11,7 @@ use Rattle.call_engine.specs.Objects.{partition_object}
 use Rattle.script_lang.specs.Limits.{most_lines}
 use Rattle.script_lang.specs.Lines.{IsWithin}
 use Rattle.script_lang.specs.declared.line.Line.{Line as ScriptLine}
-use Rattle.script_lang.specs.declared.line.Line.TheVariants.{Grid as Begin, OpenConn, Arrive, Clock, Deliver, Lose, Repeat, Flow, FlowAll, Resend, Crash, Detect, Move, Join, Handover, Advance, Reopen, Rebalance, Dump, Links, Trail, Comment, End}
+use Rattle.script_lang.specs.declared.line.Line.TheVariants.{Grid as Begin, OpenConn, Arrive, Clock, Deliver, Lose, Repeat, Flow, FlowAll, Resend, Crash, Detect, Move, Join, Handover, Advance, Reopen, Rebalance, Dump, Links, Trail, Near, NearGet, NearFeed, Comment, End}
 use Rattle.replay_run.specs.declared.events.Fate.{Fate}
 use Rattle.replay_run.specs.declared.events.Fate.TheVariants as fate
 use Rattle.replay_run.specs.declared.grid.Grid.{Grid}
@@ -144,6 +144,9 @@ module _ (settings : Settings) (r : Run) where
   of_event (Dump p member) e same = absurd cc
   of_event (Links p) e same = absurd cc
   of_event (Trail p) e same = absurd cc
+  of_event (Near c name capacity) e same = absurd cc
+  of_event (NearGet c key) e same = absurd cc
+  of_event (NearFeed c most) e same = absurd cc
   of_event Comment e same = absurd cc
   of_event End e same = absurd cc
 

@@ -8,7 +8,7 @@ use Rattle.frame_codec.specs.declared.malformed.Malformed.{Malformed}
 use Rattle.partition_protocol.proofs.Lists.{in_contains}
 use Rattle.session_core.specs.Sessions.{session_after}
 use Rattle.session_core.specs.declared.item.Item.{Item}
-use Rattle.script_lang.specs.Limits.{most_lines, most_line_bytes}
+use Rattle.script_lang.specs.Limits.{most_lines}
 use Rattle.script_lang.specs.declared.line.Line.{Line}
 use Rattle.script_lang.specs.declared.line.Line.TheVariants.{OpenConn, Arrive, Clock}
 use Rattle.replay_run.specs.declared.grid.Grid.{Grid}
@@ -22,7 +22,7 @@ use Rattle.replay_run.specs.Printing.{ok_text, nothing_text, close_text, outcome
 use Rattle.replay_run.specs.Skips.{AreOfLine}
 use Rattle.replay_run.specs.ScriptRuns.{line_counted, clock_was_set, connection_opened}
 use Rattle.replay_run.specs.Tables.{Table, most_connections, opened_at, with_opened, with_session}
-use Rattle.replay_run.specs.Grids.{FormOf, GridWorld, HasTable, IsSettled, IsCounting, IsTally, AreListening, Holds, IsSmall, AreFew, IsBounded, AreReached, Stands, MayRun, HasRun}
+use Rattle.replay_run.specs.Grids.{FormOf, GridWorld, HasTable, IsSettled, IsCounting, IsTally, AreListening, Holds, IsSmall, AreFew, IsBounded, AreReached, Stands, MayRun, HasRun, most_arriving}
 use Rattle.replay_run.specs.WorldCalls.{texts_of, member_if_open, open_member_in, Brings, HasHandledSome}
 use Rattle.replay_run.proofs.Bounds.{stays_small}
 use Rattle.replay_run.proofs.LineBounds.{line_bounded}
@@ -379,7 +379,7 @@ module _ {V : Type 0} {T : V → Type 0} {form : FormOf V T} {settings : Setting
     its_text : line_text settings r (Arrive c bytes) did.now ≡ (ok_text (r.lines + 1) ++ texts_of (new_messages r did.now)) ++ close_text (r.lines + 1) c (fault_on (with_bytes k bytes))
     its_text = rw (open_does_something (partition_object settings) r c bytes k there takes, now_there, now_lines) (alone its_parts)
 
-    pub bytes_line : (fault : Option Malformed) (number : ℕ) (written text : List ℕ) (listeners : Vec Listeners Global) (new : Grid V T) → new ≡ record handled { listeners = listeners } → AreListening listeners.items did.now None → IsSmall r → AreFew r → IsBounded r → AreReached r → 2 * length bytes ≤ most_line_bytes → start ≡ written ++ ok_text number → number ≡ r.lines + 1 → number ≤ most_lines
+    pub bytes_line : (fault : Option Malformed) (number : ℕ) (written text : List ℕ) (listeners : Vec Listeners Global) (new : Grid V T) → new ≡ record handled { listeners = listeners } → AreListening listeners.items did.now None → IsSmall r → AreFew r → IsBounded r → AreReached r → 2 * length bytes ≤ most_arriving → start ≡ written ++ ok_text number → number ≡ r.lines + 1 → number ≤ most_lines
         → fault ≡ fault_on (with_bytes k bytes) → text ≡ mid ++ close_text number c fault → HasRun form settings new r (Arrive c bytes) written text
     bytes_line fault number written text listeners new made are small few bounded reached size began at_line limit shown is = record {
       skips = did.skips;

@@ -14,7 +14,7 @@ use Rattle.listeners.specs.StandsFor.{StandFor}
 use Rattle.listeners.specs.declared.listeners.Listeners.{Listeners}
 use Rattle.replay_run.specs.declared.tally.Tally.{Tally}
 use Rattle.script_lang.specs.declared.line.Line.{Line}
-use Rattle.script_lang.specs.Limits.{most_lines, most_line_bytes}
+use Rattle.script_lang.specs.Limits.{most_lines}
 use Rattle.script_lang.specs.Lines.{IsWithin}
 use Rattle.session_core.specs.Sessions.{session_after}
 use Rattle.call_engine.specs.declared.shelf.GridShelf.{GridShelf}
@@ -122,11 +122,15 @@ pub record AreListening (all : List Listeners) (r : Run) (own : Option ℕ) : Ty
   pub size : length all ≡ r.members
   pub each : (member : ℕ) (here : Listeners) → slice_get all member ≡ Some here → StandFor here (listening r own member)
 
--- The lines brought no more bytes than so many lines can: each byte has two digits in its line.
-abbrev pub IsSmall : Run → Type 0
-IsSmall r = 2 * bytes_of r ≤ most_line_bytes * r.lines
+-- how many digits the bytes have that a line may bring: what a near client sends has a name and a key, each from a line of its own, and less than 256 bytes besides
+abbrev pub most_arriving : ℕ
+most_arriving = 131584
 
--- No partition has more events than there were calls, and 5,014 for each line. Those of 200,000 lines are 1,002,800,000, and the calls of as many lines of 65,536 bytes stay below 300,000,000: four bytes count both.
+-- The lines brought no more bytes than so many lines can: each byte has two digits.
+abbrev pub IsSmall : Run → Type 0
+IsSmall r = 2 * bytes_of r ≤ most_arriving * r.lines
+
+-- No partition has more events than there were calls, and 5,014 for each line. Those of 200,000 lines are 1,002,800,000, and the calls of as many lines of 131,584 digits stay below 2,200,000,000: four bytes count both.
 abbrev pub AreFew : Run → Type 0
 AreFew r = (p : ℕ) → length (events_at p r.events) ≤ length r.arrivals + most_line_events * r.lines
 
@@ -157,7 +161,7 @@ pub record MayRun {V : Type 0} {T : V → Type 0} (form : FormOf V T) (grid : Gr
   pub settings : Settings
   pub run : Run
   pub stands : Stands form settings grid run
-  pub read : IsWithin run.members most_line_bytes line
+  pub read : IsWithin run.members most_arriving line
   pub next : number ≡ run.lines + 1
   pub within : number ≤ most_lines
 

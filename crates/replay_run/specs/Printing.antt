@@ -35,7 +35,7 @@ use Rattle.replay_run.specs.Runs.{Run, Connection, Arrival, Appended, At, partit
 use Rattle.replay_run.specs.Shelves.{grid_meaning}
 use Rattle.partition_world.specs.declared.Link.{Link}
 use Rattle.script_lang.specs.declared.line.Line.{Line}
-use Rattle.script_lang.specs.declared.line.Line.TheVariants.{Grid, OpenConn, Arrive, Flow, FlowAll, Crash, Detect, Rebalance, Dump, Links, Trail, End}
+use Rattle.script_lang.specs.declared.line.Line.TheVariants.{Grid, OpenConn, Arrive, Flow, FlowAll, Crash, Detect, Rebalance, Dump, Links, Trail, Near, NearGet, NearFeed, End}
 use Rattle.frame_codec.specs.declared.malformed.Malformed.{Malformed}
 use Rattle.frame_codec.specs.declared.malformed.Why.{Why}
 use Rattle.frame_codec.specs.declared.malformed.Why.TheVariants.{Prefix, TooShort, TooLong, BadFragment, OpenFragments, ManyFrames, LongMessage, ShortStart, Spent}
@@ -232,11 +232,14 @@ outcome_at o r p event = (happens o (world_at o r p) event).outcome
 abbrev pub words_line : ℕ → List ℕ → List ℕ
 words_line line words = number line ++ words ++ line_end
 
--- whether a line's condition is false, where it is no event's
+-- whether a line's condition is false, where it is no event's; the grid by itself has no near clients
 abbrev pub does_nothing : {State : Type 0} → Object Request State → Run → Line → Bool
 does_nothing o before (Grid members backups capacity) = true
 does_nothing o before (OpenConn c member) = not (can_open o before c member)
 does_nothing o before (Arrive c bytes) = elim (connection_of before c) [ None ↦ true | Some connection ↦ not (takes_bytes o before connection) ]
+does_nothing o before (Near c name capacity) = true
+does_nothing o before (NearGet c key) = true
+does_nothing o before (NearFeed c most) = true
 does_nothing o before line = false
 
 -- the entries that a line prints: those of a partition's trail, or at the end those of all trails

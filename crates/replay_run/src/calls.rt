@@ -197,7 +197,7 @@ impl Grid {
     }
 
     /// The member of a connection, where bytes can arrive on it.
-    fn open_member(&self, conn: u32) -> Option<MemberId>
+    pub(crate) fn open_member(&self, conn: u32) -> Option<MemberId>
         requires { (settings : Settings) × (r : Run) × Stands (boxed form) settings self.now r }
         ensures { (settings : Settings) (r : Run) → Stands (boxed form) settings self.now r → result ≡ open_member_in settings r conn }
     {

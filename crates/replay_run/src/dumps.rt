@@ -19,7 +19,7 @@ use std::alloc::Global;
 use uuid::Uuid;
 
 /// Appends a number without a space after it.
-fn push_decimal(out: &mut Vec<u8>, n: u64) -> Result<(), Memory>
+pub fn push_decimal(out: &mut Vec<u8>, n: u64) -> Result<(), Memory>
     ensures { OnOk result (out.new.items ≡ out.old.items ++ decimal n) }
 {
     push_text(out, Buffer::new().format(n).as_bytes())
@@ -37,7 +37,7 @@ pub(crate) fn push_dump(out: &mut Vec<u8>, line: u32, pair: Pair) -> Result<(), 
 }
 
 /// Appends a value, or `-`.
-fn push_value(alloc: Global, out: &mut Vec<u8>, value: Option<&Bytes>) -> Result<(), Memory>
+pub fn push_value(alloc: Global, out: &mut Vec<u8>, value: Option<&Bytes>) -> Result<(), Memory>
     ensures { OnOk result (out.new.items ≡ out.old.items ++ value_text (option_copied value.entry)) }
 {
     match value {

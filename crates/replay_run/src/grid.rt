@@ -1,10 +1,10 @@
-ghost use Rattle.std.specs.Prelude.{◌≡◌, ℕ, true, false, ◌+◌, ◌-◌, ◌*◌, ◌<◌, ◌≤◌, ◌++◌, None, Some, map, IfOk, OnOk, IsErrOf, ◌||◌, length};
+ghost use Rattle.std.specs.Prelude.{◌≡◌, ℕ, true, false, ◌+◌, ◌-◌, ◌*◌, ◌<◌, ◌≤◌, ◌++◌, None, Some, map, is_some, IfOk, OnOk, IsErrOf, ◌||◌, length};
 ghost use Rattle.call_engine.specs.Calls.{Settings};
 ghost use Rattle.call_engine.specs.Objects.{partition_object};
-ghost use Rattle.replay_run.specs.Runs.{Run, partitions, begun, lives};
+ghost use Rattle.replay_run.specs.Runs.{Run, partitions, begun, lives, is_open, connection_of};
 ghost use Rattle.replay_run.specs.Printing.{ok_text, nothing_text};
 ghost use Rattle.replay_run.specs.Grids.{boxed, AreListening, Stands, MayRun, HasRun, IsGivenUp};
-ghost use Rattle.replay_run.specs.WorldCalls.{is_quiet};
+ghost use Rattle.replay_run.specs.WorldCalls.{is_quiet, open_member_in};
 ghost use Rattle.replay_run.specs.declared.run_end.RunEnd.TheVariants as RunEnds;
 
 use crate::connections::Connections;
@@ -102,6 +102,21 @@ impl Grid {
         self.lines
     }
 
+    /// Whether a connection was opened, and no fault closed it.
+    pub fn is_open(&self, conn: u32) -> bool
+        ensures { (settings : Settings) (r : Run) → Stands (boxed form) settings self.now r → result ≡ is_open (connection_of r conn) }
+    {
+        self.connections.is_open(conn)
+    }
+
+    /// Whether bytes can arrive on a connection: it is open, and its member hasn't crashed.
+    pub fn takes_bytes(&self, conn: u32) -> bool
+        requires { (settings : Settings) × (r : Run) × Stands (boxed form) settings self.now r }
+        ensures { (settings : Settings) (r : Run) → Stands (boxed form) settings self.now r → result ≡ is_some (open_member_in settings r conn) }
+    {
+        self.open_member(conn).is_some()
+    }
+
     /// Runs the line of that number, which is the next one, and appends its text. After an error the grid and the text
     /// are given up: for want of memory, or where an event other than a loss met a partition with 65,400 messages or more
     /// in flight on one link.
@@ -112,7 +127,7 @@ impl Grid {
     /// partitions cost a constant for each. The lines `dump` and `links` cost sorting and printing what their member keeps
     /// of the partition, and printing the messages in flight. The line `rebalance` costs a pass over the partitions' rows, and
     /// then the events of its steps. The line `trail` costs the entries of its partition's history,
-    /// and the line `end` those of all.
+    /// and the line `end` those of all. Lines of near clients do nothing here.
     pub fn run_line(
         &mut self,
         alloc: Global,

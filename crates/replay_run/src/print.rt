@@ -58,7 +58,7 @@ pub(crate) fn push_hex_word(alloc: Global, out: &mut Vec<u8>, bytes: &[u8]) -> R
 }
 
 /// Appends the outcome of a line that did nothing.
-pub(crate) fn push_nothing(out: &mut Vec<u8>, line: u32) -> Result<(), Memory>
+pub fn push_nothing(out: &mut Vec<u8>, line: u32) -> Result<(), Memory>
     ensures { OnOk result (out.new.items ≡ out.old.items ++ nothing_text line) }
 {
     push_number(out, u64::from(line))?;

@@ -7,14 +7,14 @@ use Rattle.grid_base.specs.declared.calls.Request.{Request}
 use Rattle.object_store.specs.Partitions.{Partition}
 use Rattle.call_engine.specs.Objects.{partition_object}
 use Rattle.memchr.specs.Find.{Nowhere, NoneBefore, Passes, is_byte}
-use Rattle.script_lang.specs.Limits.{most_lines, most_line_bytes}
+use Rattle.script_lang.specs.Limits.{most_lines}
 use Rattle.script_lang.specs.Lines.{line_of, IsWithin}
 use Rattle.script_lang.specs.Spelling.{spelled}
 use Rattle.script_lang.specs.Words.{newline, whole_lines}
 use Rattle.script_lang.specs.declared.line.Line.{Line}
 use Rattle.replay_run.specs.declared.grid.Grid.{Grid}
 use Rattle.replay_run.specs.Runs.{Run, begun}
-use Rattle.replay_run.specs.Grids.{FormOf, Stands, MayRun, HasRun, IsGivenUp}
+use Rattle.replay_run.specs.Grids.{FormOf, Stands, MayRun, HasRun, IsGivenUp, most_arriving}
 use Rattle.sample_run.specs.SampleRuns.{sample_settings, run_of, StopsAt, StopsBehind, IsLater, IsTextOf, StandsAfter, IsNext}
 use Rattle.sample_run.proofs.SkippedRuns.{line_more, arrived_more}
 use Rattle.sample_run.proofs.RunCounts.{lines_members, lines_counted}
@@ -56,8 +56,8 @@ module _ {V : Type 0} {T : V → Type 0} {form : FormOf V T} (grid : Grid V T) (
         settings = sample_settings;
         run = r;
         stands = next.stands.stands;
-        read = subst (λ m. IsWithin m most_line_bytes line) all
-            (longer line members (length text) most_line_bytes (subst (λ (n : ℕ). n ≤ most_line_bytes) (sym (ap length next.spells)) next.later.short) within);
+        read = subst (λ m. IsWithin m most_arriving line) all
+            (longer line members (length text) most_arriving (subst (λ (n : ℕ). n ≤ most_arriving) (sym (ap length next.spells)) (omega (arith, next.later.short))) within);
         next = let lines = count_of next.stands.skips next.done in let its = next.counted in omega (arith, lines, its);
         within = next.within;
       }

@@ -18,4 +18,6 @@ no_line xs none = ap fronts (uncut newline xs none)
 -- a line of a longer text is within its limits
 pub longer : (line : Line) (m a b : ℕ) → a ≤ b → IsWithin m a line → IsWithin m b line
 longer (Lines.Arrive conn bytes) m a b more w = (w.0, w.1, omega (arith, more, w.2))
+longer (Lines.Near conn name capacity) m a b more w = (w.0, w.1, omega (arith, more, w.2), w.3, w.4)
+longer (Lines.NearGet conn key) m a b more w = (w.0, w.1, omega (arith, more, w.2))
 longer line m a b more w = w

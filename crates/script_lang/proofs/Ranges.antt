@@ -16,11 +16,11 @@ use Rattle.script_lang.specs.declared.fields.Field.TheVariants.{Hex as HexField}
 use Rattle.script_lang.specs.declared.keywords.Keyword.{Keyword}
 use Rattle.script_lang.specs.declared.keywords.Keyword.TheVariants as Keywords
 use Rattle.script_lang.specs.declared.line.Line.{Line}
-use Rattle.script_lang.specs.declared.line.Line.TheVariants.{Grid, OpenConn, Arrive, Clock, Deliver, Lose, Repeat, Flow, FlowAll, Resend, Crash, Detect, Move, Join, Handover, Advance, Reopen, Rebalance, Dump, Links, Trail, End}
+use Rattle.script_lang.specs.declared.line.Line.TheVariants.{Grid, OpenConn, Arrive, Clock, Deliver, Lose, Repeat, Flow, FlowAll, Resend, Crash, Detect, Move, Join, Handover, Advance, Reopen, Rebalance, Dump, Links, Trail, Near, NearGet, NearFeed, End}
 use Rattle.script_lang.specs.declared.reading.Value.{Value}
 use Rattle.script_lang.specs.declared.reading.Value.TheVariants as Values
 use Rattle.script_lang.specs.declared.refusal.LineWhy.{LineWhy}
-use Rattle.script_lang.specs.declared.refusal.LineWhy.TheVariants.{Word, NoGrid, Count, Hex, NotBuilt}
+use Rattle.script_lang.specs.declared.refusal.LineWhy.TheVariants.{Word, NoGrid, Count, Hex}
 
 -- Bytes have two digits each in the text, and there is one at least.
 abbrev pub IsSized : ℕ → Value → Type 0
@@ -112,8 +112,14 @@ IsWithin-line_with members size Keywords.Links (Values.Number partition ∷ []) 
     IsWithin-made members size (Links partition) line e (fit.0.1)
 IsWithin-line_with members size Keywords.Trail (Values.Number partition ∷ []) line some fit sized e =
     IsWithin-made members size (Trail partition) line e (fit.0.1)
+IsWithin-line_with members size Keywords.Near (Values.Number conn ∷ Values.Bytes name ∷ Values.Number capacity ∷ []) line some fit sized e =
+    IsWithin-made members size (Near conn name capacity) line e (fit.0.1, sized.1.0.0, sized.1.0.1, fit.1.1.0.0, fit.1.1.0.1)
+IsWithin-line_with members size Keywords.NearGet (Values.Number conn ∷ Values.Bytes key ∷ []) line some fit sized e =
+    IsWithin-made members size (NearGet conn key) line e (fit.0.1, sized.1.0.0, sized.1.0.1)
+IsWithin-line_with members size Keywords.NearFeed (Values.Number conn ∷ Values.Number most ∷ []) line some fit sized e =
+    IsWithin-made members size (NearFeed conn most) line e (fit.0.1, fit.1.0.0, fit.1.0.1)
 IsWithin-line_with members size Keywords.End [] line some fit sized e = IsWithin-made members size End line e tt
-IsWithin-line_with members size keyword values line some fit sized e = absurd (let no : ◌≡◌ {A = Result Line LineWhy} (Err NotBuilt) (Ok line) = e in cc)
+IsWithin-line_with members size keyword values line some fit sized e = absurd (let no : ◌≡◌ {A = Result Line LineWhy} (Err Count) (Ok line) = e in cc)
 
 IsWithin-line_of_fields : (members size : ℕ) (keyword : Keyword) (words : List (List ℕ)) (line : Line) (b : Bool) → (length words == length (fields_of keyword)) ≡ b → (is_grid keyword ≡ false → 1 ≤ members) → AreShort size words
     → cond b (values_of members (fields_of keyword) words >>= line_with keyword) (Err Count) ≡ Ok line → IsWithin members size line

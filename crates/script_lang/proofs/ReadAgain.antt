@@ -8,11 +8,11 @@ use Rattle.script_lang.specs.Words.{space}
 use Rattle.script_lang.specs.Lines.{range_of, value_of, values_of, fields_of, line_with, line_of_words, is_comment, line_of, ◌>>=◌}
 use Rattle.script_lang.specs.Spelling.{spelled, lines_are_read_as_spelled, comments_say_nothing}
 use Rattle.script_lang.specs.declared.fields.Field.{Field}
-use Rattle.script_lang.specs.declared.fields.Field.TheVariants.{Connection, Member, LinkEnd, Partition, PartitionOrAll, Place, Deliveries, Hex as HexField}
+use Rattle.script_lang.specs.declared.fields.Field.TheVariants.{Connection, Member, LinkEnd, Partition, PartitionOrAll, Place, Deliveries, Entries, Hex as HexField}
 use Rattle.script_lang.specs.declared.keywords.Keyword.{Keyword}
 use Rattle.script_lang.specs.declared.keywords.Keyword.TheVariants as Keywords
 use Rattle.script_lang.specs.declared.line.Line.{Line}
-use Rattle.script_lang.specs.declared.line.Line.TheVariants.{Grid, OpenConn, Arrive, Clock, Deliver, Lose, Repeat, Flow, FlowAll, Resend, Crash, Detect, Move, Join, Handover, Advance, Reopen, Rebalance, Dump, Links, Trail, Comment, End}
+use Rattle.script_lang.specs.declared.line.Line.TheVariants.{Grid, OpenConn, Arrive, Clock, Deliver, Lose, Repeat, Flow, FlowAll, Resend, Crash, Detect, Move, Join, Handover, Advance, Reopen, Rebalance, Dump, Links, Trail, Near, NearGet, NearFeed, Comment, End}
 use Rattle.script_lang.specs.declared.reading.Value.{Value}
 use Rattle.script_lang.specs.declared.reading.Value.TheVariants as Values
 use Rattle.script_lang.specs.declared.refusal.LineWhy.{LineWhy}
@@ -84,16 +84,35 @@ is_place members n within = (tt, omega arith, omega arith, within)
 
 -- Lines.
 
-arrive_again : (members size conn : ℕ) (bytes : List ℕ) → IsBytes bytes → (conn ≤ 63) × (1 ≤ length bytes) × (2 * length bytes ≤ size) → line_of false members (spelled (Arrive conn bytes)) ≡ Ok (Arrive conn bytes)
-arrive_again members size conn bytes are within =
-    let last : values_of members (HexField ∷ []) (encode_lower bytes ∷ []) ≡ Ok (Values.Bytes bytes ∷ []) =
-    values_of-cons members HexField [] (encode_lower bytes) [] (Values.Bytes bytes) [] (hex_value-encode_lower bytes are within.1) refl in
-    let values : values_of members (Connection ∷ HexField ∷ []) (decimal conn ∷ encode_lower bytes ∷ []) ≡ Ok (Values.Number conn ∷ Values.Bytes bytes ∷ []) =
-    values_of-cons members Connection (HexField ∷ []) (decimal conn) (encode_lower bytes ∷ []) (Values.Number conn) (Values.Bytes bytes ∷ [])
-    (number_value-decimal (range_of members Connection) conn (omega (arith, within.0)) (omega arith, within.0)) last in
-    line_of-joined false members (codes "bytes") (decimal conn ∷ encode_lower bytes ∷ []) (Arrive conn bytes) refl
-    (IsWord-literal (codes "bytes") refl, (IsWord-decimal conn (omega (arith, within.0)), (IsWord-encode_lower bytes are, tt)))
-    (ap (λ (read : Result (List Value) LineWhy). read >>= line_with Keywords.Bytes) values)
+-- the values of a connection and bytes, and of a connection, bytes and how many entries a near cache has
+hex_values : (members : ℕ) (bytes : List ℕ) → IsBytes bytes → 1 ≤ length bytes → values_of members (HexField ∷ []) (encode_lower bytes ∷ []) ≡ Ok (Values.Bytes bytes ∷ [])
+hex_values members bytes are some = values_of-cons members HexField [] (encode_lower bytes) [] (Values.Bytes bytes) [] (hex_value-encode_lower bytes are some) refl
+
+conn_values : (members conn : ℕ) (fields : List Field) (words : List (List ℕ)) (values : List Value) → conn ≤ 63 → values_of members fields words ≡ Ok values
+    → values_of members (Connection ∷ fields) (decimal conn ∷ words) ≡ Ok (Values.Number conn ∷ values)
+conn_values members conn fields words values within others =
+    values_of-cons members Connection fields (decimal conn) words (Values.Number conn) values (number_value-decimal (range_of members Connection) conn (omega (arith, within)) (omega arith, within)) others
+
+-- a line of a connection and bytes
+bytes_again : (members conn : ℕ) (bytes word : List ℕ) (keyword : Keyword) (line : Line) → IsBytes bytes → conn ≤ 63 → 1 ≤ length bytes
+    → is_comment false (join_with_byte space (word ∷ decimal conn ∷ encode_lower bytes ∷ [])) ≡ false → list_all (λ x. not (x == space)) word ≡ true
+    → line_of_words false members (word ∷ decimal conn ∷ encode_lower bytes ∷ []) ≡ values_of members (Connection ∷ HexField ∷ []) (decimal conn ∷ encode_lower bytes ∷ []) >>= line_with keyword
+    → line_with keyword (Values.Number conn ∷ Values.Bytes bytes ∷ []) ≡ Ok line → line_of false members (join_with_byte space (word ∷ decimal conn ∷ encode_lower bytes ∷ [])) ≡ Ok line
+bytes_again members conn bytes word keyword line are within some other is steps made =
+    let values = conn_values members conn (HexField ∷ []) (encode_lower bytes ∷ []) (Values.Bytes bytes ∷ []) within (hex_values members bytes are some) in
+    line_of-joined false members word (decimal conn ∷ encode_lower bytes ∷ []) line other
+    (IsWord-literal word is, (IsWord-decimal conn (omega (arith, within)), (IsWord-encode_lower bytes are, tt)))
+    (steps ∙ ap (λ (read : Result (List Value) LineWhy). read >>= line_with keyword) values ∙ made)
+
+near_again : (members conn capacity : ℕ) (name : List ℕ) → IsBytes name → conn ≤ 63 → 1 ≤ length name → (1 ≤ capacity) × (capacity ≤ 100000)
+    → line_of false members (spelled (Near conn name capacity)) ≡ Ok (Near conn name capacity)
+near_again members conn capacity name are within some entries =
+    let last = values_of-decimals members (Entries ∷ []) (capacity ∷ []) ((tt, omega (arith, entries.1), entries.0, entries.1), tt) in
+    let behind = values_of-cons members HexField (Entries ∷ []) (encode_lower name) (decimal capacity ∷ []) (Values.Bytes name) (Values.Number capacity ∷ []) (hex_value-encode_lower name are some) last in
+    let values = conn_values members conn (HexField ∷ Entries ∷ []) (encode_lower name ∷ decimal capacity ∷ []) (Values.Bytes name ∷ Values.Number capacity ∷ []) within behind in
+    line_of-joined false members (codes "near") (decimal conn ∷ encode_lower name ∷ decimal capacity ∷ []) (Near conn name capacity) refl
+    (IsWord-literal (codes "near") refl, (IsWord-decimal conn (omega (arith, within)), (IsWord-encode_lower name are, (IsWord-decimal capacity (omega (arith, entries.1)), tt))))
+    (ap (λ (read : Result (List Value) LineWhy). read >>= line_with Keywords.Near) values)
 
 all_again : (members most : ℕ) → (1 ≤ most) × (most ≤ 1000) → line_of false members (spelled (FlowAll most)) ≡ Ok (FlowAll most)
 all_again members most within =
@@ -109,7 +128,7 @@ read_again members (Grid n backups capacity) few brings within =
     numbers_again true members (codes "grid") Keywords.Grid (n ∷ backups ∷ capacity ∷ []) (Grid n backups capacity) refl refl ((tt, omega (arith, within.1), within.0, within.1), ((tt, omega (arith, within.2), omega arith, within.2), ((tt, omega (arith, within.3), omega arith, within.3), tt))) refl refl
 read_again members (OpenConn conn member) few brings within =
     numbers_again false members (codes "open") Keywords.Open (conn ∷ member ∷ []) (OpenConn conn member) refl refl ((tt, omega (arith, within.0), omega arith, within.0), (is_member members member few within.1, tt)) refl refl
-read_again members (Arrive conn bytes) few brings within = arrive_again members (length (spelled (Arrive conn bytes))) conn bytes brings within
+read_again members (Arrive conn bytes) few brings within = bytes_again members conn bytes (codes "bytes") Keywords.Bytes (Arrive conn bytes) brings within.0 within.1 refl refl refl refl
 read_again members (Clock member moment) few brings within =
     numbers_again false members (codes "clock") Keywords.Clock (member ∷ moment ∷ []) (Clock member moment) refl refl (is_member members member few within.0, ((tt, omega (arith, within.1), omega arith, within.1), tt)) refl refl
 read_again members (Deliver partition from to place) few brings within =
@@ -145,6 +164,10 @@ read_again members (Links partition) few brings within =
     numbers_again false members (codes "links") Keywords.Links (partition ∷ []) (Links partition) refl refl (is_partition members partition within, tt) refl refl
 read_again members (Trail partition) few brings within =
     numbers_again false members (codes "trail") Keywords.Trail (partition ∷ []) (Trail partition) refl refl (is_partition members partition within, tt) refl refl
+read_again members (Near conn name capacity) few brings within = near_again members conn capacity name brings within.0 within.1 (within.3, within.4)
+read_again members (NearGet conn key) few brings within = bytes_again members conn key (codes "nearget") Keywords.NearGet (NearGet conn key) brings within.0 within.1 refl refl refl refl
+read_again members (NearFeed conn most) few brings within =
+    numbers_again false members (codes "nearfeed") Keywords.NearFeed (conn ∷ most ∷ []) (NearFeed conn most) refl refl ((tt, omega (arith, within.0), omega arith, within.0), ((tt, omega (arith, within.2), within.1, within.2), tt)) refl refl
 read_again members Comment few brings within = refl
 read_again members End few brings within = line_of-joined false members (codes "end") [] End refl (IsWord-literal (codes "end") refl, tt) refl
 

@@ -3,9 +3,9 @@ use Rattle.std.specs.Prelude.{◌≡◌, ℕ, true, false, List, [], ◌∷◌, 
 use Rattle.hex.specs.Hex.{decode_pairs}
 use Rattle.script_lang.specs.Lines.{line_of}
 use Rattle.script_lang.specs.declared.line.Line.{Line}
-use Rattle.script_lang.specs.declared.line.Line.TheVariants.{Grid, OpenConn, Arrive, Clock, Deliver, Lose, Repeat, Flow, FlowAll, Resend, Crash, Detect, Move, Join, Handover, Advance, Reopen, Rebalance, Dump, Links, Trail, Comment, End}
+use Rattle.script_lang.specs.declared.line.Line.TheVariants.{Grid, OpenConn, Arrive, Clock, Deliver, Lose, Repeat, Flow, FlowAll, Resend, Crash, Detect, Move, Join, Handover, Advance, Reopen, Rebalance, Dump, Links, Trail, Near, NearGet, NearFeed, Comment, End}
 use Rattle.script_lang.specs.declared.refusal.LineWhy.{LineWhy}
-use Rattle.script_lang.specs.declared.refusal.LineWhy.TheVariants.{Word, NoGrid, Count, Number, Hex, NotBuilt}
+use Rattle.script_lang.specs.declared.refusal.LineWhy.TheVariants.{Word, NoGrid, Count, Number, Hex}
 
 -- the first line of a script, and a later one in a grid of one member
 abbrev first_line : List ℕ → Result Line LineWhy
@@ -18,7 +18,7 @@ later_line text = line_of false 1 text
 abbrev line_of_three : List ℕ → Result Line LineWhy
 line_of_three text = line_of false 3 text
 
--- the lines that are built
+-- the lines
 
 a_grid_is_made : first_line (codes "grid 1 0 10") ≡ Ok (Grid 1 0 10)
 a_grid_is_made = refl
@@ -101,6 +101,17 @@ messages_in_flight_are_printed = refl
 
 a_history_is_printed : later_line (codes "trail 270") ≡ Ok (Trail 270)
 a_history_is_printed = refl
+
+a_near_cache_is_kept : later_line (codes "near 63 6D 100000") ≡ Ok (Near 63 (109 ∷ []) 100000)
+unfolding decode_pairs
+a_near_cache_is_kept = refl
+
+a_key_is_looked_up : later_line (codes "nearget 0 00ff") ≡ Ok (NearGet 0 (0 ∷ 255 ∷ []))
+unfolding decode_pairs
+a_key_is_looked_up = refl
+
+a_near_cache_is_fed : later_line (codes "nearfeed 0 1000000") ≡ Ok (NearFeed 0 1000000)
+a_near_cache_is_fed = refl
 
 the_script_ends : later_line (codes "end") ≡ Ok End
 the_script_ends = refl
@@ -236,15 +247,13 @@ a_grid_has_8_members_at_most = refl
 a_grid_has_6_backups_at_most : first_line (codes "grid 8 7 10") ≡ Err Number
 a_grid_has_6_backups_at_most = refl
 
--- then what isn't built
-
-no_near_cache_is_built : later_line (codes "near 0 6d 10") ≡ Err NotBuilt
+a_near_cache_has_an_entry : later_line (codes "near 0 6d 0") ≡ Err Number
 unfolding decode_pairs
-no_near_cache_is_built = refl
+a_near_cache_has_an_entry = refl
 
-no_near_cache_is_asked : later_line (codes "nearget 0 6d") ≡ Err NotBuilt
+a_near_cache_has_100000_entries_at_most : later_line (codes "near 0 6d 100001") ≡ Err Number
 unfolding decode_pairs
-no_near_cache_is_asked = refl
+a_near_cache_has_100000_entries_at_most = refl
 
-no_near_cache_is_fed : later_line (codes "nearfeed 0 1") ≡ Err NotBuilt
-no_near_cache_is_fed = refl
+a_near_cache_is_fed_a_byte : later_line (codes "nearfeed 0 0") ≡ Err Number
+a_near_cache_is_fed_a_byte = refl

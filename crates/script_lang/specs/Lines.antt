@@ -9,9 +9,9 @@ use Rattle.script_lang.specs.declared.keywords.Keyword.TheVariants as Keywords
 use Rattle.script_lang.specs.declared.reading.Value.{Value}
 use Rattle.script_lang.specs.declared.reading.Value.TheVariants as Values
 use Rattle.script_lang.specs.declared.line.Line.{Line}
-use Rattle.script_lang.specs.declared.line.Line.TheVariants.{Grid, OpenConn, Arrive, Clock, Deliver, Lose, Repeat, Flow, FlowAll, Resend, Crash, Detect, Move, Join, Handover, Advance, Reopen, Rebalance, Dump, Links, Trail, Comment, End}
+use Rattle.script_lang.specs.declared.line.Line.TheVariants.{Grid, OpenConn, Arrive, Clock, Deliver, Lose, Repeat, Flow, FlowAll, Resend, Crash, Detect, Move, Join, Handover, Advance, Reopen, Rebalance, Dump, Links, Trail, Near, NearGet, NearFeed, Comment, End}
 use Rattle.script_lang.specs.declared.refusal.LineWhy.{LineWhy}
-use Rattle.script_lang.specs.declared.refusal.LineWhy.TheVariants.{Word, NoGrid, Count, Number, Hex, NotBuilt, NoEnd}
+use Rattle.script_lang.specs.declared.refusal.LineWhy.TheVariants.{Word, NoGrid, Count, Number, Hex, NoEnd}
 
 -- A step gives a value or says why the line is refused, and what follows is asked only where it gives one.
 infixl 10 ◌>>=◌
@@ -117,7 +117,7 @@ values_of members (field ∷ fields) (word ∷ words) =
       Ok (value ∷ values)
 values_of members fields words = Ok []
 
--- The line that a keyword and its values are. The near lines are not built.
+-- The line that a keyword and its values are. Values that no line of the keyword has, which no words give, are too few or too many.
 abbrev pub line_with : Keyword → List Value → Result Line LineWhy
 line_with Keywords.Grid (Values.Number members ∷ Values.Number backups ∷ Values.Number capacity ∷ []) = Ok (Grid members backups capacity)
 line_with Keywords.Open (Values.Number conn ∷ Values.Number member ∷ []) = Ok (OpenConn conn member)
@@ -140,8 +140,11 @@ line_with Keywords.Rebalance (Values.Number most ∷ []) = Ok (Rebalance most)
 line_with Keywords.Dump (Values.Number partition ∷ Values.Number member ∷ []) = Ok (Dump partition member)
 line_with Keywords.Links (Values.Number partition ∷ []) = Ok (Links partition)
 line_with Keywords.Trail (Values.Number partition ∷ []) = Ok (Trail partition)
+line_with Keywords.Near (Values.Number conn ∷ Values.Bytes name ∷ Values.Number capacity ∷ []) = Ok (Near conn name capacity)
+line_with Keywords.NearGet (Values.Number conn ∷ Values.Bytes key ∷ []) = Ok (NearGet conn key)
+line_with Keywords.NearFeed (Values.Number conn ∷ Values.Number most ∷ []) = Ok (NearFeed conn most)
 line_with Keywords.End [] = Ok End
-line_with keyword values = Err NotBuilt
+line_with keyword values = Err Count
 
 -- Whether a keyword stands where it can't: the grid's line is the first one, and no other is.
 abbrev pub is_grid : Keyword → Bool
@@ -152,7 +155,7 @@ abbrev pub is_misplaced : Bool → Keyword → Bool
 is_misplaced true keyword = not (is_grid keyword)
 is_misplaced false keyword = is_grid keyword
 
--- The causes in their order: the number of words, then the words from left to right, then what isn't built.
+-- The causes in their order: the number of words, then the words from left to right.
 abbrev pub line_of_fields : ℕ → Keyword → List (List ℕ) → Result Line LineWhy
 line_of_fields members keyword words =
     if length words == length (fields_of keyword) then values_of members (fields_of keyword) words >>= line_with keyword
@@ -203,6 +206,9 @@ IsWithin members size (Rebalance most) = most ≤ 271
 IsWithin members size (Dump partition member) = (partition ≤ 270) × (member < members)
 IsWithin members size (Links partition) = partition ≤ 270
 IsWithin members size (Trail partition) = partition ≤ 270
+IsWithin members size (Near conn name capacity) = (conn ≤ 63) × (1 ≤ length name) × (2 * length name ≤ size) × (1 ≤ capacity) × (capacity ≤ 100000)
+IsWithin members size (NearGet conn key) = (conn ≤ 63) × (1 ≤ length key) × (2 * length key ≤ size)
+IsWithin members size (NearFeed conn most) = (conn ≤ 63) × (1 ≤ most) × (most ≤ 1000000)
 IsWithin members size Comment = Unit {0}
 IsWithin members size End = Unit {0}
 
@@ -213,5 +219,4 @@ why_text NoGrid = codes "nogrid"
 why_text Count = codes "count"
 why_text Number = codes "number"
 why_text Hex = codes "hex"
-why_text NotBuilt = codes "notbuilt"
 why_text NoEnd = codes "noend"

@@ -5,7 +5,7 @@ use Rattle.hex.specs.Hex.{encode_lower, IsBytes}
 use Rattle.script_lang.specs.Words.{space}
 use Rattle.script_lang.specs.Lines.{IsWithin, line_of}
 use Rattle.script_lang.specs.declared.line.Line.{Line}
-use Rattle.script_lang.specs.declared.line.Line.TheVariants.{Grid, OpenConn, Arrive, Clock, Deliver, Lose, Repeat, Flow, FlowAll, Resend, Crash, Detect, Move, Join, Handover, Advance, Reopen, Rebalance, Dump, Links, Trail, Comment, End}
+use Rattle.script_lang.specs.declared.line.Line.TheVariants.{Grid, OpenConn, Arrive, Clock, Deliver, Lose, Repeat, Flow, FlowAll, Resend, Crash, Detect, Move, Join, Handover, Advance, Reopen, Rebalance, Dump, Links, Trail, Near, NearGet, NearFeed, Comment, End}
 
 abbrev pub spelled_words : Line → List (List ℕ)
 spelled_words (Grid members backups capacity) = codes "grid" ∷ decimal members ∷ decimal backups ∷ decimal capacity ∷ []
@@ -29,6 +29,9 @@ spelled_words (Rebalance most) = codes "rebalance" ∷ decimal most ∷ []
 spelled_words (Dump partition member) = codes "dump" ∷ decimal partition ∷ decimal member ∷ []
 spelled_words (Links partition) = codes "links" ∷ decimal partition ∷ []
 spelled_words (Trail partition) = codes "trail" ∷ decimal partition ∷ []
+spelled_words (Near conn name capacity) = codes "near" ∷ decimal conn ∷ encode_lower name ∷ decimal capacity ∷ []
+spelled_words (NearGet conn key) = codes "nearget" ∷ decimal conn ∷ encode_lower key ∷ []
+spelled_words (NearFeed conn most) = codes "nearfeed" ∷ decimal conn ∷ decimal most ∷ []
 spelled_words Comment = codes "#" ∷ []
 spelled_words End = codes "end" ∷ []
 
@@ -43,6 +46,8 @@ is_first line = false
 -- What a line brings are bytes.
 abbrev pub BringsBytes : Line → Type 0
 BringsBytes (Arrive conn bytes) = IsBytes bytes
+BringsBytes (Near conn name capacity) = IsBytes name
+BringsBytes (NearGet conn key) = IsBytes key
 BringsBytes line = Unit {0}
 
 -- Each line within its ranges is read from its spelling.

@@ -112,6 +112,22 @@ pub enum Line {
     Trail {
         partition: PartitionId,
     },
+    /// A connection begins to keep what it looks up of a map, up to so many entries.
+    Near {
+        conn: u32,
+        name: Bytes,
+        capacity: u32,
+    },
+    /// The client of a near cache looks a key up.
+    NearGet {
+        conn: u32,
+        key: Bytes,
+    },
+    /// The client of a near cache is handed the next bytes of its connection's output, up to so many.
+    NearFeed {
+        conn: u32,
+        most: u32,
+    },
     Comment,
     End,
 }

@@ -77,7 +77,7 @@ fn line_with_one(keyword: Keyword, number: u64) -> Result<Line, LineWhy>
         (Keyword::Trail, partition) => Ok(Line::Trail {
             partition: partition as PartitionId,
         }),
-        _ => Err(LineWhy::NotBuilt),
+        _ => Err(LineWhy::Count),
     }
 }
 
@@ -111,7 +111,11 @@ fn line_with_two(keyword: Keyword, first: u64, second: u64) -> Result<Line, Line
             partition: partition as PartitionId,
             member: member as MemberId,
         }),
-        _ => Err(LineWhy::NotBuilt),
+        (Keyword::NearFeed, conn, most) => Ok(Line::NearFeed {
+            conn: conn as u32,
+            most: most as u32,
+        }),
+        _ => Err(LineWhy::Count),
     }
 }
 
@@ -136,7 +140,7 @@ fn line_with_three(keyword: Keyword, first: u64, second: u64, third: u64) -> Res
             from: from as MemberId,
             to: to as MemberId,
         }),
-        _ => Err(LineWhy::NotBuilt),
+        _ => Err(LineWhy::Count),
     }
 }
 
@@ -173,11 +177,25 @@ fn line_of_link(
             to,
             place,
         }),
-        _ => Err(LineWhy::NotBuilt),
+        _ => Err(LineWhy::Count),
     }
 }
 
-/// The line that a keyword and its values are. The near lines are not built.
+/// The line that a keyword, a connection and bytes are.
+fn line_with_bytes(keyword: Keyword, conn: u64, bytes: Bytes) -> Result<Line, LineWhy>
+    requires { Fit 255 (fields_of keyword) (Values.Number conn ∷ Values.Bytes bytes ∷ []) }
+    ensures { result ≡ line_of_values keyword (Values.Number conn ∷ Values.Bytes bytes ∷ []) }
+{
+    let conn = conn as u32;
+    match keyword {
+        Keyword::Bytes => Ok(Line::Arrive { conn, bytes }),
+        Keyword::NearGet => Ok(Line::NearGet { conn, key: bytes }),
+        _ => Err(LineWhy::Count),
+    }
+}
+
+/// The line that a keyword and its values are. Values that no line of the keyword has, which no words give, are refused as
+/// too few or too many.
 fn line_with(keyword: Keyword, values: Values) -> Result<Line, LineWhy>
     requires { Fit 255 (fields_of keyword) values.items }
     ensures { result ≡ line_of_values keyword values.items }
@@ -203,13 +221,21 @@ fn line_with(keyword: Keyword, values: Values) -> Result<Line, LineWhy>
         (Some(Value::All), Some(Value::Number(most)), ..) => {
             Ok(Line::FlowAll { most: most as u32 })
         }
-        (Some(Value::Number(conn)), Some(Value::Bytes(bytes)), ..) if keyword == Keyword::Bytes => {
-            Ok(Line::Arrive {
-                conn: conn as u32,
-                bytes,
-            })
+        (Some(Value::Number(conn)), Some(Value::Bytes(bytes)), None, _) => {
+            line_with_bytes(keyword, conn, bytes)
         }
-        _ => Err(LineWhy::NotBuilt),
+        // Only `near` has a number behind bytes.
+        (
+            Some(Value::Number(conn)),
+            Some(Value::Bytes(name)),
+            Some(Value::Number(capacity)),
+            None,
+        ) => Ok(Line::Near {
+            conn: conn as u32,
+            name,
+            capacity: capacity as u32,
+        }),
+        _ => Err(LineWhy::Count),
     }
 }
 

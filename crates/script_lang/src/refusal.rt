@@ -18,8 +18,6 @@ pub enum LineWhy {
     Number,
     #[error("a word is no list of bytes in hexadecimal")]
     Hex,
-    #[error("the line is none that this stage runs")]
-    NotBuilt,
     #[error("the script stopped before a line `end`")]
     NoEnd,
 }
@@ -35,7 +33,6 @@ impl LineWhy {
             LineWhy::Count => "count",
             LineWhy::Number => "number",
             LineWhy::Hex => "hex",
-            LineWhy::NotBuilt => "notbuilt",
             LineWhy::NoEnd => "noend",
         }
     }

@@ -1,10 +1,9 @@
 use Rattle.std.proofs.Common.{◌∙◌, ◌++◌, Err, Some, ap, subst, arith}
-use Rattle.script_lang.specs.Limits.{most_line_bytes}
 use Rattle.partition_world.specs.Events.{event_of, happened_of}
 use Rattle.call_engine.specs.Objects.{partition_object}
 use Rattle.replay_run.specs.Runs.{At, next_line, occurred}
 use Rattle.replay_run.specs.Printing.{words_line, words_of}
-use Rattle.replay_run.specs.Grids.{AreFew}
+use Rattle.replay_run.specs.Grids.{AreFew, most_arriving}
 use Rattle.replay_run.specs.declared.run_end.RunEnd.TheVariants.{InFlight}
 use Rattle.replay_run.proofs.Asking.{handed_on}
 use Rattle.replay_run.proofs.Bounds.{event_line_few}
@@ -16,7 +15,7 @@ use Rattle.replay_run.proofs.grid.Grid.run_event.Goals as goal
 pub take-requires-clause-placed : goal.take-requires-clause-placed
 take-requires-clause-placed g c =
     let may = c.requires.1 in
-    (of_event may.settings may.run c.requires.0 (record { partition = c.args.partition; event = event_of c.args.event }) c.requires.2).within may.run.members most_line_bytes may.read
+    (of_event may.settings may.run c.requires.0 (record { partition = c.args.partition; event = event_of c.args.event }) c.requires.2).within may.run.members most_arriving may.read
 
 pub take-requires-clause-unasked : goal.take-requires-clause-unasked
 take-requires-clause-unasked g c =

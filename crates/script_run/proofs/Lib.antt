@@ -1,0 +1,13 @@
+pub mod Digits
+pub mod LineReadings
+pub mod LookUps
+pub mod NearLines
+pub mod Nears
+pub mod OneConnection
+pub mod Places
+pub mod Playing
+pub mod ReadBack
+pub mod ScriptLaws
+pub mod Sending
+pub mod Sizes
+pub mod Spoken

@@ -1,0 +1,12 @@
+use Rattle.std.proofs.Common.{◌≡◌, Bool, true, false, sym, ◌∙◌}
+use Rattle.std.proofs.lemmas.Result.{on_ok_weaker}
+use Rattle.script_run.proofs.grid.ScriptGrid.count.Goals as goal
+
+pub returns-clause-ok : goal.returns-clause-ok
+returns-clause-ok g c = λ settings s goes. on_ok_weaker c.run_on_grid.result (λ ran. ran.goes) (c.run_on_grid.ensures.ok settings s goes)
+
+-- The run goes on.
+pub returns-clause-never : goal.returns-clause-never
+returns-clause-never g c = λ settings s goes full.
+    let given = c.run_on_grid.ensures.full settings s goes full in
+    let clash : true ≡ false = sym given.full ∙ goes.grid.holds.goes_on in cc

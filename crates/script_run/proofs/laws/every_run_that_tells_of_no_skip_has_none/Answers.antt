@@ -1,0 +1,5 @@
+use Rattle.script_run.proofs.laws.every_run_that_tells_of_no_skip_has_none.Goals as goal
+use Rattle.script_run.proofs.ScriptLaws.{every_run_that_tells_of_no_skip_has_none}
+
+pub returns : goal.returns
+returns c = every_run_that_tells_of_no_skip_has_none

@@ -1,0 +1,136 @@
+-- The grid of the code, with its near clients, stands for the run of a script.
+use Rattle.std.specs.Prelude.{◌≡◌, ℕ, ◌+◌, ◌*◌, ◌==◌, ◌≤◌, true, false, not, Bool, length, List, [], ◌∷◌, ◌++◌, Option, Some, None, slice_get}
+use Rattle.std.specs.List.{position}
+use Rattle.message_frames.specs.MessageReaders.{standing}
+use Rattle.grid_base.specs.declared.names.CallId.{CallId}
+use Rattle.call_engine.specs.Calls.{Settings}
+use Rattle.call_engine.specs.Objects.{partition_object}
+use Rattle.grid_client.specs.Nears.{Near}
+use Rattle.grid_client.specs.States.{State}
+use Rattle.script_lang.specs.Limits.{most_lines, most_line_bytes}
+use Rattle.script_lang.specs.Lines.{IsWithin}
+use Rattle.script_lang.specs.declared.line.Line.{Line}
+use Rattle.script_lang.specs.declared.line.Line.TheVariants.{Arrive, Comment}
+use Rattle.replay_run.specs.Runs.{Run, Connection, connection_of}
+use Rattle.replay_run.specs.Grids.{FormOf, most_arriving}
+use Rattle.replay_run.specs.Printing as grid_text
+use Rattle.replay_run.specs.Grids as grid
+use Rattle.replay_run.specs.Skips.{AreOfLine}
+use Rattle.script_run.specs.declared.client.NearClient.{NearClient as KeptClient}
+use Rattle.script_run.specs.declared.grid.ScriptGrid.{ScriptGrid}
+use Rattle.script_run.specs.NearClients.{NearClient}
+use Rattle.script_run.specs.Runs.{ScriptRun, grid_line, is_silent}
+use Rattle.script_run.specs.AfterLines.{played, after_line}
+use Rattle.script_run.specs.Printing.{line_text, brought}
+
+-- The client has one connection, on which it has heard these bytes, and a near cache whose map's name came on a line.
+pub record IsOnOne (c : ℕ) (text : List ℕ) (s : State) : Type 0 where
+  pub uuid : Option ℕ
+  pub connections : s.connections ≡ record { conn = c; uuid = uuid; reader = standing false text } ∷ []
+  pub near : Near
+  pub keeps : s.near ≡ Some near
+  pub short : 2 * length near.name ≤ most_line_bytes
+
+pub record IsNear (kept : KeptClient) (n : NearClient) : Type 0 where
+  pub conn : kept.conn ≡ n.conn
+  pub within : n.conn ≤ 63
+  pub client : kept.client ≡ n.state
+  pub unread : kept.unread.items ≡ n.unread
+  pub one : IsOnOne n.conn n.read n.state
+
+abbrev pub AreNear : List KeptClient → List NearClient → Type 0
+AreNear [] [] = Unit {0}
+AreNear (k ∷ ks) (n ∷ ns) = IsNear k n × AreNear ks ns
+AreNear ks ns = ⊥
+
+-- the place of the client of a near connection
+abbrev pub is_kept : ℕ → KeptClient → Bool
+is_kept c kept = kept.conn == c
+
+abbrev pub place_in : {V : Type 0} {T : V → Type 0} → ScriptGrid V T → ℕ → Option ℕ
+place_in all c = position (is_kept c) all.nears.items
+
+-- whether bytes have arrived on a connection
+abbrev pub has_spoken : Option Connection → Bool
+has_spoken None = false
+has_spoken (Some k) = not (is_silent k.bytes)
+
+abbrev pub AreSpoken : List Bool → Run → Type 0
+AreSpoken spoken r = (c : ℕ) → c ≤ 63 → slice_get spoken c ≡ Some (has_spoken (connection_of r c))
+
+-- The grid is that of the run, and so are the near clients.
+pub record Goes {V : Type 0} {T : V → Type 0} (form : FormOf V T) (settings : Settings) (all : ScriptGrid V T) (s : ScriptRun) : Type 0 where
+  pub grid : grid.Stands form settings all.grid s.run
+  pub nears : AreNear all.nears.items s.nears
+
+-- between two lines
+pub record Stands {V : Type 0} {T : V → Type 0} (form : FormOf V T) (settings : Settings) (all : ScriptGrid V T) (s : ScriptRun) : Type 0 where
+  pub goes : Goes form settings all s
+  pub spoken : AreSpoken all.spoken.items s.run
+
+-- The line is one that the script can have next: a line of its grammar, and within the limit of lines.
+pub record MayRun {V : Type 0} {T : V → Type 0} (form : FormOf V T) (all : ScriptGrid V T) (number : ℕ) (line : Line) : Type 0 where
+  pub settings : Settings
+  pub run : ScriptRun
+  pub stands : Stands form settings all run
+  pub read : IsWithin run.run.members most_line_bytes line
+  pub next : number ≡ run.run.lines + 1
+  pub within : number ≤ most_lines
+
+-- The line ran: the grid and the near clients stand for the run after it, and its text was added. Its calls were skipped that found no memory.
+pub record HasRun {V : Type 0} {T : V → Type 0} (form : FormOf V T) (settings : Settings) (new : ScriptGrid V T) (s : ScriptRun) (line : Line) (written text : List ℕ) : Type 0 where
+  pub skips : List CallId
+  pub of_line : AreOfLine (partition_object settings) s.run (grid_line (partition_object settings) s line) skips
+  pub stands : Stands form settings new (after_line settings skips s line)
+  pub added : text ≡ written ++ line_text settings s line (after_line settings skips s line)
+
+-- The run is given up at the line, of whose calls these found no memory: an event met a full partition.
+pub record IsGivenUp (settings : Settings) (s : ScriptRun) (line : Line) : Type 0 where
+  pub skips : List CallId
+  pub of_line : AreOfLine (partition_object settings) s.run (grid_line (partition_object settings) s line) skips
+  pub full : (after_line settings skips s line).run.full ≡ true
+
+-- what the grid runs at a line
+
+-- The grid may run it.
+pub record MayPlay {V : Type 0} {T : V → Type 0} (form : FormOf V T) (all : ScriptGrid V T) (number : ℕ) (line : Line) : Type 0 where
+  pub settings : Settings
+  pub run : ScriptRun
+  pub goes : Goes form settings all run
+  pub read : IsWithin run.run.members most_arriving line
+  pub next : number ≡ run.run.lines + 1
+  pub within : number ≤ most_lines
+
+-- The grid ran it, and the near clients have its output to read.
+pub record HasPlayed {V : Type 0} {T : V → Type 0} (form : FormOf V T) (settings : Settings) (new : ScriptGrid V T) (s : ScriptRun) (line : Line) (written text : List ℕ) : Type 0 where
+  pub skips : List CallId
+  pub of_line : AreOfLine (partition_object settings) s.run line skips
+  pub goes : Goes form settings new (played settings skips s line)
+  pub added : text ≡ written ++ grid_text.line_text settings s.run line (played settings skips s line).run
+
+-- The run was given up at it.
+pub record IsGivenUpAt (settings : Settings) (s : ScriptRun) (line : Line) : Type 0 where
+  pub skips : List CallId
+  pub of_line : AreOfLine (partition_object settings) s.run line skips
+  pub full : (played settings skips s line).run.full ≡ true
+
+-- A line at which nothing happens on the grid was counted, and this text was added.
+pub record HasCounted {V : Type 0} {T : V → Type 0} (form : FormOf V T) (settings : Settings) (new : ScriptGrid V T) (s : ScriptRun) (added written text : List ℕ) : Type 0 where
+  pub goes : Goes form settings new (played settings [] s Comment)
+  pub is : text ≡ written ++ added
+
+-- What a near client sends arrived on its connection, and what that brings was added.
+pub record HasSent {V : Type 0} {T : V → Type 0} (form : FormOf V T) (settings : Settings) (new : ScriptGrid V T) (s : ScriptRun) (c : ℕ) (bytes written text : List ℕ) : Type 0 where
+  pub skips : List CallId
+  pub of_line : AreOfLine (partition_object settings) s.run (Arrive c bytes) skips
+  pub stands : Stands form settings new (played settings skips s (Arrive c bytes))
+  pub added : text ≡ written ++ brought settings s.run c bytes (played settings skips s (Arrive c bytes)).run
+
+-- A near client may send these bytes.
+pub record MaySend {V : Type 0} {T : V → Type 0} (form : FormOf V T) (all : ScriptGrid V T) (number c : ℕ) (bytes : List ℕ) : Type 0 where
+  pub settings : Settings
+  pub run : ScriptRun
+  pub stands : Stands form settings all run
+  pub read : IsWithin run.run.members most_arriving (Arrive c bytes)
+  pub next : number ≡ run.run.lines + 1
+  pub within : number ≤ most_lines

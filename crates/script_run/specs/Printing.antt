@@ -1,0 +1,55 @@
+-- The text of a script's line.
+use Rattle.std.specs.Prelude.{ℕ, List, [], ◌++◌, length, if◌then◌else◌, Option, Some, None, codes, decimal}
+use Rattle.std.specs.Fmt.{signed_decimal}
+use Rattle.std.specs.List.{flat_map}
+use Rattle.call_engine.specs.Calls.{Settings}
+use Rattle.call_engine.specs.Objects.{partition_object}
+use Rattle.grid_client.specs.declared.heard.Heard.{Heard}
+use Rattle.grid_client.specs.declared.heard.Heard.TheVariants as heard
+use Rattle.grid_client.specs.Nears.{Value}
+use Rattle.script_lang.specs.declared.line.Line.{Line}
+use Rattle.script_lang.specs.declared.line.Line.TheVariants.{Arrive, Near, NearGet, NearFeed}
+use Rattle.replay_run.specs.Dumps.{number, value_text}
+use Rattle.replay_run.specs.Runs.{Run}
+use Rattle.replay_run.specs.Printing.{ok_text, nothing_text, words_line, does_nothing, line_messages, line_close}
+use Rattle.replay_run.specs.Printing as grid
+use Rattle.script_run.specs.NearClients.{NearClient, opening_of, get_sent, piece, told}
+use Rattle.script_run.specs.Runs.{ScriptRun, Look, Unmade, Hit, Miss, near_of, is_near_connection, can_begin, look}
+
+-- what bytes bring that a near client sends: the messages that they append, and their connection's close, if they showed a fault; nothing, where they can't arrive
+abbrev pub brought : Settings → Run → ℕ → List ℕ → Run → List ℕ
+brought settings before c bytes after =
+    let line = Arrive c bytes in
+    if does_nothing (partition_object settings) before line then []
+    else line_messages settings before line after ++ line_close after line
+
+-- `I hit VALUE`
+abbrev pub hit_text : ℕ → Value → List ℕ
+hit_text line value = words_line line (codes "hit " ++ value_text value)
+
+-- A miss prints what its get brings.
+abbrev pub look_text : Settings → Run → ℕ → List ℕ → Run → Look → List ℕ
+look_text settings before c key after Unmade = nothing_text after.lines
+look_text settings before c key after (Hit n value) = hit_text after.lines value
+look_text settings before c key after (Miss n) = words_line after.lines (codes "miss") ++ brought settings before c (get_sent n key).request after
+
+-- What a client makes of a message, each on a line of its own; of one that answers no look-up nothing is said.
+abbrev pub heard_text : ℕ → Heard → List ℕ
+heard_text line (heard.Answered correlation bytes) = []
+heard_text line heard.Kept = words_line line (codes "kept")
+heard_text line (heard.Overtaken version n) = words_line line (codes "overtaken " ++ number version ++ decimal n)
+heard_text line heard.Invalidated = words_line line (codes "invalidated")
+heard_text line (heard.Cleared partition) = words_line line (codes "cleared " ++ decimal partition)
+heard_text line (heard.Refused correlation code) = words_line line (codes "refused " ++ signed_decimal code)
+
+-- `I fed N`, and what the client makes of the messages that these bytes complete
+abbrev pub fed_text : ℕ → ℕ → Option NearClient → List ℕ
+fed_text line most None = nothing_text line
+fed_text line most (Some n) = words_line line (codes "fed " ++ decimal (length (piece most n))) ++ flat_map (heard_text line) (told most n).heard
+
+abbrev pub line_text : Settings → ScriptRun → Line → ScriptRun → List ℕ
+line_text settings s (Near c name capacity) next = if can_begin s c name then ok_text next.run.lines ++ brought settings s.run c (opening_of c name) next.run else nothing_text next.run.lines
+line_text settings s (NearGet c key) next = look_text settings s.run c key next.run (look (partition_object settings) s c key)
+line_text settings s (NearFeed c most) next = fed_text next.run.lines most (near_of s c)
+line_text settings s (Arrive c bytes) next = if is_near_connection s c then nothing_text next.run.lines else grid.line_text settings s.run (Arrive c bytes) next.run
+line_text settings s line next = grid.line_text settings s.run line next.run

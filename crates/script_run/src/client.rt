@@ -1,0 +1,117 @@
+//! The client on a near connection.
+
+ghost use Rattle.std.specs.Prelude.{◌≡◌, ◌*◌, ◌≤◌, ◌++◌, ◌∷◌, ℕ, List, [], length, map, IfOk, OnOk};
+ghost use Rattle.script_lang.specs.Limits.{most_line_bytes};
+ghost use Rattle.script_run.specs.NearClients.{NearClient as NearClientOf, opening_of, new_near, told, fed, piece};
+ghost use Rattle.script_run.specs.Grids.{IsNear, AreNear};
+ghost use Rattle.script_run.specs.AfterLines.{noting};
+ghost use Rattle.replay_run.specs.Runs.{Appended};
+ghost use Rattle.script_run.specs.Reading.{beginning, lines_in, Adds, Tells};
+
+use crate::outputs::{beginning, push_sent};
+use grid_base::{Bytes, Memory};
+use grid_client::{FedClient, GridClient, Heard};
+use std::alloc::{AllocError, Global};
+
+/// The number of the client of connection 0; that of connection C is C more.
+const FIRST_CLIENT: u128 = 1000;
+
+/// The client on a near connection, and the bytes of the connection's output that it wasn't handed yet.
+#[derive(Drop)]
+pub(crate) struct NearClient {
+    pub(crate) conn: u32,
+    pub(crate) client: GridClient,
+    pub(crate) unread: Vec<u8>,
+}
+
+/// What a client was handed, and what it makes of it.
+#[derive(Drop)]
+pub(crate) struct Fed {
+    /// How many bytes.
+    pub(crate) bytes: usize,
+    pub(crate) heard: Vec<Heard>,
+}
+
+/// The client of a connection, with a near cache of that map and of so many entries, and what it sends first.
+fn attached(
+    alloc: Global,
+    conn: u32,
+    name: Bytes,
+    capacity: u32,
+) -> Result<(GridClient, Bytes), Memory>
+    requires { 1 ≤ capacity }
+    ensures client { IfOk result (λ begun. begun.0 ≡ (new_near conn name capacity).state) }
+    ensures opening { IfOk result (λ begun. begun.1 ≡ opening_of conn name) }
+{
+    let number = FIRST_CLIENT + u128::from(conn);
+    let mut client = GridClient::new(alloc, number, Some((name, capacity as usize)))?;
+    let Ok(opening) = client.attach(conn) else {
+        return Err(AllocError);
+    };
+    Ok((client, opening))
+}
+
+impl NearClient {
+    /// What a line's text says was appended to the connection is yet to be read.
+    pub(crate) fn note(&mut self, alloc: Global, text: &[u8]) -> Result<(), Memory>
+        ensures unread { OnOk result (Adds (beginning self.old.conn) (lines_in text.now) self.old.unread.items self.new.unread.items) }
+        ensures rest { (record self.new { unread = self.old.unread }) ≡ self.old }
+    {
+        let begins = beginning(alloc, self.conn)?;
+        push_sent(alloc, begins.as_slice(), text, &mut self.unread)
+    }
+
+    /// Hands the client the next bytes of the output, up to so many. After an error it is to be given up. Costs the bytes
+    /// that aren't read yet.
+    pub(crate) fn feed(&mut self, alloc: Global, most: u32) -> Result<Fed, Memory>
+        requires { (n : NearClientOf) × IsNear self.old n }
+        ensures after { (n : NearClientOf) → IsNear self.old n → OnOk result (IsNear self.new (fed most n)) }
+        ensures bytes { (n : NearClientOf) → IsNear self.old n → IfOk result (λ given. given.bytes ≡ length (piece most n)) }
+        ensures heard { (n : NearClientOf) → IsNear self.old n → IfOk result (λ given. given.heard.items ≡ (told most n).heard) }
+    {
+        let bytes = self.unread.len().min(most as usize);
+        let rest = Vec::from_slice(alloc, &self.unread[bytes..])?;
+        let Ok(FedClient { heard, .. }) = self.client.feed(self.conn, &self.unread[..bytes]) else {
+            return Err(AllocError);
+        };
+        self.unread = rest;
+        Ok(Fed { bytes, heard })
+    }
+}
+
+/// What a line's text says was appended to near connections is yet to be read there.
+pub(crate) fn note_all(
+    nears: &mut Vec<NearClient>,
+    alloc: Global,
+    text: &[u8],
+) -> Result<(), Memory>
+    ensures { (all : List NearClientOf) (messages : List Appended) → AreNear nears.old.items all → Tells text.now messages → OnOk result (AreNear nears.new.items (map (noting messages) all)) }
+{
+    for near in nears {
+        near.note(alloc, text)?;
+    }
+    Ok(())
+}
+
+/// A client begins on a connection, and what it sends first is given.
+pub(crate) fn begin(
+    nears: &mut Vec<NearClient>,
+    alloc: Global,
+    conn: u32,
+    name: &Bytes,
+    capacity: u32,
+) -> Result<Bytes, Memory>
+    requires within { conn ≤ 63 }
+    requires some { 1 ≤ capacity }
+    requires short { 2 * length name.now ≤ most_line_bytes }
+    ensures nears { (all : List NearClientOf) → AreNear nears.old.items all → OnOk result (AreNear nears.new.items (all ++ new_near conn name.now capacity ∷ [])) }
+    ensures opening { IfOk result (λ opening. opening ≡ opening_of conn name.now) }
+{
+    let (client, opening) = attached(alloc, conn, name.copied(alloc)?, capacity)?;
+    nears.push(NearClient {
+        conn,
+        client,
+        unread: Vec::new(alloc),
+    })?;
+    Ok(opening)
+}

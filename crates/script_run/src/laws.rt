@@ -1,0 +1,31 @@
+//! What holds of every run of a script's lines. Nothing runs here.
+
+ghost use Rattle.script_run.specs.Laws.{EveryRunIsTheGrids, EveryRunIsLinearizable, EverySkippedCallIsTold, EveryRunThatTellsOfNoSkipHasNone, EveryCallCountsOnce};
+
+/// What the near clients of a script do is, to the grid, bytes that arrive on their connections.
+pub fn every_run_is_the_grids()
+    ensures { EveryRunIsTheGrids }
+{}
+
+/// For every list of lines, whichever calls find no memory: what the run prints for each object is the history of one
+/// object used by one thread.
+pub fn every_run_is_linearizable()
+    ensures { EveryRunIsLinearizable }
+{}
+
+/// A call that finds no memory is refused with error 10, on its connection and at the line at which it arrived, unless
+/// the run is given up.
+pub fn every_skipped_call_is_told()
+    ensures { EverySkippedCallIsTold }
+{}
+
+/// Where no message is an error 10, the run is the one in which every call found memory.
+pub fn every_run_that_tells_of_no_skip_has_none()
+    ensures { EveryRunThatTellsOfNoSkipHasNone }
+{}
+
+/// Each call that arrived was answered, or refused by a row, or refused for want of memory, or none of these, and so is
+/// counted once.
+pub fn every_call_counts_once()
+    ensures { EveryCallCountsOnce }
+{}
