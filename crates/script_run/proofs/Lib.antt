@@ -1,4 +1,5 @@
 pub mod Digits
+pub mod Handed
 pub mod LineReadings
 pub mod LookUps
 pub mod NearLines
