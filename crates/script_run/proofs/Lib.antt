@@ -1,4 +1,5 @@
 pub mod Digits
+pub mod FedClients
 pub mod Handed
 pub mod LineReadings
 pub mod LookUps

@@ -99,7 +99,7 @@ pub(crate) fn note_all(
 ) -> Result<(), Memory>
     ensures { (all : List NearClientOf) (messages : List Appended) → AreNear nears.old.items all → Tells text.now messages → OnOk result (AreNear nears.new.items (map (noting messages) all)) }
 {
-    for near in nears {
+    for near in nears.iter_mut() {
         near.note(alloc, text)?;
     }
     Ok(())
