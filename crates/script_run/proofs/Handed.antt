@@ -19,7 +19,7 @@ use Rattle.script_run.proofs.Nears.{Pair, near_at, near_set}
 module _ {V : Type 0} {T : V → Type 0} {form : FormOf V T} {settings : Settings} (all : ScriptGrid V T) (s : ScriptRun) (stands : Stands form settings all s) (c : ℕ) (key : List ℕ) (place : ℕ)
     (asked : cond (may_look (partition_object settings) s c key) (place_in all c) None ≡ Some place) (kept new : KeptClient) (at : kept ≡ get_or all.nears.items place kept)
     (rest : (record new { client = kept.client }) ≡ kept) (found : NearLook) (looks_up : HasLookedUp key kept.client new.client found) where
-  pair : Pair c all.nears.items s.nears kept
+  abbrev pair : Pair c all.nears.items s.nears kept
   pair = near_at c all.nears.items s.nears place kept stands.goes.nears (may_if (may_look (partition_object settings) s c key) (place_in all c) place asked).1 at
 
   nears_by_it : (into : NearClient → NearClient) → IsNear new (into pair.near) → AreNear (set all.nears.items place new) (changed c into s.nears)
@@ -36,7 +36,7 @@ module _ {V : Type 0} {T : V → Type 0} {form : FormOf V T} {settings : Setting
       let hit = hit_there key kept new pair.near pair.is rest value (subst (HasLookedUp key kept.client new.client) is looks_up) in
       record {
         near = pair.near;
-        looks = made (partition_object settings) s c key pair.near (Some value) (may_if (may_look (partition_object settings) s c key) (place_in all c) place asked).0 pair.found hit.kept;
+        looks = made (partition_object settings) s c key pair.near (Some value) (may_if (may_look (partition_object settings) s c key) (place_in all c) place asked).0 pair.found hit.has;
         nears = nears_by_it (used key) hit.after;
       }
 
@@ -62,7 +62,7 @@ module _ {V : Type 0} {T : V → Type 0} {form : FormOf V T} {settings : Setting
 -- It was handed the next bytes.
 module _ {V : Type 0} {T : V → Type 0} {form : FormOf V T} {settings : Settings} (all : ScriptGrid V T) (s : ScriptRun) (stands : Stands form settings all s) (c most place : ℕ)
     (there : place_in all c ≡ Some place) (kept : KeptClient) (at : kept ≡ get_or all.nears.items place kept) where
-  pub client_at : Pair c all.nears.items s.nears kept
+  abbrev pub client_at : Pair c all.nears.items s.nears kept
   client_at = near_at c all.nears.items s.nears place kept stands.goes.nears there at
 
   pub nears_fed : (new : KeptClient) → ((n : NearClient) → IsNear kept n → IsNear new (fed most n)) → AreNear (set all.nears.items place new) (changed c (fed most) s.nears)

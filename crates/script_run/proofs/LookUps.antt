@@ -85,13 +85,13 @@ as_looked kept new rest = ap (λ (k : KeptClient). record k { client = new.clien
 
 module _ (key : List ℕ) (kept new : KeptClient) (n : NearClient) (is : IsNear kept n) (rest : (record new { client = kept.client }) ≡ kept) where
   pub record IsHit (value : Value) : Type 0 where
-    pub kept : value_kept n key ≡ Some value
+    pub has : value_kept n key ≡ Some value
     pub after : IsNear new (used key n)
 
   pub hit_there : (value : Value) → HasHit key value kept.client new.client → IsHit value
   hit_there value has =
       let its = subst (λ (s : State). HasHit key value s new.client) is.client has in
-      record { kept = hit_value n key value new.client its; after = subst (λ (k : KeptClient). IsNear k (used key n)) (as_looked kept new rest) (hit_near n key value new.client its kept is) }
+      record { has = hit_value n key value new.client its; after = subst (λ (k : KeptClient). IsNear k (used key n)) (as_looked kept new rest) (hit_near n key value new.client its kept is) }
 
   pub record IsMiss (sending : Sending) : Type 0 where
     pub none : value_kept n key ≡ None

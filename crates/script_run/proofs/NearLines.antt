@@ -31,15 +31,15 @@ use Rattle.script_run.proofs.Sending.{text_of_bytes, nothing_brought}
 
 -- What a near client sends arrives: the line's outcome, and then what that brings.
 
-same_mid : {settings : Settings} (s : ScriptRun) (line : Line) (ns : List NearClient) → nears_by (partition_object settings) s line ≡ ns → mid settings s line ≡ record s { nears = ns }
-same_mid s line ns stay = ap (λ (xs : List NearClient). record s { nears = xs }) stay
+same_mid : (settings : Settings) (s : ScriptRun) (line : Line) (ns : List NearClient) → nears_by (partition_object settings) s line ≡ ns → mid settings s line ≡ record s { nears = ns }
+same_mid settings s line ns stay = ap (λ (xs : List NearClient). record s { nears = xs }) stay
 
 pub ran_sent : {V : Type 0} {T : V → Type 0} {form : FormOf V T} {settings : Settings} (new : ScriptGrid V T) (s : ScriptRun) (line : Line) (ns : List NearClient) (c : ℕ) (bytes : List ℕ) → nears_by (partition_object settings) s line ≡ ns
     → grid_line (partition_object settings) s line ≡ Arrive c bytes → (number : ℕ) (outcome : ℕ → List ℕ) → ((next : ScriptRun) → line_text settings s line next ≡ outcome next.run.lines ++ brought settings s.run c bytes next.run)
     → number ≡ s.run.lines + 1 → (written text : List ℕ) → HasSent form settings new (record s { nears = ns }) c bytes (written ++ outcome number) text → HasRun form settings new s line written text
 ran_sent {form = form} {settings = settings} new s line ns c bytes stay asked number outcome says at_line written text sent =
     let next = played settings sent.skips (record s { nears = ns }) (Arrive c bytes) in
-    let one = same_mid {settings = settings} s line ns stay in
+    let one = same_mid settings s line ns stay in
     let lines : number ≡ next.run.lines = at_line ∙ sym (line_counts (partition_object settings) sent.skips s.run (Arrive c bytes)).lines in
     let shown : text ≡ written ++ line_text settings s line next =
     sent.added ∙ append_assoc written (outcome number) (brought settings s.run c bytes next.run)
@@ -50,7 +50,7 @@ ran_sent {form = form} {settings = settings} new s line ns c bytes stay asked nu
 pub given_up_sent : {settings : Settings} (s : ScriptRun) (line : Line) (ns : List NearClient) (c : ℕ) (bytes : List ℕ) → nears_by (partition_object settings) s line ≡ ns → grid_line (partition_object settings) s line ≡ Arrive c bytes
     → IsGivenUpAt settings (record s { nears = ns }) (Arrive c bytes) → IsGivenUp settings s line
 given_up_sent {settings = settings} s line ns c bytes stay asked given =
-    given_up_at s line (Arrive c bytes) asked (subst (λ (m : ScriptRun). IsGivenUpAt settings m (Arrive c bytes)) (sym (same_mid {settings = settings} s line ns stay)) given)
+    given_up_at s line (Arrive c bytes) asked (subst (λ (m : ScriptRun). IsGivenUpAt settings m (Arrive c bytes)) (sym (same_mid settings s line ns stay)) given)
 
 -- `near`
 
@@ -90,7 +90,7 @@ pub ran_hit : {V : Type 0} {T : V → Type 0} {form : FormOf V T} {settings : Se
     → HasCounted form settings new (record s { nears = changed c (used key) s.nears }) (hit_text number value) written text → HasRun form settings new s (NearGet c key) written text
 ran_hit {form = form} {settings = settings} new all s c key number n value spoken at_line hit same written text counted =
     let line = NearGet c key in
-    let one = same_mid {settings = settings} s line (changed c (used key) s.nears) (ap (λ (l : Look). after_look c key l s.nears) hit) in
+    let one = same_mid settings s line (changed c (used key) s.nears) (ap (λ (l : Look). after_look c key l s.nears) hit) in
     ran_counted new all s line (ap (asked_line c key) hit) spoken same (hit_text number value) written text
     (subst (λ (m : ScriptRun). HasCounted form settings new m (hit_text number value) written text) (sym one) counted)
     (ap (λ (k : ℕ). hit_text k value) at_line ∙ sym (ap (look_text settings s.run c key (played settings [] (mid settings s line) Comment).run) hit))

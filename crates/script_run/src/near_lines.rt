@@ -1,16 +1,17 @@
 //! The lines of near clients: `near`, `nearget` and `nearfeed`.
 
-ghost use Rattle.std.specs.Prelude.{◌≡◌, ℕ, ◌≤◌, ◌++◌, if◌then◌else◌, List, None, length, IfOk, OnOk, IsErrOf};
+ghost use Rattle.std.specs.Prelude.{◌≡◌, ℕ, ◌≤◌, ◌++◌, if◌then◌else◌, List, None, codes, length, IfOk, OnOk, IsErrOf};
 ghost use Rattle.std.specs.Str.{is_utf8};
 ghost use Rattle.call_engine.specs.Calls.{Settings};
 ghost use Rattle.call_engine.specs.Objects.{partition_object};
 ghost use Rattle.replay_run.specs.Grids.{boxed};
 ghost use Rattle.replay_run.specs.declared.run_end.RunEnd.TheVariants as RunEnds;
-ghost use Rattle.script_lang.specs.declared.line.Line.TheVariants.{Near, NearGet, NearFeed, Arrive};
-ghost use Rattle.replay_run.specs.Printing.{ok_text};
+ghost use Rattle.script_lang.specs.declared.line.Line.TheVariants.{Near, NearGet, NearFeed, Arrive, Comment};
+ghost use Rattle.replay_run.specs.Printing.{ok_text, words_line};
 ghost use Rattle.replay_run.specs.Runs.{connection_of};
 ghost use Rattle.script_run.specs.Runs.{ScriptRun, is_new, can_begin, may_look};
-ghost use Rattle.script_run.specs.Grids.{Stands, MayRun, HasRun, IsGivenUp, MaySend, HasSent, IsGivenUpAt, place_in};
+ghost use Rattle.script_run.specs.Grids.{Goes, Stands, MayRun, HasRun, IsGivenUp, MayPlay, HasCounted, MaySend, HasSent, IsGivenUpAt, place_in};
+ghost use Rattle.script_run.specs.Printing.{hit_text};
 
 use crate::client::begin;
 use crate::grid::ScriptGrid;
@@ -137,15 +138,45 @@ impl ScriptGrid {
         };
         let look = self.nears[place].look(key)?;
         match look {
-            NearLook::Hit(value) => {
-                self.count(alloc, number)?;
-                Ok(push_hit(alloc, out, number, value.as_ref())?)
-            }
-            NearLook::Miss(sending) => {
-                push_words(out, number, b"miss")?;
-                self.send(alloc, number, conn, sending.bytes, out)
-            }
+            NearLook::Hit(value) => self.tell_hit(alloc, number, value, out),
+            NearLook::Miss(sending) => self.tell_miss(alloc, number, conn, sending.bytes, out),
         }
+    }
+
+    /// Counts a line at which a value is kept for the key.
+    fn tell_hit(
+        &mut self,
+        alloc: Global,
+        number: u32,
+        value: Option<Bytes>,
+        out: &mut Vec<u8>,
+    ) -> Result<(), RunEnd>
+        requires { MayPlay (boxed form) self.old number Comment }
+        ensures ok { (settings : Settings) (s : ScriptRun) → Goes (boxed form) settings self.old s
+            → OnOk result (HasCounted (boxed form) settings self.new s (hit_text number value) out.old.items out.new.items) }
+        ensures never { (settings : Settings) (s : ScriptRun) → Goes (boxed form) settings self.old s → IsErrOf result RunEnds.InFlight → ⊥ }
+        ensures spoken { self.new.spoken ≡ self.old.spoken }
+    {
+        self.count(alloc, number)?;
+        Ok(push_hit(alloc, out, number, value.as_ref())?)
+    }
+
+    /// A line at which none is kept: the get arrives.
+    fn tell_miss(
+        &mut self,
+        alloc: Global,
+        number: u32,
+        conn: u32,
+        get: Bytes,
+        out: &mut Vec<u8>,
+    ) -> Result<(), RunEnd>
+        requires { MaySend (boxed form) self.old number conn get }
+        ensures ok { (settings : Settings) (s : ScriptRun) → Stands (boxed form) settings self.old s
+            → OnOk result (HasSent (boxed form) settings self.new s conn get (out.old.items ++ words_line number (codes "miss")) out.new.items) }
+        ensures full { (settings : Settings) (s : ScriptRun) → Stands (boxed form) settings self.old s → IsErrOf result RunEnds.InFlight → IsGivenUpAt settings s (Arrive conn get) }
+    {
+        push_words(out, number, b"miss")?;
+        self.send(alloc, number, conn, get, out)
     }
 
     /// `nearfeed C K`: the client of a near connection is handed the next bytes of its connection's output, up to so many.

@@ -27,19 +27,19 @@ returns-in_default-clause-ok g c = λ settings s stands.
 pub returns-in_default-clause-full : goal.returns-in_default-clause-full
 returns-in_default-clause-full g c = λ settings s stands full. absurd (c.pass.ensures.never settings s stands.goes full)
 
-pub index_mut-fed-requires : goal.index_mut-fed-requires
-index_mut-fed-requires g c = (first_placed (is_kept c.args.conn) c.args.self.now.nears.items c.in-Some.place (sym c.place_of.ensures ∙ c.in-Some.is)).within
+pub index_mut-requires : goal.index_mut-requires
+index_mut-requires g c = (first_placed (is_kept c.args.conn) c.args.self.now.nears.items c.in-Some.place (sym c.place_of.ensures ∙ c.in-Some.is)).within
 
-pub feed-fed-requires : goal.feed-fed-requires
-feed-fed-requires g c =
+pub feed-requires : goal.feed-requires
+feed-requires g c =
     let may = c.requires in
-    let pair = client_at c.args.self.now may.run may.stands c.args.conn c.args.most c.in-Some.place (sym c.place_of.ensures ∙ c.in-Some.is) c.index_mut-fed.result.now c.index_mut-fed.ensures.value in
+    let pair = client_at c.args.self.now may.run may.stands c.args.conn c.args.most c.in-Some.place (sym c.place_of.ensures ∙ c.in-Some.is) c.index_mut.result.now c.index_mut.ensures.value in
     (pair.near, pair.is)
 
 pub count-requires : goal.count-requires
 count-requires g c =
     let may = c.requires in
-    let are = nears_fed c.args.self.now may.run may.stands c.args.conn c.args.most c.in-Some.place (sym c.place_of.ensures ∙ c.in-Some.is) c.index_mut-fed.result.now c.index_mut-fed.ensures.value c.feed-fed.new.self c.in_ok-fed.ensures.after in
+    let are = nears_fed c.args.self.now may.run may.stands c.args.conn c.args.most c.in-Some.place (sym c.place_of.ensures ∙ c.in-Some.is) c.index_mut.result.now c.index_mut.ensures.value c.feed.new.self c.in_ok-fed.ensures.after in
     may_count_with _ (changed c.args.conn (fed c.args.most) may.run.nears) may are
 
 pub returns-clause-ok : goal.returns-clause-ok
@@ -50,8 +50,8 @@ returns-clause-ok g c = λ settings s stands.
     let number = c.args.number in
     let out = c.args.out.now.items in
     let there = sym c.place_of.ensures ∙ c.in-Some.is in
-    let pair = client_at all s stands conn most c.in-Some.place there c.index_mut-fed.result.now c.index_mut-fed.ensures.value in
-    let are = nears_fed all s stands conn most c.in-Some.place there c.index_mut-fed.result.now c.index_mut-fed.ensures.value c.feed-fed.new.self c.in_ok-fed.ensures.after in
+    let pair = client_at all s stands conn most c.in-Some.place there c.index_mut.result.now c.index_mut.ensures.value in
+    let are = nears_fed all s stands conn most c.in-Some.place there c.index_mut.result.now c.index_mut.ensures.value c.feed.new.self c.in_ok-fed.ensures.after in
     let ns = changed conn (fed most) s.nears in
     let text = fed_added number most pair.near c.in_ok-fed.fed.bytes (c.in_ok-fed.ensures.bytes pair.near pair.is) c.as_slice.result.now (c.as_slice.ensures.value ∙ c.in_ok-fed.ensures.heard pair.near pair.is)
     out c.push_fed.new.out.items c.push_all_heard.new.out.items c.in_ok-push_fed.ensures c.in_ok-push_all_heard.ensures in
@@ -65,6 +65,6 @@ returns-clause-full g c = λ settings s stands full.
     let all = c.args.self.now in
     let conn = c.args.conn in
     let most = c.args.most in
-    let are = nears_fed all s stands conn most c.in-Some.place (sym c.place_of.ensures ∙ c.in-Some.is) c.index_mut-fed.result.now c.index_mut-fed.ensures.value c.feed-fed.new.self c.in_ok-fed.ensures.after in
+    let are = nears_fed all s stands conn most c.in-Some.place (sym c.place_of.ensures ∙ c.in-Some.is) c.index_mut.result.now c.index_mut.ensures.value c.feed.new.self c.in_ok-fed.ensures.after in
     let ns = changed conn (fed most) s.nears in
     absurd (c.count.ensures.never settings (record s { nears = ns }) (stands_with _ ns stands are).goes full)

@@ -1,4 +1,4 @@
-use Rattle.std.proofs.Common.{ap, sym, ◌∙◌}
+use Rattle.std.proofs.Common.{sym, ◌∙◌, arith}
 use Rattle.call_engine.specs.Objects.{partition_object}
 use Rattle.script_run.proofs.Spoken.{takes_is, spoken_within, are_spoken_taking, are_spoken_refusing}
 use Rattle.script_run.proofs.grid.ScriptGrid.mark_spoken.Goals as goal
@@ -7,7 +7,9 @@ pub takes_bytes-requires : goal.takes_bytes-requires
 takes_bytes-requires g c = (c.requires.0, c.requires.1.run, c.requires.2.goes.grid)
 
 pub index_mut-requires : goal.index_mut-requires
-index_mut-requires g c = spoken_within c.args.self.now.spoken.items c.requires.1.run c.args.conn c.requires.2.spoken c.requires.3
+index_mut-requires g c =
+    let within = spoken_within c.args.self.now.spoken.items c.requires.1.run c.args.conn c.requires.2.spoken c.requires.3 in
+    omega (arith, within, c.args.self.now.spoken.ok.0)
 
 pub returns-then-not-takes_bytes-clause-spoken : goal.returns-then-not-takes_bytes-clause-spoken
 returns-then-not-takes_bytes-clause-spoken g c = λ settings s bytes skips stands some.

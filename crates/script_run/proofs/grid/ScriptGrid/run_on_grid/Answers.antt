@@ -1,4 +1,4 @@
-use Rattle.std.proofs.Common.{Err, ap, sym, ◌∙◌}
+use Rattle.std.proofs.Common.{◌≡◌, ℕ, drop, length, Err, ap, sym, ◌∙◌, arith}
 use Rattle.replay_run.specs.Appending.{new_messages}
 use Rattle.replay_run.specs.WorldCalls.{is_quiet}
 use Rattle.replay_run.specs.declared.run_end.RunEnd.TheVariants.{InFlight}
@@ -27,6 +27,7 @@ returns-clause-ok g c = λ settings s goes.
     let line = c.args.line.now in
     let ran = c.in_ok-run_line.ensures.ok settings s.run goes.grid in
     let busy = busy_by (is_quiet line) c.appends.result c.appends.ensures c.if-not-appends.false in
+    let from : c.len-from.result ≡ length c.args.out.now.items = (let counted = c.len-from.ensures in omega (arith, counted, c.args.out.now.ok.0)) in
     let new = record c.args.self.now { grid = c.run_line.new.self; nears = c.note_all.new.nears } in
     has_played new s line ran
-    (c.in_ok-note_all.ensures s.nears (new_messages s.run (played settings ran.skips s line).run) goes.nears (printed_tells new s line ran busy _ c.index.ensures))
+    (c.in_ok-note_all.ensures s.nears (new_messages s.run (played settings ran.skips s line).run) goes.nears (printed_tells new s line ran busy _ (ap (λ (n : ℕ). drop n c.deref.result.now) from ∙ ap (drop (length c.args.out.now.items)) c.deref.ensures.value)))
