@@ -126,8 +126,10 @@ impl Notes {
         text: &str,
         told: &mut Tale,
     ) -> Result<(), Memory> {
-        let mut words = format!(in alloc; "begins to keep {capacity} entries at most of ")?;
+        let mut words = String::new(alloc);
+        words.push_str("begins to keep entries of ")?;
         push_name(&mut words, name.as_slice())?;
+        write!(words, ", {capacity} at most")?;
         told.push(Happening::Near { conn, words })?;
         self.clients.begin_near(alloc, conn, name.copied(alloc)?);
         let (_, brought) = text.split_once('\n').unwrap_or((text, ""));
