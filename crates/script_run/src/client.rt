@@ -1,6 +1,7 @@
 //! The client on a near connection.
 
 ghost use Rattle.std.specs.Prelude.{◌≡◌, ◌*◌, ◌≤◌, ◌++◌, ◌∷◌, ℕ, List, [], length, map, IfOk, OnOk};
+ghost use Rattle.grid_client.specs.States.{HasLookedUp};
 ghost use Rattle.script_lang.specs.Limits.{most_line_bytes};
 ghost use Rattle.script_run.specs.NearClients.{NearClient as NearClientOf, opening_of, new_near, told, fed, piece};
 ghost use Rattle.script_run.specs.Grids.{IsNear, AreNear};
@@ -10,7 +11,7 @@ ghost use Rattle.script_run.specs.Reading.{beginning, lines_in, Adds, Tells};
 
 use crate::outputs::{beginning, push_sent};
 use grid_base::{Bytes, Memory};
-use grid_client::{FedClient, GridClient, Heard};
+use grid_client::{FedClient, GridClient, Heard, NearLook};
 use std::alloc::{AllocError, Global};
 
 /// The number of the client of connection 0; that of connection C is C more.
@@ -61,6 +62,17 @@ impl NearClient {
         push_sent(alloc, begins.as_slice(), text, &mut self.unread)
     }
 
+    /// The client looks a key up. After an error it is to be given up.
+    pub(crate) fn look(&mut self, key: &Bytes) -> Result<NearLook, Memory>
+        ensures looks { IfOk result (λ look. HasLookedUp key.now self.old.client self.new.client look) }
+        ensures rest { (record self.new { client = self.old.client }) ≡ self.old }
+    {
+        match self.client.near_get(key) {
+            Ok(look) => Ok(look),
+            Err(_) => Err(AllocError),
+        }
+    }
+
     /// Hands the client the next bytes of the output, up to so many. After an error it is to be given up. Costs the bytes
     /// that aren't read yet.
     pub(crate) fn feed(&mut self, alloc: Global, most: u32) -> Result<Fed, Memory>
@@ -87,7 +99,7 @@ pub(crate) fn note_all(
 ) -> Result<(), Memory>
     ensures { (all : List NearClientOf) (messages : List Appended) → AreNear nears.old.items all → Tells text.now messages → OnOk result (AreNear nears.new.items (map (noting messages) all)) }
 {
-    for near in nears {
+    for near in nears.iter_mut() {
         near.note(alloc, text)?;
     }
     Ok(())

@@ -1,0 +1,8 @@
+use Rattle.std.proofs.Common.{rules, tests}
+use Rattle.std.proofs.lemmas.Iterator.{YieldsList-from_slice}
+use Rattle.std.proofs.lemmas.Iterator.Search.{position_from_yields_List}
+use Rattle.script_run.specs.Grids.{is_kept}
+use Rattle.script_run.proofs.grid.ScriptGrid.place_of.Goals as goal
+
+pub returns : goal.returns
+returns g c = position_from_yields_List (is_kept c.args.conn) _ _ c.position.result c.position.ensures.ran (YieldsList-from_slice c.args.self.now.nears.items c.iter.ensures.rest) (λ x b q k. search (rules, tests))
