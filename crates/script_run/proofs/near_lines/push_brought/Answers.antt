@@ -15,4 +15,4 @@ pub returns : goal.returns
 returns c = λ brought is.
     let outcome = ok_text c.args.line in
     on_ok_weaker c.push_text.result
-    (λ added. added ∙ ap (λ (t : List ℕ). c.args.out.now.items ++ t) (ap (drop c.in_ok-from.from) is ∙ drop_at outcome brought c.in_ok-from.from c.in_ok-from.ensures)) c.push_text.ensures
+    (λ added. added ∙ ap (λ (t : List ℕ). c.args.out.now.items ++ t) (ap (drop c.in_ok-from.from) is ∙ drop_at outcome brought c.in_ok-from.from (sym c.in_ok-from.ensures))) c.push_text.ensures
