@@ -28,7 +28,7 @@ returns-then-is_new g c = λ settings s stands.
           (let free = not_near_here c.args.conn c.args.self.now.nears.items s.nears stands.goes.nears (ap is_some (sym c.place_of.ensures) ∙ c.is_none.ensures ∙ ap not w.if-is_none.true) in
           c.is_name.ensures
           ∙ begins (is_near_connection s c.args.conn) (is_new (connection_of s.run c.args.conn)) (is_utf8 c.args.name.now) free (sym (w.is_new.ensures settings s stands) ∙ sym w.value-is ∙ c.if-is_new.true))
-      | else-is_none w ↦ absurd (let e : true ≡ false = sym c.if-is_new.true ∙ w.value-is in cc)
+      | else-is_none w ↦ absurd (let e : true ≡ false = sym c.if-is_new.true ∙ w.value-is ∙ w.if-is_none.false in cc)
     ]
 
 pub returns-else-is_new : goal.returns-else-is_new
