@@ -100,7 +100,7 @@ asked_event (BeginHandover f t) a i = absurd i
 asked_event Advance a i = absurd i
 asked_event Reopen a i = absurd i
 
-arrived_event : {C : Type 0} (es : List (Event C)) (a : Asked C) → In a (arrivals es) → (k : ℕ) × In (Call k a.conn a.number a.call a.now) es
+pub arrived_event : {C : Type 0} (es : List (Event C)) (a : Asked C) → In a (arrivals es) → (k : ℕ) × In (Call k a.conn a.number a.call a.now) es
 arrived_event [] a i = absurd i
 arrived_event {C} (e ∷ es) a i = ⊎_elim (λ j. let f = asked_event e a j in (f.0, inl f.1)) (λ j. let f = arrived_event es a j in (f.0, inr f.1)) (in_cases a (asked_by e) (arrivals es) i)
 

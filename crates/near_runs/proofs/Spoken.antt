@@ -1,10 +1,11 @@
 -- All that was sent on a near connection since its client came is one stream of messages, and is what the machine said.
-use Rattle.std.proofs.Common.{◌≡◌, ℕ, zero, suc, ◌+◌, ◌≤◌, ◌<◌, ◌^◌, Bool, true, false, cond, ◌&&◌, ◌==◌, List, [], ◌∷◌, ◌++◌, map, length, Option, Some, None, option_map, All, nat_lt, slice_get, refl, ap, sym, ◌∙◌, subst, ◌⊎◌, ⊎_elim, inl, inr, append_assoc, append-nil, length-append, length-map, arith, lit<}
+use Rattle.std.proofs.Common.{◌≡◌, ℕ, zero, suc, ◌+◌, ◌≤◌, ◌<◌, ◌^◌, Bool, true, false, cond, ◌&&◌, ◌==◌, List, [], ◌∷◌, ◌++◌, map, length, Option, Some, None, option_map, All, nat_lt, slice_get, refl, ap, sym, ◌∙◌, subst, ◌⊎◌, ⊎_elim, inl, inr, append_assoc, append-nil, length-append, arith, lit<}
 use Rattle.std.specs.Prelude.{pos, nat_le, filter, Contains}
 use Rattle.std.specs.Str.{IsUtf8}
 use Rattle.std.specs.Int.{w32, cast_signed}
 use Rattle.std.specs.List.{filter_map, flat_map, cons_option}
 use Rattle.std.proofs.lemmas.Bool.Decides.{nat_tests}
+use Rattle.std.proofs.lemmas.List.{length-map}
 use Rattle.std.proofs.lemmas.List.Elements.{All-nil, All-cons, filter-append}
 use Rattle.grid_base.specs.Errors.{want_of_memory}
 use Rattle.grid_base.specs.Objects.{Object}
@@ -284,7 +285,7 @@ text_of : {settings : Settings} {client : ℕ} {name : List ℕ} {r : Run} {s : 
 text_of (client_came r k first capacity one within fresh new may) = may.text
 text_of (went_aside r next s earlier heard run aside) = text_of run
 text_of (event_happened r s earlier heard p e run quiet) = text_of run
-text_of (call_arrived r s earlier heard a skips run apart right found) = text_of run
+text_of (call_arrived r s earlier heard a skips run apart fitting found) = text_of run
 text_of (client_missed r s earlier heard key a skips run next none found) = text_of run
 text_of (client_missed_in_vain r s earlier heard key a skips run may request none skipped) = text_of run
 text_of (client_hit r s earlier heard key value now run found) = text_of run
@@ -335,7 +336,7 @@ module _ (settings : Settings) (client : ℕ) (name : List ℕ) where
       (told_event settings client name r (occurred (partition_object settings) r p e) s p e new refl refl refl refl earlier heard old b.members b.follows.grid
       (went (event_happened r s earlier heard p e run quiet) named (machine_occurred (partition_object settings) (keyed settings s.conn name client) s p e) is) (text_of run) now
       (event_says settings r s.conn s.member name client p e b.members b.follows.near quiet after (Tells name)))
-  told (call_arrived r s earlier heard a skips run apart right found) named modest =
+  told (call_arrived r s earlier heard a skips run apart fitting found) named modest =
       let p = a.request.partition in
       let next = arrived r a (record { partition = p; event = call_of a } ∷ []) (happening (partition_object settings) r a) in
       let run_is = asked_now r a skips found in
@@ -351,31 +352,31 @@ module _ (settings : Settings) (client : ℕ) (name : List ℕ) where
       let after : AreNamedOnce (grid_after settings s.conn name client r p (call_of a)) =
       subst AreNamedOnce (ap (λ (z : Machine). z.grid) is ∙ ap (λ g. happened (partition_object settings) (keyed settings s.conn name client) g p (call_of a)) b.follows.grid) named
       in
-      let near = subst (λ z. IsNear z s.conn s.member name) run_is (went (call_arrived r s earlier heard a skips run apart right found) named (machine_occurred (partition_object settings) (keyed settings s.conn name client) s p (call_of a)) is) in
+      let near = subst (λ z. IsNear z s.conn s.member name) run_is (went (call_arrived r s earlier heard a skips run apart fitting found) named (machine_occurred (partition_object settings) (keyed settings s.conn name client) s p (call_of a)) is) in
       subst (λ z. Told name z (step settings client name s (Occurs p (call_of a))) earlier heard) (sym run_is)
       (subst (λ z. Told name next z earlier heard) (sym is)
       (told_event settings client name r next s p (call_of a) new refl refl refl refl earlier heard old b.members b.follows.grid near (text_of run) now
-      (call_says settings r s.conn s.member name client a b.members b.follows.near right after (Tells name))))
+      (call_says settings r s.conn s.member name client a b.members b.follows.near fitting after (Tells name))))
   told (client_missed r s earlier heard key a skips run next_get none found) named modest =
       let p = a.request.partition in
       let next = arrived r a (record { partition = p; event = call_of a } ∷ []) (happening (partition_object settings) r a) in
       let run_is = asked_now r a skips found in
       let once = before settings client name s (LooksUp key a.now) named in
       let b = every_near_run_goes_well settings client name r s earlier heard run once in
-      let open = opening_at s key in
+      let waits = opening_at s key in
       let is = missed settings client name key r s a b.follows next_get none in
       let conn = ap (λ (z : Machine). z.conn) is in
       let now : IsModest s.conn name next = subst (IsModest s.conn name) run_is (subst (λ c. IsModest c name (asked (partition_object settings) skips r a)) conn modest) in
       let new = happening (partition_object settings) r a in
       let old = told run once (modest_before s.conn name r next (goes_on settings client name r next s p (call_of a) new refl refl refl refl) now) in
-      let opened = told_same name r r s open earlier heard old refl refl refl refl in
+      let opened = told_same name r r s waits earlier heard old refl refl refl refl in
       let after : AreNamedOnce (grid_after settings s.conn name client r p (call_of a)) =
       subst AreNamedOnce (ap (λ (z : Machine). z.grid) is ∙ ap (λ g. happened (partition_object settings) (keyed settings s.conn name client) g p (call_of a)) b.follows.grid) named
       in
-      let near = subst (λ z. IsNear z s.conn s.member name) run_is (went (client_missed r s earlier heard key a skips run next_get none found) named (machine_occurred (partition_object settings) (keyed settings s.conn name client) open p (call_of a)) is) in
+      let near = subst (λ z. IsNear z s.conn s.member name) run_is (went (client_missed r s earlier heard key a skips run next_get none found) named (machine_occurred (partition_object settings) (keyed settings s.conn name client) waits p (call_of a)) is) in
       subst (λ z. Told name z (step settings client name s (LooksUp key a.now)) earlier heard) (sym run_is)
       (subst (λ z. Told name next z earlier heard) (sym is)
-      (told_event settings client name r next open p (call_of a) new refl refl refl refl earlier heard opened b.members b.follows.grid near (text_of run) now
+      (told_event settings client name r next waits p (call_of a) new refl refl refl refl earlier heard opened b.members b.follows.grid near (text_of run) now
       (call_says settings r s.conn s.member name client a b.members b.follows.near (right settings client name key r s a b.follows next_get) after (Tells name))))
   told (client_missed_in_vain r s earlier heard key a skips run may request none skipped) named modest =
       let next = arrived r a [] (refusal a.line a.request (pos want_of_memory) 0 ∷ []) in
@@ -434,7 +435,7 @@ every_near_run_speaks settings client name r s earlier heard run named modest =
     (ap (λ b. b ∷ t.second ∷ t.third ∷ t.since) t.accepted.is ∙ ap (λ b. spelled t.accepted.frames ∷ b ∷ t.third ∷ t.since) t.listens.is
     ∙ ap (λ b. spelled t.accepted.frames ∷ spelled t.listens.frames ∷ b ∷ t.since) t.views.is ∙ ap (λ bs. spelled t.accepted.frames ∷ spelled t.listens.frames ∷ spelled t.views.frames ∷ bs) f.is)
     in
-    let count = ap length bytes ∙ length-append earlier (map spelled sent) ∙ ap (λ n. length earlier + n) (length-map spelled sent) in
+    let count = ap length bytes ∙ length-append earlier (map spelled sent) ∙ ap (λ n. length earlier + n) (length-map sent spelled) in
     let room = modest.room in
     record {
       sent = sent;

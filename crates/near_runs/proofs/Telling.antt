@@ -1,13 +1,14 @@
 -- What the events of a partition send on a near connection speaks, where its run is within the limits.
-use Rattle.std.proofs.Common.{◌≡◌, ℕ, ◌+◌, ◌*◌, ◌≤◌, ◌<◌, ◌^◌, Bool, true, false, ◌&&◌, List, [], ◌∷◌, ◌++◌, map, length, sum_by, Option, Some, None, IfSome, All, slice_get, bytes_eq, refl, ap, sym, ◌∙◌, subst, inl, inr, append-nil, length-append, length-map, arith, lit<, lit≤}
-use Rattle.std.specs.Prelude.{ℤ, pos, nat_le, nat_eq, Contains}
-use Rattle.std.specs.Int.{w32, w64}
+use Rattle.std.proofs.Common.{◌≡◌, ℕ, ◌+◌, ◌*◌, ◌≤◌, ◌<◌, ◌^◌, Bool, true, false, ◌&&◌, List, [], ◌∷◌, ◌++◌, map, length, sum_by, Option, Some, None, IfSome, All, slice_get, bytes_eq, refl, ap, sym, ◌∙◌, subst, inl, inr, append-nil, length-append, arith, lit<, lit≤}
+use Rattle.std.specs.Prelude.{ℤ, pos, negsuc, nat_le, nat_eq, Contains}
+use Rattle.std.specs.Int.{w32, w64, to_le_bytes}
 use Rattle.std.specs.Int.RustNames.{FitsSigned}
 use Rattle.std.specs.Option.{option_eq}
 use Rattle.std.specs.Cmp.Lexicographic.{pointwise}
 use Rattle.std.specs.Str.{IsUtf8}
 use Rattle.std.proofs.lemmas.Bool.Decides.{nat_tests}
 use Rattle.std.proofs.lemmas.Int.{ints}
+use Rattle.std.proofs.lemmas.List.{length-map}
 use Rattle.std.proofs.lemmas.List.Elements.{All-nil, All-cons, All-head, All-tail}
 use Rattle.std.proofs.lemmas.List.Sums.{sum_by-cons}
 use Rattle.grid_base.specs.Limits.{FitsFrame, most_bytes, CallFits}
@@ -23,7 +24,7 @@ use Rattle.frame_codec.specs.Frames.{frame_length}
 use Rattle.frame_codec.specs.Laws.{IsWithinLimits, spelled}
 use Rattle.frame_codec.specs.declared.frames.Frame.{Frame}
 use Rattle.fixed_fields.specs.Replies.{reply_bytes}
-use Rattle.fixed_fields.specs.Responses.{error_bytes}
+use Rattle.fixed_fields.specs.Responses.{unfragmented, final, response_head, error_bytes}
 use Rattle.message_frames.specs.Assembly.{most_messages, most_frames, most_length, first_payload}
 use Rattle.message_frames.specs.Grammar.{ends_at_final}
 use Rattle.message_frames.specs.Writing.{IsWritable}
@@ -33,7 +34,8 @@ use Rattle.partition_table.specs.declared.Row.{Row}
 use Rattle.partition_table.specs.declared.RowMember.{RowMember}
 use Rattle.event_codecs.specs.Sent.{FitMessage}
 use Rattle.event_codecs.specs.SpelledEvents.{IsEvent, IsSeenRow}
-use Rattle.event_codecs.specs.Writing.{frame, final_end_list, begin_list, row_frame, seen, invalidation_frames, rows_frames}
+use Rattle.event_codecs.specs.Events.{invalidation_kind, rows_kind}
+use Rattle.event_codecs.specs.Writing.{frame, first_frame, final_end_list, begin_list, row_frame, seen, invalidation_frames, rows_frames}
 use Rattle.event_codecs.specs.declared.events.ClientEvent.TheVariants as event
 use Rattle.request_codecs.specs.Openings.{invalidations_correlation, rows_correlation}
 use Rattle.map_records.specs.MapEntries.{cleaned}
@@ -64,7 +66,7 @@ use Rattle.grid_client.specs.Nears.{Value}
 use Rattle.grid_client.specs.Calls.{correlation_of}
 use Rattle.replay_run.specs.Changes.{change_between, change_by}
 use Rattle.replay_run.specs.Runs.{Run, world_at, events_at, partitions}
-use Rattle.near_runs.specs.Hearings.{answer_frames, refusal_frames}
+use Rattle.near_runs.specs.Hearings.{value_frame, answer_frames, refusal_frames}
 use Rattle.near_runs.specs.Messages.{row_said}
 use Rattle.near_runs.specs.Modest.{HasKey, BringsFitting, IsModest}
 use Rattle.near_runs.specs.NearConnections.{IsGet, IsRight, IsNear}
@@ -87,14 +89,20 @@ tells_refusal name number code first small low =
 
 -- ---- answers
 
+two_within : (a b : Frame) → IsWithinLimits a → IsWithinLimits b → All IsWithinLimits (a ∷ b ∷ [])
+two_within a b h k = All-cons IsWithinLimits a (b ∷ []) h (All-cons IsWithinLimits b [] k (All-nil IsWithinLimits))
+
+abbrev answer_head : ℕ → Frame
+answer_head number = record { flags = unfragmented; payload = response_head get_kind (correlation_of number) }
+
 answer_writable : (number : ℕ) (value : Value) → IfSome value FitsFrame → IsWritable (answer_frames number value)
 answer_writable number None fits = record {
-  each = All-cons IsWithinLimits _ _ (lit< tt, lit≤ tt) (All-cons IsWithinLimits _ [] (lit< tt, lit≤ tt) (All-nil IsWithinLimits));
+  each = two_within (answer_head number) (value_frame None) (lit< tt, lit≤ tt) (lit< tt, lit≤ tt);
   form = refl;
   fits = refl;
 }
 answer_writable number (Some value) fits = record {
-  each = All-cons IsWithinLimits _ _ (lit< tt, lit≤ tt) (All-cons IsWithinLimits _ [] (lit< tt, fits) (All-nil IsWithinLimits));
+  each = two_within (answer_head number) (value_frame (Some value)) (lit< tt, lit≤ tt) (lit< tt, fits);
   form = refl;
   fits = let few : nat_le (sum_by frame_length (answer_frames number (Some value))) most_length ≡ true = grind (arith, nat_tests) in few;
 }
@@ -110,7 +118,9 @@ tells_invalidation : (name : List ℕ) (p version number : ℕ) (key : List ℕ)
 tells_invalidation name p version number key within few seen_few text short fits long = (invalidation_frames invalidations_correlation p version number name key, refl, (p, refl,
     record { correlation = omega (arith, ints); partition = omega (arith, ints, within); parts = (few, seen_few, text, long) },
     record {
-      each = All-cons IsWithinLimits _ _ (lit< tt, lit≤ tt) (All-cons IsWithinLimits _ _ (lit< tt, (let l : length name ≤ most_bytes = omega (arith, short) in l)) (All-cons IsWithinLimits _ [] (lit< tt, fits) (All-nil IsWithinLimits)));
+      each =
+          let head : Frame = first_frame invalidation_kind invalidations_correlation (pos p) (to_le_bytes w32 version ++ to_le_bytes w32 number) in
+          All-cons IsWithinLimits head (frame 0 name ∷ frame final key ∷ []) (lit< tt, lit≤ tt) (two_within (frame 0 name) (frame final key) (lit< tt, (let l : length name ≤ most_bytes = omega (arith, short) in l)) (lit< tt, fits));
       all = let all : nat_le (sum_by frame_length (invalidation_frames invalidations_correlation p version number name key)) most_length ≡ true = grind (arith, nat_tests) in all;
     }))
 
@@ -136,7 +146,7 @@ row_within placed h =
     ((lit< tt, omega (arith, few, count)), omega (arith, few, count))
 
 rows_within : (known : List (ℕ × Row)) → All IsTold known → All IsWithinLimits (map row_frame known ++ frame final_end_list [] ∷ []) × (sum_by frame_length (map row_frame known ++ frame final_end_list [] ∷ []) ≤ 300 * length known + 6)
-rows_within [] all = (All-cons IsWithinLimits _ [] (lit< tt, lit≤ tt) (All-nil IsWithinLimits), lit≤ tt)
+rows_within [] all = (All-cons IsWithinLimits (frame final_end_list []) [] (lit< tt, lit≤ tt) (All-nil IsWithinLimits), lit≤ tt)
 rows_within (placed ∷ known) all =
     let one = row_within placed (All-head IsTold placed known all) in
     let rest = rows_within known (All-tail IsTold placed known all) in
@@ -153,12 +163,17 @@ tells_rows name known all few = (rows_frames rows_correlation known, refl, (know
         let h = rows_within known all in
         let rest : List Frame = map row_frame known ++ frame final_end_list [] ∷ [] in
         let size = h.1 in
-        let count : length rest ≡ length known + 1 = length-append (map row_frame known) (frame final_end_list [] ∷ []) ∙ ap (λ n. n + 1) (length-map row_frame known) in
+        let count : length rest ≡ length known + 1 = length-append (map row_frame known) (frame final_end_list [] ∷ []) ∙ ap (λ n. n + 1) (length-map known row_frame) in
         record {
-          each = All-cons IsWithinLimits _ _ (lit< tt, lit≤ tt) (All-cons IsWithinLimits _ rest (lit< tt, lit≤ tt) h.0);
+          each = All-cons IsWithinLimits (first_frame rows_kind rows_correlation (negsuc 0) []) (frame begin_list [] ∷ rest) (lit< tt, lit≤ tt) (All-cons IsWithinLimits (frame begin_list []) rest (lit< tt, lit≤ tt) h.0);
           all =
               let frames : nat_le (length (rows_frames rows_correlation known)) most_frames ≡ true = grind (arith, nat_tests, count, few) in
-              let bytes : nat_le (sum_by frame_length (rows_frames rows_correlation known)) most_length ≡ true = grind (arith, nat_tests, size, few) in
+              let first : Frame = first_frame rows_kind rows_correlation (negsuc 0) [] in
+              let begun : Frame = frame begin_list [] in
+              let whole = sum_by-cons frame_length first (begun ∷ rest) in
+              let behind = sum_by-cons frame_length begun rest in
+              let total : sum_by frame_length (rows_frames rows_correlation known) ≤ most_length = omega (arith, whole, behind, size, few) in
+              let bytes : nat_le (sum_by frame_length (rows_frames rows_correlation known)) most_length ≡ true = grind (arith, nat_tests, total) in
               both (nat_le (length (rows_frames rows_correlation known)) most_frames) (nat_le (sum_by frame_length (rows_frames rows_correlation known)) most_length) frames bytes;
         }
 

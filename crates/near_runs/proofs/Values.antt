@@ -47,7 +47,7 @@ either : (test : Bool) (first second : MapRecord) → ValueFits first → ValueF
 either true first second h k = h
 either false first second h k = k
 
-clean_fits : (entry : MapRecord) (now : ℕ) → ValueFits entry → ValueFits (cleaned entry now)
+pub clean_fits : (entry : MapRecord) (now : ℕ) → ValueFits entry → ValueFits (cleaned entry now)
 clean_fits entry now h = go (is_expired entry now)
   where
     go : (b : Bool) → IfSome (if b then without_value entry else entry).value FitsFrame
