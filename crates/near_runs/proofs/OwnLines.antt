@@ -67,8 +67,8 @@ module _ (settings : Settings) (client : ℕ) (name key : List ℕ) (r : Run) (s
   whole : fault_of true (k.bytes ++ bytes) ≡ None
   whole = subst (λ n. MayGet name client n key → fault_of true (k.bytes ++ get_bytes name client n key) ≡ None) may.number (λ fits. (every_get_is_heard k.conn k.member client name key k.bytes may.sent fits).0.whole) may.fits
 
-  run_taken : IsNearRun settings client name taken s
-  run_taken = went_aside r taken s run (record {
+  run_taken : IsNearRun settings client name taken s earlier heard
+  run_taken = went_aside r taken s earlier heard run (record {
     members = refl;
     backups = refl;
     events = refl;
