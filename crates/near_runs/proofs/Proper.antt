@@ -1,5 +1,5 @@
 -- A line of a script leaves the events of its run proper.
-use Rattle.std.proofs.Common.{◌≡◌, ℕ, zero, suc, ◌+◌, ◌<◌, ◌≤◌, Bool, true, false, cond, List, [], ◌∷◌, ◌++◌, drop, length, Option, Some, None, refl, ap, sym, ◌∙◌, subst, ◌⊎◌, ⊎_elim, inl, inr, append-nil, arith}
+use Rattle.std.proofs.Common.{◌≡◌, ℕ, zero, suc, ◌+◌, ◌<◌, ◌≤◌, List, [], ◌∷◌, ◌++◌, length, Option, Some, None, refl, ap, subst, ⊎_elim, inl, inr, append-nil, arith}
 use Rattle.std.specs.Prelude.{ℤ, pos, slice_get, option_and_then, Contains}
 use Rattle.grid_base.specs.Errors.{want_of_memory}
 use Rattle.grid_base.specs.Limits.{CallFits}
@@ -8,7 +8,6 @@ use Rattle.grid_base.specs.declared.calls.GridCall.{GridCall}
 use Rattle.grid_base.specs.declared.calls.GridCall.TheVariants as call
 use Rattle.grid_base.specs.declared.calls.Request.{Request}
 use Rattle.grid_base.specs.declared.names.CallId.{CallId}
-use Rattle.message_frames.specs.Messages.{messages_of}
 use Rattle.message_frames.specs.declared.message.Message.{Message}
 use Rattle.rebalance.specs.declared.Step.{Step}
 use Rattle.object_store.specs.Partitions.{Partition}
@@ -16,8 +15,7 @@ use Rattle.partition_protocol.specs.Service.{numbers_below}
 use Rattle.partition_protocol.specs.Events.{Event, Call, Deliver, Lose, Repeat, Resend, BeginMove, BeginJoin, BeginHandover, Advance, Reopen}
 use Rattle.partition_protocol.specs.Events as event
 use Rattle.partition_protocol.specs.Arrivals.{asked_by}
-use Rattle.partition_protocol.proofs.Lists.{In, in_cases, in_contains, contains_in, on_if}
-use Rattle.session_core.specs.Items.{items_of}
+use Rattle.partition_protocol.proofs.Lists.{In, in_contains, contains_in, on_if}
 use Rattle.session_core.specs.Laws.{request_in, IsCallAt}
 use Rattle.session_core.specs.Places.{SaysWhere}
 use Rattle.session_core.specs.declared.item.Item.{Item}
@@ -27,9 +25,8 @@ use Rattle.session_core.proofs.CallsRead.{asked_read}
 use Rattle.script_lang.specs.Lines.{IsWithin}
 use Rattle.script_lang.specs.declared.line.Line.{Line}
 use Rattle.script_lang.specs.declared.line.Line.TheVariants as lines
-use Rattle.replay_run.specs.Rebalancing.{stepped, stepped_all, steps_in, rebalanced}
-use Rattle.replay_run.specs.ScriptRuns.{IsPlaced}
-use Rattle.replay_run.specs.Runs.{Run, Connection, Arrival, At, Appended, world_at, connection_of, messages_on, items_on, items_by, events_at, with_bytes, took_bytes, takes_bytes, opened, next_line, clock_set, can_open, told, registers, refusal, arrival_at, call_of, arrived, is_skipped, given_up, asked, asks, is_full, happening, occurred, takes, takes_in, flowed, flowed_in, delivery_on, unserved, handled_all, bytes_arrived, partitions}
+use Rattle.replay_run.specs.Rebalancing.{stepped, stepped_all, steps_in}
+use Rattle.replay_run.specs.Runs.{Run, Connection, Arrival, world_at, connection_of, messages_on, items_on, items_by, events_at, with_bytes, took_bytes, takes_bytes, opened, next_line, can_open, told, registers, refusal, arrival_at, call_of, arrived, is_skipped, given_up, asked, asks, is_full, happening, takes, takes_in, flowed, flowed_in, delivery_on, unserved, handled_all, bytes_arrived, partitions}
 use Rattle.replay_run.specs.AfterLines.{after_line}
 use Rattle.replay_run.proofs.EventRuns.{takes_keeps, flowed_keeps}
 use Rattle.replay_run.proofs.Items.{AreNumbered, items_room, calls_fit}

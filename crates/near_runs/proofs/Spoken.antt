@@ -1,5 +1,5 @@
 -- All that was sent on a near connection since its client came is one stream of messages, and is what the machine said.
-use Rattle.std.proofs.Common.{◌≡◌, ℕ, zero, suc, ◌+◌, ◌≤◌, ◌<◌, ◌^◌, Bool, true, false, cond, ◌&&◌, ◌==◌, List, [], ◌∷◌, ◌++◌, map, length, Option, Some, None, option_map, All, nat_lt, slice_get, refl, ap, sym, ◌∙◌, subst, ◌⊎◌, ⊎_elim, inl, inr, append_assoc, append-nil, length-append, arith, lit<}
+use Rattle.std.proofs.Common.{◌≡◌, ℕ, zero, suc, ◌+◌, ◌≤◌, ◌<◌, ◌^◌, true, false, cond, ◌==◌, List, [], ◌∷◌, ◌++◌, map, length, Option, Some, None, option_map, All, nat_lt, slice_get, refl, ap, sym, ◌∙◌, subst, ⊎_elim, inl, inr, append_assoc, append-nil, length-append, arith, lit<}
 use Rattle.std.specs.Prelude.{pos, nat_le, filter, Contains}
 use Rattle.std.specs.Str.{IsUtf8}
 use Rattle.std.specs.Int.{w32, cast_signed}
@@ -15,12 +15,9 @@ use Rattle.frame_codec.specs.Laws.{spelled}
 use Rattle.frame_codec.specs.declared.frames.Frame.{Frame}
 use Rattle.fixed_fields.specs.Responses.{error_bytes}
 use Rattle.message_frames.specs.Assembly.{most_messages, first_payload}
-use Rattle.message_frames.specs.Grammar.{Piece, Unfragmented, ends_at_final}
-use Rattle.message_frames.specs.Laws.{IsStream}
+use Rattle.message_frames.specs.Grammar.{Unfragmented, ends_at_final}
 use Rattle.message_frames.specs.Merging.{keeps_rules}
-use Rattle.message_frames.specs.Messages.{shortest_start}
 use Rattle.message_frames.specs.Writing.{IsWritable}
-use Rattle.message_frames.specs.declared.message.Message.{Message}
 use Rattle.message_frames.proofs.HeardPieces.{AreFrames}
 use Rattle.partition_table.specs.declared.Row.{Row}
 use Rattle.client_codecs.specs.Replies.{authentication_reply}
@@ -31,32 +28,30 @@ use Rattle.call_engine.specs.Calls.{Settings}
 use Rattle.call_engine.specs.Objects.{partition_object}
 use Rattle.partition_protocol.specs.Node.{Node}
 use Rattle.partition_protocol.specs.Service.{numbers_below}
-use Rattle.partition_protocol.specs.World.{World, start}
-use Rattle.partition_protocol.specs.Events.{Event, Call, happens, run}
-use Rattle.partition_protocol.specs.Arrivals.{asked_by}
+use Rattle.partition_protocol.specs.World.{start}
+use Rattle.partition_protocol.specs.Events.{Event, happens, run}
 use Rattle.partition_protocol.proofs.Answers.{map_append}
 use Rattle.partition_protocol.proofs.Extends.{run_append}
 use Rattle.partition_protocol.proofs.Lists.{In, in_left, in_right, in_cases, in_contains, contains_in}
-use Rattle.partition_protocol.proofs.RowFacts.{both, number_same, number_other}
+use Rattle.partition_protocol.proofs.RowFacts.{number_same, number_other}
 use Rattle.request_codecs.specs.Openings.{authentication_correlation, invalidations_correlation, rows_correlation, opening}
-use Rattle.near_protocol.specs.Client.{Said, Answer, Refusal, Invalidation, Rows, hit}
+use Rattle.near_protocol.specs.Client.{Said, Answer, Refusal, Invalidation, Rows}
 use Rattle.near_protocol.specs.Near.{Occurs, LooksUp, LooksUpInVain, Hears, world, happened, said_by, occurred as machine_occurred, opening_at, looked_up, looked_up_in_vain, missed_in_vain, hears, invalidated_by}
 use Rattle.near_protocol.specs.Claims.{AreNamedOnce}
 use Rattle.grid_client.specs.Calls.{correlation_of}
-use Rattle.replay_run.specs.Runs.{Run, Connection, Arrival, At, Appended, world_at, events_at, is_at, partitions, call_of, arrived, refusal, is_skipped, asked, happening, given_out, occurred, known_at, rows_known, registered_reply}
-use Rattle.near_runs.specs.Maps.{keyed, get_request}
-use Rattle.near_runs.specs.Messages.{sent_to, row_said, AreSaidBy}
+use Rattle.replay_run.specs.Runs.{Run, Arrival, At, Appended, world_at, events_at, is_at, partitions, call_of, arrived, refusal, is_skipped, asked, happening, given_out, occurred, known_at, rows_known, registered_reply}
+use Rattle.near_runs.specs.Maps.{keyed}
+use Rattle.near_runs.specs.Messages.{sent_to, AreSaidBy}
 use Rattle.near_runs.specs.NearConnections.{IsRight, IsNear, grid_of, grid_after}
-use Rattle.near_runs.specs.Sessions.{MayOpen, MayGet, near_opened}
+use Rattle.near_runs.specs.Sessions.{near_opened}
 use Rattle.near_runs.specs.Readings.{pieces_sent, messages_sent}
-use Rattle.near_runs.specs.Attaching.{IsFresh}
-use Rattle.near_runs.specs.Following.{Machine, Follows, step, IsNextGet}
-use Rattle.near_runs.specs.NearRuns.{IsNearRun, client_came, went_aside, event_happened, call_arrived, client_missed, client_missed_in_vain, client_hit, client_heard, GoesWell}
+use Rattle.near_runs.specs.Following.{Machine, step}
+use Rattle.near_runs.specs.NearRuns.{IsNearRun, client_came, went_aside, event_happened, call_arrived, client_missed, client_missed_in_vain, client_hit, client_heard}
 use Rattle.near_runs.specs.Pieces.{AllMean}
 use Rattle.near_runs.specs.Feeds.{all_said}
 use Rattle.near_runs.specs.Speaking.{Speak}
 use Rattle.near_runs.specs.Modest.{IsModest}
-use Rattle.near_runs.specs.Spoken.{HasSpoken, EveryNearRunSpeaks}
+use Rattle.near_runs.specs.Spoken.{EveryNearRunSpeaks}
 use Rattle.near_runs.proofs.Attaching as attaching
 use Rattle.near_runs.proofs.Following.{right, missed, no_call_on}
 use Rattle.near_runs.proofs.Hearings.{error_writable}
@@ -228,7 +223,7 @@ module _ (settings : Settings) (client : ℕ) (name : List ℕ) (r next : Run) (
   -- what was appended speaks
   told_event : (earlier : List (List ℕ)) (heard : List (Said (List ℕ))) → Told name r s earlier heard → 1 ≤ r.members → s.grid ≡ grid_of settings s.conn name client r → IsNear next s.conn s.member name → IsUtf8 name → IsModest s.conn name next
       → (Speaks settings (Tells name) s.conn s.member name p (after_event settings r s.conn name client p e)
-          → AreSaidBy (Tells name) (sent_to s.conn appended) (said_by (partition_object settings) s.member s.conn (world (partition_object settings) (grid_of settings s.conn name client r) p) (grid_after settings s.conn name client r p e).changes p e))
+      → AreSaidBy (Tells name) (sent_to s.conn appended) (said_by (partition_object settings) s.member s.conn (world (partition_object settings) (grid_of settings s.conn name client r) p) (grid_after settings s.conn name client r p e).changes p e))
       → Told name next (machine_occurred (partition_object settings) (keyed settings s.conn name client) s p e) earlier heard
   told_event earlier heard told one grid near text modest says =
       told_more name r next s (machine_occurred (partition_object settings) (keyed settings s.conn name client) s p e) earlier heard
@@ -310,9 +305,12 @@ module _ (settings : Settings) (client : ℕ) (name : List ℕ) where
     views = quiet_rows;
     since = spelled (rows_frames rows_correlation (rows_known (partition_object settings) (near_opened (partition_object settings) r k name (opening client (Some name))) k.member)) ∷ [];
     sent = attaching.sent settings r k client name one within fresh may;
-    said = (subst (λ rows. Tells name (spelled (rows_frames rows_correlation (rows_known (partition_object settings) (near_opened (partition_object settings) r k name (opening client (Some name))) k.member))) (Rows rows)) (sym (attaching.rows_told settings r k client name one within fresh may (numbers_below partitions)))
-        (tells_rows name (rows_known (partition_object settings) (near_opened (partition_object settings) r k name (opening client (Some name))) k.member) (rows_told settings k.conn k.member name (near_opened (partition_object settings) r k name (opening client (Some name))) one may.text modest fresh.events (numbers_below partitions) (below partitions))
-        (let few = few_of (known_at (partition_object settings) (near_opened (partition_object settings) r k name (opening client (Some name))) k.member) (numbers_below partitions) in let count = counted partitions in omega (arith, few, count))), tt);
+    said = (
+      subst (λ rows. Tells name (spelled (rows_frames rows_correlation (rows_known (partition_object settings) (near_opened (partition_object settings) r k name (opening client (Some name))) k.member))) (Rows rows)) (sym (attaching.rows_told settings r k client name one within fresh may (numbers_below partitions)))
+          (tells_rows name (rows_known (partition_object settings) (near_opened (partition_object settings) r k name (opening client (Some name))) k.member) (rows_told settings k.conn k.member name (near_opened (partition_object settings) r k name (opening client (Some name))) one may.text modest fresh.events (numbers_below partitions) (below partitions))
+          (let few = few_of (known_at (partition_object settings) (near_opened (partition_object settings) r k name (opening client (Some name))) k.member) (numbers_below partitions) in let count = counted partitions in omega (arith, few, count))),
+      tt,
+    );
     processed = refl;
   }
   told (went_aside r next s earlier heard run aside) named modest =

@@ -1,7 +1,7 @@
 -- What the events of a partition send on a near connection speaks, where its run is within the limits.
-use Rattle.std.proofs.Common.{◌≡◌, ℕ, ◌+◌, ◌*◌, ◌≤◌, ◌<◌, ◌^◌, Bool, true, false, ◌&&◌, List, [], ◌∷◌, ◌++◌, map, length, sum_by, Option, Some, None, IfSome, All, slice_get, bytes_eq, refl, ap, sym, ◌∙◌, subst, inl, inr, append-nil, length-append, arith, lit<, lit≤}
+use Rattle.std.proofs.Common.{◌≡◌, ℕ, ◌+◌, ◌*◌, ◌≤◌, ◌<◌, ◌^◌, Bool, true, false, List, [], ◌∷◌, ◌++◌, map, length, sum_by, Option, Some, None, IfSome, All, slice_get, refl, ap, sym, ◌∙◌, subst, append-nil, length-append, arith, lit<, lit≤}
 use Rattle.std.specs.Prelude.{ℤ, pos, negsuc, nat_le, nat_eq, Contains}
-use Rattle.std.specs.Int.{w32, w64, to_le_bytes}
+use Rattle.std.specs.Int.{w32, to_le_bytes}
 use Rattle.std.specs.Int.RustNames.{FitsSigned}
 use Rattle.std.specs.Option.{option_eq}
 use Rattle.std.specs.Cmp.Lexicographic.{pointwise}
@@ -17,36 +17,30 @@ use Rattle.grid_base.specs.declared.calls.Answer.TheVariants.{Maybe}
 use Rattle.grid_base.specs.declared.calls.Change.{Change}
 use Rattle.grid_base.specs.declared.calls.GridCall.{GridCall}
 use Rattle.grid_base.specs.declared.calls.GridCall.TheVariants as call
-use Rattle.grid_base.specs.declared.calls.MapCall.{MapCall}
-use Rattle.grid_base.specs.declared.calls.MapCall.TheVariants.{Get}
 use Rattle.grid_base.specs.declared.calls.Request.{Request}
 use Rattle.frame_codec.specs.Frames.{frame_length}
 use Rattle.frame_codec.specs.Laws.{IsWithinLimits, spelled}
 use Rattle.frame_codec.specs.declared.frames.Frame.{Frame}
 use Rattle.fixed_fields.specs.Replies.{reply_bytes}
 use Rattle.fixed_fields.specs.Responses.{unfragmented, final, response_head, error_bytes}
-use Rattle.message_frames.specs.Assembly.{most_messages, most_frames, most_length, first_payload}
-use Rattle.message_frames.specs.Grammar.{ends_at_final}
+use Rattle.message_frames.specs.Assembly.{most_messages, most_frames, most_length}
 use Rattle.message_frames.specs.Writing.{IsWritable}
 use Rattle.map_codecs.specs.Calls.{get_kind}
 use Rattle.partition_table.specs.Rows.{numbers_of}
 use Rattle.partition_table.specs.declared.Row.{Row}
 use Rattle.partition_table.specs.declared.RowMember.{RowMember}
 use Rattle.event_codecs.specs.Sent.{FitMessage}
-use Rattle.event_codecs.specs.SpelledEvents.{IsEvent, IsSeenRow}
+use Rattle.event_codecs.specs.SpelledEvents.{IsSeenRow}
 use Rattle.event_codecs.specs.Events.{invalidation_kind, rows_kind}
 use Rattle.event_codecs.specs.Writing.{frame, first_frame, final_end_list, begin_list, row_frame, seen, invalidation_frames, rows_frames}
-use Rattle.event_codecs.specs.declared.events.ClientEvent.TheVariants as event
 use Rattle.request_codecs.specs.Openings.{invalidations_correlation, rows_correlation}
 use Rattle.map_records.specs.MapEntries.{cleaned}
 use Rattle.object_store.specs.Records.{Record, entry_in}
 use Rattle.object_store.specs.Partitions.{Partition, record_at}
 use Rattle.call_engine.specs.Calls.{Settings, answer}
-use Rattle.call_engine.specs.Objects.{target_of, reply_to, partition_object}
-use Rattle.partition_protocol.specs.Bounds.{IsRowWithin}
+use Rattle.call_engine.specs.Objects.{target_of, partition_object}
 use Rattle.partition_protocol.specs.History.{Executed, Called}
 use Rattle.partition_protocol.specs.Node.{Node}
-use Rattle.partition_protocol.specs.WellFormed.{IsRowOf}
 use Rattle.partition_protocol.specs.World.{World}
 use Rattle.partition_protocol.specs.Events.{Event, Call, Deliver, Lose, Repeat, Resend, Crash, Detect, BeginMove, BeginJoin, BeginHandover, Advance, Reopen}
 use Rattle.partition_protocol.specs.Arrivals.{arrivals}
@@ -69,12 +63,12 @@ use Rattle.replay_run.specs.Runs.{Run, world_at, events_at, partitions}
 use Rattle.near_runs.specs.Hearings.{value_frame, answer_frames, refusal_frames}
 use Rattle.near_runs.specs.Messages.{row_said}
 use Rattle.near_runs.specs.Modest.{HasKey, BringsFitting, IsModest}
-use Rattle.near_runs.specs.NearConnections.{IsGet, IsRight, IsNear}
+use Rattle.near_runs.specs.NearConnections.{IsGet, IsRight}
 use Rattle.near_runs.specs.Speaking.{Speak}
-use Rattle.near_runs.proofs.Hearings.{its_bytes, error_writable}
+use Rattle.near_runs.proofs.Hearings.{its_bytes}
 use Rattle.near_runs.proofs.Runs.{arrived_event}
 use Rattle.near_runs.proofs.Says.{Speaks}
-use Rattle.near_runs.proofs.Values.{ValueFits, ValuesFit, IsRepliedTo, clean_fits, every_call_is_replied}
+use Rattle.near_runs.proofs.Values.{ValuesFit, clean_fits, every_call_is_replied}
 
 -- These bytes are those of frames that say this.
 abbrev pub Tells : List ℕ → List ℕ → Said (List ℕ) → Type 0
@@ -115,14 +109,21 @@ tells_answer name number value reply small fits is =
 
 tells_invalidation : (name : List ℕ) (p version number : ℕ) (key : List ℕ) → p < partitions → version < 2 ^ 32 → number < 2 ^ 32 → IsUtf8 name → length name + 30 ≤ most_bytes → FitsFrame key → 8 ≤ length key
     → Tells name (spelled (invalidation_frames invalidations_correlation p version number name key)) (Invalidation key version number)
-tells_invalidation name p version number key within few seen_few text short fits long = (invalidation_frames invalidations_correlation p version number name key, refl, (p, refl,
+tells_invalidation name p version number key within few seen_few text short fits long = (
+  invalidation_frames invalidations_correlation p version number name key,
+  refl,
+  (
+    p,
+    refl,
     record { correlation = omega (arith, ints); partition = omega (arith, ints, within); parts = (few, seen_few, text, long) },
     record {
       each =
           let head : Frame = first_frame invalidation_kind invalidations_correlation (pos p) (to_le_bytes w32 version ++ to_le_bytes w32 number) in
           All-cons IsWithinLimits head (frame 0 name ∷ frame final key ∷ []) (lit< tt, lit≤ tt) (two_within (frame 0 name) (frame final key) (lit< tt, (let l : length name ≤ most_bytes = omega (arith, short) in l)) (lit< tt, fits));
       all = let all : nat_le (sum_by frame_length (invalidation_frames invalidations_correlation p version number name key)) most_length ≡ true = grind (arith, nat_tests) in all;
-    }))
+    },
+  ),
+)
 
 -- ---- rows
 
@@ -211,11 +212,13 @@ get_reply : (settings : Settings) (s : Partition) (number : ℕ) (request : Requ
     → (value : Value) × IfSome value FitsFrame × ((partition_object settings).reply s request now ≡ reply_bytes get_kind (correlation_of number) (Maybe value))
 get_reply settings s number request now fits get =
     let kept = record_at s (target_of request) in
-    let entry = cleaned (entry_in kept) now in
-    (entry.value, clean_fits (entry_in kept) now (fits (target_of request)),
-        ap (λ c. reply_bytes request.kind request.correlation (answer settings kept c now)) get.call
-        ∙ ap (λ k. reply_bytes k request.correlation (Maybe entry.value)) get.kind
-        ∙ ap (λ k. reply_bytes get_kind k (Maybe entry.value)) get.correlation)
+    let entry = cleaned (entry_in kept) now in (
+      entry.value,
+      clean_fits (entry_in kept) now (fits (target_of request)),
+      ap (λ c. reply_bytes request.kind request.correlation (answer settings kept c now)) get.call
+          ∙ ap (λ k. reply_bytes k request.correlation (Maybe entry.value)) get.kind
+          ∙ ap (λ k. reply_bytes get_kind k (Maybe entry.value)) get.correlation,
+    )
 
 module _ (settings : Settings) (c m : ℕ) (name : List ℕ) (r : Run) (one : 1 ≤ r.members) (text : IsUtf8 name) (modest : IsModest c name r) (right : (q : ℕ) (e : Event Request) → Contains (events_at q r.events) e → IsRight c m q e) (p : ℕ) (within : p < partitions) where
   abbrev es : List (Event Request)

@@ -1,10 +1,9 @@
 -- Every value that a partition keeps fits a frame, where the calls that made it did; so a get's reply is that of a value that fits.
-use Rattle.std.proofs.Common.{◌≡◌, ℕ, ◌+◌, ◌≤◌, ◌<◌, ◌^◌, Bool, true, false, List, [], ◌∷◌, ◌++◌, length, Option, Some, None, IfSome, All, unwrap_or, refl, ap, sym, ◌∙◌, subst, ◌⊎◌, ⊎_elim, inl, inr, append_assoc, length-append, arith}
+use Rattle.std.proofs.Common.{◌≡◌, ℕ, ◌≤◌, ◌<◌, ◌^◌, Bool, true, false, List, [], ◌∷◌, ◌++◌, length, Option, Some, None, IfSome, All, refl, sym, subst, ⊎_elim, append_assoc, length-append, arith}
 use Rattle.std.specs.Prelude.{is_some, if◌then◌else◌}
 use Rattle.std.specs.Option.{option_map}
-use Rattle.std.specs.FinMap as finite
 use Rattle.std.proofs.lemmas.List.Elements.{All-head, All-tail}
-use Rattle.grid_base.specs.Limits.{FitsFrame, most_bytes, values_in, MapCallFits, CallFits}
+use Rattle.grid_base.specs.Limits.{FitsFrame, most_bytes, values_in, CallFits}
 use Rattle.grid_base.specs.Names.{object_of, is_same}
 use Rattle.grid_base.specs.Objects.{Object}
 use Rattle.grid_base.specs.declared.names.ObjectKey.{ObjectKey}
@@ -23,7 +22,7 @@ use Rattle.key_locks.specs.Locks.{may_write}
 use Rattle.map_records.specs.declared.records.MapRecord.{MapRecord}
 use Rattle.map_records.specs.MapEntries.{is_expired, cleaned, without_value, with_value, replaced, is_value}
 use Rattle.map_records.specs.MapTable.{Done, row, processed, writer, unless_locked, done}
-use Rattle.object_store.specs.Records.{Record, Map, Queue, nothing_of, entry_in, suits}
+use Rattle.object_store.specs.Records.{Record, nothing_of, entry_in, suits}
 use Rattle.object_store.specs.Partitions.{Partition, nothing_stored, record_at, with_record}
 use Rattle.object_store.proofs.PartitionLaws.{same_name, record_at-nothing, record_at-with, record_at-other}
 use Rattle.call_engine.specs.Calls.{Settings, after}
