@@ -46,7 +46,7 @@ module _ (n : NearClient) (key : List ℕ) (value : Value) (new : State) (has : 
   hit_state = has.after ∙ ap (λ (near : Option Near). record n.state { near = near }) (sym (ap (option_map (used_in key)) has.listens))
 
   pub hit_near : (kept : KeptClient) → IsNear kept n → IsNear (record kept { client = new }) (used key n)
-  hit_near kept is = record { conn = is.conn; within = is.within; client = hit_state; unread = is.unread; one = used_one n.conn n.read key n.state is.one }
+  hit_near kept is = record { conn = is.conn; within = is.within; client = hit_state; unread = is.unread; handed = is.handed; one = used_one n.conn n.read key n.state is.one }
 
 -- a miss
 
@@ -76,7 +76,7 @@ module _ (n : NearClient) (key : List ℕ) (sending : Sending) (new : State) (on
   miss_state = has.asked.after ∙ ap (λ call. asking call (record n.state { near = Some (opened n.state.next key has.near) })) call_is ∙ ap (asking (get_sent n key)) (sym opens)
 
   pub miss_near : (kept : KeptClient) → IsNear kept n → IsNear (record kept { client = new }) (missed key n)
-  miss_near kept is = record { conn = is.conn; within = is.within; client = miss_state; unread = is.unread; one = missed_one key n is.one }
+  miss_near kept is = record { conn = is.conn; within = is.within; client = miss_state; unread = is.unread; handed = is.handed; one = missed_one key n is.one }
 
 -- A look-up changes the client alone.
 

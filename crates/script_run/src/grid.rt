@@ -71,7 +71,8 @@ impl ScriptGrid {
     /// flight on one link.
     ///
     /// A line costs what it costs the grid (`Grid::run_line`), and in addition, where there are near clients, its text for
-    /// each of them. A look-up that hits costs the copy of its value; `nearfeed` costs what its client hasn't read yet.
+    /// each of them. A look-up that hits costs the copy of its value; `nearfeed` costs what its client makes of the bytes that
+    /// it is handed.
     pub fn run_line(
         &mut self,
         alloc: Global,

@@ -164,7 +164,7 @@ impl ScriptGrid {
         let Some(place) = self.place_of(conn) else {
             return self.pass(alloc, number, out);
         };
-        let fed = self.nears[place].feed(alloc, most)?;
+        let fed = self.nears[place].feed(most)?;
         push_fed(out, number, fed.bytes)?;
         push_all_heard(out, number, fed.heard.as_slice())?;
         self.count(alloc, number)

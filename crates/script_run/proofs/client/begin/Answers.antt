@@ -1,4 +1,4 @@
-use Rattle.std.proofs.Common.{ℕ, ◌++◌, ◌∷◌, [], List, refl, ap, sym, ◌∙◌, subst}
+use Rattle.std.proofs.Common.{ℕ, ◌++◌, ◌∷◌, [], List, refl, ap, sym, ◌∙◌, subst, arith}
 use Rattle.script_run.specs.declared.client.NearClient.{NearClient as KeptClient}
 use Rattle.script_run.specs.NearClients.{new_near}
 use Rattle.script_run.specs.Grids.{AreNear}
@@ -17,5 +17,6 @@ returns-clause-nears c = λ all are.
       within = c.requires.within;
       client = c.in_ok-client.ensures.client ∙ ap (λ (text : List ℕ). (new_near conn text c.args.capacity).state) c.in_ok-copied.ensures;
       unread = c.new.ensures.items;
+      handed = omega arith;
       one = begun_one conn name c.args.capacity c.requires.short;
     }))

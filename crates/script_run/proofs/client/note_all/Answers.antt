@@ -19,7 +19,7 @@ loop-near-preserved c = λ all messages are tells.
     let one : suc at ≡ at + 1 = omega arith in
     subst (λ (i : ℕ). AreNear (set ks at new) (noted messages i all)) one
     (noted_step messages at ks all k new (c.loop-near.invariant all messages are tells) within (ap (λ (d : KeptClient). get_or ks at d) c.near-item.is)
-    (λ n is. noted_one messages c.args.text.now k new n tells is c.in_ok-note.ensures.unread c.in_ok-note.ensures.rest))
+    (λ n is. noted_one messages c.args.text.now k new n tells is c.in_ok-note.ensures.output c.in_ok-note.ensures.rest))
 
 pub returns : goal.returns
 returns c = λ all messages are tells.

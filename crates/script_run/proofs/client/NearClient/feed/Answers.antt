@@ -1,6 +1,5 @@
-use Rattle.std.proofs.Common.{◌≡◌, true, ℕ, List, take, drop, refl, ap, sym, ◌∙◌, subst, arith}
+use Rattle.std.proofs.Common.{◌≡◌, true, ℕ, ◌+◌, ◌-◌, List, take, drop, ap, sym, ◌∙◌, subst, arith}
 use Rattle.std.specs.List.{list_any}
-use Rattle.std.proofs.lemmas.List.{take_rest}
 use Rattle.grid_client.specs.Connections.{is_conn}
 use Rattle.grid_client.specs.States.{State}
 use Rattle.grid_client.specs.Hearing.{HasHeard, HasFed}
@@ -24,13 +23,21 @@ feed-requires c =
     subst (λ (s : State). list_any (is_conn c.args.self.now.conn) s.connections ≡ true) (sym is.client)
     (subst (λ (k : ℕ). list_any (is_conn k) n.state.connections ≡ true) (sym is.conn) (attached_one n.conn n.read n.state is.one))
 
+-- the piece of the output that was handed over
+the_piece : (handed bytes : ℕ) (text output : List ℕ) → text ≡ output → take (handed + bytes - handed) (drop handed text) ≡ take bytes (drop handed output)
+the_piece handed bytes text output is =
+    let same : handed + bytes - handed ≡ bytes = omega arith in
+    ap (λ (k : ℕ). take k (drop handed text)) same ∙ ap (λ (xs : List ℕ). take bytes (drop handed xs)) is
+
 pub returns-clause-after : goal.returns-clause-after
 returns-clause-after c = λ n is.
     let kept = c.args.self.now in
     let bytes = c.min-bytes.result in
-    let has = subst (λ (text : List ℕ). HasFed kept.conn n.read (take bytes text) kept.client c.feed.new.self c.in-Ok.field-0) c.deref-2.ensures.value (c.in-Ok.ensures.ok n.read (its_heard kept n is)) in
-    near_fed c.args.most kept n bytes is (omega arith) c.feed.new.self c.in-Ok.field-0 has _ refl refl
-    (c.in_ok-rest.ensures.items ∙ take_rest c.deref.result.now bytes ∙ ap (λ (text : List ℕ). drop bytes text) c.deref.ensures.value)
+    let has =
+    subst (λ (piece : List ℕ). HasFed kept.conn n.read piece kept.client c.feed.new.self c.in-Ok.field-0) (the_piece kept.handed bytes c.deref.result.now kept.output.items c.deref.ensures.value)
+    (c.in-Ok.ensures.ok n.read (its_heard kept n is)) in
+    near_fed c.args.most kept n bytes is (omega arith) c.feed.new.self c.in-Ok.field-0 has c.read_to.new.self
+    (ap (λ (x : KeptClient). x.conn) c.read_to.ensures.rest) (ap (λ (x : KeptClient). x.client) c.read_to.ensures.rest) c.read_to.ensures.left c.read_to.ensures.within
 
 pub returns-clause-bytes : goal.returns-clause-bytes
 returns-clause-bytes c = λ n is. as_many c.args.most c.args.self.now n c.min-bytes.result is (omega arith)
@@ -39,5 +46,7 @@ pub returns-clause-heard : goal.returns-clause-heard
 returns-clause-heard c = λ n is.
     let kept = c.args.self.now in
     let bytes = c.min-bytes.result in
-    let has = subst (λ (text : List ℕ). HasFed kept.conn n.read (take bytes text) kept.client c.feed.new.self c.in-Ok.field-0) c.deref-2.ensures.value (c.in-Ok.ensures.ok n.read (its_heard kept n is)) in
+    let has =
+    subst (λ (piece : List ℕ). HasFed kept.conn n.read piece kept.client c.feed.new.self c.in-Ok.field-0) (the_piece kept.handed bytes c.deref.result.now kept.output.items c.deref.ensures.value)
+    (c.in-Ok.ensures.ok n.read (its_heard kept n is)) in
     told_fed c.args.most kept n bytes is (omega arith) c.feed.new.self c.in-Ok.field-0 has
