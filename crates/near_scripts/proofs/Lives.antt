@@ -1,5 +1,7 @@
 -- A member crashes in all partitions of a run together, and stays crashed.
 use Rattle.std.proofs.Common.{◌≡◌, ℕ, zero, suc, ◌<◌, Bool, true, false, cond, not, ◌&&◌, ◌||◌, ◌==◌, nat_lt, List, [], ◌∷◌, ◌++◌, map, Option, Some, None, refl, ap, sym, ◌∙◌, subst, arith, ◌⊎◌, inl, inr, ⊎_elim, append-nil}
+use Rattle.std.specs.Prelude.{pos}
+use Rattle.grid_base.specs.Errors.{want_of_memory}
 use Rattle.grid_base.specs.Objects.{Object}
 use Rattle.grid_base.specs.declared.names.CallId.{CallId}
 use Rattle.grid_base.specs.declared.calls.Request.{Request}
@@ -21,7 +23,7 @@ use Rattle.session_core.specs.declared.item.Item.{Item}
 use Rattle.session_core.specs.declared.item.Item.TheVariants.{Call as Asks, Wait, Register, Reply}
 use Rattle.script_lang.specs.declared.line.Line.{Line}
 use Rattle.script_lang.specs.declared.line.Line.TheVariants as line
-use Rattle.replay_run.specs.Runs.{Run, At, Connection, Arrival, Appended, is_at, events_at, world_at, is_full, is_skipped, arrived, asked, asks, given_up, happening, arrival_at, call_of, occurred, meets_full, takes, takes_in, delivery_on, flowed, flowed_in, handled_all, takes_bytes, took_bytes, items_by, connection_of, can_open, opened, next_line, bytes_arrived, event_by, lives, partitions}
+use Rattle.replay_run.specs.Runs.{Run, At, Connection, Arrival, events_at, world_at, is_full, is_skipped, refusal, arrived, asked, asks, given_up, happening, arrival_at, call_of, occurred, meets_full, takes, takes_in, delivery_on, flowed, flowed_in, handled_all, takes_bytes, took_bytes, items_by, connection_of, can_open, opened, next_line, bytes_arrived, event_by, lives, partitions}
 use Rattle.replay_run.specs.Rebalancing.{service_at, is_moving_at, most_deliveries, most_turns, event_begun, first_resends, turned, turned_on, joined, rejoined, stepped, stepped_all, steps_in, rebalanced}
 use Rattle.replay_run.specs.AfterLines.{after_event, after_line}
 use Rattle.replay_run.proofs.EventRuns.{takes_keeps, takes_in_full, flowed_keeps, flowed_in_keeps, events_at-append}
@@ -119,9 +121,9 @@ module _ (o : Object Request Partition) where
     asked_calm : (r : Run) (a : Arrival) → Calm r (asked o skips r a)
     asked_calm r a = by (is_skipped skips a.request.id)
       where
-        by : (b : Bool) → (x : List Appended) → Calm r (cond b (arrived r a [] x) (arrived r a (record { partition = a.request.partition; event = call_of a } ∷ []) (happening o r a)))
-        by true x q = none_more r q
-        by false x q = calm_event r a.request.partition (call_of a) refl q
+        by : (b : Bool) → Calm r (cond b (arrived r a [] (refusal a.line a.request (pos want_of_memory) 0 ∷ [])) (arrived r a (record { partition = a.request.partition; event = call_of a } ∷ []) (happening o r a)))
+        by true = none_more r
+        by false = calm_event r a.request.partition (call_of a) refl
 
     asks_calm : (r : Run) (a : Arrival) → Calm r (asks o skips r a)
     asks_calm r a = on_if (Calm r) (is_full (world_at o r a.request.partition)) (given_up (arrived r a [] [])) (asked o skips r a) (none_more r) (asked_calm r a)
@@ -188,7 +190,7 @@ module _ (o : Object Request Partition) where
 
   crash_in : (m : ℕ) (ps : List ℕ) (r : Run) → (takes_in o r (Crash m) ps).full ≡ false → (q : ℕ) → Falls m r (takes_in o r (Crash m) ps) ps q
   crash_in m [] r going q = inr ((λ i. i), refl)
-  crash_in m (p ∷ ps) r going q = by (meets_full (world_at o r p) (Crash m)) refl
+  crash_in m (p ∷ ps) r going q = by (meets_full (world_at o r p) (Crash m)) refl (λ goes. crash_in m ps (occurred o r p (Crash m)) goes q)
     where
       first : (b : Bool) → (p == q) ≡ b → crashed_at (occurred o r p (Crash m)) q ≡ cond b (fallen r.members m (crashed_at r q)) (crashed_at r q)
       first true same = one_more r p (Crash m) q ∙ ap (λ b. cond b (happens o (world_at o r q) (Crash m)).world.crashed (crashed_at r q)) same ∙ falls (world_at o r q) m ∙ ap (λ n. fallen n m (crashed_at r q)) (its_members r q)
@@ -205,21 +207,21 @@ module _ (o : Object Request Partition) where
           not_there (inl s) = absurd (let clash : true ≡ false = sym (number_same p q s) ∙ other in cc)
           not_there (inr i) = apart i
 
-      by : (b : Bool) → meets_full (world_at o r p) (Crash m) ≡ b → Falls m r (takes_in o r (Crash m) (p ∷ ps)) (p ∷ ps) q
-      by true full = absurd (let clash : true ≡ false = sym (takes_in_full o (takes o r p (Crash m)) (Crash m) ps (ap (λ b. (cond b (given_up r) (occurred o r p (Crash m))).full) full)) ∙ going in cc)
-      by false meets =
+      by : (b : Bool) → meets_full (world_at o r p) (Crash m) ≡ b → ((takes_in o (occurred o r p (Crash m)) (Crash m) ps).full ≡ false → Falls m (occurred o r p (Crash m)) (takes_in o (occurred o r p (Crash m)) (Crash m) ps) ps q)
+          → Falls m r (takes_in o r (Crash m) (p ∷ ps)) (p ∷ ps) q
+      by true full rest = absurd (let clash : true ≡ false = sym (takes_in_full o (takes o r p (Crash m)) (Crash m) ps (ap (λ b. (cond b (given_up r) (occurred o r p (Crash m))).full) full)) ∙ going in cc)
+      by false meets rest =
           let is : takes o r p (Crash m) ≡ occurred o r p (Crash m) = ap (λ b. cond b (given_up r) (occurred o r p (Crash m))) meets in
           subst (λ (x : Run). Falls m r (takes_in o x (Crash m) ps) (p ∷ ps) q) (sym is)
-          (on (occurred o r p (Crash m)) refl (p == q) refl (first (p == q) refl)
-          (crash_in m ps (occurred o r p (Crash m)) (ap (λ (x : Run). (takes_in o x (Crash m) ps).full) (sym is) ∙ going) q))
+          (on (occurred o r p (Crash m)) refl (p == q) refl (first (p == q) refl) (rest (ap (λ (x : Run). (takes_in o x (Crash m) ps).full) (sym is) ∙ going)))
 
 in_below : (n k : ℕ) → k < n → In k (numbers_below n)
 in_below zero k l = absurd (omega (arith, l))
-in_below (suc n) k l = by (nat_lt k n) refl
+in_below (suc n) k l = by (nat_lt k n) refl (λ less. in_below n k less)
   where
-    by : (b : Bool) → nat_lt k n ≡ b → In k (numbers_below n ++ n ∷ [])
-    by true t = in_left k (numbers_below n) (n ∷ []) (in_below n k (less k n t))
-    by false t = let same : n ≡ k = (let more = not_less k n t in omega (arith, l, more)) in in_right k (numbers_below n) (n ∷ []) (inl same)
+    by : (b : Bool) → nat_lt k n ≡ b → (k < n → In k (numbers_below n)) → In k (numbers_below n ++ n ∷ [])
+    by true t rest = in_left k (numbers_below n) (n ∷ []) (rest (less k n t))
+    by false t rest = let same : n ≡ k = (let more = not_less k n t in omega (arith, l, more)) in in_right k (numbers_below n) (n ∷ []) (inl same)
 
 -- ---- lines
 
@@ -229,7 +231,7 @@ module _ (o : Object Request Partition) (skips : List CallId) (r : Run) where
   Shift next = Calm o r next ⊎ ((m : ℕ) × ((q : ℕ) → q < partitions → crashed_at o next q ≡ fallen r.members m (crashed_at o r q)))
 
   arrives : (c : ℕ) (bytes : List ℕ) (found : Option Connection) → Calm o r (elim found [ None ↦ next_line r | Some k ↦ bytes_arrived o skips r k bytes ])
-  arrives c bytes None q = refl
+  arrives c bytes None = λ q. refl
   arrives c bytes (Some k) = on_if (Calm o r) (takes_bytes o r k) (handled_all o skips (took_bytes r k bytes) k (items_by k bytes)) (next_line r) (handled_calm o skips (items_by k bytes) (took_bytes r k bytes) k) (λ q. refl)
 
   abbrev quiet_at : Option At → Type 0
@@ -249,7 +251,7 @@ module _ (o : Object Request Partition) (skips : List CallId) (r : Run) where
   quiet_line l = tt
 
   by_event : (e : Option At) → quiet_at e → Calm o r (after_event o (next_line r) e)
-  by_event None quiet q = refl
+  by_event None quiet = λ q. refl
   by_event (Some e) quiet = takes_calm o r (next_line r) e.partition e.event quiet (λ q. refl)
 
   shifts : (l : Line) → (after_line o skips r l).full ≡ false → Shift (after_line o skips r l)
@@ -293,7 +295,7 @@ lives_alike o r together p few m =
 pub stays_dead : (o : Object Request Partition) (skips : List CallId) (r : Run) (l : Line) (m : ℕ) → (after_line o skips r l).members ≡ r.members → (after_line o skips r l).full ≡ false → lives o r m ≡ false → lives o (after_line o skips r l) m ≡ false
 stays_dead o skips r l m members going dead = is_so (after_line o skips r l) members (by (shifts o skips r l going))
   where
-    abbrev alive : List ℕ → Bool
+    alive : List ℕ → Bool
     alive cs = nat_lt m r.members && not (is_among cs m)
 
     was : alive (crashed_at o r 0) ≡ false

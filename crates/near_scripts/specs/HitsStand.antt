@@ -1,7 +1,8 @@
 -- What a value is worth that a near client of a script hits: which get brought it, and what stands before that get.
-use Rattle.std.specs.Prelude.{◌≡◌, ℕ, ◌<◌, ◌≤◌, ◌⊎◌, false, ℤ, List, length, Some, Ok, Contains}
+use Rattle.std.specs.Prelude.{◌≡◌, ℕ, ◌^◌, ◌<◌, ◌≤◌, ◌⊎◌, false, ℤ, List, length, Some, Ok, Contains}
 use Rattle.grid_base.specs.declared.calls.Request.{Request}
 use Rattle.grid_base.specs.declared.names.CallId.{CallId}
+use Rattle.message_frames.specs.Assembly.{most_messages}
 use Rattle.message_frames.specs.Messages.{messages_of}
 use Rattle.message_frames.specs.declared.message.Message.{Message}
 use Rattle.session_core.specs.Places.{partition_of_key}
@@ -22,9 +23,10 @@ use Rattle.script_lang.specs.Lines.{IsWithin}
 use Rattle.script_lang.specs.declared.line.Line.{Line}
 use Rattle.replay_run.specs.Runs.{Run, Connection, connection_of, world_at}
 use Rattle.near_runs.specs.Maps.{get_request, value_in}
+use Rattle.near_runs.specs.Messages.{sent_to}
 use Rattle.near_runs.specs.NearConnections.{grid_of}
 use Rattle.script_run.specs.NearClients.{NearClient, map_name, value_kept}
-use Rattle.script_run.specs.Runs.{ScriptRun}
+use Rattle.script_run.specs.Runs.{near_of}
 use Rattle.script_run.specs.Laws.{run_with}
 
 -- ---- the partition of a key
@@ -113,10 +115,11 @@ pub record AreLines (members : ℕ) (lines : List Line) : Type 0 where
   pub each : (line : Line) → Contains lines line → IsWithin members most_line_bytes line
   pub few : length lines < most_lines
 
--- Whatever the processors, the queues' capacity, the lines, and the calls that find no memory: each value that a near client hits stands
--- as above, where the run isn't given up. `nearget` hits the value that the client of its connection keeps for its key.
+-- Whatever the processors, the queues' capacity, the lines, and the calls that find no memory: where the run isn't given up, and a near
+-- client was sent no more messages than it can number, each value that it keeps stands as above. `nearget` hits the value that the client
+-- of its connection keeps for its key.
 abbrev pub EveryHitOfAScriptStands : Type 0
-EveryHitOfAScriptStands = (settings : Settings) (members backups : ℕ) (skips : List CallId) (lines : List Line) → 1 ≤ members → AreLines members lines
+EveryHitOfAScriptStands = (settings : Settings) (members backups : ℕ) (skips : List CallId) (lines : List Line) → 1 ≤ members → members < 2 ^ 8 → AreLines members lines
     → let s = run_with settings members backups skips lines in
-    s.run.full ≡ false → (n : NearClient) → Contains s.nears n → (key : List ℕ) (value : Value) → value_kept n key ≡ Some value
-    → HitStands settings s.run n key value
+    s.run.full ≡ false → (conn : ℕ) (n : NearClient) → near_of s conn ≡ Some n → length (sent_to conn s.run.appended) ≤ most_messages
+    → (key : List ℕ) (value : Value) → value_kept n key ≡ Some value → HitStands settings s.run n key value
