@@ -1,10 +1,13 @@
 -- A near client that comes goes with a machine, or its member has crashed.
 use Rattle.std.proofs.Common.{◌≡◌, ◌≢◌, ℕ, ◌+◌, ◌*◌, ◌<◌, ◌≤◌, Bool, true, false, cond, not, ◌&&◌, List, [], ◌∷◌, ◌++◌, length, filter, Option, Some, None, refl, ap, sym, ◌∙◌, subst, ◌⊎◌, inl, inr, ⊎_elim, arith}
-use Rattle.std.specs.Prelude.{Contains}
+use Rattle.std.specs.Prelude.{All, Contains}
 use Rattle.std.specs.Str.{IsUtf8}
 use Rattle.grid_base.specs.Objects.{Object}
 use Rattle.grid_base.specs.declared.names.CallId.{CallId}
 use Rattle.grid_base.specs.declared.calls.Request.{Request}
+use Rattle.std.proofs.lemmas.List.Elements.{All-nil}
+use Rattle.frame_codec.specs.Laws.{IsWithinLimits}
+use Rattle.message_frames.specs.Grammar.{piece_frames}
 use Rattle.message_frames.specs.Messages.{messages_of}
 use Rattle.message_frames.proofs.HeardPieces.{unheard}
 use Rattle.object_store.specs.Partitions.{Partition}
@@ -49,6 +52,7 @@ use Rattle.script_run.proofs.OneConnection.{begun_one}
 use Rattle.near_scripts.proofs.Laws.{Laws}
 use Rattle.near_scripts.proofs.Told.{new_bare}
 use Rattle.near_scripts.proofs.Connections.{its_conn}
+use Rattle.near_scripts.proofs.Patterns.{all_heard}
 use Rattle.near_scripts.proofs.Sizes.{may_open}
 use Rattle.near_scripts.proofs.Looking.{items_length, has_bytes}
 use Rattle.near_scripts.proofs.Others.{line_appends}
@@ -56,8 +60,11 @@ use Rattle.near_scripts.proofs.Facts.{Stands, IsLive, IsDead, Goes, read_more}
 
 -- ---- no call arrived on a connection that no byte has reached
 
-none_said : (prefix : Bool) → messages_of prefix [] ≡ []
-none_said prefix = unheard prefix [] (λ bytes e. absurd cc)
+none_sent : messages_of true [] ≡ []
+none_sent = unheard true [] (λ bytes e. absurd cc)
+
+none_said : messages_of false [] ≡ []
+none_said = all_heard [] (record { frames = All-nil (λ piece. All IsWithinLimits (piece_frames piece)); rules = refl })
 
 module _ (r : Run) (ok : ArrivalsOk r) (k : Connection) (there : connection_of r k.conn ≡ Some k) (empty : k.bytes ≡ []) where
   -- a call in a partition's events is an arrival of that partition
@@ -73,7 +80,7 @@ module _ (r : Run) (ok : ArrivalsOk r) (k : Connection) (there : connection_of r
       let c = ok.counted x.0 x.1 in
       let on : x.0.request.id.conn ≡ k.conn = ap (λ (b : Asked Request). b.conn) x.3 ∙ same in
       let one : c.0 ≡ k = (let both : Some c.0 ≡ Some k = sym c.1 ∙ ap (connection_of r) on ∙ there in cc) in
-      let no_more : length (messages_on c.0) ≡ 0 = ap (λ (j : Connection). length (messages_on j)) one ∙ ap (λ bs. length (messages_of true bs)) empty ∙ ap length (none_said true) in
+      let no_more : length (messages_on c.0) ≡ 0 = ap (λ (j : Connection). length (messages_on j)) one ∙ ap (λ bs. length (messages_of true bs)) empty ∙ ap length none_sent in
       let some = c.2 in
       omega (arith, no_more, some)
 
@@ -203,7 +210,7 @@ module _ (laws : Laws) (settings : Settings) (skips : List CallId) (r : Run) (s 
           appended = ap (sent_to c) adds.are ∙ sent_to-append c r.appended adds.more ∙ ap (λ d. sent_to d r.appended ++ sent_to c adds.more) (sym on);
           reading = read_more r next adds n [] refl;
           says = [];
-          mean = subst (λ ms. AllMean name ms []) (sym (none_said false)) tt;
+          mean = subst (λ ms. AllMean name ms []) (sym none_said) tt;
           is_heard = refl;
         }
 

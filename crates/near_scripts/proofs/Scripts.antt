@@ -155,20 +155,20 @@ module _ (laws : Laws) (settings : Settings) (skips : List CallId) (s : ScriptRu
   near_line d name capacity low short = ⊎_elim can cannot (cases (can_begin s d name))
     where
       cannot : can_begin s d name ≡ false → Step (after_line settings skips s (line.Near d name capacity))
-      cannot no = as_line (line.Near d name capacity) line.Comment s.nears (ap (λ b. cond b (line.Arrive d (opening_of d name)) line.Comment) no) (ap (λ b. cond b (s.nears ++ new_near d name capacity ∷ []) s.nears) no) (quiet s.nears goes)
+      cannot not_so = as_line (line.Near d name capacity) line.Comment s.nears (ap (λ b. cond b (line.Arrive d (opening_of d name)) line.Comment) not_so) (ap (λ b. cond b (s.nears ++ new_near d name capacity ∷ []) s.nears) not_so) (quiet s.nears goes)
 
       can : can_begin s d name ≡ true → Step (after_line settings skips s (line.Near d name capacity))
-      can yes = as_line (line.Near d name capacity) (line.Arrive d (opening_of d name)) (s.nears ++ new_near d name capacity ∷ [])
-          (ap (λ b. cond b (line.Arrive d (opening_of d name)) line.Comment) yes) (ap (λ b. cond b (s.nears ++ new_near d name capacity ∷ []) s.nears) yes) each
+      can so = as_line (line.Near d name capacity) (line.Arrive d (opening_of d name)) (s.nears ++ new_near d name capacity ∷ [])
+          (ap (λ b. cond b (line.Arrive d (opening_of d name)) line.Comment) so) (ap (λ b. cond b (s.nears ++ new_near d name capacity ∷ []) s.nears) so) each
         where
           none : is_near_connection s d ≡ false
-          none = false_or_not (is_near_connection s d) (λ is. absurd (let clash : false ≡ true = sym (ap (λ b. not b) is) ∙ both_left (not (is_near_connection s d)) (is_new (connection_of s.run d) && is_utf8 name) yes in cc))
+          none = false_or_not (is_near_connection s d) (λ is. absurd (let clash : false ≡ true = sym (ap (λ b. not b) is) ∙ both_left (not (is_near_connection s d)) (is_new (connection_of s.run d) && is_utf8 name) so in cc))
 
           utf8 : is_utf8 name ≡ true
-          utf8 = both_right (is_new (connection_of s.run d)) (is_utf8 name) (both_right (not (is_near_connection s d)) (is_new (connection_of s.run d) && is_utf8 name) yes)
+          utf8 = both_right (is_new (connection_of s.run d)) (is_utf8 name) (both_right (not (is_near_connection s d)) (is_new (connection_of s.run d) && is_utf8 name) so)
 
           comes : (d ≡ c) → (next (line.Arrive d (opening_of d name))).full ≡ false → Goes settings (next (line.Arrive d (opening_of d name))) (noting (new_messages s.run (next (line.Arrive d (opening_of d name)))) (new_near d name capacity))
-          comes same going = (let k = may_begin d name yes in begins laws settings skips s.run stands d name capacity low short (IsUtf8-from_is_utf8 name utf8) k.0 k.1 k.3 k.2)
+          comes same going = (let k = may_begin d name so in begins laws settings skips s.run stands d name capacity low short (IsUtf8-from_is_utf8 name utf8) k.0 k.1 k.3 k.2)
 
           each : Each (line.Arrive d (opening_of d name)) (s.nears ++ new_near d name capacity ∷ [])
           each going n e = by (near_of s c) refl
@@ -383,7 +383,7 @@ module _ (laws : Laws) (settings : Settings) (skips : List CallId) (c members : 
       let here : IsWithin members most_line_bytes l = within l (inl refl) in
       let one_more : s.run.lines + 1 ≤ most_lines = omega (arith, few) in
       all_lines next lines (λ k i. within k (inr i)) (omega (arith, few, counted)) going room (record {
-        stands = line_stands laws settings skips s.run members (grid_line (partition_object settings) s l) (grid_within (partition_object settings) s members l here h.one) one_more now h.stands;
+        stands = line_stands laws settings skips s.run members (grid_line (partition_object settings) s l) (grid_within (partition_object settings) s members h.one l here) one_more now h.stands;
         one = line_one settings skips s members l here h.one;
         goes = line_goes laws settings skips s h.stands c h.goes (more_sent c s.run next.run once (more_sent c next.run later.run grows room)) one_more members l here now;
       })
