@@ -17,20 +17,22 @@ use Rattle.near_runs.specs.Readings.{output, messages_sent, HearsNext}
 use Rattle.near_runs.specs.Pieces.{AllMean}
 use Rattle.near_runs.specs.Feeds.{all_said, HasRead}
 use Rattle.near_runs.specs.Spoken.{HasSpoken}
+use Rattle.near_runs.proofs.Feeds.{every_feed_is_followed}
+use Rattle.near_runs.proofs.Readings.{every_output_is_heard}
+use Rattle.near_runs.proofs.Spoken.{every_near_run_speaks}
 use Rattle.script_run.specs.NearClients.{NearClient, piece, fed}
 use Rattle.script_run.proofs.OneConnection.{fed_one}
-use Rattle.near_scripts.proofs.Laws.{Laws}
 use Rattle.near_scripts.proofs.Told.{fed_same}
 use Rattle.near_scripts.proofs.Names.{machine_named}
 use Rattle.near_scripts.proofs.Patterns.{all_said-append, mean-append, Parted, parted, same_cut, says_as_much, sent_parts}
 use Rattle.near_scripts.proofs.Facts.{Stands, IsLive, joined, joined_spelled, named_short}
 use Rattle.near_scripts.proofs.Standing.{modest}
 
-module _ (laws : Laws) (settings : Settings) (r : Run) (s : Stands settings r) (n : NearClient) (a : IsLive settings r n) (room : length (sent_to n.conn r.appended) ≤ most_messages) where
+module _ (settings : Settings) (r : Run) (s : Stands settings r) (n : NearClient) (a : IsLive settings r n) (room : length (sent_to n.conn r.appended) ≤ most_messages) where
   -- ---- what was sent to it
 
   pub spoken : HasSpoken a.name r a.machine a.earlier a.heard
-  spoken = laws.speaks settings a.client a.name r a.machine a.earlier a.heard a.run (machine_named settings a.client a.name a.run s.run)
+  spoken = every_near_run_speaks settings a.client a.name r a.machine a.earlier a.heard a.run (machine_named settings a.client a.name a.run s.run)
       (modest settings r a.machine.conn a.name s (named_short settings r n a) (subst (λ (c : ℕ). length (sent_to c r.appended) ≤ most_messages) (sym a.conn) room))
 
   since_is : a.since ≡ map spelled spoken.sent
@@ -60,7 +62,7 @@ module _ (laws : Laws) (settings : Settings) (r : Run) (s : Stands settings r) (
     whole_is = append_assoc n.read (piece most n) (drop most n.unread) ∙ ap (λ bs. n.read ++ bs) (take-append-drop most n.unread) ∙ output_is
 
     h : HearsNext spoken.sent n.read (piece most n)
-    h = laws.output spoken.sent n.read (piece most n) (drop most n.unread) spoken.stream whole_is
+    h = every_output_is_heard spoken.sent n.read (piece most n) (drop most n.unread) spoken.stream whole_is
 
     rest : Cut h.done (h.new ++ h.later)
     rest = cut h.done (h.new ++ h.later) (h.order ∙ append_assoc h.done h.new h.later) h.before
@@ -72,7 +74,7 @@ module _ (laws : Laws) (settings : Settings) (r : Run) (s : Stands settings r) (
     unread_is = rest.unread ∙ ap all_said both.are ∙ all_said-append both.first both.behind
 
     u : HasRead settings a.client a.name r a.machine a.earlier (a.heard ++ all_said both.first) (told_by_piece a.machine.conn n.read (piece most n) n.state).after (all_said both.behind)
-    u = laws.feed settings a.client a.name r a.machine a.earlier a.heard n.state spoken.sent n.read (piece most n) both.first (all_said both.behind) a.run
+    u = every_feed_is_followed settings a.client a.name r a.machine a.earlier a.heard n.state spoken.sent n.read (piece most n) both.first (all_said both.behind) a.run
         (subst (λ (c : ℕ). GoesWith c a.name n.state a.machine.client) (sym a.conn) a.goes) h both.mean unread_is
 
     now_heard : messages_of false (n.read ++ piece most n) ≡ messages_of false n.read ++ messages_sent h.new

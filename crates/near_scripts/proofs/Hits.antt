@@ -29,9 +29,11 @@ use Rattle.near_runs.specs.Following.{Follows}
 use Rattle.near_runs.specs.Readings.{messages_sent, HearsNext}
 use Rattle.near_runs.specs.Clients.{GoesWith, SaysIt}
 use Rattle.near_runs.proofs.Runs.{world_is}
+use Rattle.near_runs.proofs.NearHits.{every_hit_of_a_near_client_stands}
+use Rattle.near_runs.proofs.NearRuns.{every_near_run_goes_well}
+use Rattle.near_runs.proofs.Readings.{every_output_is_heard}
 use Rattle.script_run.specs.NearClients.{NearClient, map_name, value_kept}
 use Rattle.near_scripts.specs.HitsStand.{world_of, unheard_by, Invalidates, SpeaksOf, HasRead, IsAfterNamed, HitStands}
-use Rattle.near_scripts.proofs.Laws.{Laws}
 use Rattle.near_scripts.proofs.Names.{machine_named}
 use Rattle.near_scripts.proofs.Patterns.{invalidation_said, handled_too, IsSaidBy, said_by_one, all_heard, sent_parts}
 use Rattle.near_scripts.proofs.Facts.{Stands, IsLive, map_named, kept_is}
@@ -43,12 +45,12 @@ row_told key [] r i e = absurd i
 row_told key (row ∷ seen) r (inl s) e = (row, inl refl, ap (λ (x : RowHeard). x.partition) s ∙ e)
 row_told key (row ∷ seen) r (inr i) e = let rest = row_told key seen r i e in (rest.0, inr rest.1, rest.2)
 
-module _ (laws : Laws) (settings : Settings) (r : Run) (s : Stands settings r) (n : NearClient) (a : IsLive settings r n) (room : length (sent_to n.conn r.appended) ≤ most_messages) (key : List ℕ) (value : Value) (kept : value_kept n key ≡ Some value) where
+module _ (settings : Settings) (r : Run) (s : Stands settings r) (n : NearClient) (a : IsLive settings r n) (room : length (sent_to n.conn r.appended) ≤ most_messages) (key : List ℕ) (value : Value) (kept : value_kept n key ≡ Some value) where
   named : AreNamedOnce a.machine.grid
   named = machine_named settings a.client a.name a.run s.run
 
   its_hit : IsHit (partition_object settings) (keyed settings a.machine.conn a.name a.client) a.machine key value
-  its_hit = laws.worth settings a.client a.name key r a.machine a.earlier a.heard n.state value a.run named
+  its_hit = every_hit_of_a_near_client_stands settings a.client a.name key r a.machine a.earlier a.heard n.state value a.run named
       goes (ap (hit key) near_is ∙ sym (kept_is settings r n a key) ∙ kept)
     where
       goes : GoesWith a.machine.conn a.name n.state a.machine.client
@@ -58,7 +60,7 @@ module _ (laws : Laws) (settings : Settings) (r : Run) (s : Stands settings r) (
       near_is = (let both : Some goes.near ≡ Some a.goes.near = sym goes.tied.listens ∙ a.goes.tied.listens in cc)
 
   follows : Follows settings a.client a.name r a.machine
-  follows = (laws.well settings a.client a.name r a.machine a.earlier a.heard a.run named).follows
+  follows = (every_near_run_goes_well settings a.client a.name r a.machine a.earlier a.heard a.run named).follows
 
   -- ---- the machine's world is that of the run
 
@@ -82,7 +84,7 @@ module _ (laws : Laws) (settings : Settings) (r : Run) (s : Stands settings r) (
       let said = invalidation_said a.name key version number message correlation partition
           (is ∙ ap (λ name. Ok (event.Invalidation correlation partition version number name key)) (map_named settings r n a)) (messages_of false n.read) a.says a.mean (in_contains message (messages_of false n.read) there) in
       let heard = subst (λ xs. In (Invalidation key version number) xs) (sym a.is_heard) said in
-      let handled = subst (λ xs. In (record { key = key; version = version; number = number }) xs) (sym (spoken laws settings r s n a room).processed) (handled_too key version number a.heard heard) in
+      let handled = subst (λ xs. In (record { key = key; version = version; number = number }) xs) (sym (spoken settings r s n a room).processed) (handled_too key version number a.heard heard) in
       let named = its_hit.after (record { key = key; version = version; number = number }) (contains_in (record { key = key; version = version; number = number }) a.machine.processed handled) refl in
       record {
         write = named.write;
@@ -94,24 +96,24 @@ module _ (laws : Laws) (settings : Settings) (r : Run) (s : Stands settings r) (
   -- ---- what it has yet to read
 
   abbrev sent : List (List Frame)
-  sent = (spoken laws settings r s n a room).sent
+  sent = (spoken settings r s n a room).sent
 
   -- all of the rest of what was sent to it
   h : HearsNext sent n.read n.unread
-  h = laws.output sent n.read n.unread [] (spoken laws settings r s n a room).stream (append-nil (n.read ++ n.unread) ∙ output_is laws settings r s n a room)
+  h = every_output_is_heard sent n.read n.unread [] (spoken settings r s n a room).stream (append-nil (n.read ++ n.unread) ∙ output_is settings r s n a room)
 
   -- Where it has read on, so has the machine.
   has_read : HasRead n key → MachineHasRead (keyed settings a.machine.conn a.name a.client) key a.machine.unread
   has_read read m i speaks = of_message (said_by_one a.name m (messages_sent (h.new ++ h.later)) rest.says rest.mean (subst (λ xs. In m xs) rest.unread (in_contains m a.machine.unread i)))
     where
-      rest : Cut laws settings r s n a room h.done (h.new ++ h.later)
-      rest = cut laws settings r s n a room h.done (h.new ++ h.later) (h.order ∙ append_assoc h.done h.new h.later) h.before
+      rest : Cut settings r s n a room h.done (h.new ++ h.later)
+      rest = cut settings r s n a room h.done (h.new ++ h.later) (h.order ∙ append_assoc h.done h.new h.later) h.before
 
       -- what it hasn't heard is the rest
       all_unheard : unheard_by n ≡ messages_sent (h.new ++ h.later)
       all_unheard =
           ap (λ ms. drop (length ms) (messages_of false (n.read ++ n.unread))) h.before
-          ∙ ap (drop (length (messages_sent h.done))) (ap (messages_of false) (output_is laws settings r s n a room) ∙ all_heard sent (spoken laws settings r s n a room).stream ∙ ap messages_sent (h.order ∙ append_assoc h.done h.new h.later) ∙ sent_parts h.done (h.new ++ h.later))
+          ∙ ap (drop (length (messages_sent h.done))) (ap (messages_of false) (output_is settings r s n a room) ∙ all_heard sent (spoken settings r s n a room).stream ∙ ap messages_sent (h.order ∙ append_assoc h.done h.new h.later) ∙ sent_parts h.done (h.new ++ h.later))
           ∙ drop-append_seam (messages_sent h.done) (messages_sent (h.new ++ h.later))
 
       of_message : IsSaidBy a.name (messages_sent (h.new ++ h.later)) m → ⊥

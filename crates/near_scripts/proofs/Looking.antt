@@ -42,10 +42,13 @@ use Rattle.near_runs.specs.NearRuns.{client_hit}
 use Rattle.near_runs.specs.OwnLines.{MayMiss}
 use Rattle.near_runs.specs.Clients.{GoesWith}
 use Rattle.near_runs.proofs.Sent.{sent_to-append}
+use Rattle.near_runs.proofs.Looks.{hits, misses}
+use Rattle.near_runs.proofs.NearRuns.{every_near_run_goes_well}
+use Rattle.near_runs.proofs.OwnLines.{every_get_line_is_followed}
+use Rattle.near_runs.proofs.Sessions.{every_get_is_heard, every_get_is_served}
 use Rattle.script_run.specs.NearClients.{NearClient, value_kept, map_name, used, missed, get_sent}
 use Rattle.script_run.specs.AfterLines.{noting}
 use Rattle.script_run.proofs.OneConnection.{used_one, missed_one, target_one}
-use Rattle.near_scripts.proofs.Laws.{Laws}
 use Rattle.near_scripts.proofs.Lives.{lives_alike}
 use Rattle.near_scripts.proofs.Names.{machine_named}
 use Rattle.near_scripts.proofs.Connections.{its_conn, now_updated}
@@ -55,10 +58,10 @@ use Rattle.near_scripts.proofs.Facts.{Stands, IsLive, Appends, read_more, named_
 
 -- ---- a hit
 
-pub hit_on : (laws : Laws) (settings : Settings) (r : Run) (n : NearClient) (key : List ℕ) (value : Value) → value_kept n key ≡ Some value → IsLive settings r n → IsLive settings r (used key n)
-hit_on laws settings r n key value kept a =
+pub hit_on : (settings : Settings) (r : Run) (n : NearClient) (key : List ℕ) (value : Value) → value_kept n key ≡ Some value → IsLive settings r n → IsLive settings r (used key n)
+hit_on settings r n key value kept a =
     let there : hit key a.goes.near ≡ Some value = sym (kept_is settings r n a key) ∙ kept in
-    let goes = laws.hit settings a.client n.conn a.name key n.state a.machine.client value a.goes there in
+    let goes = hits settings a.client n.conn a.name key n.state a.machine.client value a.goes there in
     let is : step settings a.client a.name a.machine (LooksUp key 0) ≡ record a.machine { client = machine.used (keyed settings a.machine.conn a.name a.client) key a.machine.client } =
     ap (looked_up (partition_object settings) (keyed settings a.machine.conn a.name a.client) a.machine key 0) goes.0 in
     record {
@@ -104,7 +107,7 @@ module _ (o : Object Request Partition) (skips : List CallId) (r : Run) (c : ℕ
       ∙ ap (λ ks. find (is_connection c) ks) (handled_all_come o skips (took_bytes r k bytes) k (items_by k bytes)).connections
       ∙ subst (λ n. find (is_connection n) (took_bytes r k bytes).connections ≡ Some (with_bytes k bytes)) (its_conn r c k there) (now_updated (with_bytes k bytes) r.connections k (ap (connection_of r) (its_conn r c k there) ∙ there))
 
-module _ (laws : Laws) (settings : Settings) (skips : List CallId) (r : Run) (s : Stands settings r) (n : NearClient) (a : IsLive settings r n) (key : List ℕ) (whole : 8 ≤ length key) (short : 2 * length key ≤ most_line_bytes)
+module _ (settings : Settings) (skips : List CallId) (r : Run) (s : Stands settings r) (n : NearClient) (a : IsLive settings r n) (key : List ℕ) (whole : 8 ≤ length key) (short : 2 * length key ≤ most_line_bytes)
     (lines : r.lines + 1 ≤ most_lines) (takes : takes_bytes (partition_object settings) r a.connection ≡ true) (none : value_kept n key ≡ None) where
   abbrev o : Object Request Partition
   o = partition_object settings
@@ -132,7 +135,7 @@ module _ (laws : Laws) (settings : Settings) (skips : List CallId) (r : Run) (s 
   IsHeard m = MayGet a.name a.client m key → HasSent k.conn a.client (k.bytes ++ get_bytes a.name a.client m key) × (length (messages_of true (k.bytes ++ get_bytes a.name a.client m key)) ≡ m + 1)
 
   heard : IsHeard a.machine.next_number
-  heard = subst IsHeard a.messages (λ may. both (laws.get_heard k.conn k.member a.client a.name key k.bytes a.sent may))
+  heard = subst IsHeard a.messages (λ may. both (every_get_is_heard k.conn k.member a.client a.name key k.bytes a.sent may))
     where
       text : List ℕ
       text = k.bytes ++ get_bytes a.name a.client (length (messages_of true k.bytes)) key
@@ -146,7 +149,7 @@ module _ (laws : Laws) (settings : Settings) (skips : List CallId) (r : Run) (s 
   named = machine_named settings a.client a.name a.run s.run
 
   near : IsNear r a.machine.conn a.machine.member a.name
-  near = (laws.well settings a.client a.name r a.machine a.earlier a.heard a.run named).follows.near
+  near = (every_near_run_goes_well settings a.client a.name r a.machine a.earlier a.heard a.run named).follows.near
 
   member_is : a.connection.member ≡ a.machine.member
   member_is = (let same : Some a.connection ≡ Some near.connection = sym there_too ∙ near.there in let one : a.connection ≡ near.connection = cc in ap (λ (x : Connection). x.member) one) ∙ near.member
@@ -160,7 +163,7 @@ module _ (laws : Laws) (settings : Settings) (skips : List CallId) (r : Run) (s 
       ≡ asks o skips (took_bytes r k (get_bytes a.name a.client m key)) (arrival_at (took_bytes r k (get_bytes a.name a.client m key)) k.member (get_request k.conn a.name a.client m key))
 
   served : IsServed a.machine.next_number
-  served = subst IsServed a.messages (λ may. laws.get_served o skips r k a.client a.name key takes a.sent may)
+  served = subst IsServed a.messages (λ may. every_get_is_served o skips r k a.client a.name key takes a.sent may)
 
   has_room : next.full ≡ false → is_full its_world ≡ false
   has_room going = false_or_not (is_full its_world) (λ full.
@@ -185,7 +188,7 @@ module _ (laws : Laws) (settings : Settings) (skips : List CallId) (r : Run) (s 
   }
 
   goes : (machine.hit (keyed settings n.conn a.name a.client) key a.machine.client ≡ None) × GoesWith n.conn a.name (asking (asked_call n.state.next n.conn (partition_of_key key) (get_of a.name key a.client)) (opening_look_up key n.state)) (opened n.state.next key a.machine.client)
-  goes = laws.miss settings a.client n.conn a.name key n.state a.machine.client a.goes whole a.its_client (target_one n.conn n.read n.state (partition_of_key key) a.one) (sym (kept_is settings r n a key) ∙ none)
+  goes = misses settings a.client n.conn a.name key n.state a.machine.client a.goes whole a.its_client (target_one n.conn n.read n.state (partition_of_key key) a.one) (sym (kept_is settings r n a key) ∙ none)
 
   -- what it sends is that get
   sent_is : (get_sent n key).request ≡ get_bytes a.name a.client a.machine.next_number key
@@ -204,7 +207,7 @@ module _ (laws : Laws) (settings : Settings) (skips : List CallId) (r : Run) (s 
 
   missed_there : next.full ≡ false → IsLive settings next (noting (new_messages r next) (missed key n))
   missed_there going =
-      let h = laws.get settings a.client a.name key r a.machine a.earlier a.heard a.connection skips a.run named (may going) goes.0 in
+      let h = every_get_line_is_followed settings a.client a.name key r a.machine a.earlier a.heard a.connection skips a.run named (may going) goes.0 in
       let adds = line_appends settings skips r (Arrive a.machine.conn bytes) in
       let counted = (line_counts o skips r (Arrive a.machine.conn bytes)).lines in
       let few = a.few in

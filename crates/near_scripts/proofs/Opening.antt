@@ -46,10 +46,11 @@ use Rattle.near_runs.specs.Pieces.{AllMean}
 use Rattle.near_runs.specs.Attaching.{IsFresh}
 use Rattle.near_runs.proofs.Runs.{events_is}
 use Rattle.near_runs.proofs.Sent.{sent_to-append}
+use Rattle.near_runs.proofs.OwnLines.{every_opening_line_is_followed}
+use Rattle.near_runs.proofs.Sessions.{every_opening_is_heard}
 use Rattle.script_run.specs.NearClients.{NearClient, client_number, opening_of, new_near}
 use Rattle.script_run.specs.AfterLines.{noting}
 use Rattle.script_run.proofs.OneConnection.{begun_one}
-use Rattle.near_scripts.proofs.Laws.{Laws}
 use Rattle.near_scripts.proofs.Told.{new_bare}
 use Rattle.near_scripts.proofs.Connections.{its_conn}
 use Rattle.near_scripts.proofs.Patterns.{all_heard}
@@ -111,7 +112,7 @@ module _ (r : Run) (ok : ArrivalsOk r) (k : Connection) (there : connection_of r
 
 -- ---- the line
 
-module _ (laws : Laws) (settings : Settings) (skips : List CallId) (r : Run) (s : Stands settings r) (c : ℕ) (name : List ℕ) (capacity : ℕ) (low : c ≤ 63) (short : 2 * length name ≤ most_line_bytes) (text : IsUtf8 name)
+module _ (settings : Settings) (skips : List CallId) (r : Run) (s : Stands settings r) (c : ℕ) (name : List ℕ) (capacity : ℕ) (low : c ≤ 63) (short : 2 * length name ≤ most_line_bytes) (text : IsUtf8 name)
     (k : Connection) (there : connection_of r c ≡ Some k) (empty : k.bytes ≡ []) where
   abbrev o : Object Request Partition
   o = partition_object settings
@@ -164,7 +165,7 @@ module _ (laws : Laws) (settings : Settings) (skips : List CallId) (r : Run) (s 
     its = with_bytes k (opening_of c name)
 
     heard : HasSent k.conn (client_number c) (opening_of c name) × (items_of k.conn k.member (messages_of true (opening_of c name)) ≡ opening_items k.member name)
-    heard = laws.opening_heard k.conn k.member (client_number c) name may
+    heard = every_opening_is_heard k.conn k.member (client_number c) name may
 
     has_sent : HasSent its.conn (client_number c) its.bytes
     has_sent = subst (λ bs. HasSent k.conn (client_number c) bs) (ap (λ bs. bs ++ opening_of c name) (sym empty)) heard.0
@@ -175,7 +176,7 @@ module _ (laws : Laws) (settings : Settings) (skips : List CallId) (r : Run) (s 
     opened_at : (d : ℕ) → d ≡ k.conn → IsNearRun settings client name (after_line o skips r (Arrive d (opening_of c name)))
         (attached o partitions k.member k.conn first_number capacity (grid_of settings k.conn name client (after_line o skips r (Arrive d (opening_of c name))))) (sent_to k.conn r.appended) []
     opened_at d same = subst (λ e. IsNearRun settings client name (after_line o skips r (Arrive e (opening_of c name))) (attached o partitions k.member k.conn first_number capacity (grid_of settings k.conn name client (after_line o skips r (Arrive e (opening_of c name))))) (sent_to k.conn r.appended) []) (sym same)
-        (laws.opening settings client name r k skips first_number capacity ok.members within fresh new may takes)
+        (every_opening_line_is_followed settings client name r k skips first_number capacity ok.members within fresh new may takes)
 
     comes : IsLive settings next after
     comes =

@@ -15,9 +15,9 @@ use Rattle.near_runs.specs.Messages.{sent_to}
 use Rattle.near_runs.specs.Clients.{GoesWith}
 use Rattle.near_runs.specs.Lines.{IsOthers}
 use Rattle.near_runs.proofs.Sent.{sent_to-append}
+use Rattle.near_runs.proofs.Lines.{every_other_line_is_followed}
 use Rattle.script_run.specs.NearClients.{NearClient}
 use Rattle.script_run.specs.AfterLines.{noting}
-use Rattle.near_scripts.proofs.Laws.{Laws}
 use Rattle.near_scripts.proofs.Lives.{stays_dead}
 use Rattle.near_scripts.proofs.Connections.{IsApart, keeps_connection, keeps_members}
 use Rattle.near_scripts.proofs.Facts.{Stands, IsLive, IsDead, Goes, Appends, read_more}
@@ -29,7 +29,7 @@ apart_too c l others = tt
 pub line_appends : (settings : Settings) (skips : List CallId) (r : Run) (l : Line) → Appends r (after_line (partition_object settings) skips r l)
 line_appends settings skips r l = let front = (line_grows (partition_object settings) skips r l).appended in record { more = front.0; are = sym front.1 }
 
-module _ (laws : Laws) (settings : Settings) (skips : List CallId) (r : Run) (l : Line) (n : NearClient) (others : IsOthers n.conn l) where
+module _ (settings : Settings) (skips : List CallId) (r : Run) (l : Line) (n : NearClient) (others : IsOthers n.conn l) where
   abbrev next : Run
   next = after_line (partition_object settings) skips r l
 
@@ -38,7 +38,7 @@ module _ (laws : Laws) (settings : Settings) (skips : List CallId) (r : Run) (l 
 
   live_on : IsLive settings r n → IsLive settings next after
   live_on a =
-      let g = laws.others settings a.client a.name r a.machine a.earlier a.heard skips l a.run (subst (λ (c : ℕ). IsOthers c l) (sym a.conn) others) in
+      let g = every_other_line_is_followed settings a.client a.name r a.machine a.earlier a.heard skips l a.run (subst (λ (c : ℕ). IsOthers c l) (sym a.conn) others) in
       let adds = line_appends settings skips r l in
       let lines = (line_counts (partition_object settings) skips r l).lines in
       let few = a.few in

@@ -28,7 +28,6 @@ use Rattle.script_run.specs.AfterLines.{noting, played, after_line, after_lines}
 use Rattle.script_run.proofs.ScriptLaws.{whole_line_grows, whole_lines_grow, whole_line_counts}
 use Rattle.near_runs.proofs.Sent.{sent_to-append}
 use Rattle.near_scripts.specs.HitsStand.{AreLines}
-use Rattle.near_scripts.proofs.Laws.{Laws}
 use Rattle.near_scripts.proofs.Within.{AreOnOne, grid_within, line_one}
 use Rattle.near_scripts.proofs.Told.{fed_bare, bare_keeps_none}
 use Rattle.near_scripts.proofs.Connections.{opens_nothing}
@@ -95,7 +94,7 @@ found_more c (m ∷ ns) n = by (m.conn == c) (found_more c ns n)
 abbrev pub GoesThere : Settings → ScriptRun → ℕ → Type 0
 GoesThere settings s c = (n : NearClient) → near_of s c ≡ Some n → Goes settings s.run n
 
-module _ (laws : Laws) (settings : Settings) (skips : List CallId) (s : ScriptRun) (stands : Stands settings s.run) (c : ℕ) (goes : GoesThere settings s c) (room : length (sent_to c s.run.appended) ≤ most_messages) (lines : s.run.lines + 1 ≤ most_lines) where
+module _ (settings : Settings) (skips : List CallId) (s : ScriptRun) (stands : Stands settings s.run) (c : ℕ) (goes : GoesThere settings s c) (room : length (sent_to c s.run.appended) ≤ most_messages) (lines : s.run.lines + 1 ≤ most_lines) where
   -- the run after what the grid runs at a line
   abbrev next : Line → Run
   next l = grid.after_line (partition_object settings) skips s.run l
@@ -128,7 +127,7 @@ module _ (laws : Laws) (settings : Settings) (skips : List CallId) (s : ScriptRu
   by_others : (l : Line) (ns : List NearClient) → ((n : NearClient) → find (is_near c) ns ≡ Some n → IsOthers c l × Goes settings s.run n) → Each l ns
   by_others l ns all going n e =
       let here = all n e in
-      goes_on laws settings skips s.run l n (subst (λ d. IsOthers d l) (sym (its_number c ns n e)) here.0) going here.1
+      goes_on settings skips s.run l n (subst (λ d. IsOthers d l) (sym (its_number c ns n e)) here.0) going here.1
 
   -- a line of nobody
   quiet : (ns : List NearClient) → ((n : NearClient) → find (is_near c) ns ≡ Some n → Goes settings s.run n) → Each line.Comment ns
@@ -168,7 +167,7 @@ module _ (laws : Laws) (settings : Settings) (skips : List CallId) (s : ScriptRu
           utf8 = both_right (is_new (connection_of s.run d)) (is_utf8 name) (both_right (not (is_near_connection s d)) (is_new (connection_of s.run d) && is_utf8 name) so)
 
           comes : (d ≡ c) → (next (line.Arrive d (opening_of d name))).full ≡ false → Goes settings (next (line.Arrive d (opening_of d name))) (noting (new_messages s.run (next (line.Arrive d (opening_of d name)))) (new_near d name capacity))
-          comes same going = (let k = may_begin d name so in begins laws settings skips s.run stands d name capacity low short (IsUtf8-from_is_utf8 name utf8) k.0 k.1 k.3 k.2)
+          comes same going = (let k = may_begin d name so in begins settings skips s.run stands d name capacity low short (IsUtf8-from_is_utf8 name utf8) k.0 k.1 k.3 k.2)
 
           each : Each (line.Arrive d (opening_of d name)) (s.nears ++ new_near d name capacity ∷ [])
           each going n e = by (near_of s c) refl
@@ -250,7 +249,7 @@ module _ (laws : Laws) (settings : Settings) (skips : List CallId) (s : ScriptRu
           kept = ap (λ (x : NearClient). value_kept x key) (sym (same_client d same n m l.there there)) ∙ l.is
 
           by : Goes settings s.run m → Goes settings s.run (used key m)
-          by (inl a) = inl (hit_on laws settings s.run m key value kept a)
+          by (inl a) = inl (hit_on settings s.run m key value kept a)
           by (inr a) = absurd (let clash : None ≡ Some value = sym (bare_keeps_none m key a.bare) ∙ kept in cc)
 
   miss_each : (d : ℕ) (key : List ℕ) (n : NearClient) → 2 * length key ≤ most_line_bytes → Looked d key n None → Each (line.Arrive d (get_sent n key).request) (changed d (missed key) s.nears)
@@ -280,7 +279,7 @@ module _ (laws : Laws) (settings : Settings) (skips : List CallId) (s : ScriptRu
           by : Goes settings s.run m → Goes settings (next g) (noting (new_messages s.run (next g)) (missed key m))
           by (inl a) =
               inl (subst (λ h. IsLive settings (next h) (noting (new_messages s.run (next h)) (missed key m))) (sym line_is)
-              (missed_on laws settings skips s.run stands m a key l.whole short lines (taking a.connection a.there) (ap (λ (x : NearClient). value_kept x key) (sym one) ∙ l.is) (subst (λ h. (next h).full ≡ false) line_is going)))
+              (missed_on settings skips s.run stands m a key l.whole short lines (taking a.connection a.there) (ap (λ (x : NearClient). value_kept x key) (sym one) ∙ l.is) (subst (λ h. (next h).full ≡ false) line_is going)))
           by (inr a) = absurd (let clash : false ≡ true = sym a.crashed ∙ both_right (is_open (Some a.connection)) (lives (partition_object settings) s.run a.connection.member) (taking a.connection a.there) in cc)
 
   get_line : (d : ℕ) (key : List ℕ) → 2 * length key ≤ most_line_bytes → Step (after_line settings skips s (line.NearGet d key))
@@ -300,7 +299,7 @@ module _ (laws : Laws) (settings : Settings) (skips : List CallId) (s : ScriptRu
       this same m there = by (goes m there)
         where
           by : Goes settings s.run m → Goes settings s.run (fed most m)
-          by (inl a) = inl (fed_on laws settings s.run stands m a (subst (λ d. length (sent_to d s.run.appended) ≤ most_messages) (sym (its_number c s.nears m there)) room) most)
+          by (inl a) = inl (fed_on settings s.run stands m a (subst (λ d. length (sent_to d s.run.appended) ≤ most_messages) (sym (its_number c s.nears m there)) room) most)
           by (inr a) = inr (record { bare = fed_bare most m a.bare; connection = a.connection; there = a.there; crashed = a.crashed })
 
   -- ---- lines of others
@@ -369,7 +368,7 @@ record Holds (settings : Settings) (s : ScriptRun) (c : ℕ) : Type 0 where
   one : AreOnOne s.nears
   goes : GoesThere settings s c
 
-module _ (laws : Laws) (settings : Settings) (skips : List CallId) (c members : ℕ) where
+module _ (settings : Settings) (skips : List CallId) (c members : ℕ) where
   all_lines : (s : ScriptRun) (lines : List Line) → ((l : Line) → In l lines → IsWithin members most_line_bytes l) → s.run.lines + length lines ≤ most_lines → (after_lines settings skips s lines).run.full ≡ false
       → length (sent_to c (after_lines settings skips s lines).run.appended) ≤ most_messages → Holds settings s c → Holds settings (after_lines settings skips s lines) c
   all_lines s [] within few going room h = h
@@ -383,16 +382,16 @@ module _ (laws : Laws) (settings : Settings) (skips : List CallId) (c members : 
       let here : IsWithin members most_line_bytes l = within l (inl refl) in
       let one_more : s.run.lines + 1 ≤ most_lines = omega (arith, few) in
       all_lines next lines (λ k i. within k (inr i)) (omega (arith, few, counted)) going room (record {
-        stands = line_stands laws settings skips s.run members (grid_line (partition_object settings) s l) (grid_within (partition_object settings) s members h.one l here) one_more now h.stands;
+        stands = line_stands settings skips s.run members (grid_line (partition_object settings) s l) (grid_within (partition_object settings) s members h.one l here) one_more now h.stands;
         one = line_one settings skips s members l here h.one;
-        goes = line_goes laws settings skips s h.stands c h.goes (more_sent c s.run next.run once (more_sent c next.run later.run grows room)) one_more members l here now;
+        goes = line_goes settings skips s h.stands c h.goes (more_sent c s.run next.run once (more_sent c next.run later.run grows room)) one_more members l here now;
       })
 
-pub every_client_goes : Laws → (settings : Settings) (members backups : ℕ) (skips : List CallId) (lines : List Line) → 1 ≤ members → members < 2 ^ 8 → AreLines members lines → (c : ℕ)
+pub every_client_goes : (settings : Settings) (members backups : ℕ) (skips : List CallId) (lines : List Line) → 1 ≤ members → members < 2 ^ 8 → AreLines members lines → (c : ℕ)
     → let s = after_lines settings skips (begun members backups) lines in s.run.full ≡ false → length (sent_to c s.run.appended) ≤ most_messages → Stands settings s.run × GoesThere settings s c
-every_client_goes laws settings members backups skips lines some low are c going room =
+every_client_goes settings members backups skips lines some low are c going room =
     let few = are.few in
-    let h = all_lines laws settings skips c members (begun members backups) lines (λ l i. are.each l (contains_in l lines i)) (omega (arith, few)) going room (record {
+    let h = all_lines settings skips c members (begun members backups) lines (λ l i. are.each l (contains_in l lines i)) (omega (arith, few)) going room (record {
       stands = begun_stands settings members backups some low;
       one = tt;
       goes = λ n there. absurd cc;

@@ -22,7 +22,7 @@ use Rattle.replay_run.proofs.Lines.{line_run}
 use Rattle.partition_protocol.proofs.Lists.{in_contains}
 use Rattle.near_runs.specs.Messages.{sent_to}
 use Rattle.near_runs.specs.Modest.{IsModest, AreProper}
-use Rattle.near_scripts.proofs.Laws.{Laws}
+use Rattle.near_runs.proofs.Proper.{every_line_stays_proper}
 use Rattle.near_scripts.proofs.Lives.{line_together}
 use Rattle.near_scripts.proofs.Connections.{BringsSome, keeps_listeners, keeps_members}
 use Rattle.near_scripts.proofs.Facts.{Stands}
@@ -43,9 +43,9 @@ brings_some : (members size : ℕ) (l : Line) → IsWithin members size l → Br
 brings_some members size (line.Arrive c bytes) within = within.1
 brings_some members size l within = tt
 
-pub line_stands : (laws : Laws) (settings : Settings) (skips : List CallId) (r : Run) (members : ℕ) (l : Line) → IsWithin members most_arriving l → r.lines + 1 ≤ most_lines → (after_line (partition_object settings) skips r l).full ≡ false → Stands settings r
+pub line_stands : (settings : Settings) (skips : List CallId) (r : Run) (members : ℕ) (l : Line) → IsWithin members most_arriving l → r.lines + 1 ≤ most_lines → (after_line (partition_object settings) skips r l).full ≡ false → Stands settings r
     → Stands settings (after_line (partition_object settings) skips r l)
-line_stands laws settings skips r members l within lines going s =
+line_stands settings skips r members l within lines going s =
     let o = partition_object settings in
     record {
       run = line_run skips r s.run l;
@@ -54,7 +54,7 @@ line_stands laws settings skips r members l within lines going s =
       bounded = line_bounded o skips r lines s.bounded l;
       together = line_together o skips r l going s.together;
       listens = keeps_listeners o skips r l (brings_some members most_arriving l within) s.listens;
-      proper = laws.proper o skips r members most_arriving l within s.proper;
+      proper = every_line_stays_proper o skips r members most_arriving l within s.proper;
       members = subst (λ (n : ℕ). n < 2 ^ 8) (sym (keeps_members o skips r l)) s.members;
     }
 
