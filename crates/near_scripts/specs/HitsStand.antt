@@ -26,7 +26,7 @@ use Rattle.near_runs.specs.Maps.{get_request, value_in}
 use Rattle.near_runs.specs.Messages.{sent_to}
 use Rattle.near_runs.specs.NearConnections.{grid_of}
 use Rattle.script_run.specs.NearClients.{NearClient, map_name, value_kept}
-use Rattle.script_run.specs.Runs.{near_of}
+use Rattle.script_run.specs.Runs.{ScriptRun, near_of}
 use Rattle.script_run.specs.Laws.{run_with}
 
 -- ---- the partition of a key
@@ -108,6 +108,12 @@ pub record HitStands (settings : Settings) (r : Run) (n : NearClient) (key : Lis
   pub reopened : HasRead n key → (version : ℕ) → Contains (trail_of settings r key) (Reset version) → version ≤ known_version connection.member (world_of settings r key)
       → Before (trail_of settings r key) (Reset version) (Called get)
 
+-- What each near client keeps stands, where the run isn't given up, and the client was sent no more messages than it can number. `nearget`
+-- hits the value that the client of its connection keeps for its key.
+abbrev pub HitsStand : Settings → ScriptRun → Type 0
+HitsStand settings s = s.run.full ≡ false → (conn : ℕ) (n : NearClient) → near_of s conn ≡ Some n → length (sent_to conn s.run.appended) ≤ most_messages
+    → (key : List ℕ) (value : Value) → value_kept n key ≡ Some value → HitStands settings s.run n key value
+
 -- ---- scripts
 
 -- lines behind the first, as a script can have them: each within its grammar, and no more than a script may have
@@ -115,11 +121,7 @@ pub record AreLines (members : ℕ) (lines : List Line) : Type 0 where
   pub each : (line : Line) → Contains lines line → IsWithin members most_line_bytes line
   pub few : length lines < most_lines
 
--- Whatever the processors, the queues' capacity, the lines, and the calls that find no memory: where the run isn't given up, and a near
--- client was sent no more messages than it can number, each value that it keeps stands as above. `nearget` hits the value that the client
--- of its connection keeps for its key.
+-- whatever the processors, the queues' capacity, the lines, and the calls that find no memory
 abbrev pub EveryHitOfAScriptStands : Type 0
 EveryHitOfAScriptStands = (settings : Settings) (members backups : ℕ) (skips : List CallId) (lines : List Line) → 1 ≤ members → members < 2 ^ 8 → AreLines members lines
-    → let s = run_with settings members backups skips lines in
-    s.run.full ≡ false → (conn : ℕ) (n : NearClient) → near_of s conn ≡ Some n → length (sent_to conn s.run.appended) ≤ most_messages
-    → (key : List ℕ) (value : Value) → value_kept n key ≡ Some value → HitStands settings s.run n key value
+    → HitsStand settings (run_with settings members backups skips lines)
