@@ -1,4 +1,4 @@
-use Rattle.script_run.proofs.looking.ScriptGrid.world.Goals as goal
+use Rattle.script_run.proofs.grid.ScriptGrid.world.Goals as goal
 
 pub returns : goal.returns
 returns g c = record {
