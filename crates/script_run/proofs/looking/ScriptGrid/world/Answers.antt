@@ -1,7 +1,0 @@
-use Rattle.script_run.proofs.looking.ScriptGrid.world.Goals as goal
-
-pub returns : goal.returns
-returns g c = record {
-  world = λ settings s stands within. c.world.ensures.world settings s.run stands.goes.grid within;
-  there = λ settings s stands within. c.world.ensures.there settings s.run stands.goes.grid within;
-}
