@@ -153,6 +153,12 @@ next_sent may s stands = may.next ∙ ap (λ n. n + 1) (sym may.stands.goes.grid
 pub may_play_sent : {V : Type 0} {T : V → Type 0} {form : FormOf V T} {all : ScriptGrid V T} {number c : ℕ} {bytes : List ℕ} → MaySend form all number c bytes → MayPlay form all number (Arrive c bytes)
 may_play_sent may = record { settings = may.settings; run = may.run; goes = may.stands.goes; read = may.read; next = may.next; within = may.within }
 
+-- the same of another text before it, and of other bytes
+pub has_sent_as : {V : Type 0} {T : V → Type 0} {form : FormOf V T} {settings : Settings} {new : ScriptGrid V T} {s : ScriptRun} {c : ℕ} {bytes other written start text : List ℕ} → other ≡ bytes → written ≡ start
+    → HasSent form settings new s c other written text → HasSent form settings new s c bytes start text
+has_sent_as {form = form} {settings = settings} {new = new} {s = s} {c = c} {bytes = bytes} {written = written} {text = text} same before sent =
+    subst (λ (w : List ℕ). HasSent form settings new s c bytes w text) before (subst (λ (b : List ℕ). HasSent form settings new s c b written text) same sent)
+
 -- What a near client sends ran on the grid, by itself: what that printed is added to no text.
 
 module _ {V : Type 0} {T : V → Type 0} {form : FormOf V T} {settings : Settings} (new marked : ScriptGrid V T) (s : ScriptRun) (c : ℕ) (bytes : List ℕ) (number : ℕ) (at_line : number ≡ s.run.lines + 1)

@@ -83,6 +83,11 @@ none_changed c into (n ∷ ns) found = go (is_near c n) found (none_changed c in
     go true f more = absurd cc
     go false f more = ap (λ ms. n ∷ ms) (more f)
 
+-- none at first
+pub none_yet : (ks : List KeptClient) → ks ≡ [] → AreNear ks []
+none_yet [] none = tt
+none_yet (k ∷ ks) none = absurd cc
+
 -- one more
 
 pub one_more : (ks : List KeptClient) (ns : List NearClient) (k : KeptClient) (n : NearClient) → AreNear ks ns → IsNear k n → AreNear (ks ++ k ∷ []) (ns ++ n ∷ [])

@@ -1,5 +1,5 @@
 -- On which connections a byte has arrived.
-use Rattle.std.proofs.Common.{◌≡◌, ◌≢◌, ℕ, zero, suc, ◌+◌, ◌≤◌, ◌<◌, ◌==◌, ◌||◌, Bool, true, false, not, cond, List, [], ◌∷◌, ◌++◌, length, Option, Some, None, option_map, refl, ap, sym, ◌∙◌, subst, ⊎_elim, arith, Vec, Global}
+use Rattle.std.proofs.Common.{◌≡◌, ◌≢◌, ℕ, zero, suc, ◌+◌, ◌≤◌, ◌<◌, ◌==◌, ◌||◌, Bool, true, false, not, cond, List, [], ◌∷◌, ◌++◌, length, replicate, Option, Some, None, option_map, refl, ap, sym, ◌∙◌, subst, ⊎_elim, arith, Vec, Global}
 use Rattle.std.specs.Prelude.{slice_get, slice_set, is_some, option_and_then}
 use Rattle.std.specs.List.{find}
 use Rattle.std.proofs.lemmas.Bool.{cases_eq}
@@ -15,7 +15,7 @@ use Rattle.partition_protocol.specs.Service.{numbers_below}
 use Rattle.partition_protocol.proofs.Lists.{on_if}
 use Rattle.script_lang.specs.declared.line.Line.{Line}
 use Rattle.script_lang.specs.declared.line.Line.TheVariants.{OpenConn, Arrive, Clock, Flow, FlowAll, Crash, Detect, Rebalance}
-use Rattle.replay_run.specs.Runs.{Run, Connection, partitions, is_connection, connection_of, takes_bytes, can_open, opened, updated, with_bytes, took_bytes, items_by, handled_all, bytes_arrived, next_line, clock_set, flowed, flowed_in, takes_in, event_by}
+use Rattle.replay_run.specs.Runs.{Run, Connection, begun, partitions, is_connection, connection_of, takes_bytes, can_open, opened, updated, with_bytes, took_bytes, items_by, handled_all, bytes_arrived, next_line, clock_set, flowed, flowed_in, takes_in, event_by}
 use Rattle.replay_run.specs.AfterLines.{after_event, after_line}
 use Rattle.replay_run.specs.Rebalancing.{rebalanced}
 use Rattle.replay_run.specs.WorldCalls.{member_if_open, open_member_in}
@@ -149,6 +149,15 @@ set_elsewhere (x ∷ xs) zero zero new other = absurd (grind (arith, nat_tests))
 set_elsewhere (x ∷ xs) zero (suc k) new other = refl
 set_elsewhere (x ∷ xs) (suc i) zero new other = refl
 set_elsewhere (x ∷ xs) (suc i) (suc k) new other = let apart : (i == k) ≡ false = grind (arith, nat_tests) in set_elsewhere xs i k new apart
+
+silent : (n c : ℕ) → c < n → slice_get (replicate n false) c ≡ Some false
+silent zero c low = absurd (omega (arith, low))
+silent (suc n) zero low = refl
+silent (suc n) (suc c) low = silent n c (omega (arith, low))
+
+-- No byte has arrived at first.
+pub silent_at_first : (spoken : List Bool) (members backups n : ℕ) → spoken ≡ replicate n false → 64 ≤ n → AreSpoken spoken (begun members backups)
+silent_at_first spoken members backups n all enough c within = ap (λ (xs : List Bool). slice_get xs c) all ∙ silent n c (omega (arith, enough, within))
 
 -- where every line but one of bytes leaves it, and one of bytes
 

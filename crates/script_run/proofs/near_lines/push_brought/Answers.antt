@@ -1,5 +1,5 @@
 use Rattle.std.proofs.Common.{◌≡◌, ℕ, List, ◌++◌, length, drop, length-append, ap, sym, ◌∙◌, arith}
-use Rattle.std.proofs.lemmas.List.{drop_at}
+use Rattle.std.proofs.lemmas.List.{drop_at, take_rest}
 use Rattle.std.proofs.lemmas.Result.{on_ok_weaker}
 use Rattle.replay_run.specs.Printing.{ok_text}
 use Rattle.script_run.proofs.near_lines.push_brought.Goals as goal
@@ -15,4 +15,4 @@ pub returns : goal.returns
 returns c = λ brought is.
     let outcome = ok_text c.args.line in
     on_ok_weaker c.push_text.result
-    (λ added. added ∙ ap (λ (t : List ℕ). c.args.out.now.items ++ t) (ap (drop c.in_ok-from.from) is ∙ drop_at outcome brought c.in_ok-from.from c.in_ok-from.ensures)) c.push_text.ensures
+    (λ added. added ∙ ap (λ (t : List ℕ). c.args.out.now.items ++ t) (take_rest c.args.text.now c.in_ok-from.from ∙ ap (drop c.in_ok-from.from) is ∙ drop_at outcome brought c.in_ok-from.from (sym c.in_ok-from.ensures))) c.push_text.ensures

@@ -1,9 +1,9 @@
 use Rattle.std.proofs.Common.{◌∷◌, ◌++◌, [], Err, ap, sym, ◌∙◌, subst}
 use Rattle.std.proofs.lemmas.Result.{on_ok_weaker}
 use Rattle.script_lang.specs.declared.line.Line.TheVariants.{Near, Arrive}
-use Rattle.script_run.specs.NearClients.{new_near, opening_of}
-use Rattle.script_run.specs.Grids.{MaySend, HasSent, IsGivenUpAt}
-use Rattle.script_run.proofs.NearLines.{ran_not_begun, ran_begun, given_up_begun, stands_with, may_send}
+use Rattle.script_run.specs.NearClients.{new_near}
+use Rattle.script_run.specs.Grids.{MaySend, IsGivenUpAt}
+use Rattle.script_run.proofs.NearLines.{ran_not_begun, ran_begun, given_up_begun, stands_with, may_send, has_sent_as}
 use Rattle.script_run.proofs.Playing.{may_count, next_number}
 use Rattle.script_run.proofs.Sizes.{opening_fits}
 use Rattle.script_run.proofs.grid.ScriptGrid.begin_near.Goals as goal
@@ -47,8 +47,7 @@ returns-clause-ok g c = λ settings s stands.
     let can = sym (c.can_begin.ensures settings s stands) ∙ c.if-not-can_begin.false in
     on_ok_weaker c.send.result
     (λ sent. ran_begun c.send.new.self s c.args.conn name c.args.capacity c.args.number can at_line c.args.out.now.items c.send.new.out.items
-    (subst (λ out. HasSent _ settings c.send.new.self (record s { nears = ns }) c.args.conn (opening_of c.args.conn name) out c.send.new.out.items) c.in_ok-push_ok.ensures
-    (subst (λ bytes. HasSent _ settings c.send.new.self (record s { nears = ns }) c.args.conn bytes c.push_ok.new.out.items c.send.new.out.items) c.in_ok-opening.ensures.opening sent)))
+    (has_sent_as c.in_ok-opening.ensures.opening c.in_ok-push_ok.ensures sent))
     (c.send.ensures.ok settings (record s { nears = ns }) (stands_with c.begin.new.nears ns stands are))
 
 pub returns-clause-full : goal.returns-clause-full

@@ -1,19 +1,11 @@
-use Rattle.std.proofs.Common.{◌≡◌, ℕ, Bool, true, false, not, ◌&&◌, Option, Some, None, refl, ap, sym, ◌∙◌}
-use Rattle.std.specs.Option.{is_some, is_none}
+use Rattle.std.proofs.Common.{◌≡◌, Bool, true, false, not, ◌&&◌, refl, ap, sym, ◌∙◌}
+use Rattle.std.specs.Option.{is_some}
 use Rattle.std.specs.Str.{is_utf8}
 use Rattle.replay_run.specs.Runs.{connection_of}
 use Rattle.script_run.specs.Runs.{is_near_connection, is_new}
 use Rattle.script_run.proofs.Nears.{near_here, not_near_here}
 use Rattle.script_run.proofs.grid.ScriptGrid.can_begin.Goals as goal
 use Rattle.script_run.proofs.grid.ScriptGrid.can_begin.Goals.{then-is_none, else-is_none}
-
-none_is_not : (place : Option ℕ) → is_none place ≡ true → is_some place ≡ false
-none_is_not None e = refl
-none_is_not (Some place) e = absurd cc
-
-not_none_is : (place : Option ℕ) → is_none place ≡ false → is_some place ≡ true
-not_none_is None e = absurd cc
-not_none_is (Some place) e = refl
 
 begins : (near new text : Bool) → near ≡ false → new ≡ true → text ≡ (not near && (new && text))
 begins true new text free e = absurd cc
@@ -33,10 +25,10 @@ pub returns-then-is_new : goal.returns-then-is_new
 returns-then-is_new g c = λ settings s stands.
     elim c.if-is_none.branch [
       | then-is_none w ↦
-          (let free = not_near_here c.args.conn c.args.self.now.nears.items s.nears stands.goes.nears (ap is_some (sym c.place_of.ensures) ∙ none_is_not c.place_of.result (sym c.is_none.ensures ∙ w.if-is_none.true)) in
+          (let free = not_near_here c.args.conn c.args.self.now.nears.items s.nears stands.goes.nears (ap is_some (sym c.place_of.ensures) ∙ c.is_none.ensures ∙ ap not w.if-is_none.true) in
           c.is_name.ensures
           ∙ begins (is_near_connection s c.args.conn) (is_new (connection_of s.run c.args.conn)) (is_utf8 c.args.name.now) free (sym (w.is_new.ensures settings s stands) ∙ sym w.value-is ∙ c.if-is_new.true))
-      | else-is_none w ↦ absurd (let e : true ≡ false = sym c.if-is_new.true ∙ w.value-is in cc)
+      | else-is_none w ↦ absurd (let e : true ≡ false = sym c.if-is_new.true ∙ w.value-is ∙ w.if-is_none.false in cc)
     ]
 
 pub returns-else-is_new : goal.returns-else-is_new
@@ -46,5 +38,5 @@ returns-else-is_new g c = λ settings s stands.
       | then-is_none w ↦ used (is_near_connection s c.args.conn) (is_new (connection_of s.run c.args.conn)) (is_utf8 c.args.name.now) (sym (w.is_new.ensures settings s stands) ∙ sym w.value-is ∙ c.if-is_new.false)
       | else-is_none w ↦
           taken (is_near_connection s c.args.conn) (is_new (connection_of s.run c.args.conn) && is_utf8 c.args.name.now)
-          (near_here c.args.conn c.args.self.now.nears.items s.nears stands.goes.nears (ap is_some (sym c.place_of.ensures) ∙ not_none_is c.place_of.result (sym c.is_none.ensures ∙ w.if-is_none.false)))
+          (near_here c.args.conn c.args.self.now.nears.items s.nears stands.goes.nears (ap is_some (sym c.place_of.ensures) ∙ c.is_none.ensures ∙ ap not w.if-is_none.false))
     ]

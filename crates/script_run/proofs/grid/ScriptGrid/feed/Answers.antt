@@ -1,4 +1,4 @@
-use Rattle.std.proofs.Common.{sym, ap, ◌∙◌, ◌++◌}
+use Rattle.std.proofs.Common.{sym, ap, ◌∙◌, ◌++◌, arith}
 use Rattle.std.proofs.lemmas.Result.{on_ok_weaker}
 use Rattle.script_lang.specs.declared.line.Line.TheVariants.{NearFeed}
 use Rattle.script_run.specs.NearClients.{fed}
@@ -28,7 +28,10 @@ pub returns-in_default-clause-full : goal.returns-in_default-clause-full
 returns-in_default-clause-full g c = λ settings s stands full. absurd (c.pass.ensures.never settings s stands.goes full)
 
 pub index_mut-requires : goal.index_mut-requires
-index_mut-requires g c = (first_placed (is_kept c.args.conn) c.args.self.now.nears.items c.in-Some.place (sym c.place_of.ensures ∙ c.in-Some.is)).within
+index_mut-requires g c =
+    let nears = c.args.self.now.nears in
+    let low = (first_placed (is_kept c.args.conn) nears.items c.in-Some.place (sym c.place_of.ensures ∙ c.in-Some.is)).within in
+    omega (arith, low, nears.ok.0)
 
 pub feed-requires : goal.feed-requires
 feed-requires g c =

@@ -1,15 +1,13 @@
-use Rattle.std.proofs.Common.{◌++◌, sym, ◌∙◌, subst}
-use Rattle.std.specs.Prelude.{codes}
+use Rattle.std.proofs.Common.{refl, sym, ◌∙◌, subst, arith}
 use Rattle.std.proofs.lemmas.Result.{on_ok_weaker}
 use Rattle.call_engine.specs.Objects.{partition_object}
 use Rattle.script_lang.specs.declared.line.Line.TheVariants.{NearGet, Arrive}
-use Rattle.replay_run.specs.Printing.{words_line}
 use Rattle.script_run.specs.NearClients.{used, missed}
 use Rattle.script_run.specs.Runs.{may_look, changed}
-use Rattle.script_run.specs.Grids.{is_kept, place_in, MaySend, HasSent, IsGivenUpAt}
+use Rattle.script_run.specs.Grids.{is_kept, place_in, MaySend, IsGivenUpAt}
 use Rattle.script_run.proofs.Handed.{was_hit, was_missed}
 use Rattle.script_run.proofs.LookUps.{may_if, unmade_if}
-use Rattle.script_run.proofs.NearLines.{ran_not_looked, ran_hit, ran_missed, given_up_missed, may_count_with, may_send, stands_with}
+use Rattle.script_run.proofs.NearLines.{ran_not_looked, ran_hit, ran_missed, given_up_missed, may_count_with, may_send, stands_with, has_sent_as}
 use Rattle.script_run.proofs.Places.{first_placed}
 use Rattle.script_run.proofs.Playing.{may_count, next_number}
 use Rattle.script_run.proofs.Sizes.{get_fits}
@@ -38,7 +36,9 @@ pub index_mut-requires : goal.index_mut-requires
 index_mut-requires g c =
     let may = c.requires in
     let asked = may_if (may_look (partition_object may.settings) may.run c.args.conn c.args.key.now) (place_in c.args.self.now c.args.conn) c.in-Some.place (sym (c.place_asked.ensures may.settings may.run may.stands) ∙ c.in-Some.is) in
-    (first_placed (is_kept c.args.conn) c.args.self.now.nears.items c.in-Some.place asked.1).within
+    let nears = c.args.self.now.nears in
+    let low = (first_placed (is_kept c.args.conn) nears.items c.in-Some.place asked.1).within in
+    omega (arith, low, nears.ok.0)
 
 -- A value is kept.
 
@@ -103,10 +103,9 @@ returns-in-Miss-clause-ok g c = λ settings s stands.
     let miss = was_missed all s stands conn key c.in-Some.place (sym (c.place_asked.ensures settings s stands) ∙ c.in-Some.is) c.index_mut.result.now c.look.new.self c.index_mut.ensures.value c.in_ok-look.ensures.rest
     c.in_ok-look.look c.in_ok-look.ensures.looks c.in-Miss.sending c.in-Miss.is in
     let ns = changed conn (missed key) s.nears in
-    let written = c.args.out.now.items ++ words_line number (codes "miss") in
     on_ok_weaker c.tell_miss.result
     (λ sent. ran_missed c.tell_miss.new.self s conn key number miss.near miss.looks (next_number all number (NearGet conn key) c.requires s stands) c.args.out.now.items c.tell_miss.new.out.items
-    (subst (λ bytes. HasSent _ settings c.tell_miss.new.self (record s { nears = ns }) conn bytes written c.tell_miss.new.out.items) miss.sent sent))
+    (has_sent_as miss.sent refl sent))
     (c.tell_miss.ensures.ok settings (record s { nears = ns }) (stands_with _ ns stands miss.nears))
 
 pub returns-in-Miss-clause-full : goal.returns-in-Miss-clause-full

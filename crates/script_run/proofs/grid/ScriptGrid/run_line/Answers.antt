@@ -31,13 +31,13 @@ pub returns-in-NearFeed-clause-full : goal.returns-in-NearFeed-clause-full
 returns-in-NearFeed-clause-full g c = λ settings s stands full. given_up_as c.in-NearFeed.is (c.feed.ensures.full settings s stands full)
 
 pub arrive-requires : goal.arrive-requires
-arrive-requires g c = (c.in-Arrive.bytes.now, c.in-Arrive.is, c.requires)
+arrive-requires g c = (c.in-Arrive.bytes, c.in-Arrive.is, c.requires)
 
 pub returns-in-Arrive-clause-ok : goal.returns-in-Arrive-clause-ok
-returns-in-Arrive-clause-ok g c = λ settings s stands. c.arrive.ensures.ok settings s c.in-Arrive.bytes.now c.in-Arrive.is stands
+returns-in-Arrive-clause-ok g c = λ settings s stands. c.arrive.ensures.ok settings s c.in-Arrive.bytes c.in-Arrive.is stands
 
 pub returns-in-Arrive-clause-full : goal.returns-in-Arrive-clause-full
-returns-in-Arrive-clause-full g c = λ settings s stands full. c.arrive.ensures.full settings s c.in-Arrive.bytes.now c.in-Arrive.is stands full
+returns-in-Arrive-clause-full g c = λ settings s stands full. c.arrive.ensures.full settings s c.in-Arrive.bytes c.in-Arrive.is stands full
 
 pub run_on_grid-requires : goal.run_on_grid-requires
 run_on_grid-requires g c = may_play c.requires

@@ -1,4 +1,5 @@
 use Rattle.std.proofs.Common.{◌≡◌, ℕ, drop, length, Err, ap, sym, ◌∙◌, arith}
+use Rattle.std.proofs.lemmas.List.{take_rest}
 use Rattle.replay_run.specs.Appending.{new_messages}
 use Rattle.replay_run.specs.WorldCalls.{is_quiet}
 use Rattle.replay_run.specs.declared.run_end.RunEnd.TheVariants.{InFlight}
@@ -30,4 +31,4 @@ returns-clause-ok g c = λ settings s goes.
     let from : c.len-from.result ≡ length c.args.out.now.items = (let counted = c.len-from.ensures in omega (arith, counted, c.args.out.now.ok.0)) in
     let new = record c.args.self.now { grid = c.run_line.new.self; nears = c.note_all.new.nears } in
     has_played new s line ran
-    (c.in_ok-note_all.ensures s.nears (new_messages s.run (played settings ran.skips s line).run) goes.nears (printed_tells new s line ran busy _ (ap (λ (n : ℕ). drop n c.deref.result.now) from ∙ ap (drop (length c.args.out.now.items)) c.deref.ensures.value)))
+    (c.in_ok-note_all.ensures s.nears (new_messages s.run (played settings ran.skips s line).run) goes.nears (printed_tells new s line ran busy _ (take_rest c.deref.result.now c.len-from.result ∙ ap (λ (n : ℕ). drop n c.deref.result.now) from ∙ ap (drop (length c.args.out.now.items)) c.deref.ensures.value)))
