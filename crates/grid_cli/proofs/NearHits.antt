@@ -1,5 +1,5 @@
 -- What the near clients of a replayed script hit stands.
-use Rattle.std.proofs.Common.{◌≡◌, ℕ, zero, suc, ◌+◌, ◌-◌, ◌<◌, ◌≤◌, ◌^◌, Bool, true, false, cond, ◌==◌, nat_lt, List, [], ◌∷◌, length, take, Option, Result, Ok, Err, refl, ap, sym, ◌∙◌, subst, ◌⊎◌, inl, inr, ⊎_elim, arith, lit<, lit≤}
+use Rattle.std.proofs.Common.{◌≡◌, ℕ, zero, suc, ◌+◌, ◌-◌, ◌<◌, ◌≤◌, ◌^◌, Bool, true, false, cond, ◌==◌, nat_lt, List, [], ◌∷◌, length, take, Option, None, Result, Ok, Err, refl, ap, sym, ◌∙◌, subst, inl, inr, arith, lit<, lit≤}
 use Rattle.std.proofs.lemmas.Bool.Decides.{nat_tests}
 use Rattle.grid_base.specs.declared.names.CallId.{CallId}
 use Rattle.entry_processors.specs.Processors.{ProcessorForm}
@@ -25,6 +25,7 @@ use Rattle.grid_cli.specs.Statuses.{ReadsAndWrites}
 use Rattle.grid_cli.specs.NearHits.{PrintsHits}
 use Rattle.grid_cli.specs.declared.status.Status.{Status}
 use Rattle.grid_cli.specs.declared.status.LimitWhat.TheVariants.{Bytes, Lines, Line as LineLimit}
+use Rattle.grid_cli.proofs.CommandLaws.{first_within}
 use Rattle.grid_cli.proofs.LineLimits.{within_more}
 use Rattle.grid_cli.proofs.Members.{members_stay}
 
@@ -154,10 +155,6 @@ runs_stand s members backups skips texts some low few short =
 none_stands : (s : Settings) (members backups : ℕ) → HitsStand s (begun members backups)
 none_stands s members backups going conn n there = absurd cc
 
-first_within : (text : List ℕ) (line : Line) → line_of true 0 text ≡ Ok line → IsWithin 0 (length text) line
-first_within [] line e = IsWithin-words_of true 0 [] line (λ f. absurd (cc f)) e
-first_within (byte ∷ bytes) line e = IsWithin-words_of true 0 (byte ∷ bytes) line (λ f. absurd (cc f)) e
-
 run_stands : (forms : List ProcessorForm) (skips : List CallId) (texts : List (List ℕ)) → AreShort most_lines texts → HitsStand (settings forms (capacity_of texts)) (run_of forms skips texts)
 run_stands forms skips [] short = none_stands (settings forms 0) 1 0
 run_stands forms skips (first ∷ texts) short = by_line (line_of true 0 first) refl
@@ -186,16 +183,11 @@ run_stands forms skips (first ∷ texts) short = by_line (line_of true 0 first) 
 
 -- however many of the lines run
 
-first_lines : (texts : List (List ℕ)) (lines : ℕ) → (take lines texts ≡ []) ⊎ (capacity_of (take lines texts) ≡ capacity_of texts)
-first_lines [] zero = inl refl
-first_lines [] (suc lines) = inl refl
-first_lines (text ∷ texts) zero = inl refl
-first_lines (text ∷ texts) (suc lines) = inr refl
-
 first_stand : (forms : List ProcessorForm) (skips : List CallId) (texts : List (List ℕ)) (lines : ℕ) → AreShort most_lines texts → HitsStand (settings forms (capacity_of texts)) (run_of forms skips (take lines texts))
-first_stand forms skips texts lines short =
-    ⊎_elim (λ none. subst (λ ts. HitsStand (settings forms (capacity_of texts)) (run_of forms skips ts)) (sym none) (none_stands (settings forms (capacity_of texts)) 1 0))
-    (λ same. subst (λ capacity. HitsStand (settings forms capacity) (run_of forms skips (take lines texts))) same (run_stands forms skips (take lines texts) (first_short lines most_lines texts short))) (first_lines texts lines)
+first_stand forms skips [] zero short = none_stands (settings forms 0) 1 0
+first_stand forms skips [] (suc lines) short = none_stands (settings forms 0) 1 0
+first_stand forms skips (text ∷ texts) zero short = none_stands (settings forms (capacity_of (text ∷ texts))) 1 0
+first_stand forms skips (text ∷ texts) (suc lines) short = run_stands forms skips (text ∷ take lines texts) (first_short (suc lines) most_lines (text ∷ texts) short)
 
 pub prints_hits : (forms : List ProcessorForm) (status : Status) (first left before after : Option (List ℕ)) → ReadsAndWrites forms status first left before after → PrintsHits forms status first left before after
 prints_hits forms status first left before after writes script told =
