@@ -1,5 +1,5 @@
 -- What the near clients of a replayed script hit stands.
-use Rattle.std.proofs.Common.{◌≡◌, ℕ, zero, suc, ◌+◌, ◌-◌, ◌<◌, ◌≤◌, ◌^◌, Bool, true, false, cond, ◌==◌, nat_lt, List, [], ◌∷◌, length, take, Option, None, Result, Ok, Err, refl, ap, sym, ◌∙◌, subst, ◌⊎◌, inl, inr, ⊎_elim, arith, lit<, lit≤}
+use Rattle.std.proofs.Common.{◌≡◌, ℕ, zero, suc, ◌+◌, ◌-◌, ◌<◌, ◌≤◌, ◌^◌, Bool, true, false, cond, ◌==◌, nat_lt, List, [], ◌∷◌, length, take, Option, Result, Ok, Err, refl, ap, sym, ◌∙◌, subst, ◌⊎◌, inl, inr, ⊎_elim, arith, lit<, lit≤}
 use Rattle.std.proofs.lemmas.Bool.Decides.{nat_tests}
 use Rattle.grid_base.specs.declared.names.CallId.{CallId}
 use Rattle.entry_processors.specs.Processors.{ProcessorForm}
@@ -16,7 +16,7 @@ use Rattle.script_lang.proofs.Ranges.{IsWithin-words_of}
 use Rattle.replay_run.specs.Runs.{Run}
 use Rattle.script_run.specs.Runs.{ScriptRun, begun, grid_line}
 use Rattle.script_run.specs.AfterLines.{after_line, after_lines}
-use Rattle.near_scripts.specs.HitsStand.{EachHitStands, AreLines}
+use Rattle.near_scripts.specs.HitsStand.{HitsStand, AreLines}
 use Rattle.near_scripts.proofs.Theorem.{every_hit_of_a_script_stands}
 use Rattle.grid_cli.specs.Scripts.{Cut, stops, onto, within, last_cut, cut_pieces, lines_of}
 use Rattle.grid_cli.specs.Transcripts.{settings}
@@ -144,21 +144,21 @@ are_run s skips r (text ∷ texts) some short = by (λ next more. are_run s skip
 -- ---- their hits stand
 
 runs_stand : (s : Settings) (members backups : ℕ) (skips : List CallId) (texts : List (List ℕ)) → 1 ≤ members → members < 2 ^ 8 → length texts < most_lines → ((text : List ℕ) → In text texts → length text ≤ most_line_bytes)
-    → EachHitStands s (run_after s skips (begun members backups) texts)
+    → HitsStand s (run_after s skips (begun members backups) texts)
 runs_stand s members backups skips texts some low few short =
     let run = are_run s skips (begun members backups) texts some short in
-    subst (EachHitStands s) (sym run.is)
+    subst (HitsStand s) (sym run.is)
     (every_hit_of_a_script_stands s members backups skips run.lines some low (record { each = λ line c. run.each line (in_contains line run.lines c); few = let fewer = run.few in omega (arith, few, fewer) }))
 
 -- a run that has just begun has no near client
-none_stands : (s : Settings) (members backups : ℕ) → EachHitStands s (begun members backups)
+none_stands : (s : Settings) (members backups : ℕ) → HitsStand s (begun members backups)
 none_stands s members backups going conn n there = absurd cc
 
 first_within : (text : List ℕ) (line : Line) → line_of true 0 text ≡ Ok line → IsWithin 0 (length text) line
 first_within [] line e = IsWithin-words_of true 0 [] line (λ f. absurd (cc f)) e
 first_within (byte ∷ bytes) line e = IsWithin-words_of true 0 (byte ∷ bytes) line (λ f. absurd (cc f)) e
 
-run_stands : (forms : List ProcessorForm) (skips : List CallId) (texts : List (List ℕ)) → AreShort most_lines texts → EachHitStands (settings forms (capacity_of texts)) (run_of forms skips texts)
+run_stands : (forms : List ProcessorForm) (skips : List CallId) (texts : List (List ℕ)) → AreShort most_lines texts → HitsStand (settings forms (capacity_of texts)) (run_of forms skips texts)
 run_stands forms skips [] short = none_stands (settings forms 0) 1 0
 run_stands forms skips (first ∷ texts) short = by_line (line_of true 0 first) refl
   where
@@ -166,7 +166,7 @@ run_stands forms skips (first ∷ texts) short = by_line (line_of true 0 first) 
     by line = settings forms (capacity_by line)
 
     Stand : Result Line LineWhy → Type 0
-    Stand line = EachHitStands (by line) (run_after (by line) skips (begun_by line) texts)
+    Stand line = HitsStand (by line) (run_after (by line) skips (begun_by line) texts)
 
     few : length texts < most_lines
     few = let some = short.few in omega (arith, some)
@@ -175,7 +175,7 @@ run_stands forms skips (first ∷ texts) short = by_line (line_of true 0 first) 
     each text i = short.each text (inr i)
 
     one_member : (x : Result Line LineWhy) → line_of true 0 first ≡ x → begun_by x ≡ begun 1 0 → Stand (line_of true 0 first)
-    one_member x read is = subst Stand (sym read) (subst (λ r. EachHitStands (by x) (run_after (by x) skips r texts)) (sym is) (runs_stand (by x) 1 0 skips texts (lit≤ tt) (lit< tt) few each))
+    one_member x read is = subst Stand (sym read) (subst (λ r. HitsStand (by x) (run_after (by x) skips r texts)) (sym is) (runs_stand (by x) 1 0 skips texts (lit≤ tt) (lit< tt) few each))
 
     by_line : (x : Result Line LineWhy) → line_of true 0 first ≡ x → Stand (line_of true 0 first)
     by_line (Ok (Grid members backups capacity)) read =
@@ -192,21 +192,10 @@ first_lines [] (suc lines) = inl refl
 first_lines (text ∷ texts) zero = inl refl
 first_lines (text ∷ texts) (suc lines) = inr refl
 
-begins_stand : (s : Settings) (forms : List ProcessorForm) (skips : List CallId) (texts : List (List ℕ)) → texts ≡ [] → EachHitStands s (run_of forms skips texts)
-begins_stand s forms skips [] none = none_stands s 1 0
-begins_stand s forms skips (text ∷ texts) none = absurd cc
-
-goes_by : (forms : List ProcessorForm) (r : ScriptRun) (c d : ℕ) → c ≡ d → EachHitStands (settings forms c) r → EachHitStands (settings forms d) r
-goes_by forms r c d same = subst (λ capacity. EachHitStands (settings forms capacity) r) same
-
-first_stand : (forms : List ProcessorForm) (skips : List CallId) (texts : List (List ℕ)) (lines : ℕ) → AreShort most_lines texts → EachHitStands (settings forms (capacity_of texts)) (run_of forms skips (take lines texts))
-first_stand forms skips texts lines short = by (first_lines texts lines)
-  where
-    by : (take lines texts ≡ []) ⊎ (capacity_of (take lines texts) ≡ capacity_of texts) → EachHitStands (settings forms (capacity_of texts)) (run_of forms skips (take lines texts))
-    by (inl none) = begins_stand (settings forms (capacity_of texts)) forms skips (take lines texts) none
-    by (inr same) =
-        goes_by forms (run_of forms skips (take lines texts)) (capacity_of (take lines texts)) (capacity_of texts) same
-        (run_stands forms skips (take lines texts) (first_short lines most_lines texts short))
+first_stand : (forms : List ProcessorForm) (skips : List CallId) (texts : List (List ℕ)) (lines : ℕ) → AreShort most_lines texts → HitsStand (settings forms (capacity_of texts)) (run_of forms skips (take lines texts))
+first_stand forms skips texts lines short =
+    ⊎_elim (λ none. subst (λ ts. HitsStand (settings forms (capacity_of texts)) (run_of forms skips ts)) (sym none) (none_stands (settings forms (capacity_of texts)) 1 0))
+    (λ same. subst (λ capacity. HitsStand (settings forms capacity) (run_of forms skips (take lines texts))) same (run_stands forms skips (take lines texts) (first_short lines most_lines texts short))) (first_lines texts lines)
 
 pub prints_hits : (forms : List ProcessorForm) (status : Status) (first left before after : Option (List ℕ)) → ReadsAndWrites forms status first left before after → PrintsHits forms status first left before after
 prints_hits forms status first left before after writes script told =

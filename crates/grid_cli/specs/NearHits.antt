@@ -3,7 +3,7 @@ use Rattle.std.specs.Prelude.{◌≡◌, ℕ, List, Option, Some}
 use Rattle.std.specs.Io.KnownBytes.{append_known, prepend_known}
 use Rattle.grid_base.specs.declared.names.CallId.{CallId}
 use Rattle.entry_processors.specs.Processors.{ProcessorForm}
-use Rattle.near_scripts.specs.HitsStand.{EachHitStands}
+use Rattle.near_scripts.specs.HitsStand.{HitsStand}
 use Rattle.grid_cli.specs.Commands.{run_of_script, settings_in}
 use Rattle.grid_cli.specs.Statuses.{HasReplayed}
 use Rattle.grid_cli.specs.declared.status.Status.{Status}
@@ -12,7 +12,7 @@ use Rattle.grid_cli.specs.declared.status.Status.{Status}
 -- looks a key up, what its near client keeps stands.
 pub record TellsHits (forms : List ProcessorForm) (status : Status) (skips : List CallId) (script read text : List ℕ) : Type 0 where
   pub replayed : HasReplayed forms status skips script read text
-  pub hits : (lines : ℕ) → EachHitStands (settings_in forms script) (run_of_script forms skips script lines)
+  pub hits : (lines : ℕ) → HitsStand (settings_in forms script) (run_of_script forms skips script lines)
 
 -- What was written tells hits of the script that the source told, for some calls that found no memory.
 abbrev pub PrintsHits : List ProcessorForm → Status → Option (List ℕ) → Option (List ℕ) → Option (List ℕ) → Option (List ℕ) → Type 0

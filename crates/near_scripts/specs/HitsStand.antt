@@ -110,8 +110,8 @@ pub record HitStands (settings : Settings) (r : Run) (n : NearClient) (key : Lis
 
 -- What each near client keeps stands, where the run isn't given up, and the client was sent no more messages than it can number. `nearget`
 -- hits the value that the client of its connection keeps for its key.
-abbrev pub EachHitStands : Settings → ScriptRun → Type 0
-EachHitStands settings s = s.run.full ≡ false → (conn : ℕ) (n : NearClient) → near_of s conn ≡ Some n → length (sent_to conn s.run.appended) ≤ most_messages
+abbrev pub HitsStand : Settings → ScriptRun → Type 0
+HitsStand settings s = s.run.full ≡ false → (conn : ℕ) (n : NearClient) → near_of s conn ≡ Some n → length (sent_to conn s.run.appended) ≤ most_messages
     → (key : List ℕ) (value : Value) → value_kept n key ≡ Some value → HitStands settings s.run n key value
 
 -- ---- scripts
@@ -124,4 +124,4 @@ pub record AreLines (members : ℕ) (lines : List Line) : Type 0 where
 -- whatever the processors, the queues' capacity, the lines, and the calls that find no memory
 abbrev pub EveryHitOfAScriptStands : Type 0
 EveryHitOfAScriptStands = (settings : Settings) (members backups : ℕ) (skips : List CallId) (lines : List Line) → 1 ≤ members → members < 2 ^ 8 → AreLines members lines
-    → EachHitStands settings (run_with settings members backups skips lines)
+    → HitsStand settings (run_with settings members backups skips lines)
