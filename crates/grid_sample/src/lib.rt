@@ -2,8 +2,8 @@
 #![tactic(auto)]
 
 mod counts;
+mod numbered;
 mod sample;
-mod script_run;
 mod watched;
 
 pub use counts::{CAPACITY, KEY, write_counts};

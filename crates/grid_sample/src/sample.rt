@@ -4,7 +4,7 @@ ghost use Rattle.live_grid.specs.Plans.{settings_in};
 ghost use Rattle.grid_sample.specs.Samples.{HasSampled};
 
 use crate::counts::{CAPACITY, tell_counts};
-use crate::script_run::tell_script;
+use crate::numbered::tell_script;
 use crate::watched::Watch;
 use call_environment::Environment;
 use entry_processors::Form;

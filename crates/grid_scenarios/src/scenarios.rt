@@ -452,6 +452,9 @@ const NEAR: &[(&str, u8)] = &[
     ("reopening_and_a_near_client", 0),
     ("several_near_clients", 0),
     ("two_open_gets_one_invalidation", 0),
+    ("a_hit_after_a_reopening", 0),
+    ("a_near_connection_is_opened_once", 0),
+    ("near_lines_on_other_connections", 0),
 ];
 
 /// Bytes at fault: what closes a connection from its first message on, and what was served before.

@@ -82,7 +82,7 @@ impl Chart {
         Ok(())
     }
 
-    /// A connection was opened or closed.
+    /// A connection was opened or closed, or its near client did or heard something.
     fn draw_connection(
         &mut self,
         alloc: Global,
@@ -105,6 +105,10 @@ impl Chart {
                 self.note(alloc, line, Look::Bad, lane, text.as_str())?;
                 self.leave(lane)
             }
+            Happening::Near { conn, words } => match self.cast.client(*conn) {
+                Some((lane, _)) => self.note(alloc, line, Look::Note, lane, words.as_str()),
+                None => Ok(()),
+            },
             _ => Ok(()),
         }
     }

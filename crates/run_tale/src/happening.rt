@@ -84,6 +84,11 @@ pub enum Happening {
         conn: u32,
         words: String,
     },
+    /// What the near client of a connection does or hears, in words.
+    Near {
+        conn: u32,
+        words: String,
+    },
     /// A message was sent.
     Sent(Flight),
     /// So many messages more were sent on that link.

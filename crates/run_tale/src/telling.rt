@@ -193,6 +193,10 @@ fn push_connection(out: &mut String, happening: &Happening) -> Result<(), Memory
         Happening::Closed { conn, at, words } => {
             write!(out, "connection {conn} closes at byte {at}: {words}")
         }
+        Happening::Near { conn, words } => {
+            write!(out, "near {conn} ")?;
+            out.push_str(words.as_str())
+        }
         happening => push_table(out, happening),
     }
 }

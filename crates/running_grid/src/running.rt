@@ -5,8 +5,9 @@ ghost use Rattle.call_engine.specs.Calls.{Settings};
 ghost use Rattle.script_lang.specs.Lines.{line_of, IsWithin};
 ghost use Rattle.script_lang.specs.declared.refusal.LineWhy.{LineWhy};
 ghost use Rattle.script_lang.specs.Limits.{most_line_bytes};
-ghost use Rattle.replay_run.specs.Runs.{Run, begun};
-ghost use Rattle.replay_run.specs.Grids.{boxed, IsGivenUp};
+ghost use Rattle.replay_run.specs.Grids.{boxed};
+ghost use Rattle.script_run.specs.Runs.{ScriptRun, begun};
+ghost use Rattle.script_run.specs.Grids.{IsGivenUp};
 ghost use Rattle.running_grid.specs.Runs.{IsRunning, StandsFor, RanLine};
 
 use crate::run_end::RunEnd;
@@ -15,9 +16,9 @@ use entry_processors::Processor;
 use grid_base::{Bytes, MemberId, Memory, PARTITIONS, PartitionId, Request};
 use partition_table::Row;
 use partition_world::{Link, Recorder, World};
-use replay_run::Grid;
 use replica_node::Contents;
 use script_lang::{Line, MOST_LINE_BYTES, MOST_LINES, read_line};
+use script_run::ScriptGrid;
 use std::alloc::Global;
 
 /// A script's run behind its first line.
@@ -25,7 +26,7 @@ use std::alloc::Global;
 pub struct RunningGrid {
     members: u8,
     /// None once a line was given up, since nothing more is known of its grid.
-    grid: Option<Grid>,
+    grid: Option<ScriptGrid>,
 }
 
 impl RunningGrid {
@@ -43,7 +44,7 @@ impl RunningGrid {
         ensures stands { IfOk result (λ running. IsRunning form running) }
         ensures run { IfOk result (λ running. StandsFor form (record { forms = map form processors.items; capacity = capacity }) running (begun members backups)) }
     {
-        let grid = Grid::new(alloc, members, backups, capacity, processors)?;
+        let grid = ScriptGrid::new(alloc, members, backups, capacity, processors)?;
         Ok(RunningGrid {
             members,
             grid: Some(grid),
@@ -85,8 +86,8 @@ impl RunningGrid {
         requires stands { IsRunning (boxed form) self.old }
         ensures same { self.new.members ≡ self.old.members }
         ensures stands { IsRunning (boxed form) self.new }
-        ensures ran { (settings : Settings) (r : Run) → StandsFor (boxed form) settings self.old r → IfOk result (λ text. RanLine (boxed form) settings self.new r line.now text.items) }
-        ensures full { (settings : Settings) (r : Run) → StandsFor (boxed form) settings self.old r → IsErrOf result RunEnd.InFlight → IsGivenUp settings r line.now }
+        ensures ran { (settings : Settings) (s : ScriptRun) → StandsFor (boxed form) settings self.old s → IfOk result (λ text. RanLine (boxed form) settings self.new s line.now text.items) }
+        ensures full { (settings : Settings) (s : ScriptRun) → StandsFor (boxed form) settings self.old s → IsErrOf result RunEnd.InFlight → IsGivenUp settings s line.now }
     {
         let Some(mut grid) = self.grid.take() else {
             return Err(RunEnd::Memory);

@@ -46,7 +46,7 @@ module _ (n : NearClient) (key : List ℕ) (value : Value) (new : State) (has : 
   hit_state = has.after ∙ ap (λ (near : Option Near). record n.state { near = near }) (sym (ap (option_map (used_in key)) has.listens))
 
   pub hit_near : (kept : KeptClient) → IsNear kept n → IsNear (record kept { client = new }) (used key n)
-  hit_near kept is = record { conn = is.conn; within = is.within; client = hit_state; unread = is.unread; one = used_one n.conn n.read key n.state is.one }
+  hit_near kept is = record { conn = is.conn; within = is.within; client = hit_state; unread = is.unread; handed = is.handed; one = used_one n.conn n.read key n.state is.one }
 
 -- a miss
 
@@ -76,7 +76,36 @@ module _ (n : NearClient) (key : List ℕ) (sending : Sending) (new : State) (on
   miss_state = has.asked.after ∙ ap (λ call. asking call (record n.state { near = Some (opened n.state.next key has.near) })) call_is ∙ ap (asking (get_sent n key)) (sym opens)
 
   pub miss_near : (kept : KeptClient) → IsNear kept n → IsNear (record kept { client = new }) (missed key n)
-  miss_near kept is = record { conn = is.conn; within = is.within; client = miss_state; unread = is.unread; one = missed_one key n is.one }
+  miss_near kept is = record { conn = is.conn; within = is.within; client = miss_state; unread = is.unread; handed = is.handed; one = missed_one key n is.one }
+
+-- A look-up changes the client alone.
+
+as_looked : (kept new : KeptClient) → (record new { client = kept.client }) ≡ kept → (record kept { client = new.client }) ≡ new
+as_looked kept new rest = ap (λ (k : KeptClient). record k { client = new.client }) (sym rest)
+
+module _ (key : List ℕ) (kept new : KeptClient) (n : NearClient) (is : IsNear kept n) (rest : (record new { client = kept.client }) ≡ kept) where
+  pub record IsHit (value : Value) : Type 0 where
+    pub has : value_kept n key ≡ Some value
+    pub after : IsNear new (used key n)
+
+  pub hit_there : (value : Value) → HasHit key value kept.client new.client → IsHit value
+  hit_there value has =
+      let its = subst (λ (s : State). HasHit key value s new.client) is.client has in
+      record { has = hit_value n key value new.client its; after = subst (λ (k : KeptClient). IsNear k (used key n)) (as_looked kept new rest) (hit_near n key value new.client its kept is) }
+
+  pub record IsMiss (sending : Sending) : Type 0 where
+    pub none : value_kept n key ≡ None
+    pub sent : sending.bytes ≡ (get_sent n key).request
+    pub after : IsNear new (missed key n)
+
+  pub miss_there : (sending : Sending) → HasMissed key sending kept.client new.client → IsMiss sending
+  miss_there sending has =
+      let its = subst (λ (s : State). HasMissed key sending s new.client) is.client has in
+      record {
+        none = miss_value n key sending new.client is.one its;
+        sent = miss_sent n key sending new.client is.one its;
+        after = subst (λ (k : KeptClient). IsNear k (missed key n)) (as_looked kept new rest) (miss_near n key sending new.client is.one its kept is);
+      }
 
 -- where the client is
 

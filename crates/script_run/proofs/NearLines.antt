@@ -1,6 +1,7 @@
 -- The lines of near clients: what they come to in the run of a script.
 use Rattle.std.proofs.Common.{◌≡◌, ℕ, ◌+◌, ◌*◌, ◌≤◌, Bool, true, false, not, cond, List, [], ◌∷◌, ◌++◌, length, Option, Some, None, refl, ap, sym, ◌∙◌, subst, append_assoc, append-nil, arith, Vec, Global}
-use Rattle.std.specs.Prelude.{codes}
+use Rattle.std.specs.Prelude.{codes, decimal}
+use Rattle.std.specs.List.{flat_map}
 use Rattle.grid_base.specs.Objects.{Object}
 use Rattle.grid_base.specs.declared.calls.Request.{Request}
 use Rattle.grid_base.specs.declared.names.CallId.{CallId}
@@ -8,34 +9,37 @@ use Rattle.call_engine.specs.Calls.{Settings}
 use Rattle.call_engine.specs.Objects.{partition_object}
 use Rattle.object_store.specs.Partitions.{Partition}
 use Rattle.grid_client.specs.Nears.{Value}
+use Rattle.grid_client.specs.declared.heard.Heard.{Heard}
 use Rattle.script_lang.specs.Limits.{most_lines, most_line_bytes}
 use Rattle.script_lang.specs.declared.line.Line.{Line}
 use Rattle.script_lang.specs.declared.line.Line.TheVariants.{Arrive, Near, NearGet, NearFeed, Comment}
 use Rattle.replay_run.specs.Grids.{FormOf, most_arriving}
 use Rattle.replay_run.specs.Printing.{ok_text, nothing_text, words_line}
+use Rattle.replay_run.specs.Printing as grid_text
 use Rattle.replay_run.specs.Runs.{Run, connection_of}
 use Rattle.replay_run.proofs.SkipLaws.{line_counts}
 use Rattle.script_run.specs.declared.client.NearClient.{NearClient as KeptClient}
 use Rattle.script_run.specs.declared.grid.ScriptGrid.{ScriptGrid}
-use Rattle.script_run.specs.NearClients.{NearClient, opening_of, new_near, used, get_sent, missed, fed}
+use Rattle.script_run.specs.NearClients.{NearClient, opening_of, new_near, used, get_sent, missed, piece, told, fed}
 use Rattle.script_run.specs.Runs.{ScriptRun, Look, Unmade, Hit, Miss, near_of, can_begin, look, asked_line, after_look, changed, grid_line, nears_by, takes}
 use Rattle.script_run.specs.AfterLines.{played}
-use Rattle.script_run.specs.Printing.{brought, hit_text, look_text, fed_text, line_text}
-use Rattle.script_run.specs.Grids.{AreNear, AreSpoken, Stands, MayRun, HasRun, IsGivenUp, IsGivenUpAt, HasPlayed, HasCounted, HasSent, MaySend, IsOnOne, Goes}
+use Rattle.script_run.specs.Printing.{brought, hit_text, look_text, heard_text, fed_text, line_text}
+use Rattle.script_run.specs.Grids.{AreNear, AreSpoken, Stands, MayRun, HasRun, IsGivenUp, IsGivenUpAt, MayPlay, HasPlayed, HasCounted, HasSent, MaySend, IsOnOne, Goes}
+use Rattle.script_run.proofs.Nears.{none_changed}
 use Rattle.script_run.proofs.Playing.{if_true, if_false, mid, ran_as, ran_counted, ran_passed, given_up_at}
 use Rattle.script_run.proofs.Sending.{text_of_bytes, nothing_brought}
 
 -- What a near client sends arrives: the line's outcome, and then what that brings.
 
-same_mid : {settings : Settings} (s : ScriptRun) (line : Line) (ns : List NearClient) → nears_by (partition_object settings) s line ≡ ns → mid settings s line ≡ record s { nears = ns }
-same_mid s line ns stay = ap (λ (xs : List NearClient). record s { nears = xs }) stay
+same_mid : (settings : Settings) (s : ScriptRun) (line : Line) (ns : List NearClient) → nears_by (partition_object settings) s line ≡ ns → mid settings s line ≡ record s { nears = ns }
+same_mid settings s line ns stay = ap (λ (xs : List NearClient). record s { nears = xs }) stay
 
 pub ran_sent : {V : Type 0} {T : V → Type 0} {form : FormOf V T} {settings : Settings} (new : ScriptGrid V T) (s : ScriptRun) (line : Line) (ns : List NearClient) (c : ℕ) (bytes : List ℕ) → nears_by (partition_object settings) s line ≡ ns
     → grid_line (partition_object settings) s line ≡ Arrive c bytes → (number : ℕ) (outcome : ℕ → List ℕ) → ((next : ScriptRun) → line_text settings s line next ≡ outcome next.run.lines ++ brought settings s.run c bytes next.run)
     → number ≡ s.run.lines + 1 → (written text : List ℕ) → HasSent form settings new (record s { nears = ns }) c bytes (written ++ outcome number) text → HasRun form settings new s line written text
 ran_sent {form = form} {settings = settings} new s line ns c bytes stay asked number outcome says at_line written text sent =
     let next = played settings sent.skips (record s { nears = ns }) (Arrive c bytes) in
-    let one = same_mid {settings = settings} s line ns stay in
+    let one = same_mid settings s line ns stay in
     let lines : number ≡ next.run.lines = at_line ∙ sym (line_counts (partition_object settings) sent.skips s.run (Arrive c bytes)).lines in
     let shown : text ≡ written ++ line_text settings s line next =
     sent.added ∙ append_assoc written (outcome number) (brought settings s.run c bytes next.run)
@@ -46,7 +50,7 @@ ran_sent {form = form} {settings = settings} new s line ns c bytes stay asked nu
 pub given_up_sent : {settings : Settings} (s : ScriptRun) (line : Line) (ns : List NearClient) (c : ℕ) (bytes : List ℕ) → nears_by (partition_object settings) s line ≡ ns → grid_line (partition_object settings) s line ≡ Arrive c bytes
     → IsGivenUpAt settings (record s { nears = ns }) (Arrive c bytes) → IsGivenUp settings s line
 given_up_sent {settings = settings} s line ns c bytes stay asked given =
-    given_up_at s line (Arrive c bytes) asked (subst (λ (m : ScriptRun). IsGivenUpAt settings m (Arrive c bytes)) (sym (same_mid {settings = settings} s line ns stay)) given)
+    given_up_at s line (Arrive c bytes) asked (subst (λ (m : ScriptRun). IsGivenUpAt settings m (Arrive c bytes)) (sym (same_mid settings s line ns stay)) given)
 
 -- `near`
 
@@ -86,7 +90,7 @@ pub ran_hit : {V : Type 0} {T : V → Type 0} {form : FormOf V T} {settings : Se
     → HasCounted form settings new (record s { nears = changed c (used key) s.nears }) (hit_text number value) written text → HasRun form settings new s (NearGet c key) written text
 ran_hit {form = form} {settings = settings} new all s c key number n value spoken at_line hit same written text counted =
     let line = NearGet c key in
-    let one = same_mid {settings = settings} s line (changed c (used key) s.nears) (ap (λ (l : Look). after_look c key l s.nears) hit) in
+    let one = same_mid settings s line (changed c (used key) s.nears) (ap (λ (l : Look). after_look c key l s.nears) hit) in
     ran_counted new all s line (ap (asked_line c key) hit) spoken same (hit_text number value) written text
     (subst (λ (m : ScriptRun). HasCounted form settings new m (hit_text number value) written text) (sym one) counted)
     (ap (λ (k : ℕ). hit_text k value) at_line ∙ sym (ap (look_text settings s.run c key (played settings [] (mid settings s line) Comment).run) hit))
@@ -111,21 +115,49 @@ pub ran_fed : {V : Type 0} {T : V → Type 0} {form : FormOf V T} {settings : Se
 ran_fed new all s c most number spoken same at_line written text counted =
     ran_counted new all s (NearFeed c most) refl spoken same (fed_text number most (near_of s c)) written text counted (ap (λ (k : ℕ). fed_text k most (near_of s c)) at_line)
 
+-- there is no client to be handed them
+pub ran_not_fed : {V : Type 0} {T : V → Type 0} {form : FormOf V T} {settings : Settings} (new all : ScriptGrid V T) (s : ScriptRun) (c most number : ℕ) → Stands form settings all s → number ≡ s.run.lines + 1
+    → near_of s c ≡ None → new.spoken ≡ all.spoken → (written text : List ℕ) → HasCounted form settings new s (nothing_text number) written text → HasRun form settings new s (NearFeed c most) written text
+ran_not_fed new all s c most number stands at_line none same written text counted =
+    ran_passed new all s (NearFeed c most) number stands at_line refl (none_changed c (fed most) s.nears none) (λ next. ap (fed_text next.run.lines most) none) same written text counted
+
+-- what it was handed is told
+pub fed_added : (number most : ℕ) (n : NearClient) (bytes : ℕ) → bytes ≡ length (piece most n) → (heard : List Heard) → heard ≡ (told most n).heard → (written mid text : List ℕ)
+    → mid ≡ written ++ words_line number (codes "fed " ++ decimal bytes) → text ≡ mid ++ flat_map (heard_text number) heard → text ≡ written ++ fed_text number most (Some n)
+fed_added number most n bytes many heard these written mid text first second =
+    let outcome : List ℕ = words_line number (codes "fed " ++ decimal (length (piece most n))) in
+    let its : List ℕ = flat_map (heard_text number) (told most n).heard in
+    second ∙ ap (λ (hs : List Heard). mid ++ flat_map (heard_text number) hs) these
+    ∙ ap (λ (t : List ℕ). t ++ its) (first ∙ ap (λ (k : ℕ). written ++ words_line number (codes "fed " ++ decimal k)) many)
+    ∙ append_assoc written outcome its
+
 -- The near clients have done their part, and one may send.
 
 pub stands_with : {V : Type 0} {T : V → Type 0} {form : FormOf V T} {settings : Settings} {all : ScriptGrid V T} {s : ScriptRun} (nears : Vec KeptClient Global) (ns : List NearClient) → Stands form settings all s → AreNear nears.items ns
     → Stands form settings (record all { nears = nears }) (record s { nears = ns })
 stands_with nears ns stands are = record { goes = record { grid = stands.goes.grid; nears = are }; spoken = stands.spoken }
 
+-- the line is then counted
+pub may_count_with : {V : Type 0} {T : V → Type 0} {form : FormOf V T} {all : ScriptGrid V T} {number : ℕ} {line : Line} (nears : Vec KeptClient Global) (ns : List NearClient) → MayRun form all number line → AreNear nears.items ns
+    → MayPlay form (record all { nears = nears }) number Comment
+may_count_with nears ns may are = record { settings = may.settings; run = record may.run { nears = ns }; goes = record { grid = may.stands.goes.grid; nears = are }; read = tt; next = may.next; within = may.within }
+
 pub may_send : {V : Type 0} {T : V → Type 0} {form : FormOf V T} {settings : Settings} {all : ScriptGrid V T} {s : ScriptRun} {number c : ℕ} {bytes : List ℕ} → Stands form settings all s → c ≤ 63 → (1 ≤ length bytes) × (2 * length bytes ≤ most_arriving)
     → number ≡ s.run.lines + 1 → number ≤ most_lines → MaySend form all number c bytes
 may_send {settings = settings} {s = s} stands low size at_line within = record { settings = settings; run = s; stands = stands; read = (low, size.0, size.1); next = at_line; within = within }
 
--- What a near client sends ran on the grid, by itself.
+pub next_sent : {V : Type 0} {T : V → Type 0} {form : FormOf V T} {settings : Settings} {all : ScriptGrid V T} {number c : ℕ} {bytes : List ℕ} → MaySend form all number c bytes → (s : ScriptRun) → Stands form settings all s
+    → number ≡ s.run.lines + 1
+next_sent may s stands = may.next ∙ ap (λ n. n + 1) (sym may.stands.goes.grid.holds.lines ∙ stands.goes.grid.holds.lines)
+
+pub may_play_sent : {V : Type 0} {T : V → Type 0} {form : FormOf V T} {all : ScriptGrid V T} {number c : ℕ} {bytes : List ℕ} → MaySend form all number c bytes → MayPlay form all number (Arrive c bytes)
+may_play_sent may = record { settings = may.settings; run = may.run; goes = may.stands.goes; read = may.read; next = may.next; within = may.within }
+
+-- What a near client sends ran on the grid, by itself: what that printed is added to no text.
 
 module _ {V : Type 0} {T : V → Type 0} {form : FormOf V T} {settings : Settings} (new marked : ScriptGrid V T) (s : ScriptRun) (c : ℕ) (bytes : List ℕ) (number : ℕ) (at_line : number ≡ s.run.lines + 1)
     (spoken : (skips : List CallId) → AreSpoken marked.spoken.items (played settings skips s (Arrive c bytes)).run) (same : new.spoken ≡ marked.spoken)
-    (printed : List ℕ) (ran : HasPlayed form settings new s (Arrive c bytes) [] printed) where
+    (start printed : List ℕ) (none : start ≡ []) (ran : HasPlayed form settings new s (Arrive c bytes) start printed) where
   abbrev after : ScriptRun
   after = played settings ran.skips s (Arrive c bytes)
 
@@ -137,7 +169,9 @@ module _ {V : Type 0} {T : V → Type 0} {form : FormOf V T} {settings : Setting
 
   -- Bytes can arrive: the text is that of a line of bytes.
   printed_is : takes (partition_object settings) s.run (connection_of s.run c) ≡ true → printed ≡ ok_text number ++ brought settings s.run c bytes after.run
-  printed_is taking = ran.added ∙ text_of_bytes settings s.run c bytes after.run taking ∙ ap (λ (n : ℕ). ok_text n ++ brought settings s.run c bytes after.run) lines_after
+  printed_is taking =
+      ran.added ∙ ap (λ (t : List ℕ). t ++ grid_text.line_text settings s.run (Arrive c bytes) after.run) none
+      ∙ text_of_bytes settings s.run c bytes after.run taking ∙ ap (λ (n : ℕ). ok_text n ++ brought settings s.run c bytes after.run) lines_after
 
   pub printed_brings : takes (partition_object settings) s.run (connection_of s.run c) ≡ true → (more : List ℕ) × (printed ≡ ok_text number ++ more)
   printed_brings taking = (brought settings s.run c bytes after.run, printed_is taking)

@@ -1,5 +1,6 @@
 -- The near clients of the code, found by their connections, are those of the run.
-use Rattle.std.proofs.Common.{◌≡◌, ℕ, zero, suc, ◌+◌, ◌*◌, ◌≤◌, ◌<◌, ◌==◌, Bool, true, false, not, cond, List, [], ◌∷◌, ◌++◌, length, map, get_or, set, take, drop, Option, Some, None, refl, ap, sym, ◌∙◌, subst, append-nil, arith}
+use Rattle.std.proofs.Common.{◌≡◌, ℕ, zero, suc, ◌+◌, ◌*◌, ◌≤◌, ◌<◌, ◌==◌, Bool, true, false, not, cond, List, [], ◌∷◌, ◌++◌, length, map, get_or, set, take, drop, Option, Some, None, refl, ap, sym, ◌∙◌, subst, append-nil, length-append, arith}
+use Rattle.std.proofs.lemmas.List.{drop-append-le}
 use Rattle.std.specs.Prelude.{slice_get, slice_set}
 use Rattle.std.specs.List.{find, position}
 use Rattle.std.specs.Option.{is_some}
@@ -120,16 +121,20 @@ noted_all messages (suc i) (k ∷ ks) (n ∷ ns) are past = (are.0, noted_all me
 
 -- one of them
 pub noted_one : (messages : List Appended) (text : List ℕ) (k new : KeptClient) (n : NearClient) → Tells text messages → IsNear k n
-    → Adds (beginning k.conn) (lines_in text) k.unread.items new.unread.items → (record new { unread = k.unread }) ≡ k → IsNear new (noting messages n)
+    → Adds (beginning k.conn) (lines_in text) k.output.items new.output.items → (record new { output = k.output }) ≡ k → IsNear new (noting messages n)
 noted_one messages text k new n tells is adds rest =
     let within : k.conn ≤ 63 = let at = is.conn in let few = is.within in omega (arith, at, few) in
+    let sent : List ℕ = sent_to k.conn messages in
+    let all : new.output.items ≡ k.output.items ++ sent = tells k.conn k.output.items new.output.items within adds in
+    let same : new.handed ≡ k.handed = ap (λ (x : KeptClient). x.handed) rest in
     record {
       conn = ap (λ (x : KeptClient). x.conn) rest ∙ is.conn;
       within = is.within;
       client = ap (λ (x : KeptClient). x.client) rest ∙ is.client;
       unread =
-          tells k.conn k.unread.items new.unread.items within adds
-          ∙ ap (λ (xs : List ℕ). xs ++ sent_to k.conn messages) is.unread ∙ ap (λ (c : ℕ). n.unread ++ sent_to c messages) is.conn;
+          ap (λ (i : ℕ). drop i new.output.items) same ∙ ap (λ (xs : List ℕ). drop k.handed xs) all ∙ drop-append-le k.handed k.output.items sent is.handed
+          ∙ ap (λ (xs : List ℕ). xs ++ sent) is.unread ∙ ap (λ (c : ℕ). n.unread ++ sent_to c messages) is.conn;
+      handed = let longer = ap length all ∙ length-append k.output.items sent in let few = is.handed in omega (arith, same, longer, few);
       one = is.one;
     }
 
@@ -139,7 +144,7 @@ none_noted [] [] are = tt
 none_noted [] (n ∷ ns) are = absurd are
 none_noted (k ∷ ks) [] are = absurd are
 none_noted (k ∷ ks) (n ∷ ns) are =
-    (record { conn = are.0.conn; within = are.0.within; client = are.0.client; unread = are.0.unread ∙ sym (append-nil n.unread); one = are.0.one }, none_noted ks ns are.1)
+    (record { conn = are.0.conn; within = are.0.within; client = are.0.client; unread = are.0.unread ∙ sym (append-nil n.unread); handed = are.0.handed; one = are.0.one }, none_noted ks ns are.1)
 
 -- a connection has a client in the code where it has one in the run
 

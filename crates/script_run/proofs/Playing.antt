@@ -1,5 +1,5 @@
 -- What the grid runs at a line, and what that makes of the run of a script.
-use Rattle.std.proofs.Common.{◌≡◌, ◌≢◌, ℕ, ◌+◌, ◌*◌, ◌≤◌, true, false, cond, List, [], ◌∷◌, ◌++◌, length, map, drop, refl, ap, sym, ◌∙◌, subst, arith, Vec, Global, Bool}
+use Rattle.std.proofs.Common.{◌≡◌, ◌≢◌, ℕ, ◌+◌, ◌*◌, ◌≤◌, true, false, not, cond, List, [], ◌∷◌, ◌++◌, length, length-append, map, drop, refl, ap, sym, ◌∙◌, subst, arith, Vec, Global, Bool}
 use Rattle.std.proofs.lemmas.List.{drop_at}
 use Rattle.grid_base.specs.Objects.{Object}
 use Rattle.grid_base.specs.declared.names.CallId.{CallId}
@@ -115,6 +115,23 @@ module _ {V : Type 0} {T : V → Type 0} {form : FormOf V T} {settings : Setting
   has_played_quietly quiet nears =
       has_played
       (subst (λ (ms : List Appended). AreNear new.nears.items (map (noting ms) s.nears)) (sym (quiet_none settings ran.skips s.run line quiet)) (none_noted new.nears.items s.nears nears))
+
+-- It was given up.
+pub given_up_played : {settings : Settings} (s : ScriptRun) (line : Line) → grid.IsGivenUp settings s.run line → IsGivenUpAt settings s line
+given_up_played s line given = record { skips = given.skips; of_line = given.of_line; full = given.full }
+
+-- whether a line may append messages
+
+pub quiet_by : (quiet b : Bool) → b ≡ not quiet → b ≡ false → quiet ≡ true
+quiet_by true b e no_more = refl
+quiet_by false b e no_more = absurd cc
+
+pub busy_by : (quiet b : Bool) → b ≡ not quiet → b ≡ true → quiet ≡ false
+busy_by true b e more = absurd cc
+busy_by false b e more = refl
+
+pub longer_text : (written more text : List ℕ) → text ≡ written ++ more → length written ≤ length text
+longer_text written more text e = let size = ap length e ∙ length-append written more in omega (arith, size)
 
 -- A line of a script ran.
 

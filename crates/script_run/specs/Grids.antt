@@ -1,5 +1,5 @@
 -- The grid of the code, with its near clients, stands for the run of a script.
-use Rattle.std.specs.Prelude.{◌≡◌, ℕ, ◌+◌, ◌*◌, ◌==◌, ◌≤◌, true, false, not, Bool, length, List, [], ◌∷◌, ◌++◌, Option, Some, None, slice_get}
+use Rattle.std.specs.Prelude.{◌≡◌, ℕ, ◌+◌, ◌*◌, ◌==◌, ◌≤◌, true, false, not, Bool, length, drop, List, [], ◌∷◌, ◌++◌, Option, Some, None, slice_get}
 use Rattle.std.specs.List.{position}
 use Rattle.message_frames.specs.MessageReaders.{standing}
 use Rattle.grid_base.specs.declared.names.CallId.{CallId}
@@ -35,7 +35,8 @@ pub record IsNear (kept : KeptClient) (n : NearClient) : Type 0 where
   pub conn : kept.conn ≡ n.conn
   pub within : n.conn ≤ 63
   pub client : kept.client ≡ n.state
-  pub unread : kept.unread.items ≡ n.unread
+  pub unread : drop kept.handed kept.output.items ≡ n.unread
+  pub handed : kept.handed ≤ length kept.output.items
   pub one : IsOnOne n.conn n.read n.state
 
 abbrev pub AreNear : List KeptClient → List NearClient → Type 0

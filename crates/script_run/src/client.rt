@@ -1,6 +1,7 @@
 //! The client on a near connection.
 
-ghost use Rattle.std.specs.Prelude.{◌≡◌, ◌*◌, ◌≤◌, ◌++◌, ◌∷◌, ℕ, List, [], length, map, IfOk, OnOk};
+ghost use Rattle.std.specs.Prelude.{◌≡◌, ◌*◌, ◌≤◌, ◌++◌, ◌∷◌, ℕ, List, [], drop, length, map, IfOk, OnOk};
+ghost use Rattle.grid_client.specs.States.{HasLookedUp};
 ghost use Rattle.script_lang.specs.Limits.{most_line_bytes};
 ghost use Rattle.script_run.specs.NearClients.{NearClient as NearClientOf, opening_of, new_near, told, fed, piece};
 ghost use Rattle.script_run.specs.Grids.{IsNear, AreNear};
@@ -10,7 +11,7 @@ ghost use Rattle.script_run.specs.Reading.{beginning, lines_in, Adds, Tells};
 
 use crate::outputs::{beginning, push_sent};
 use grid_base::{Bytes, Memory};
-use grid_client::{FedClient, GridClient, Heard};
+use grid_client::{FedClient, GridClient, Heard, NearLook};
 use std::alloc::{AllocError, Global};
 
 /// The number of the client of connection 0; that of connection C is C more.
@@ -21,7 +22,10 @@ const FIRST_CLIENT: u128 = 1000;
 pub(crate) struct NearClient {
     pub(crate) conn: u32,
     pub(crate) client: GridClient,
-    pub(crate) unread: Vec<u8>,
+    /// The end of the output.
+    pub(crate) output: Vec<u8>,
+    /// How many of its bytes the client was handed.
+    pub(crate) handed: usize,
 }
 
 /// What a client was handed, and what it makes of it.
@@ -54,27 +58,54 @@ fn attached(
 impl NearClient {
     /// What a line's text says was appended to the connection is yet to be read.
     pub(crate) fn note(&mut self, alloc: Global, text: &[u8]) -> Result<(), Memory>
-        ensures unread { OnOk result (Adds (beginning self.old.conn) (lines_in text.now) self.old.unread.items self.new.unread.items) }
-        ensures rest { (record self.new { unread = self.old.unread }) ≡ self.old }
+        ensures output { OnOk result (Adds (beginning self.old.conn) (lines_in text.now) self.old.output.items self.new.output.items) }
+        ensures rest { (record self.new { output = self.old.output }) ≡ self.old }
     {
         let begins = beginning(alloc, self.conn)?;
-        push_sent(alloc, begins.as_slice(), text, &mut self.unread)
+        push_sent(alloc, begins.as_slice(), text, &mut self.output)
     }
 
-    /// Hands the client the next bytes of the output, up to so many. After an error it is to be given up. Costs the bytes
-    /// that aren't read yet.
-    pub(crate) fn feed(&mut self, alloc: Global, most: u32) -> Result<Fed, Memory>
+    /// The client looks a key up. After an error it is to be given up.
+    pub(crate) fn look(&mut self, key: &Bytes) -> Result<NearLook, Memory>
+        ensures looks { IfOk result (λ look. HasLookedUp key.now self.old.client self.new.client look) }
+        ensures rest { (record self.new { client = self.old.client }) ≡ self.old }
+    {
+        match self.client.near_get(key) {
+            Ok(look) => Ok(look),
+            Err(_) => Err(AllocError),
+        }
+    }
+
+    /// The client was handed the output up to there. Where that is all of it, none is kept.
+    fn read_to(&mut self, to: usize)
+        requires { to ≤ length self.old.output.items }
+        ensures left { drop self.new.handed self.new.output.items ≡ drop to self.old.output.items }
+        ensures within { self.new.handed ≤ length self.new.output.items }
+        ensures rest { (record self.new { output = self.old.output; handed = self.old.handed }) ≡ self.old }
+    {
+        if to < self.output.len() {
+            self.handed = to;
+        } else {
+            self.output.clear();
+            self.handed = 0;
+        }
+    }
+
+    /// Hands the client the next bytes of the output, up to so many, and costs what it makes of these. After an error it is to
+    /// be given up.
+    pub(crate) fn feed(&mut self, most: u32) -> Result<Fed, Memory>
         requires { (n : NearClientOf) × IsNear self.old n }
         ensures after { (n : NearClientOf) → IsNear self.old n → OnOk result (IsNear self.new (fed most n)) }
         ensures bytes { (n : NearClientOf) → IsNear self.old n → IfOk result (λ given. given.bytes ≡ length (piece most n)) }
         ensures heard { (n : NearClientOf) → IsNear self.old n → IfOk result (λ given. given.heard.items ≡ (told most n).heard) }
     {
-        let bytes = self.unread.len().min(most as usize);
-        let rest = Vec::from_slice(alloc, &self.unread[bytes..])?;
-        let Ok(FedClient { heard, .. }) = self.client.feed(self.conn, &self.unread[..bytes]) else {
+        let bytes = (self.output.len() - self.handed).min(most as usize);
+        let to = self.handed + bytes;
+        let piece = &self.output[self.handed..to];
+        let Ok(FedClient { heard, .. }) = self.client.feed(self.conn, piece) else {
             return Err(AllocError);
         };
-        self.unread = rest;
+        self.read_to(to);
         Ok(Fed { bytes, heard })
     }
 }
@@ -87,7 +118,7 @@ pub(crate) fn note_all(
 ) -> Result<(), Memory>
     ensures { (all : List NearClientOf) (messages : List Appended) → AreNear nears.old.items all → Tells text.now messages → OnOk result (AreNear nears.new.items (map (noting messages) all)) }
 {
-    for near in nears {
+    for near in nears.iter_mut() {
         near.note(alloc, text)?;
     }
     Ok(())
@@ -111,7 +142,8 @@ pub(crate) fn begin(
     nears.push(NearClient {
         conn,
         client,
-        unread: Vec::new(alloc),
+        output: Vec::new(alloc),
+        handed: 0,
     })?;
     Ok(opening)
 }

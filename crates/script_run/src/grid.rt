@@ -71,7 +71,8 @@ impl ScriptGrid {
     /// flight on one link.
     ///
     /// A line costs what it costs the grid (`Grid::run_line`), and in addition, where there are near clients, its text for
-    /// each of them. A look-up that hits costs the copy of its value; `nearfeed` costs what its client hasn't read yet.
+    /// each of them. A look-up that hits costs the copy of its value; `nearfeed` costs what its client makes of the bytes that
+    /// it is handed.
     pub fn run_line(
         &mut self,
         alloc: Global,
@@ -125,9 +126,10 @@ impl ScriptGrid {
             → AreSpoken self.new.spoken.items (played settings skips s (Arrive conn bytes)).run }
         ensures rest { (record self.new { spoken = self.old.spoken }) ≡ self.old }
     {
-        if self.grid.takes_bytes(conn) {
-            self.spoken[conn as usize] = true;
+        if !self.grid.takes_bytes(conn) {
+            return;
         }
+        self.spoken[conn as usize] = true;
     }
 
     /// Runs a line on the grid. What it appends is yet to be read by the near clients.
@@ -145,10 +147,10 @@ impl ScriptGrid {
     {
         let from = out.len();
         self.grid.run_line(alloc, number, line, out)?;
-        if appends(line) {
-            note_all(&mut self.nears, alloc, &out[from..])?;
+        if !appends(line) {
+            return Ok(());
         }
-        Ok(())
+        Ok(note_all(&mut self.nears, alloc, &out[from..])?)
     }
 
     /// Counts a line at which nothing happens on the grid.

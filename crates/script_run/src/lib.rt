@@ -9,6 +9,7 @@
 mod client;
 mod grid;
 mod laws;
+mod looking;
 mod near_lines;
 mod outputs;
 mod print;

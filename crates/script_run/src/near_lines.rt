@@ -1,15 +1,17 @@
 //! The lines of near clients: `near`, `nearget` and `nearfeed`.
 
-ghost use Rattle.std.specs.Prelude.{◌≡◌, ℕ, ◌≤◌, ◌++◌, if◌then◌else◌, List, None, length, IfOk, OnOk, IsErrOf};
+ghost use Rattle.std.specs.Prelude.{◌≡◌, ℕ, ◌≤◌, ◌++◌, if◌then◌else◌, List, None, codes, length, IfOk, OnOk, IsErrOf};
 ghost use Rattle.std.specs.Str.{is_utf8};
 ghost use Rattle.call_engine.specs.Calls.{Settings};
 ghost use Rattle.call_engine.specs.Objects.{partition_object};
 ghost use Rattle.replay_run.specs.Grids.{boxed};
 ghost use Rattle.replay_run.specs.declared.run_end.RunEnd.TheVariants as RunEnds;
-ghost use Rattle.script_lang.specs.declared.line.Line.TheVariants.{Near, NearGet, NearFeed, Arrive};
-ghost use Rattle.replay_run.specs.Printing.{ok_text};
-ghost use Rattle.script_run.specs.Runs.{ScriptRun, can_begin, may_look};
-ghost use Rattle.script_run.specs.Grids.{Stands, MayRun, HasRun, IsGivenUp, MaySend, HasSent, IsGivenUpAt, place_in};
+ghost use Rattle.script_lang.specs.declared.line.Line.TheVariants.{Near, NearGet, NearFeed, Arrive, Comment};
+ghost use Rattle.replay_run.specs.Printing.{ok_text, words_line};
+ghost use Rattle.replay_run.specs.Runs.{connection_of};
+ghost use Rattle.script_run.specs.Runs.{ScriptRun, is_new, can_begin, may_look};
+ghost use Rattle.script_run.specs.Grids.{Goes, Stands, MayRun, HasRun, IsGivenUp, MayPlay, HasCounted, MaySend, HasSent, IsGivenUpAt, place_in};
+ghost use Rattle.script_run.specs.Printing.{hit_text};
 
 use crate::client::begin;
 use crate::grid::ScriptGrid;
@@ -57,25 +59,38 @@ impl ScriptGrid {
         self.nears.iter().position(|near| near.conn == conn)
     }
 
-    /// Whether a connection can become a near connection: it is open, no byte has arrived on it, and it is none yet.
+    /// Whether a connection is open, and no byte has arrived on it.
+    fn is_new(&self, conn: u32) -> bool
+        requires { (settings : Settings) × (s : ScriptRun) × Stands (boxed form) settings self.now s × (conn ≤ 63) }
+        ensures { (settings : Settings) (s : ScriptRun) → Stands (boxed form) settings self.now s → result ≡ is_new (connection_of s.run conn) }
+    {
+        self.grid.is_open(conn) && !self.spoken[conn as usize]
+    }
+
+    /// Whether a connection can become a near connection: it is open, no byte has arrived on it, it is none yet, and the
+    /// map's name is one.
     fn can_begin(&self, conn: u32, name: &Bytes) -> bool
         requires { (settings : Settings) × (s : ScriptRun) × Stands (boxed form) settings self.now s × (conn ≤ 63) }
         ensures { (settings : Settings) (s : ScriptRun) → Stands (boxed form) settings self.now s → result ≡ can_begin s conn name.now }
     {
-        self.place_of(conn).is_none()
-            && self.grid.is_open(conn)
-            && !self.spoken[conn as usize]
-            && is_name(name)
+        self.place_of(conn).is_none() && self.is_new(conn) && is_name(name)
     }
 
-    /// The place of the client that may look a key up: the key has eight bytes at least, and bytes can arrive on the
-    /// connection.
+    /// Whether a key can be looked up: it has eight bytes at least, and bytes can arrive on the connection.
+    fn may_look(&self, conn: u32, key: &Bytes) -> bool
+        requires { (settings : Settings) × (s : ScriptRun) × Stands (boxed form) settings self.now s }
+        ensures { (settings : Settings) (s : ScriptRun) → Stands (boxed form) settings self.now s → result ≡ may_look (partition_object settings) s conn key.now }
+    {
+        key.len() >= SHORTEST_KEY && self.grid.takes_bytes(conn)
+    }
+
+    /// The place of the client that may look a key up.
     fn place_asked(&self, conn: u32, key: &Bytes) -> Option<usize>
         requires { (settings : Settings) × (s : ScriptRun) × Stands (boxed form) settings self.now s }
         ensures { (settings : Settings) (s : ScriptRun) → Stands (boxed form) settings self.now s
             → result ≡ (if may_look (partition_object settings) s conn key.now then place_in self.now conn else None) }
     {
-        if key.len() < SHORTEST_KEY || !self.grid.takes_bytes(conn) {
+        if !self.may_look(conn, key) {
             return None;
         }
         self.place_of(conn)
@@ -121,18 +136,47 @@ impl ScriptGrid {
         let Some(place) = self.place_asked(conn, key) else {
             return self.pass(alloc, number, out);
         };
-        let looked = self.nears[place].client.near_get(key);
-        match looked {
-            Ok(NearLook::Hit(value)) => {
-                self.count(alloc, number)?;
-                Ok(push_hit(alloc, out, number, value.as_ref())?)
-            }
-            Ok(NearLook::Miss(sending)) => {
-                push_words(out, number, b"miss")?;
-                self.send(alloc, number, conn, sending.bytes, out)
-            }
-            Err(_) => Err(RunEnd::Memory),
+        let look = self.nears[place].look(key)?;
+        match look {
+            NearLook::Hit(value) => self.tell_hit(alloc, number, value, out),
+            NearLook::Miss(sending) => self.tell_miss(alloc, number, conn, sending.bytes, out),
         }
+    }
+
+    /// Counts a line at which a value is kept for the key.
+    fn tell_hit(
+        &mut self,
+        alloc: Global,
+        number: u32,
+        value: Option<Bytes>,
+        out: &mut Vec<u8>,
+    ) -> Result<(), RunEnd>
+        requires { MayPlay (boxed form) self.old number Comment }
+        ensures ok { (settings : Settings) (s : ScriptRun) → Goes (boxed form) settings self.old s
+            → OnOk result (HasCounted (boxed form) settings self.new s (hit_text number value) out.old.items out.new.items) }
+        ensures never { (settings : Settings) (s : ScriptRun) → Goes (boxed form) settings self.old s → IsErrOf result RunEnds.InFlight → ⊥ }
+        ensures spoken { self.new.spoken ≡ self.old.spoken }
+    {
+        self.count(alloc, number)?;
+        Ok(push_hit(alloc, out, number, value.as_ref())?)
+    }
+
+    /// A line at which none is kept: the get arrives.
+    fn tell_miss(
+        &mut self,
+        alloc: Global,
+        number: u32,
+        conn: u32,
+        get: Bytes,
+        out: &mut Vec<u8>,
+    ) -> Result<(), RunEnd>
+        requires { MaySend (boxed form) self.old number conn get }
+        ensures ok { (settings : Settings) (s : ScriptRun) → Stands (boxed form) settings self.old s
+            → OnOk result (HasSent (boxed form) settings self.new s conn get (out.old.items ++ words_line number (codes "miss")) out.new.items) }
+        ensures full { (settings : Settings) (s : ScriptRun) → Stands (boxed form) settings self.old s → IsErrOf result RunEnds.InFlight → IsGivenUpAt settings s (Arrive conn get) }
+    {
+        push_words(out, number, b"miss")?;
+        self.send(alloc, number, conn, get, out)
     }
 
     /// `nearfeed C K`: the client of a near connection is handed the next bytes of its connection's output, up to so many.
@@ -151,7 +195,7 @@ impl ScriptGrid {
         let Some(place) = self.place_of(conn) else {
             return self.pass(alloc, number, out);
         };
-        let fed = self.nears[place].feed(alloc, most)?;
+        let fed = self.nears[place].feed(most)?;
         push_fed(out, number, fed.bytes)?;
         push_all_heard(out, number, fed.heard.as_slice())?;
         self.count(alloc, number)
@@ -175,9 +219,9 @@ impl ScriptGrid {
         let line = Line::Arrive { conn, bytes };
         let mut text = Vec::new(alloc);
         self.run_on_grid(alloc, number, &line, &mut text)?;
-        if takes {
-            push_brought(alloc, number, text.as_slice(), out)?;
+        if !takes {
+            return Ok(());
         }
-        Ok(())
+        Ok(push_brought(alloc, number, text.as_slice(), out)?)
     }
 }

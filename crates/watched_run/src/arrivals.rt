@@ -58,6 +58,7 @@ impl Notes {
         match self.clients.get(conn) {
             None => "the connection isn't open",
             Some(client) if client.closed => "the connection has closed",
+            Some(client) if client.near.is_some() => "only its near client sends on the connection",
             Some(_) => "its member has crashed",
         }
     }
@@ -65,6 +66,7 @@ impl Notes {
     /// Adds what is appended to a connection's output.
     fn add_output(
         &mut self,
+        alloc: Global,
         conn: u32,
         output: Output,
         all: &mut Appendings,
@@ -76,12 +78,14 @@ impl Notes {
                 words,
             } => (correlation, executed, words),
             Output::Unasked { words } => {
+                self.clients.note_event(alloc, conn, words.as_str())?;
                 return Ok(all.happenings.push(Happening::Event { conn, words })?);
             }
         };
         match self.clients.answer(conn, correlation) {
             Some(number) => {
                 let id = CallId { conn, number };
+                self.clients.note_answer(alloc, id, words.as_str())?;
                 all.add_answer(Answered { id, executed }, words)
             }
             None => Ok(all.happenings.push(Happening::Event { conn, words })?),
@@ -93,7 +97,9 @@ impl Notes {
         let mut all = Appendings::new(alloc);
         for appended in all_appended(alloc, text)? {
             match appended {
-                Appended::Output { conn, output } => self.add_output(conn, output, &mut all)?,
+                Appended::Output { conn, output } => self.add_output(
+                    alloc, conn, output, &mut all,
+                )?,
                 Appended::Close { conn, at, why } => {
                     self.clients.close(conn);
                     let words = fault_words(why);
@@ -115,7 +121,7 @@ impl Notes {
         told.push_all(all.happenings)
     }
 
-    /// Tells the bytes that arrived on a connection: the messages that they complete, and what followed.
+    /// Tells a line of bytes: what arrived on its connection, or why nothing did.
     pub(crate) fn tell_arrival(
         &mut self,
         alloc: Global,
@@ -129,6 +135,19 @@ impl Notes {
             let why = self.why_unheard(conn);
             return told.push(Happening::Nothing { why });
         }
+        self.tell_bytes(alloc, running, conn, bytes, text, told)
+    }
+
+    /// Tells the messages that bytes complete which arrived on a connection, and what followed.
+    pub(crate) fn tell_bytes(
+        &mut self,
+        alloc: Global,
+        running: &RunningGrid,
+        conn: u32,
+        bytes: &[u8],
+        text: &str,
+        told: &mut Tale,
+    ) -> Result<(), Memory> {
         let messages = self.clients.feed(alloc, conn, bytes)?;
         if messages.is_empty() {
             let count = bytes.len();

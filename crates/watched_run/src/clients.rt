@@ -1,7 +1,8 @@
 //! The connections of a run, as its lines show them.
 
+use crate::near_notes::NearNotes;
 use client_words::{Spoken, read_spoken};
-use grid_base::{CallId, MemberId, Memory};
+use grid_base::{Bytes, CallId, MemberId, Memory};
 use message_frames::MessageReader;
 use std::alloc::Global;
 use std::collections::{HashMap, VecDeque};
@@ -23,6 +24,10 @@ pub(crate) struct Client {
     conn: u32,
     member: MemberId,
     pub(crate) closed: bool,
+    /// Whether a byte has arrived.
+    pub(crate) has_spoken: bool,
+    /// The near client on it, if it has one.
+    pub(crate) near: Option<NearNotes>,
     reader: MessageReader,
     /// How many messages were complete.
     count: u32,
@@ -38,6 +43,8 @@ impl Client {
             conn,
             member,
             closed: false,
+            has_spoken: false,
+            near: None,
             reader: MessageReader::new(alloc, true),
             count: 0,
             next: 0,
@@ -70,6 +77,7 @@ impl Client {
 
     /// Takes bytes: the messages that they complete.
     fn feed(&mut self, alloc: Global, bytes: &[u8]) -> Result<Vec<ClientMessage>, Memory> {
+        self.has_spoken = true;
         let heard = self.reader.feed(alloc, bytes)?;
         let mut messages = Vec::new(alloc);
         for message in heard.messages.as_slice() {
@@ -146,5 +154,68 @@ impl Clients {
     /// The first message of a connection with this correlation that wasn't answered, which is answered now.
     pub(crate) fn answer(&mut self, conn: u32, correlation: i64) -> Option<u32> {
         self.get_mut(conn)?.answer(correlation)
+    }
+
+    /// A near client begins to keep entries of a map.
+    pub(crate) fn begin_near(&mut self, alloc: Global, conn: u32, map: Bytes) {
+        if let Some(client) = self.get_mut(conn) {
+            client.near = Some(NearNotes::new(alloc, map));
+        }
+    }
+
+    /// The near client of a connection, if it has one.
+    fn near_mut(&mut self, conn: u32) -> Option<&mut NearNotes> {
+        self.get_mut(conn)?.near.as_mut()
+    }
+
+    /// The get of a key that the near client of a connection sends now.
+    pub(crate) fn ask(
+        &mut self,
+        alloc: Global,
+        conn: u32,
+        key: &Bytes,
+    ) -> Result<Option<Bytes>, Memory> {
+        let Some(client) = self.get_mut(conn) else {
+            return Ok(None);
+        };
+        let number = client.count;
+        match &mut client.near {
+            Some(near) => Ok(Some(near.ask(alloc, number, key)?)),
+            None => Ok(None),
+        }
+    }
+
+    /// A message was answered, which a near client may have sent.
+    pub(crate) fn note_answer(
+        &mut self,
+        alloc: Global,
+        id: CallId,
+        words: &str,
+    ) -> Result<(), Memory> {
+        match self.near_mut(id.conn) {
+            Some(near) => near.note_answer(alloc, id, words),
+            None => Ok(()),
+        }
+    }
+
+    /// A connection is told something unasked, which may have a near client.
+    pub(crate) fn note_event(
+        &mut self,
+        alloc: Global,
+        conn: u32,
+        words: &str,
+    ) -> Result<(), Memory> {
+        match self.near_mut(conn) {
+            Some(near) => near.note_event(alloc, words),
+            None => Ok(()),
+        }
+    }
+
+    /// The next of what a near client wasn't handed, in words.
+    pub(crate) fn read_near(&mut self, alloc: Global, conn: u32) -> String {
+        match self.near_mut(conn) {
+            Some(near) => near.read(alloc),
+            None => String::new(alloc),
+        }
     }
 }

@@ -7,6 +7,8 @@ mod deliveries;
 mod events;
 mod flows;
 mod history;
+mod near_notes;
+mod nears;
 mod notes;
 mod printed;
 mod questions;

@@ -43,7 +43,7 @@ pub(crate) enum Appended<'a> {
 }
 
 /// The bytes of hexadecimal digits; none where they aren't digits.
-fn bytes_in(alloc: Global, digits: &str) -> Result<Vec<u8>, Memory> {
+pub(crate) fn bytes_in(alloc: Global, digits: &str) -> Result<Vec<u8>, Memory> {
     match hex::decode(alloc, digits.as_bytes()) {
         Ok(bytes) => Ok(bytes),
         Err(hex::FromHexError::OutOfMemory) => Err(AllocError),

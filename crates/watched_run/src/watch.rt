@@ -166,6 +166,9 @@ impl Watch {
             Line::Deliver { .. } | Line::Lose { .. } | Line::Repeat { .. } => {
                 notes.tell_flight(alloc, running, line, flight, text, told)?;
             }
+            Line::Near { .. } | Line::NearGet { .. } | Line::NearFeed { .. } => {
+                notes.tell_near(alloc, running, line, text, told)?;
+            }
             Line::Dump { .. } | Line::Links { .. } | Line::Trail { .. } | Line::End => {
                 notes.tell_asked(alloc, running, line, text, told)?;
             }

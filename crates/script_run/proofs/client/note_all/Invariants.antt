@@ -8,4 +8,4 @@ use Rattle.script_run.proofs.client.note_all.Given as goal
 
 -- so many of them have the line's messages to read
 abbrev pub invariant-loop-near : goal.invariant-loop-near
-invariant-loop-near l = (all : List NearClient) (messages : List Appended) → AreNear l.fn.nears.items all → Tells l.fn.text messages → AreNear l.nears.items (noted messages l.near-index all)
+invariant-loop-near l = (all : List NearClient) (messages : List Appended) → AreNear l.fn.nears.items all → Tells l.fn.text messages → AreNear l.near-items (noted messages l.near-index all)

@@ -34,8 +34,8 @@ send-requires g c =
     let name = c.args.name.now in
     let ns = s.nears ++ new_near c.args.conn name c.args.capacity ∷ [] in
     let are = c.in_ok-opening.ensures.nears s.nears may.stands.goes.nears in
-    subst (MaySend _ (record all { nears = c.begin-opening.new.nears }) c.args.number c.args.conn) (sym c.in_ok-opening.ensures.opening)
-    (may_send (stands_with c.begin-opening.new.nears ns may.stands are) may.read.0 (opening_fits c.args.conn name may.read.2) may.next may.within)
+    subst (MaySend _ (record all { nears = c.begin.new.nears }) c.args.number c.args.conn) (sym c.in_ok-opening.ensures.opening)
+    (may_send (stands_with c.begin.new.nears ns may.stands are) may.read.0 (opening_fits c.args.conn name may.read.2) may.next may.within)
 
 pub returns-clause-ok : goal.returns-clause-ok
 returns-clause-ok g c = λ settings s stands.
@@ -49,7 +49,7 @@ returns-clause-ok g c = λ settings s stands.
     (λ sent. ran_begun c.send.new.self s c.args.conn name c.args.capacity c.args.number can at_line c.args.out.now.items c.send.new.out.items
     (subst (λ out. HasSent _ settings c.send.new.self (record s { nears = ns }) c.args.conn (opening_of c.args.conn name) out c.send.new.out.items) c.in_ok-push_ok.ensures
     (subst (λ bytes. HasSent _ settings c.send.new.self (record s { nears = ns }) c.args.conn bytes c.push_ok.new.out.items c.send.new.out.items) c.in_ok-opening.ensures.opening sent)))
-    (c.send.ensures.ok settings (record s { nears = ns }) (stands_with c.begin-opening.new.nears ns stands are))
+    (c.send.ensures.ok settings (record s { nears = ns }) (stands_with c.begin.new.nears ns stands are))
 
 pub returns-clause-full : goal.returns-clause-full
 returns-clause-full g c = λ settings s stands full.
@@ -59,4 +59,4 @@ returns-clause-full g c = λ settings s stands full.
     let can = sym (c.can_begin.ensures settings s stands) ∙ c.if-not-can_begin.false in
     given_up_begun s c.args.conn name c.args.capacity can
     (subst (λ bytes. IsGivenUpAt settings (record s { nears = ns }) (Arrive c.args.conn bytes)) c.in_ok-opening.ensures.opening
-    (c.send.ensures.full settings (record s { nears = ns }) (stands_with c.begin-opening.new.nears ns stands are) full))
+    (c.send.ensures.full settings (record s { nears = ns }) (stands_with c.begin.new.nears ns stands are) full))

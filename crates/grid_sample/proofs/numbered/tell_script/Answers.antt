@@ -2,7 +2,7 @@ use Rattle.grid_cli.specs.declared.status.Status.TheVariants.{WriteFault}
 use Rattle.grid_sample.specs.Samples.{sampled_text, IsSummaryText, StopsAtScript}
 use Rattle.grid_sample.proofs.Samples.{is_summary}
 use Rattle.grid_sample.proofs.Writing.{wrote_front, wrote_all}
-use Rattle.grid_sample.proofs.script_run.tell_script.Goals as goal
+use Rattle.grid_sample.proofs.numbered.tell_script.Goals as goal
 
 pub returns-in_default-write_all-clause-stops : goal.returns-in_default-write_all-clause-stops
 returns-in_default-write_all-clause-stops g c =
