@@ -1,5 +1,5 @@
 -- A connection stays as it is at the lines that bring it no bytes. Nobody listens on one that no byte has reached.
-use Rattle.std.proofs.Common.{◌≡◌, ◌≢◌, ℕ, ◌+◌, ◌≤◌, Bool, true, false, cond, not, ◌&&◌, ◌==◌, List, [], ◌∷◌, ◌++◌, filter, length, Option, Some, None, refl, ap, sym, ◌∙◌, subst, ⊎_elim, arith, append-nil}
+use Rattle.std.proofs.Common.{◌≡◌, ◌≢◌, ℕ, ◌≤◌, Bool, true, false, cond, not, ◌&&◌, ◌==◌, List, [], ◌∷◌, ◌++◌, filter, length, Option, Some, None, refl, ap, sym, ◌∙◌, subst, ⊎_elim, arith, append-nil}
 use Rattle.std.specs.Prelude.{is_some}
 use Rattle.std.specs.List.{find}
 use Rattle.std.proofs.lemmas.List.Elements.{filter-append}
@@ -12,15 +12,12 @@ use Rattle.partition_protocol.specs.Events as event
 use Rattle.partition_protocol.specs.Service.{numbers_below}
 use Rattle.partition_protocol.proofs.Lists.{on_if}
 use Rattle.partition_protocol.proofs.RowFacts.{same_number, number_same, number_other, number_cases}
-use Rattle.event_codecs.specs.declared.registration.Registration.{Registration}
-use Rattle.listeners.specs.declared.listener.Listener.{Listener}
 use Rattle.session_core.specs.declared.item.Item.{Item}
 use Rattle.session_core.specs.declared.item.Item.TheVariants.{Call as Asks, Wait, Register, Reply}
 use Rattle.script_lang.specs.declared.line.Line.{Line}
 use Rattle.script_lang.specs.declared.line.Line.TheVariants as line
 use Rattle.near_protocol.proofs.Hear.{find_in}
-use Rattle.replay_run.specs.Runs.{Run, Connection, Arrival, At, is_connection, connection_of, world_at, lives, is_full, is_skipped, updated, with_bytes, took_bytes, takes_bytes, can_open, opened, next_line, clock_set, arrived, asked, asks, given_up, arrival_at, registers, handled_all, items_by, bytes_arrived, takes, takes_in, delivery_on, flowed, flowed_in, event_by, partitions}
-use Rattle.replay_run.specs.Rebalancing.{rebalanced}
+use Rattle.replay_run.specs.Runs.{Run, Connection, Arrival, At, is_connection, connection_of, world_at, lives, is_full, is_skipped, updated, with_bytes, took_bytes, takes_bytes, can_open, opened, next_line, arrived, asked, asks, given_up, arrival_at, registers, handled_all, items_by, bytes_arrived, takes, delivery_on, event_by, partitions}
 use Rattle.replay_run.specs.AfterLines.{after_event, after_line}
 use Rattle.replay_run.proofs.EventRuns.{takes_keeps, takes_in_keeps, flowed_keeps, flowed_in_keeps}
 use Rattle.replay_run.proofs.Rebalanced.{rebalance_keeps}

@@ -1,5 +1,5 @@
 -- What holds of a near client after each line of a script: it goes with a machine of its run, or its member had crashed before it came.
-use Rattle.std.proofs.Common.{◌≡◌, ℕ, ◌+◌, ◌*◌, ◌<◌, ◌≤◌, ◌^◌, Bool, true, false, cond, ◌==◌, List, [], ◌∷◌, ◌++◌, length, map, filter, drop, Option, Some, None, refl, ap, sym, ◌∙◌, subst, ◌⊎◌, append_assoc, append-nil}
+use Rattle.std.proofs.Common.{◌≡◌, ℕ, ◌+◌, ◌*◌, ◌<◌, ◌≤◌, ◌^◌, Bool, true, false, cond, ◌==◌, List, [], ◌∷◌, ◌++◌, length, map, filter, drop, Option, Some, refl, ap, sym, ◌∙◌, subst, ◌⊎◌, append_assoc}
 use Rattle.std.specs.Prelude.{option_and_then}
 use Rattle.std.specs.Option.{option_map_or}
 use Rattle.std.specs.List.{flat_map}
@@ -27,7 +27,7 @@ use Rattle.near_runs.specs.Modest.{AreProper}
 use Rattle.script_lang.specs.Limits.{most_line_bytes}
 use Rattle.grid_client.specs.Nears.{Near, hit}
 use Rattle.script_run.specs.NearClients.{NearClient, map_name, value_kept}
-use Rattle.script_run.specs.Outputs.{bytes_to, sent_to as bytes_sent_to}
+use Rattle.script_run.specs.Outputs.{sent_to as bytes_sent_to}
 use Rattle.script_run.specs.Grids.{IsOnOne}
 use Rattle.script_run.specs.AfterLines.{noting}
 use Rattle.near_scripts.proofs.Told.{IsBare}

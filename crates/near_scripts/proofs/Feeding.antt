@@ -1,5 +1,5 @@
 -- A near client that reads on goes on with its machine.
-use Rattle.std.proofs.Common.{◌≡◌, ℕ, ◌+◌, ◌≤◌, false, List, [], ◌∷◌, ◌++◌, length, map, drop, Option, refl, ap, sym, ◌∙◌, subst, append_assoc}
+use Rattle.std.proofs.Common.{◌≡◌, ℕ, ◌+◌, ◌≤◌, false, List, ◌++◌, length, map, drop, Option, ap, sym, ◌∙◌, subst, append_assoc}
 use Rattle.std.proofs.lemmas.List.{append_cancel_left, take-append-drop}
 use Rattle.std.proofs.Math.Seq.{drop-append_seam}
 use Rattle.frame_codec.specs.Laws.{spelled}
@@ -51,7 +51,7 @@ module _ (settings : Settings) (r : Run) (s : Stands settings r) (n : NearClient
   cut done rest order before =
       let p = parted a.name (messages_sent done) (messages_sent rest) spoken.says (subst (λ ms. AllMean a.name ms spoken.says) (ap messages_sent order ∙ sent_parts done rest) spoken.mean) in
       let as_much : length (all_said p.first) ≡ length a.heard =
-          says_as_much a.name (messages_sent done) p.first a.says p.mean (subst (λ ms. AllMean a.name ms a.says) before a.mean) ∙ ap length (sym a.is_heard) in
+      says_as_much a.name (messages_sent done) p.first a.says p.mean (subst (λ ms. AllMean a.name ms a.says) before a.mean) ∙ ap length (sym a.is_heard) in
       let both = same_cut (all_said p.first) (all_said p.behind) a.heard a.machine.unread as_much (sym (all_said-append p.first p.behind) ∙ ap all_said (sym p.are) ∙ spoken.all) in
       record { says = p.behind; mean = p.then; unread = sym both.1 }
 

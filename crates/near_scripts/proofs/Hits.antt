@@ -2,7 +2,6 @@
 use Rattle.std.proofs.Common.{◌≡◌, ℕ, ◌≤◌, false, List, [], ◌∷◌, ◌++◌, length, map, drop, Some, refl, ap, sym, ◌∙◌, subst, inl, inr, append_assoc, append-nil}
 use Rattle.std.specs.Prelude.{Ok, Contains}
 use Rattle.std.proofs.Math.Seq.{drop-append_seam}
-use Rattle.grid_base.specs.declared.calls.Request.{Request}
 use Rattle.frame_codec.specs.declared.frames.Frame.{Frame}
 use Rattle.message_frames.specs.Assembly.{most_messages}
 use Rattle.message_frames.specs.Messages.{messages_of}
@@ -12,7 +11,7 @@ use Rattle.event_codecs.specs.declared.events.ClientEvent.TheVariants as event
 use Rattle.event_codecs.specs.declared.seen.SeenRow.{SeenRow}
 use Rattle.call_engine.specs.Calls.{Settings}
 use Rattle.call_engine.specs.Objects.{partition_object}
-use Rattle.partition_protocol.specs.History.{Executed, Called, Reset}
+use Rattle.partition_protocol.specs.History.{Called, Reset}
 use Rattle.partition_protocol.specs.World.{trail}
 use Rattle.partition_protocol.specs.NamedStates.{effect_call}
 use Rattle.partition_protocol.proofs.Lists.{In, in_contains, contains_in}
@@ -82,7 +81,7 @@ module _ (settings : Settings) (r : Run) (s : Stands settings r) (n : NearClient
   after : (message : Message) (version number : ℕ) → Contains (messages_of false n.read) message → Invalidates (map_name n) key version number message → IsAfterNamed settings r n key version number its_hit.get
   after message version number there (correlation, (partition, is)) =
       let said = invalidation_said a.name key version number message correlation partition
-          (is ∙ ap (λ name. Ok (event.Invalidation correlation partition version number name key)) (map_named settings r n a)) (messages_of false n.read) a.says a.mean (in_contains message (messages_of false n.read) there) in
+      (is ∙ ap (λ name. Ok (event.Invalidation correlation partition version number name key)) (map_named settings r n a)) (messages_of false n.read) a.says a.mean (in_contains message (messages_of false n.read) there) in
       let heard = subst (λ xs. In (Invalidation key version number) xs) (sym a.is_heard) said in
       let handled = subst (λ xs. In (record { key = key; version = version; number = number }) xs) (sym (spoken settings r s n a room).processed) (handled_too key version number a.heard heard) in
       let named = its_hit.after (record { key = key; version = version; number = number }) (contains_in (record { key = key; version = version; number = number }) a.machine.processed handled) refl in

@@ -9,8 +9,7 @@ use Rattle.object_store.specs.Partitions.{Partition}
 use Rattle.partition_table.specs.Rows.{is_among, first_of}
 use Rattle.partition_protocol.specs.World.{World, start, is_live}
 use Rattle.partition_protocol.specs.Service.{numbers_below}
-use Rattle.partition_protocol.specs.Events.{Event, Call, Deliver, Lose, Repeat, Resend, Crash, Detect, BeginMove, BeginJoin, BeginHandover, Advance, Reopen, Happened, happens, run, done, nothing}
-use Rattle.partition_protocol.specs.Events as event
+use Rattle.partition_protocol.specs.Events.{Event, Resend, Crash, Detect, BeginMove, BeginJoin, BeginHandover, Advance, happens, run, done, nothing}
 use Rattle.partition_protocol.proofs.EventCases.{EventCases, every_event}
 use Rattle.partition_protocol.proofs.Extends.{run_append}
 use Rattle.partition_protocol.proofs.Lists.{In, on_if, in_left, in_right}
@@ -23,8 +22,8 @@ use Rattle.session_core.specs.declared.item.Item.{Item}
 use Rattle.session_core.specs.declared.item.Item.TheVariants.{Call as Asks, Wait, Register, Reply}
 use Rattle.script_lang.specs.declared.line.Line.{Line}
 use Rattle.script_lang.specs.declared.line.Line.TheVariants as line
-use Rattle.replay_run.specs.Runs.{Run, At, Connection, Arrival, events_at, world_at, is_full, is_skipped, refusal, arrived, asked, asks, given_up, happening, arrival_at, call_of, occurred, meets_full, takes, takes_in, delivery_on, flowed, flowed_in, handled_all, takes_bytes, took_bytes, items_by, connection_of, can_open, opened, next_line, bytes_arrived, event_by, lives, partitions}
-use Rattle.replay_run.specs.Rebalancing.{service_at, is_moving_at, most_deliveries, most_turns, event_begun, first_resends, turned, turned_on, joined, rejoined, stepped, stepped_all, steps_in, rebalanced}
+use Rattle.replay_run.specs.Runs.{Run, At, Connection, Arrival, events_at, world_at, is_full, is_skipped, refusal, arrived, asked, asks, given_up, happening, arrival_at, call_of, occurred, meets_full, takes, takes_in, delivery_on, flowed, handled_all, takes_bytes, took_bytes, items_by, connection_of, can_open, opened, next_line, bytes_arrived, event_by, lives, partitions}
+use Rattle.replay_run.specs.Rebalancing.{service_at, is_moving_at, most_deliveries, most_turns, event_begun, first_resends, turned, turned_on, joined, rejoined, stepped, stepped_all, steps_in}
 use Rattle.replay_run.specs.AfterLines.{after_event, after_line}
 use Rattle.replay_run.proofs.EventRuns.{takes_keeps, takes_in_full, flowed_keeps, flowed_in_keeps, events_at-append}
 

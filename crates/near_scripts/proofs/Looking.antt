@@ -1,11 +1,10 @@
 -- A near client that looks a key up goes on with its machine.
-use Rattle.std.proofs.Common.{◌≡◌, ℕ, suc, ◌+◌, ◌*◌, ◌<◌, ◌≤◌, Bool, true, false, cond, not, List, [], ◌∷◌, ◌++◌, length, Option, Some, None, refl, ap, sym, ◌∙◌, subst, append_assoc, length-append, arith}
+use Rattle.std.proofs.Common.{◌≡◌, ℕ, suc, ◌+◌, ◌*◌, ◌≤◌, true, false, cond, List, [], ◌∷◌, ◌++◌, length, Option, Some, None, refl, ap, sym, ◌∙◌, subst, append_assoc, length-append, arith}
 use Rattle.std.specs.List.{find}
 use Rattle.grid_base.specs.Objects.{Object}
 use Rattle.grid_base.specs.declared.names.CallId.{CallId}
 use Rattle.grid_base.specs.declared.names.ClientKey.{ClientKey}
 use Rattle.grid_base.specs.declared.calls.Request.{Request}
-use Rattle.message_frames.specs.Assembly.{most_messages}
 use Rattle.message_frames.specs.Messages.{messages_of}
 use Rattle.message_frames.specs.declared.message.Message.{Message}
 use Rattle.object_store.specs.Partitions.{Partition}
@@ -54,7 +53,7 @@ use Rattle.near_scripts.proofs.Names.{machine_named}
 use Rattle.near_scripts.proofs.Connections.{its_conn, now_updated}
 use Rattle.near_scripts.proofs.Sizes.{may_get}
 use Rattle.near_scripts.proofs.Others.{line_appends}
-use Rattle.near_scripts.proofs.Facts.{Stands, IsLive, Appends, read_more, named_short, map_named, kept_is}
+use Rattle.near_scripts.proofs.Facts.{Stands, IsLive, read_more, named_short, map_named, kept_is}
 
 -- ---- a hit
 
@@ -167,7 +166,7 @@ module _ (settings : Settings) (skips : List CallId) (r : Run) (s : Stands setti
 
   has_room : next.full ≡ false → is_full its_world ≡ false
   has_room going = false_or_not (is_full its_world) (λ full.
-    absurd (let clash : true ≡ false = sym (ap (λ (x : Run). x.full) (ap (λ x. elim x [ None ↦ next_line r | Some j ↦ bytes_arrived o skips r j bytes ]) there_too ∙ served fits) ∙ ap (λ b. (cond b (given_up (arrived taken it [] [])) (asked o skips taken it)).full) full) ∙ going in cc))
+      absurd (let clash : true ≡ false = sym (ap (λ (x : Run). x.full) (ap (λ x. elim x [ None ↦ next_line r | Some j ↦ bytes_arrived o skips r j bytes ]) there_too ∙ served fits) ∙ ap (λ b. (cond b (given_up (arrived taken it [] [])) (asked o skips taken it)).full) full) ∙ going in cc))
     where
       taken : Run
       taken = took_bytes r k bytes

@@ -1,5 +1,5 @@
 -- In a near client's machine no two calls of one partition have one name, since none have in its run.
-use Rattle.std.proofs.Common.{◌≡◌, ℕ, ◌≤◌, Bool, true, false, cond, List, [], ◌∷◌, ◌++◌, map, filter, Option, Some, None, refl, ap, sym, ◌∙◌, subst, append_assoc, append-nil}
+use Rattle.std.proofs.Common.{◌≡◌, ℕ, Bool, true, false, cond, List, [], ◌∷◌, ◌++◌, map, Some, None, refl, ap, sym, ◌∙◌, subst, append-nil}
 use Rattle.std.specs.Prelude.{pos}
 use Rattle.grid_base.specs.Errors.{want_of_memory}
 use Rattle.grid_base.specs.Objects.{Object}
@@ -12,22 +12,22 @@ use Rattle.call_engine.specs.Calls.{Settings}
 use Rattle.call_engine.specs.Objects.{partition_object}
 use Rattle.partition_protocol.specs.World.{start, is_live}
 use Rattle.partition_protocol.specs.Events.{Event, Call, run}
-use Rattle.partition_protocol.specs.Arrivals.{asked_by, arrivals, name, NamedOnce}
+use Rattle.partition_protocol.specs.Arrivals.{arrivals, name, NamedOnce}
 use Rattle.partition_protocol.proofs.Answers.{map_append}
 use Rattle.partition_protocol.proofs.RowFacts.{number_other}
 use Rattle.near_protocol.specs.Keyed.{Keyed}
 use Rattle.near_protocol.specs.Client.{Said, hit}
-use Rattle.near_protocol.specs.Near.{Grid, Occurs, LooksUp, LooksUpInVain, Hears, new_grid, world, happened, all_happened, occurred as machine_occurred, opening_at, looked_up, looked_up_in_vain, hears, is_call_on, events_at}
+use Rattle.near_protocol.specs.Near.{Grid, Occurs, LooksUp, LooksUpInVain, new_grid, world, happened, occurred as machine_occurred, opening_at, looked_up, looked_up_in_vain, hears, events_at}
 use Rattle.near_protocol.specs.Claims.{AreNamedOnce}
 use Rattle.near_protocol.proofs.Attaching.{all_events}
 use Rattle.grid_client.specs.Nears.{Value}
 use Rattle.replay_run.specs.ScriptRuns.{IsRun}
 use Rattle.replay_run.specs.Runs.{Run, At, Arrival, Appended, call_of, is_skipped, asked, arrived, refusal, happening, world_at}
 use Rattle.replay_run.specs.Runs as replay
-use Rattle.replay_run.proofs.RunFacts.{RunOk, named}
+use Rattle.replay_run.proofs.RunFacts.{named}
 use Rattle.replay_run.proofs.RunsOfLines.{run_ok}
 use Rattle.near_runs.specs.Maps.{keyed, get_request}
-use Rattle.near_runs.specs.NearConnections.{machine_events, grid_of}
+use Rattle.near_runs.specs.NearConnections.{machine_events}
 use Rattle.near_runs.specs.Sessions.{near_opened}
 use Rattle.near_runs.specs.Following.{Machine, step, IsNextGet}
 use Rattle.near_runs.specs.NearRuns.{IsNearRun, client_came, went_aside, event_happened, call_arrived, client_missed, client_missed_in_vain, client_hit, client_heard}

@@ -1,12 +1,11 @@
 -- A near client goes on at a line of others.
-use Rattle.std.proofs.Common.{◌≡◌, ◌≢◌, ℕ, ◌+◌, ◌≤◌, Bool, false, List, [], ◌∷◌, ◌++◌, length, Option, Some, None, refl, ap, sym, ◌∙◌, subst, ◌⊎◌, inl, inr, append_assoc, arith}
+use Rattle.std.proofs.Common.{◌≡◌, ℕ, false, List, ◌++◌, ap, sym, ◌∙◌, subst, inl, inr, append_assoc, arith}
 use Rattle.grid_base.specs.declared.names.CallId.{CallId}
-use Rattle.message_frames.specs.Messages.{messages_of}
 use Rattle.call_engine.specs.Calls.{Settings}
 use Rattle.call_engine.specs.Objects.{partition_object}
 use Rattle.script_lang.specs.declared.line.Line.{Line}
 use Rattle.script_lang.specs.declared.line.Line.TheVariants as line
-use Rattle.replay_run.specs.Runs.{Run, Connection}
+use Rattle.replay_run.specs.Runs.{Run}
 use Rattle.replay_run.specs.AfterLines.{after_line}
 use Rattle.replay_run.specs.Appending.{new_messages}
 use Rattle.replay_run.proofs.Growing.{line_grows}
@@ -20,7 +19,7 @@ use Rattle.script_run.specs.NearClients.{NearClient}
 use Rattle.script_run.specs.AfterLines.{noting}
 use Rattle.near_scripts.proofs.Lives.{stays_dead}
 use Rattle.near_scripts.proofs.Connections.{IsApart, keeps_connection, keeps_members}
-use Rattle.near_scripts.proofs.Facts.{Stands, IsLive, IsDead, Goes, Appends, read_more}
+use Rattle.near_scripts.proofs.Facts.{IsLive, IsDead, Goes, Appends, read_more}
 
 apart_too : (c : ℕ) (l : Line) → IsOthers c l → IsApart c l
 apart_too c (line.Arrive k bytes) others = others

@@ -1,5 +1,5 @@
 -- What messages say: whether one says anything is told by the message.
-use Rattle.std.proofs.Common.{◌≡◌, ℕ, suc, ◌+◌, Bool, true, false, ◌||◌, ◌==◌, ℤ, List, [], ◌∷◌, ◌++◌, length, drop, Option, Some, None, refl, ap, sym, ◌∙◌, subst, inl, inr, arith}
+use Rattle.std.proofs.Common.{◌≡◌, ℕ, suc, ◌+◌, true, false, ◌||◌, ◌==◌, ℤ, List, [], ◌∷◌, ◌++◌, length, drop, Option, Some, None, refl, ap, sym, ◌∙◌, subst, inl, inr, arith}
 use Rattle.std.specs.Prelude.{Ok, Err}
 use Rattle.std.specs.List.{flat_map}
 use Rattle.grid_base.specs.declared.refusal.CallRefused.TheVariants.{UnknownType}
@@ -14,15 +14,11 @@ use Rattle.message_frames.specs.declared.message.Message.{Message}
 use Rattle.message_frames.proofs.HeardPieces.{grammar_heard}
 use Rattle.map_codecs.specs.Calls.{get_kind}
 use Rattle.event_codecs.specs.Events.{Reader, events, event_by, event_of}
-use Rattle.event_codecs.specs.declared.events.ClientEvent.{ClientEvent}
 use Rattle.event_codecs.specs.declared.events.ClientEvent.TheVariants as event
-use Rattle.event_codecs.specs.declared.seen.SeenRow.{SeenRow}
 use Rattle.partition_protocol.proofs.Lists.{In, in_right}
 use Rattle.partition_protocol.proofs.Answers.{map_append}
-use Rattle.near_protocol.specs.Client.{Said, Answer, Refusal, Invalidation, Rows, RowHeard}
-use Rattle.near_protocol.specs.Near.{Invalidated, invalidated_by}
-use Rattle.grid_client.specs.Calls.{correlation_of}
-use Rattle.near_runs.specs.Hearings.{HasHead}
+use Rattle.near_protocol.specs.Client.{Said, Answer, Refusal, Invalidation, Rows}
+use Rattle.near_protocol.specs.Near.{invalidated_by}
 use Rattle.near_runs.specs.Readings.{output, pieces_sent, messages_sent}
 use Rattle.near_runs.specs.Clients.{SaysIt}
 use Rattle.near_runs.specs.Pieces.{IsQuiet, Means, AllMean}

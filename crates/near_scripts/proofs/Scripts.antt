@@ -1,5 +1,5 @@
 -- The near client of a connection goes with its machine after each line of a script.
-use Rattle.std.proofs.Common.{◌≡◌, ◌≢◌, ℕ, ◌+◌, ◌*◌, ◌<◌, ◌≤◌, ◌^◌, Bool, true, false, cond, not, ◌&&◌, ◌==◌, nat_lt, List, [], ◌∷◌, ◌++◌, length, map, Option, Some, None, option_map, refl, ap, sym, ◌∙◌, subst, ◌⊎◌, inl, inr, ⊎_elim, arith, length-append}
+use Rattle.std.proofs.Common.{◌≡◌, ◌≢◌, ℕ, ◌+◌, ◌*◌, ◌<◌, ◌≤◌, ◌^◌, Bool, true, false, cond, not, ◌&&◌, ◌==◌, nat_lt, List, [], ◌∷◌, ◌++◌, length, map, Option, Some, None, option_map, refl, ap, sym, ◌∙◌, subst, inl, inr, ⊎_elim, arith, length-append}
 use Rattle.std.specs.Prelude.{is_some}
 use Rattle.std.specs.List.{find}
 use Rattle.std.specs.Str.{is_utf8}
@@ -11,7 +11,6 @@ use Rattle.call_engine.specs.Calls.{Settings}
 use Rattle.call_engine.specs.Objects.{partition_object}
 use Rattle.partition_protocol.proofs.Lists.{In, cases, contains_in}
 use Rattle.partition_protocol.proofs.RowFacts.{same_number, number_other, number_cases, both_left, both_right, false_or_not, not_true, not_less}
-use Rattle.grid_client.specs.Lists.{changed_by}
 use Rattle.script_lang.specs.Limits.{most_lines, most_line_bytes}
 use Rattle.script_lang.specs.Lines.{IsWithin}
 use Rattle.script_lang.specs.declared.line.Line.{Line}
@@ -31,7 +30,7 @@ use Rattle.near_scripts.specs.HitsStand.{AreLines}
 use Rattle.near_scripts.proofs.Within.{AreOnOne, grid_within, line_one}
 use Rattle.near_scripts.proofs.Told.{fed_bare, bare_keeps_none}
 use Rattle.near_scripts.proofs.Connections.{opens_nothing}
-use Rattle.near_scripts.proofs.Facts.{Stands, IsLive, IsDead, Goes}
+use Rattle.near_scripts.proofs.Facts.{Stands, IsLive, Goes}
 use Rattle.near_scripts.proofs.Standing.{begun_stands, line_stands}
 use Rattle.near_scripts.proofs.Others.{goes_on}
 use Rattle.near_scripts.proofs.Feeding.{fed_on}

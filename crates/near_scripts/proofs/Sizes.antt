@@ -1,21 +1,15 @@
 -- What a near client sends fits a message.
-use Rattle.std.proofs.Common.{◌≡◌, ℕ, ◌+◌, ◌*◌, ◌<◌, ◌≤◌, ◌&&◌, true, List, [], ◌∷◌, ◌++◌, length, Some, refl, length-append, arith, lit<, lit≤}
-use Rattle.std.specs.Prelude.{ℤ, pos, nat_le, sum_by}
+use Rattle.std.proofs.Common.{◌≡◌, ℕ, ◌+◌, ◌*◌, ◌<◌, ◌≤◌, true, List, [], ◌∷◌, length, refl, arith, lit<, lit≤}
+use Rattle.std.specs.Prelude.{nat_le}
 use Rattle.std.proofs.lemmas.Bool.Decides.{nat_tests}
 use Rattle.std.proofs.lemmas.List.Elements.{All-nil, All-cons}
 use Rattle.std.specs.Str.{IsUtf8}
 use Rattle.frame_codec.specs.Laws.{IsWithinLimits}
-use Rattle.frame_codec.specs.declared.frames.Frame.{Frame}
 use Rattle.fixed_fields.specs.Responses.{unfragmented, final}
-use Rattle.message_frames.specs.Writing.{IsWritable}
 use Rattle.event_codecs.specs.Registrations.{invalidation_listener_kind}
-use Rattle.request_codecs.specs.Openings.{invalidations_correlation, registration_head, listener_frames}
+use Rattle.request_codecs.specs.Openings.{invalidations_correlation, registration_head}
 use Rattle.script_lang.specs.Limits.{most_line_bytes}
 use Rattle.script_run.specs.NearClients.{client_number}
-use Rattle.grid_client.specs.Calls.{correlation_of}
-use Rattle.grid_client.specs.States.{get_of}
-use Rattle.session_core.specs.Places.{partition_of_key}
-use Rattle.request_codecs.specs.Requests.{request}
 use Rattle.message_frames.specs.Assembly.{most_messages, most_length}
 use Rattle.near_runs.specs.Sessions.{MayOpen, MayGet}
 

@@ -1,27 +1,23 @@
 -- What holds of the run after each line.
-use Rattle.std.proofs.Common.{◌≡◌, ℕ, ◌+◌, ◌*◌, ◌<◌, ◌≤◌, ◌^◌, Bool, false, List, [], ◌∷◌, ◌++◌, length, Some, None, refl, ap, sym, ◌∙◌, subst, arith, lit≤}
-use Rattle.grid_base.specs.Limits.{most_bytes}
-use Rattle.grid_base.specs.Objects.{Object}
+use Rattle.std.proofs.Common.{◌≡◌, ℕ, ◌+◌, ◌*◌, ◌<◌, ◌≤◌, ◌^◌, false, List, [], length, refl, sym, subst, arith, lit≤}
 use Rattle.grid_base.specs.declared.names.CallId.{CallId}
-use Rattle.grid_base.specs.declared.calls.Request.{Request}
 use Rattle.message_frames.specs.Assembly.{most_messages}
-use Rattle.object_store.specs.Partitions.{Partition}
 use Rattle.call_engine.specs.Calls.{Settings}
 use Rattle.call_engine.specs.Objects.{partition_object}
 use Rattle.script_lang.specs.Limits.{most_lines, most_line_bytes}
 use Rattle.script_lang.specs.Lines.{IsWithin}
 use Rattle.script_lang.specs.declared.line.Line.{Line}
 use Rattle.script_lang.specs.declared.line.Line.TheVariants as line
-use Rattle.replay_run.specs.Runs.{Run, begun, events_at}
-use Rattle.replay_run.specs.ScriptRuns.{IsRun, grid_begun}
-use Rattle.replay_run.specs.Grids.{IsSmall, AreFew, IsBounded, most_arriving}
+use Rattle.replay_run.specs.Runs.{Run, begun}
+use Rattle.replay_run.specs.ScriptRuns.{grid_begun}
+use Rattle.replay_run.specs.Grids.{most_arriving}
 use Rattle.replay_run.specs.AfterLines.{after_line}
 use Rattle.replay_run.proofs.Bounds.{messages_fewer, arrivals_fewer, stays_few, stays_small, line_within}
 use Rattle.replay_run.proofs.LineBounds.{line_bounded}
 use Rattle.replay_run.proofs.Lines.{line_run}
 use Rattle.partition_protocol.proofs.Lists.{in_contains}
 use Rattle.near_runs.specs.Messages.{sent_to}
-use Rattle.near_runs.specs.Modest.{IsModest, AreProper}
+use Rattle.near_runs.specs.Modest.{IsModest}
 use Rattle.near_runs.proofs.Proper.{every_line_stays_proper}
 use Rattle.near_scripts.proofs.Lives.{line_together}
 use Rattle.near_scripts.proofs.Connections.{BringsSome, keeps_listeners, keeps_members}
@@ -63,12 +59,12 @@ pub modest : (settings : Settings) (r : Run) (c : ℕ) (name : List ℕ) → Sta
 modest settings r c name s short room = record {
   members = s.members;
   few = λ p.
-    let few = s.few p in
-    let come = arrivals_fewer r s.run in
-    let fewer = messages_fewer r in
-    let small = s.small in
-    let lines = s.bounded.lines in
-    omega (arith, few, come, fewer, small, lines);
+      let few = s.few p in
+      let come = arrivals_fewer r s.run in
+      let fewer = messages_fewer r in
+      let small = s.small in
+      let lines = s.bounded.lines in
+      omega (arith, few, come, fewer, small, lines);
   proper = s.proper;
   short = omega (arith, short);
   room = room;

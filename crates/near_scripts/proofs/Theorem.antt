@@ -1,5 +1,5 @@
 -- What the near clients of scripts hit stands.
-use Rattle.std.proofs.Common.{◌≡◌, None, Some, sym, ◌∙◌, subst, inl, inr, ap, length, ◌≤◌}
+use Rattle.std.proofs.Common.{◌≡◌, None, Some, sym, ◌∙◌, subst, inl, inr, length, ◌≤◌}
 use Rattle.message_frames.specs.Assembly.{most_messages}
 use Rattle.near_runs.specs.Messages.{sent_to}
 use Rattle.script_run.specs.Laws.{run_with}

@@ -6,8 +6,8 @@ use Rattle.event_codecs.specs.Events.{event_of}
 use Rattle.event_codecs.specs.declared.events.ClientEvent.{ClientEvent}
 use Rattle.event_codecs.specs.declared.events.ClientEvent.TheVariants as event
 use Rattle.event_codecs.specs.declared.seen.SeenRow.{SeenRow}
-use Rattle.grid_client.specs.Nears.{Near, Value, hit, invalidated, cleared, new_near}
-use Rattle.grid_client.specs.Calls.{is_answered_by, answered_number, awaited_number, number_in}
+use Rattle.grid_client.specs.Nears.{Near, invalidated, cleared, new_near}
+use Rattle.grid_client.specs.Calls.{answered_number, awaited_number, number_in}
 use Rattle.grid_client.specs.Messages.{head_of, accepted_of}
 use Rattle.grid_client.specs.Rows.{version_in}
 use Rattle.grid_client.specs.States.{State}

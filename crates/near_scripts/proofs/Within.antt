@@ -1,5 +1,5 @@
 -- What the grid runs at a line of a script is within its limits: near clients have short names.
-use Rattle.std.proofs.Common.{◌≡◌, ℕ, ◌*◌, ◌≤◌, Bool, true, false, cond, ◌==◌, List, [], ◌∷◌, ◌++◌, length, map, Option, Some, None, refl, ap, sym, ◌∙◌, subst, arith}
+use Rattle.std.proofs.Common.{◌≡◌, ℕ, ◌*◌, ◌≤◌, Bool, true, false, cond, ◌==◌, List, [], ◌∷◌, ◌++◌, length, map, Option, Some, None, refl, subst, arith}
 use Rattle.std.specs.List.{find}
 use Rattle.grid_base.specs.Objects.{Object}
 use Rattle.grid_base.specs.declared.names.CallId.{CallId}
@@ -13,11 +13,11 @@ use Rattle.script_lang.specs.Limits.{most_line_bytes}
 use Rattle.script_lang.specs.Lines.{IsWithin}
 use Rattle.script_lang.specs.declared.line.Line.{Line}
 use Rattle.script_lang.specs.declared.line.Line.TheVariants as line
-use Rattle.replay_run.specs.Runs.{Run, Appended}
+use Rattle.replay_run.specs.Runs.{Appended}
 use Rattle.replay_run.specs.AfterLines as grid
 use Rattle.replay_run.specs.Appending.{new_messages}
 use Rattle.replay_run.specs.Grids.{most_arriving}
-use Rattle.script_run.specs.NearClients.{NearClient, is_near, new_near, opening_of, value_kept, used, missed, get_sent, fed}
+use Rattle.script_run.specs.NearClients.{NearClient, is_near, new_near, opening_of, value_kept, used, missed, fed}
 use Rattle.script_run.specs.Runs.{ScriptRun, near_of, is_near_connection, can_begin, Look, Unmade, Hit, Miss, look_at, look_of, may_look, look, asked_line, grid_line, changed, after_look, nears_by}
 use Rattle.script_run.specs.AfterLines.{noting, after_line}
 use Rattle.script_run.specs.Grids.{IsOnOne}
