@@ -1,5 +1,5 @@
 -- A near client that was handed the next bytes of its connection's output.
-use Rattle.std.proofs.Common.{◌≡◌, ℕ, ◌+◌, ◌-◌, ◌≤◌, min, List, ◌++◌, length, take, drop, ap, sym, ◌∙◌, length-take, length-drop, drop-drop, arith}
+use Rattle.std.proofs.Common.{◌≡◌, ℕ, ◌+◌, ◌-◌, ◌≤◌, min, List, length, take, drop, ap, sym, ◌∙◌, length-take, length-drop, drop-drop, arith}
 use Rattle.std.proofs.lemmas.List.{take_min, drop_min}
 use Rattle.grid_client.specs.Hearing.{Told, HasFed, told_by_piece}
 use Rattle.grid_client.specs.States.{State}

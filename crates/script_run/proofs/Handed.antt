@@ -1,5 +1,5 @@
 -- The client at a place did its part of a line: it looked a key up, or was handed the next bytes of its output.
-use Rattle.std.proofs.Common.{◌≡◌, ℕ, ◌*◌, ◌≤◌, cond, List, length, get_or, set, Option, Some, None, subst}
+use Rattle.std.proofs.Common.{◌≡◌, ℕ, cond, List, get_or, set, Some, None, subst}
 use Rattle.call_engine.specs.Calls.{Settings}
 use Rattle.call_engine.specs.Objects.{partition_object}
 use Rattle.grid_client.specs.Nears.{Value}
@@ -11,8 +11,8 @@ use Rattle.replay_run.specs.Grids.{FormOf}
 use Rattle.script_run.specs.declared.client.NearClient.{NearClient as KeptClient}
 use Rattle.script_run.specs.declared.grid.ScriptGrid.{ScriptGrid}
 use Rattle.script_run.specs.NearClients.{NearClient, used, get_sent, missed, fed}
-use Rattle.script_run.specs.Runs.{ScriptRun, Hit, Miss, near_of, may_look, look, changed}
-use Rattle.script_run.specs.Grids.{IsNear, AreNear, IsOnOne, Stands, is_kept, place_in}
+use Rattle.script_run.specs.Runs.{ScriptRun, Hit, Miss, may_look, look, changed}
+use Rattle.script_run.specs.Grids.{IsNear, AreNear, IsOnOne, Stands, place_in}
 use Rattle.script_run.proofs.LookUps.{hit_there, miss_there, made, may_if}
 use Rattle.script_run.proofs.Nears.{Pair, near_at, near_set}
 

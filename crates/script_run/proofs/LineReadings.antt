@@ -1,5 +1,5 @@
 -- The text of a line that may append messages tells those that it appended.
-use Rattle.std.proofs.Common.{◌≡◌, ℕ, ◌+◌, ◌<◌, ◌≤◌, ◌==◌, Bool, true, false, not, cond, List, [], ◌∷◌, ◌++◌, length, drop, Option, Some, None, refl, ap, sym, ◌∙◌, subst, append_assoc, append-nil, arith}
+use Rattle.std.proofs.Common.{◌≡◌, ℕ, ◌<◌, Bool, true, false, not, cond, List, [], ◌∷◌, ◌++◌, length, drop, Option, Some, None, refl, ap, sym, ◌∙◌, subst, append_assoc, arith}
 use Rattle.std.specs.Prelude.{codes}
 use Rattle.std.specs.Fmt.{decimal}
 use Rattle.std.specs.List.{flat_map, list_all}
@@ -29,14 +29,14 @@ use Rattle.replay_run.specs.Runs.{Run, Connection, At, Appended, connection_of, 
 use Rattle.replay_run.specs.AfterLines.{after_line}
 use Rattle.replay_run.specs.Appending.{appended_text, new_messages}
 use Rattle.replay_run.specs.Dumps.{number, line_end}
-use Rattle.replay_run.specs.Printing.{ok_text, nothing_text, words_line, words_of, done_word, fate_words, took_word, move_refused_word, reopen_refused_word, fault_word, close_text, closing_text, flow_text, new_events, event_text, fate_text, outcome_at, does_nothing, line_text}
+use Rattle.replay_run.specs.Printing.{ok_text, nothing_text, words_of, done_word, fate_words, took_word, move_refused_word, reopen_refused_word, fault_word, close_text, closing_text, flow_text, new_events, event_text, fate_text, outcome_at, does_nothing, line_text}
 use Rattle.replay_run.specs.Rebalancing.{stepped, stepped_all, rebalanced, steps_in, plan_in, is_moving_at}
-use Rattle.replay_run.specs.RebalancingTexts.{kind_word, step_text, steps_text, plan_text, end_word, end_text, ran_text, ran_texts}
+use Rattle.replay_run.specs.RebalancingTexts.{kind_word, step_text, plan_text, end_text, ran_text, ran_texts}
 use Rattle.replay_run.specs.WorldCalls.{is_quiet}
-use Rattle.replay_run.proofs.Growing.{Grows, stepped_grows, stepped_all_grows}
+use Rattle.replay_run.proofs.Growing.{stepped_grows, stepped_all_grows}
 use Rattle.replay_run.proofs.LineTexts.{new_more}
 use Rattle.script_run.specs.Outputs.{sent_to, bytes_to}
-use Rattle.script_run.specs.Reading.{Adds, Tells, beginning, lines_in}
+use Rattle.script_run.specs.Reading.{Tells}
 use Rattle.script_run.proofs.ReadBack.{stays, all_both, decimal_stays, number_stays, Reads, reads_none, reads_both, reads_behind, reads_before, IsQuiet, reads_quiet, reads_messages, reads_whole}
 
 -- nothing was appended

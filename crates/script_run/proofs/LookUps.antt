@@ -9,11 +9,11 @@ use Rattle.object_store.specs.Partitions.{Partition}
 use Rattle.session_core.specs.Places.{partition_of_key}
 use Rattle.grid_client.specs.Nears.{Near, Value, hit, used as used_in, opened}
 use Rattle.grid_client.specs.Calls.{asked_call, sending_of}
-use Rattle.grid_client.specs.States.{State, looked, asking, target, get_of, opening_look_up, HasHit, HasMissed, HasAsked}
+use Rattle.grid_client.specs.States.{State, looked, asking, get_of, opening_look_up, HasHit, HasMissed}
 use Rattle.grid_client.specs.declared.heard.Sending.{Sending}
 use Rattle.script_run.specs.declared.client.NearClient.{NearClient as KeptClient}
 use Rattle.script_run.specs.NearClients.{NearClient, value_kept, map_name, used, get_sent, missed}
-use Rattle.script_run.specs.Runs.{ScriptRun, Look, Unmade, Hit, Miss, near_of, may_look, look, look_of, look_at}
+use Rattle.script_run.specs.Runs.{ScriptRun, Unmade, near_of, may_look, look, look_of, look_at}
 use Rattle.script_run.specs.Grids.{IsNear, AreNear, IsOnOne, is_kept}
 use Rattle.script_run.proofs.Nears.{none_found}
 use Rattle.script_run.proofs.OneConnection.{target_one, used_one, missed_one}

@@ -1,22 +1,19 @@
 -- The lines of near clients: what they come to in the run of a script.
-use Rattle.std.proofs.Common.{◌≡◌, ℕ, ◌+◌, ◌*◌, ◌≤◌, Bool, true, false, not, cond, List, [], ◌∷◌, ◌++◌, length, Option, Some, None, refl, ap, sym, ◌∙◌, subst, append_assoc, append-nil, arith, Vec, Global}
+use Rattle.std.proofs.Common.{◌≡◌, ℕ, ◌+◌, ◌*◌, ◌≤◌, Bool, true, false, List, [], ◌∷◌, ◌++◌, length, Some, None, refl, ap, sym, ◌∙◌, subst, append_assoc, append-nil, Vec, Global}
 use Rattle.std.specs.Prelude.{codes, decimal}
 use Rattle.std.specs.List.{flat_map}
-use Rattle.grid_base.specs.Objects.{Object}
-use Rattle.grid_base.specs.declared.calls.Request.{Request}
 use Rattle.grid_base.specs.declared.names.CallId.{CallId}
 use Rattle.call_engine.specs.Calls.{Settings}
 use Rattle.call_engine.specs.Objects.{partition_object}
-use Rattle.object_store.specs.Partitions.{Partition}
 use Rattle.grid_client.specs.Nears.{Value}
 use Rattle.grid_client.specs.declared.heard.Heard.{Heard}
-use Rattle.script_lang.specs.Limits.{most_lines, most_line_bytes}
+use Rattle.script_lang.specs.Limits.{most_lines}
 use Rattle.script_lang.specs.declared.line.Line.{Line}
 use Rattle.script_lang.specs.declared.line.Line.TheVariants.{Arrive, Near, NearGet, NearFeed, Comment}
 use Rattle.replay_run.specs.Grids.{FormOf, most_arriving}
 use Rattle.replay_run.specs.Printing.{ok_text, nothing_text, words_line}
 use Rattle.replay_run.specs.Printing as grid_text
-use Rattle.replay_run.specs.Runs.{Run, connection_of}
+use Rattle.replay_run.specs.Runs.{connection_of}
 use Rattle.replay_run.proofs.SkipLaws.{line_counts}
 use Rattle.script_run.specs.declared.client.NearClient.{NearClient as KeptClient}
 use Rattle.script_run.specs.declared.grid.ScriptGrid.{ScriptGrid}
@@ -24,7 +21,7 @@ use Rattle.script_run.specs.NearClients.{NearClient, opening_of, new_near, used,
 use Rattle.script_run.specs.Runs.{ScriptRun, Look, Unmade, Hit, Miss, near_of, can_begin, look, asked_line, after_look, changed, grid_line, nears_by, takes}
 use Rattle.script_run.specs.AfterLines.{played}
 use Rattle.script_run.specs.Printing.{brought, hit_text, look_text, heard_text, fed_text, line_text}
-use Rattle.script_run.specs.Grids.{AreNear, AreSpoken, Stands, MayRun, HasRun, IsGivenUp, IsGivenUpAt, MayPlay, HasPlayed, HasCounted, HasSent, MaySend, IsOnOne, Goes}
+use Rattle.script_run.specs.Grids.{AreNear, AreSpoken, Stands, MayRun, HasRun, IsGivenUp, IsGivenUpAt, MayPlay, HasPlayed, HasCounted, HasSent, MaySend}
 use Rattle.script_run.proofs.Nears.{none_changed}
 use Rattle.script_run.proofs.Playing.{if_true, if_false, mid, ran_as, ran_counted, ran_passed, given_up_at}
 use Rattle.script_run.proofs.Sending.{text_of_bytes, nothing_brought}

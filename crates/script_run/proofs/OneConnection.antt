@@ -10,14 +10,14 @@ use Rattle.event_codecs.specs.Events.{event_of}
 use Rattle.event_codecs.specs.declared.events.ClientEvent.{ClientEvent}
 use Rattle.event_codecs.specs.declared.events.ClientEvent.TheVariants.{Entry, Invalidation, Rows}
 use Rattle.event_codecs.specs.declared.seen.SeenRow.{SeenRow}
-use Rattle.near_protocol.specs.Client.{LookUp, Overtaking}
-use Rattle.grid_client.specs.Nears.{Near, Value, Look, look_up, closed, kept, filled, answered, used, opened, invalidated, cleared, has_number, new_near as near_of_map}
+use Rattle.near_protocol.specs.Client.{Overtaking}
+use Rattle.grid_client.specs.Nears.{Near, Value, Look, look_up, closed, kept, filled, answered, used, opened, invalidated, cleared, new_near as near_of_map}
 use Rattle.grid_client.specs.Rows.{version_in, leader_in}
 use Rattle.grid_client.specs.Calls.{answered_number}
 use Rattle.grid_client.specs.Connections.{is_conn, is_to, target_of, with_uuid, with_reader}
 use Rattle.grid_client.specs.Messages.{head_of, code_of, value_of, accepted_of}
 use Rattle.grid_client.specs.States.{State, looked, target}
-use Rattle.grid_client.specs.Hearing.{Told, nothing, near_answered, told_by_answer, is_near_map, told_by_invalidation, clearing, cleared_by, knowing_row, told_by_row, told_by_rows, told_by_event, is_welcome, welcomed, told_otherwise, told_by_number, told_by_head, told_by_message, told_by_messages, HasHeard, messages_by, reading}
+use Rattle.grid_client.specs.Hearing.{Told, nothing, near_answered, told_by_answer, is_near_map, clearing, cleared_by, knowing_row, told_by_row, told_by_rows, told_by_event, is_welcome, welcomed, told_by_number, told_by_head, told_by_message, told_by_messages, HasHeard, messages_by, reading}
 use Rattle.grid_client.specs.declared.connections.Connection.{Connection}
 use Rattle.script_lang.specs.Limits.{most_line_bytes}
 use Rattle.script_run.specs.NearClients.{NearClient, piece, told, missed, new_near}

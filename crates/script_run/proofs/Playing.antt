@@ -1,14 +1,11 @@
 -- What the grid runs at a line, and what that makes of the run of a script.
-use Rattle.std.proofs.Common.{◌≡◌, ◌≢◌, ℕ, ◌+◌, ◌*◌, ◌≤◌, true, false, not, cond, List, [], ◌∷◌, ◌++◌, length, length-append, map, drop, refl, ap, sym, ◌∙◌, subst, arith, Vec, Global, Bool}
+use Rattle.std.proofs.Common.{◌≡◌, ◌≢◌, ℕ, ◌+◌, ◌≤◌, true, false, not, cond, List, [], ◌++◌, length, length-append, map, drop, refl, ap, sym, ◌∙◌, subst, arith, Vec, Global, Bool}
 use Rattle.std.proofs.lemmas.List.{drop_at}
-use Rattle.grid_base.specs.Objects.{Object}
 use Rattle.grid_base.specs.declared.names.CallId.{CallId}
-use Rattle.grid_base.specs.declared.calls.Request.{Request}
 use Rattle.call_engine.specs.Calls.{Settings}
 use Rattle.call_engine.specs.Objects.{partition_object}
-use Rattle.object_store.specs.Partitions.{Partition}
 use Rattle.partition_protocol.proofs.Lists.{in_contains}
-use Rattle.script_lang.specs.Limits.{most_lines, most_line_bytes}
+use Rattle.script_lang.specs.Limits.{most_line_bytes}
 use Rattle.script_lang.specs.Lines.{IsWithin}
 use Rattle.script_lang.specs.declared.line.Line.{Line}
 use Rattle.script_lang.specs.declared.line.Line.TheVariants.{Arrive, Near, NearGet, NearFeed, Comment}
@@ -20,7 +17,6 @@ use Rattle.replay_run.specs.Printing as grid_text
 use Rattle.replay_run.specs.Runs.{Run, Appended}
 use Rattle.replay_run.specs.Skips.{AreOfLine}
 use Rattle.replay_run.specs.WorldCalls.{is_quiet}
-use Rattle.script_run.specs.declared.client.NearClient.{NearClient as KeptClient}
 use Rattle.script_run.specs.declared.grid.ScriptGrid.{ScriptGrid}
 use Rattle.script_run.specs.NearClients.{NearClient}
 use Rattle.script_run.specs.Runs.{ScriptRun, grid_line, nears_by, is_near_connection}

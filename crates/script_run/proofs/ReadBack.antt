@@ -1,22 +1,21 @@
 -- A text whose lines are messages, and others that are none, tells these messages.
-use Rattle.std.proofs.Common.{◌≡◌, ℕ, zero, suc, ◌+◌, ◌<◌, ◌≤◌, ◌==◌, ◌&&◌, Bool, true, false, not, cond, List, [], ◌∷◌, ◌++◌, length, take, drop, get_or, Ok, Result, All, refl, ap, sym, ◌∙◌, subst, append_assoc, append-nil, arith}
+use Rattle.std.proofs.Common.{◌≡◌, ℕ, suc, ◌+◌, ◌<◌, ◌==◌, ◌&&◌, Bool, true, false, not, cond, List, [], ◌∷◌, ◌++◌, length, drop, get_or, Ok, Result, All, refl, ap, sym, ◌∙◌, subst, append_assoc, append-nil, arith}
 use Rattle.std.specs.Prelude.{codes, nat_eq}
 use Rattle.std.specs.Fmt.{decimal}
-use Rattle.std.specs.List.{list_all, flat_map, slice_split, after_first, position_or_len}
-use Rattle.std.specs.Cmp.Lexicographic.{pointwise}
+use Rattle.std.specs.List.{list_all, flat_map, slice_split, position_or_len}
 use Rattle.std.proofs.lemmas.Bool.Decides.{nat_tests}
 use Rattle.std.proofs.lemmas.List.{drop_at, get_or_at, get_or_append_left, length_push, length-append}
 use Rattle.std.proofs.lemmas.List.Folds.{list_all-append}
 use Rattle.std.proofs.lemmas.List.Splits.{slice_split_at}
 use Rattle.std.proofs.lemmas.List.Sums.{AllPass-from_list_all, position_or_len_is}
-use Rattle.hex.specs.Hex.{decode_of, decode_pairs, encode_lower, lower_digits}
+use Rattle.hex.specs.Hex.{decode_of, decode_pairs, encode_lower}
 use Rattle.hex.specs.declared.error.FromHexError.{FromHexError}
 use Rattle.replay_run.specs.Runs.{Appended}
 use Rattle.replay_run.specs.Dumps.{number, line_end}
 use Rattle.replay_run.specs.Printing.{words_line}
 use Rattle.replay_run.specs.Appending.{appended_text}
 use Rattle.script_run.specs.Outputs.{bytes_to, sent_to}
-use Rattle.script_run.specs.Reading.{beginning, behind_word, begins_so, stripped, digits_told, lines_in, Adds, Tells}
+use Rattle.script_run.specs.Reading.{beginning, behind_word, begins_so, stripped, digits_told, lines_in, Adds}
 use Rattle.script_run.proofs.Digits.{decimal_passes, digits_pass, spelled_small, read_again}
 
 -- lines and words

@@ -1,11 +1,10 @@
 -- What holds of the grid's runs holds of those of scripts, whose grid runs lines of its own.
-use Rattle.std.proofs.Common.{◌≡◌, ℕ, ◌≤◌, List, [], ◌∷◌, map, refl, ap, sym, ◌∙◌, subst}
+use Rattle.std.proofs.Common.{◌≡◌, List, [], ◌∷◌, map, refl, ap, sym, ◌∙◌, subst}
 use Rattle.grid_base.specs.declared.names.CallId.{CallId}
 use Rattle.call_engine.specs.Calls.{Settings}
 use Rattle.call_engine.specs.Objects.{partition_object}
 use Rattle.script_lang.specs.declared.line.Line.{Line}
 use Rattle.replay_run.specs.Runs.{Run}
-use Rattle.replay_run.specs.Runs as grid
 use Rattle.replay_run.specs.Appending.{new_messages}
 use Rattle.replay_run.specs.Linearizability.{IsLinearizable}
 use Rattle.replay_run.specs.SkippedCalls.{TellsOfSkips, TellsOfNoSkip}

@@ -1,5 +1,5 @@
 -- How many bytes near clients send.
-use Rattle.std.proofs.Common.{◌≡◌, ℕ, ◌+◌, ◌*◌, ◌≤◌, ◌++◌, List, [], length, Some, length-append, ap, ◌∙◌, arith}
+use Rattle.std.proofs.Common.{◌≡◌, ℕ, ◌+◌, ◌*◌, ◌≤◌, List, [], length, length-append, ap, arith}
 use Rattle.std.specs.Option.{option_map_or}
 use Rattle.session_core.specs.Places.{partition_of_key}
 use Rattle.grid_client.specs.Nears.{Near}

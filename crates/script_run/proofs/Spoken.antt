@@ -1,8 +1,7 @@
 -- On which connections a byte has arrived.
-use Rattle.std.proofs.Common.{◌≡◌, ◌≢◌, ℕ, zero, suc, ◌+◌, ◌≤◌, ◌<◌, ◌==◌, ◌||◌, Bool, true, false, not, cond, List, [], ◌∷◌, ◌++◌, length, replicate, Option, Some, None, option_map, refl, ap, sym, ◌∙◌, subst, ⊎_elim, arith, Vec, Global}
+use Rattle.std.proofs.Common.{◌≡◌, ◌≢◌, ℕ, zero, suc, ◌≤◌, ◌<◌, ◌==◌, ◌||◌, Bool, true, false, not, cond, List, [], ◌∷◌, ◌++◌, length, replicate, Option, Some, None, refl, ap, sym, ◌∙◌, subst, arith, Vec, Global}
 use Rattle.std.specs.Prelude.{slice_get, slice_set, is_some, option_and_then}
 use Rattle.std.specs.List.{find}
-use Rattle.std.proofs.lemmas.Bool.{cases_eq}
 use Rattle.std.proofs.lemmas.Bool.Decides.{nat_tests}
 use Rattle.grid_base.specs.Objects.{Object}
 use Rattle.grid_base.specs.declared.names.CallId.{CallId}
@@ -15,9 +14,8 @@ use Rattle.partition_protocol.specs.Service.{numbers_below}
 use Rattle.partition_protocol.proofs.Lists.{on_if}
 use Rattle.script_lang.specs.declared.line.Line.{Line}
 use Rattle.script_lang.specs.declared.line.Line.TheVariants.{OpenConn, Arrive, Clock, Flow, FlowAll, Crash, Detect, Rebalance}
-use Rattle.replay_run.specs.Runs.{Run, Connection, begun, partitions, is_connection, connection_of, takes_bytes, can_open, opened, updated, with_bytes, took_bytes, items_by, handled_all, bytes_arrived, next_line, clock_set, flowed, flowed_in, takes_in, event_by}
-use Rattle.replay_run.specs.AfterLines.{after_event, after_line}
-use Rattle.replay_run.specs.Rebalancing.{rebalanced}
+use Rattle.replay_run.specs.Runs.{Run, Connection, begun, partitions, is_connection, connection_of, takes_bytes, can_open, opened, updated, with_bytes, took_bytes, items_by, handled_all, bytes_arrived, next_line, event_by}
+use Rattle.replay_run.specs.AfterLines.{after_line}
 use Rattle.replay_run.specs.WorldCalls.{member_if_open, open_member_in}
 use Rattle.replay_run.proofs.EventRuns.{Kept, flowed_kept, flowed_in_kept, takes_in_kept}
 use Rattle.replay_run.proofs.Rebalanced.{rebalanced_kept}

@@ -1,8 +1,6 @@
 -- The client of a near connection, and what it does at the lines of a script.
-use Rattle.std.specs.Prelude.{ℕ, ◌+◌, ◌==◌, Bool, List, [], ◌∷◌, ◌++◌, take, drop, Option, Some, None, option_and_then}
-use Rattle.std.specs.List.{flat_map}
+use Rattle.std.specs.Prelude.{ℕ, ◌+◌, ◌==◌, Bool, List, [], ◌++◌, take, drop, Option, Some, option_and_then}
 use Rattle.std.specs.Option.{option_map_or}
-use Rattle.grid_base.specs.declared.calls.GridCall.{GridCall}
 use Rattle.session_core.specs.Places.{partition_of_key}
 use Rattle.request_codecs.specs.Openings.{opening}
 use Rattle.grid_client.specs.Nears.{Near, Value, hit}

@@ -1,5 +1,5 @@
 -- How the code reads back, from the text of a line, what that appended.
-use Rattle.std.specs.Prelude.{◌≡◌, ℕ, ◌==◌, ◌≤◌, if◌then◌else◌, nat_eq, Bool, List, [], ◌∷◌, ◌++◌, length, take, drop, codes, Result, Ok}
+use Rattle.std.specs.Prelude.{◌≡◌, ℕ, ◌==◌, ◌≤◌, if◌then◌else◌, nat_eq, Bool, List, [], ◌∷◌, ◌++◌, length, take, drop, codes, Ok}
 use Rattle.std.specs.List.{slice_split, after_first}
 use Rattle.std.specs.Cmp.Lexicographic.{pointwise}
 use Rattle.hex.specs.Hex.{decode_of}

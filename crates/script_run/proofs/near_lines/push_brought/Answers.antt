@@ -1,4 +1,4 @@
-use Rattle.std.proofs.Common.{◌≡◌, ℕ, List, ◌++◌, length, drop, length-append, ap, sym, ◌∙◌, arith}
+use Rattle.std.proofs.Common.{ℕ, List, ◌++◌, length, drop, length-append, ap, sym, ◌∙◌, arith}
 use Rattle.std.proofs.lemmas.List.{drop_at, take_rest}
 use Rattle.std.proofs.lemmas.Result.{on_ok_weaker}
 use Rattle.replay_run.specs.Printing.{ok_text}

@@ -1,4 +1,4 @@
-use Rattle.std.proofs.Common.{◌≡◌, true, false, is_some, ap, sym, ◌∙◌}
+use Rattle.std.proofs.Common.{is_some, ap, sym, ◌∙◌}
 use Rattle.std.proofs.lemmas.Result.{on_ok_weaker}
 use Rattle.script_run.proofs.Nears.{near_here, not_near_here}
 use Rattle.script_run.proofs.Playing.{may_run_as, may_count, may_play, may_play_as, next_number, goes_as, ran_bytes, given_up_bytes, ran_refused}

@@ -1,4 +1,4 @@
-use Rattle.std.proofs.Common.{◌≡◌, None, sym, ◌∙◌}
+use Rattle.std.proofs.Common.{None, sym, ◌∙◌}
 use Rattle.call_engine.specs.Objects.{partition_object}
 use Rattle.script_run.specs.Runs.{may_look}
 use Rattle.script_run.specs.Grids.{place_in}

@@ -1,11 +1,11 @@
-use Rattle.std.proofs.Common.{◌≡◌, ℕ, drop, length, Err, ap, sym, ◌∙◌, arith}
+use Rattle.std.proofs.Common.{◌≡◌, ℕ, drop, length, Err, ap, ◌∙◌, arith}
 use Rattle.std.proofs.lemmas.List.{take_rest}
 use Rattle.replay_run.specs.Appending.{new_messages}
 use Rattle.replay_run.specs.WorldCalls.{is_quiet}
 use Rattle.replay_run.specs.declared.run_end.RunEnd.TheVariants.{InFlight}
 use Rattle.replay_run.proofs.Asking.{handed_on}
 use Rattle.script_run.specs.AfterLines.{played}
-use Rattle.script_run.proofs.Playing.{grid_may, has_played, has_played_quietly, printed_tells, given_up_played, quiet_by, busy_by, longer_text}
+use Rattle.script_run.proofs.Playing.{grid_may, has_played, has_played_quietly, printed_tells, given_up_played, quiet_by, busy_by}
 use Rattle.script_run.proofs.grid.ScriptGrid.run_on_grid.Goals as goal
 
 pub run_line-requires : goal.run_line-requires

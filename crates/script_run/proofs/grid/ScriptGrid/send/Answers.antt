@@ -1,5 +1,4 @@
 use Rattle.std.proofs.Common.{Err, ap, sym, ◌∙◌}
-use Rattle.script_lang.specs.declared.line.Line.TheVariants.{Arrive}
 use Rattle.replay_run.specs.declared.run_end.RunEnd.TheVariants.{InFlight}
 use Rattle.replay_run.proofs.Asking.{handed_on}
 use Rattle.script_run.proofs.Playing.{goes_as, may_play_as}
