@@ -178,7 +178,7 @@ runs_linearize s members backups skips texts some =
     let run = run_of_lines s skips (begun members backups) texts in
     subst (λ (x : ScriptRun). IsLinearizable s x.run) (sym run.1) (every_run_is_linearizable s members backups skips run.0 some)
 
-first_within : (text : List ℕ) (line : Line) → line_of true 0 text ≡ Ok line → IsWithin 0 (length text) line
+pub first_within : (text : List ℕ) (line : Line) → line_of true 0 text ≡ Ok line → IsWithin 0 (length text) line
 first_within [] line e = IsWithin-words_of true 0 [] line (λ f. absurd (cc f)) e
 first_within (byte ∷ bytes) line e = IsWithin-words_of true 0 (byte ∷ bytes) line (λ f. absurd (cc f)) e
 

@@ -11,3 +11,4 @@ pub mod ReplayRuns
 pub mod CommandLaws
 pub mod PrintedRuns
 pub mod SkippedCalls
+pub mod NearHits

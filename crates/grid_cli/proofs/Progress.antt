@@ -68,7 +68,7 @@ later_line s k limit r text texts line read =
 
 pub run_line : (o : Settings) (s : List CallId) (r : ScriptRun) (text : List ℕ) (texts : List (List ℕ)) (line : Line) → line_of false r.run.members text ≡ Ok line
     → run_after o s r (text ∷ texts) ≡ run_after o s (after_line o s r line) texts
-run_line by s r text texts line read = ap (λ (x : Result Line LineWhy). elim x [ Err why ↦ r | Ok l ↦ run_after o s (after_line o s r l) texts ]) read
+run_line o s r text texts line read = ap (λ (x : Result Line LineWhy). elim x [ Err why ↦ r | Ok l ↦ run_after o s (after_line o s r l) texts ]) read
 
 module _ (forms : List ProcessorForm) (capacity : ℕ) (r : ScriptRun) (skips : List CallId) (done : List (List ℕ)) (written text : List ℕ) (at : IsAt forms capacity r skips done written)
     (line : Line) (read : line_of false r.run.members text ≡ Ok line)

@@ -2,6 +2,7 @@ ghost use Rattle.std.specs.Prelude.{◌≡◌, ◌≢◌, ◌↔◌, ℕ, List, 
 ghost use Rattle.grid_edge.specs.Faults.{Rose};
 ghost use Rattle.grid_cli.specs.Statuses.{ReadsAndWrites};
 ghost use Rattle.grid_cli.specs.Commands.{is_replay, PrintsHistories};
+ghost use Rattle.grid_cli.specs.NearHits.{PrintsHits};
 
 use crate::replay::run_script;
 use crate::status::Status;
@@ -43,6 +44,10 @@ pub fn replay_command<S: Source, K: Sink>(
     // call in it once.
     // Whatever the status, and whichever line prints it.
     ensures headline { PrintsHistories (map form processors.items) result (S.left script.old) (S.left script.new) (K.taken out.old) (K.taken out.new) }
+    // A value that a near client hits is the reply of a get of its own in the key's history, after each write that an
+    // invalidation named which it has heard; where it has read all that was sent to it of the key, after each answered write
+    // of a version that its member knows.
+    ensures hits { PrintsHits (map form processors.items) result (S.left script.old) (S.left script.new) (K.taken out.old) (K.taken out.new) }
 {
     if !is_replay_command(words) {
         return Status::Usage;

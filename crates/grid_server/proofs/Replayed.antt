@@ -3,6 +3,7 @@ use Rattle.std.proofs.Common.{◌≡◌, ℕ, List, Option, sym, subst}
 use Rattle.entry_processors.specs.declared.form.Form.{Form}
 use Rattle.entry_processors.specs.Processors.{ProcessorForm}
 use Rattle.grid_cli.specs.Commands.{PrintsHistories}
+use Rattle.grid_cli.specs.NearHits.{PrintsHits}
 use Rattle.grid_cli.specs.declared.status.Status.{Status}
 use Rattle.serve_options.specs.Options.{Words}
 use Rattle.grid_sample.specs.Samples.{HasSampled}
@@ -15,6 +16,9 @@ replayed_as words forms told status before after same replayed = subst (λ (s : 
 
 pub printed_as : (forms : List ProcessorForm) (told status : Status) (first left before after : Option (List ℕ)) → status ≡ told → PrintsHistories forms told first left before after → PrintsHistories forms status first left before after
 printed_as forms told status first left before after same printed = subst (λ (s : Status). PrintsHistories forms s first left before after) (sym same) printed
+
+pub hit_as : (forms : List ProcessorForm) (told status : Status) (first left before after : Option (List ℕ)) → status ≡ told → PrintsHits forms told first left before after → PrintsHits forms status first left before after
+hit_as forms told status first left before after same printed = subst (λ (s : Status). PrintsHits forms s first left before after) (sym same) printed
 
 -- the same of a sample, whose number is the one that the words give
 pub sampled_as : (asked number : ℕ) (forms : List Form) (before after : Operator) (outside closed : AtDoors) (ended : Ended) → asked ≡ number → after.script ≡ before.script → closed ≡ outside

@@ -88,6 +88,22 @@ const LINES: &[(u8, &str, &str)] = &[
     (3, "advance 270", "Ok(Advance { partition: 270 })"),
     (3, "reopen 0", "Ok(Reopen { partition: 0 })"),
     (3, "rebalance 271", "Ok(Rebalance { most: 271 })"),
+    // lines of near clients
+    (
+        1,
+        "near 63 6dFF 100000",
+        "Ok(Near { conn: 63, name: Bytes { content: [109, 255] }, capacity: 100000 })",
+    ),
+    (
+        1,
+        "nearget 0 00",
+        "Ok(NearGet { conn: 0, key: Bytes { content: [0] } })",
+    ),
+    (
+        1,
+        "nearfeed 7 1000000",
+        "Ok(NearFeed { conn: 7, most: 1000000 })",
+    ),
     // the first cause for which a line is refused
     (1, "", "Err(Why(Word))"),
     (1, "opens 0 0 0", "Err(Why(Word))"),
@@ -120,7 +136,7 @@ const LINES: &[(u8, &str, &str)] = &[
     (1, "rebalance 272", "Err(Why(Number))"),
     (1, "rebalance 00", "Err(Why(Number))"),
     (1, "near 0 6d 0", "Err(Why(Number))"),
-    (1, "near 0 6d 0", "Err(Why(Number))"),
+    (1, "near 0 6d", "Err(Why(Count))"),
     (1, "nearget 0 6", "Err(Why(Hex))"),
     (1, "nearfeed 0 0", "Err(Why(Number))"),
 ];

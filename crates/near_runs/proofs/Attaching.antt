@@ -63,7 +63,7 @@ module _ (settings : Settings) (r : Run) (k : Connection) (client : ℕ) (name :
   abbrev o : Object Request Partition
   o = partition_object settings
 
-  abbrev next : Run
+  abbrev pub next : Run
   next = near_opened (partition_object settings) r k name (opening client (Some name))
 
   whole : fault_of true (k.bytes ++ text) ≡ None
@@ -86,13 +86,13 @@ module _ (settings : Settings) (r : Run) (k : Connection) (client : ℕ) (name :
   abbrev line : ℕ
   line = r.lines + 1
 
-  abbrev known : List (ℕ × Row)
+  abbrev pub known : List (ℕ × Row)
   known = rows_known o next k.member
 
   abbrev message : List ℕ → Appended
   message bytes = own_answer line k.conn bytes
 
-  sent : sent_to k.conn next.appended
+  pub sent : sent_to k.conn next.appended
       ≡ sent_to k.conn r.appended ++ authentication_reply authentication_correlation true k.member ∷ registered_reply (registration.Invalidations invalidations_correlation name) ∷ registered_reply (registration.Rows rows_correlation) ∷ spelled (rows_frames rows_correlation known) ∷ []
   sent =
       let m1 = message (authentication_reply authentication_correlation true k.member) in
@@ -111,13 +111,13 @@ module _ (settings : Settings) (r : Run) (k : Connection) (client : ℕ) (name :
 
   -- the rows are those that the machine tells
 
-  abbrev row_told : ℕ → RowHeard
+  abbrev pub row_told : ℕ → RowHeard
   row_told p = record { partition = p; version = known_version k.member (world o (grid_of settings k.conn name client next) p) }
 
   there : (p : ℕ) → (n : Node) × (slice_get (world_at o next p).nodes k.member ≡ Some n)
   there p = got (world_at o next p).nodes k.member (subst (λ m. k.member < m) (sym (every_run_is_well_formed o p r.members r.backups (replay.events_at p r.events)).nodes) within)
 
-  rows_told : (ps : List ℕ) → map row_told ps ≡ map row_said (filter_map (known_at o next k.member) ps)
+  pub rows_told : (ps : List ℕ) → map row_told ps ≡ map row_said (filter_map (known_at o next k.member) ps)
   rows_told [] = refl
   rows_told (p ∷ ps) = go (there p) (rows_told ps)
     where

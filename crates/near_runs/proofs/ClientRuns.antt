@@ -8,7 +8,7 @@ use Rattle.event_codecs.specs.declared.events.ClientEvent.TheVariants as event
 use Rattle.event_codecs.specs.declared.seen.SeenRow.{SeenRow}
 use Rattle.call_engine.specs.Calls.{Settings}
 use Rattle.call_engine.specs.Objects.{partition_object}
-use Rattle.near_protocol.specs.Client.{Client, opened}
+use Rattle.near_protocol.specs.Client.{Client, Said, opened}
 use Rattle.near_protocol.specs.Near.{LooksUp, looked_up}
 use Rattle.grid_client.specs.Nears.{Near, Value, hit, new_near, invalidated}
 use Rattle.grid_client.specs.Calls.{answered_number, asked_call}
@@ -23,6 +23,7 @@ use Rattle.near_runs.specs.Maps.{keyed}
 use Rattle.near_runs.specs.Following.{Machine, step}
 use Rattle.near_runs.specs.NearRuns.{IsNearRun, went_aside, client_hit}
 use Rattle.near_runs.specs.Clients.{Head, GoesWith}
+use Rattle.near_runs.specs.Feeds.{all_said}
 use Rattle.near_runs.specs.ClientRuns.{IsClientRun, client_began, line_of_others, key_hit, key_missed, client_fed, EveryHitOfAClientRunStands}
 use Rattle.near_runs.proofs.Looks.{hits, misses}
 use Rattle.near_runs.proofs.OwnLines.{every_opening_line_is_followed}
@@ -80,19 +81,19 @@ messages_next c (message ∷ messages) s = messages_next c messages (told_by_mes
 
 -- ---- the run, the machine and the client go together
 
-record All (settings : Settings) (client : ℕ) (name : List ℕ) (r : Run) (s : Machine) (st : State) : Type 0 where
-  run : IsNearRun settings client name r s
+record All (settings : Settings) (client : ℕ) (name : List ℕ) (r : Run) (s : Machine) (st : State) (earlier : List (List ℕ)) (heard : List (Said (List ℕ))) : Type 0 where
+  run : IsNearRun settings client name r s earlier heard
   goes : GoesWith s.conn name st s.client
   number : s.next_number ≡ st.next
 
-counted : (settings : Settings) (client : ℕ) (name : List ℕ) (r : Run) (s : Machine) → IsNearRun settings client name r s → IsNearRun settings client name (next_line r) s
-counted settings client name r s run = went_aside r (next_line r) s run (record { members = refl; backups = refl; events = refl; connection = λ k e still. (k, e, refl, still); registered = refl; sent = refl })
+counted : (settings : Settings) (client : ℕ) (name : List ℕ) (r : Run) (s : Machine) (earlier : List (List ℕ)) (heard : List (Said (List ℕ))) → IsNearRun settings client name r s earlier heard → IsNearRun settings client name (next_line r) s earlier heard
+counted settings client name r s earlier heard run = went_aside r (next_line r) s earlier heard run (record { members = refl; backups = refl; events = refl; connection = λ k e still. (k, e, refl, still); registered = refl; sent = refl })
 
 -- of the near cache that the client is tied by
 its_near : (c : ℕ) (name : List ℕ) (st : State) (m : Client (List ℕ) Value) (g : GoesWith c name st m) (near : Near) → st.near ≡ Some near → near ≡ g.near
 its_near c name st m g near is = (let both : Some near ≡ Some g.near = sym is ∙ g.tied.listens in cc)
 
-together : (settings : Settings) (client : ℕ) (name : List ℕ) {r : Run} {s : Machine} {st : State} {text : List ℕ} → IsClientRun settings client name r s st text → All settings client name r s st
+together : (settings : Settings) (client : ℕ) (name : List ℕ) {r : Run} {s : Machine} {st : State} {text : List ℕ} {earlier : List (List ℕ)} {heard : List (Said (List ℕ))} → IsClientRun settings client name r s st text earlier heard → All settings client name r s st earlier heard
 together settings client name (client_began r k skips capacity one within fresh new may takes) = record {
   run = every_opening_line_is_followed settings client name r k skips first_number capacity one within fresh new may takes;
   goes = record {
@@ -104,19 +105,19 @@ together settings client name (client_began r k skips capacity one within fresh 
   };
   number = refl;
 }
-together settings client name (line_of_others r s st text skips line run g) =
+together settings client name (line_of_others r s earlier heard st text skips line run g) =
     let a = together settings client name run in
     record { run = g.run; goes = subst (λ c. GoesWith c name st g.machine.client) (sym g.conn) (subst (GoesWith s.conn name st) (sym g.idle) a.goes); number = g.number ∙ a.number }
-together settings client name (key_hit r s st text key near value now run listens found) =
+together settings client name (key_hit r s earlier heard st text key near value now run listens found) =
     let a = together settings client name run in
     let h = hits settings client s.conn name key st s.client value a.goes (ap (hit key) (sym (its_near s.conn name st s.client a.goes near listens)) ∙ found) in
     let is = ap (looked_up (partition_object settings) (keyed settings s.conn name client) s key now) h.0 in
     record {
-      run = counted settings client name r (step settings client name s (LooksUp key now)) (client_hit r s key value now a.run h.0);
+      run = counted settings client name r (step settings client name s (LooksUp key now)) earlier heard (client_hit r s earlier heard key value now a.run h.0);
       goes = subst (λ (z : Machine). GoesWith z.conn name (looked key st) z.client) (sym is) h.1;
       number = ap (λ (z : Machine). z.next_number) is ∙ a.number;
     }
-together settings client name (key_missed r s st text key near k skips run may listens none its_client goes_there h) =
+together settings client name (key_missed r s earlier heard st text key near k skips run may listens none its_client goes_there h) =
     let a = together settings client name run in
     let o = misses settings client s.conn name key st s.client a.goes may.fits.whole its_client goes_there (ap (hit key) (sym (its_near s.conn name st s.client a.goes near listens)) ∙ none) in
     let opened_too = ap (λ n. opened n key s.client) (sym a.number) in
@@ -125,15 +126,15 @@ together settings client name (key_missed r s st text key near k skips run may l
       goes = subst (λ c. GoesWith c name (asking (asked_call st.next s.conn (partition_of_key key) (get_of name key client)) (opening_look_up key st)) h.machine.client) (sym h.conn) (subst (GoesWith s.conn name (asking (asked_call st.next s.conn (partition_of_key key) (get_of name key client)) (opening_look_up key st))) (opened_too ∙ sym h.looks) o.1);
       number = h.number ∙ ap (λ n. n + 1) a.number;
     }
-together settings client name (client_fed r s st sent text piece says rest run h all is u) =
+together settings client name (client_fed r s earlier heard st sent text piece says rest run h all is u) =
     let a = together settings client name run in
     record {
-      run = counted settings client name r u.machine u.run;
+      run = counted settings client name r u.machine earlier (heard ++ all_said says) u.run;
       goes = subst (λ c. GoesWith c name (told_by_piece s.conn text piece st).after u.machine.client) (sym u.conn) u.goes;
       number = u.number ∙ a.number ∙ sym (messages_next s.conn (messages_by text piece) (reading s.conn (text ++ piece) st));
     }
 
 pub every_hit_of_a_client_run_stands : EveryHitOfAClientRunStands
-every_hit_of_a_client_run_stands settings client name r s st text key near value run named listens found =
+every_hit_of_a_client_run_stands settings client name r s earlier heard st text key near value run named listens found =
     let a = together settings client name run in
-    every_hit_of_a_near_client_stands settings client name key r s st value a.run named a.goes (ap (hit key) (sym (its_near s.conn name st s.client a.goes near listens)) ∙ found)
+    every_hit_of_a_near_client_stands settings client name key r s earlier heard st value a.run named a.goes (ap (hit key) (sym (its_near s.conn name st s.client a.goes near listens)) ∙ found)

@@ -7,6 +7,7 @@ use Rattle.grid_base.specs.Errors.{want_of_memory}
 use Rattle.grid_base.specs.Objects.{Object}
 use Rattle.grid_base.specs.declared.calls.Request.{Request}
 use Rattle.grid_base.specs.declared.names.CallId.{CallId}
+use Rattle.grid_base.specs.declared.names.ClientKey.TheVariants.{Known}
 use Rattle.partition_protocol.specs.World.{is_live}
 use Rattle.partition_protocol.specs.Events.{Event, Call, Deliver, Lose, Repeat, Resend, Crash, Detect, BeginMove, BeginJoin, BeginHandover, Advance, Reopen}
 use Rattle.partition_protocol.specs.Arrivals.{asked_by}
@@ -21,13 +22,12 @@ use Rattle.near_protocol.specs.Client.{hit}
 use Rattle.near_protocol.specs.Near.{At as MachineAt, Grid, Occurs, LooksUp, new_grid, world, happened, all_happened, said_by, occurred as machine_occurred, opening_at, looked_up, hears, is_call_on}
 use Rattle.near_protocol.specs.Claims.{AreNamedOnce}
 use Rattle.grid_client.specs.Nears.{Value}
-use Rattle.grid_client.specs.Calls.{correlation_of}
 use Rattle.replay_run.specs.ScriptRuns.{home}
 use Rattle.replay_run.specs.Runs.{Run, At, Arrival, Appended, world_at, connection_of, is_open, call_of, arrived, is_skipped, asked, happening, given_out, occurred}
 use Rattle.replay_run.specs.Runs as replay
 use Rattle.near_runs.specs.Maps.{keyed}
-use Rattle.near_runs.specs.Messages.{sent_to, AreSaid}
-use Rattle.near_runs.specs.NearConnections.{machine_events, is_of, IsRight, IsNear, grid_of, grid_after}
+use Rattle.near_runs.specs.Messages.{sent_to, AreBytesOf, AreSaid}
+use Rattle.near_runs.specs.NearConnections.{machine_events, is_of, IsGet, IsRight, IsNear, grid_of, grid_after}
 use Rattle.near_runs.specs.Following.{Machine, Follows, step, IsNextGet, EveryOtherStepIsAside, EveryEventIsFollowed, EveryOtherCallIsFollowed, EveryMissIsFollowed, EveryHitIsFollowed, EveryHearingIsFollowed}
 use Rattle.near_runs.proofs.Sent.{sent_to-append, said-append}
 use Rattle.near_runs.proofs.Runs.{world_is, quiet_right, every_call_says, every_event_says}
@@ -38,7 +38,7 @@ one_happened : {C State K V : Type 0} (o : Object C State) (l : Keyed C State K 
 one_happened o l g [] e = refl
 one_happened o l g (d ∷ es) e = one_happened o l (happened o l g d.partition d.event) es e
 
-events_more : (p q : ℕ) (e : Event Request) (es : List At) (d : Event Request) → In d (replay.events_at q (es ++ record { partition = p; event = e } ∷ [])) → In d (replay.events_at q es) ⊎ ((p ≡ q) × (e ≡ d))
+pub events_more : (p q : ℕ) (e : Event Request) (es : List At) (d : Event Request) → In d (replay.events_at q (es ++ record { partition = p; event = e } ∷ [])) → In d (replay.events_at q es) ⊎ ((p ≡ q) × (e ≡ d))
 events_more p q e es d i = go (in_cases d (replay.events_at q es) (replay.events_at q (record { partition = p; event = e } ∷ [])) (subst (In d) parted i))
   where
     at : At
@@ -96,7 +96,7 @@ module _ (settings : Settings) (client : ℕ) (name : List ℕ) (r next : Run) (
     heard = f.heard;
     sent = ap (sent_to s.conn) adds.appended ∙ sent_to-append s.conn r.appended new ∙ ap (λ xs. xs ++ sent_to s.conn new) f.sent ∙ append_assoc f.earlier f.since (sent_to s.conn new);
     said = subst (AreSaid name (f.since ++ sent_to s.conn new)) (append_assoc f.heard s.unread (said_by (partition_object settings) s.member s.conn (world (partition_object settings) s.grid p) (happened (partition_object settings) (keyed settings s.conn name client) s.grid p e).changes p e))
-        (said-append name f.since (sent_to s.conn new) (f.heard ++ s.unread) (said_by (partition_object settings) s.member s.conn (world (partition_object settings) s.grid p) (happened (partition_object settings) (keyed settings s.conn name client) s.grid p e).changes p e) f.said
+        (said-append (AreBytesOf name) f.since (sent_to s.conn new) (f.heard ++ s.unread) (said_by (partition_object settings) s.member s.conn (world (partition_object settings) s.grid p) (happened (partition_object settings) (keyed settings s.conn name client) s.grid p e).changes p e) f.said
         (subst (λ g. AreSaid name (sent_to s.conn new) (said_by (partition_object settings) s.member s.conn (world (partition_object settings) g p) (happened (partition_object settings) (keyed settings s.conn name client) g p e).changes p e)) (sym f.grid) says));
   })
 
@@ -175,8 +175,8 @@ module _ (settings : Settings) (client : ℕ) (name key : List ℕ) (r : Run) (s
   its_partition : a.request.partition ≡ l.partition key
   its_partition = ap (λ (q : Request). q.partition) next.request
 
-  right : IsRight s.conn s.member a.request.partition (call_of a)
-  right = (home_here, λ e. (next.member, ap (λ (q : Request). q.correlation) next.request ∙ ap correlation_of (sym (ap (λ (q : Request). q.id.number) next.request))))
+  pub right : IsRight s.conn s.member a.request.partition (call_of a)
+  right = (home_here, λ e. (next.member, subst (λ q. IsGet q.id.number q) (sym next.request) (record { map = name; key = key; owner = record { client = Known client; thread = pos 0 }; call = refl; kind = refl; correlation = refl; small = next.may.room })))
     where
       home_here : home a.request ≡ a.request.partition
       home_here = ap home next.request ∙ sym (ap (λ (q : Request). q.partition) next.request)

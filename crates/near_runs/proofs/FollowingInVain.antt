@@ -12,7 +12,7 @@ use Rattle.near_protocol.specs.Near.{LooksUpInVain, new_grid, all_happened, look
 use Rattle.grid_client.specs.Calls.{correlation_of}
 use Rattle.replay_run.specs.Runs.{Run, Appended, call_of, arrived, refusal, asked, happening, events_at}
 use Rattle.near_runs.specs.Maps.{keyed}
-use Rattle.near_runs.specs.Messages.{sent_to, AreSaid}
+use Rattle.near_runs.specs.Messages.{sent_to, AreBytesOf, AreSaid}
 use Rattle.near_runs.specs.NearConnections.{machine_events}
 use Rattle.near_runs.specs.Following.{Follows, step}
 use Rattle.near_runs.specs.FollowingInVain.{EveryMissInVainIsFollowed}
@@ -60,5 +60,5 @@ every_miss_in_vain_is_followed settings client name key r s a skips f request no
           ∙ ap (λ xs. xs ++ error_bytes (correlation_of s.next_number) (pos want_of_memory) (cast_signed w32 0) (pos 0) ∷ []) f.sent
           ∙ append_assoc f.earlier f.since (error_bytes (correlation_of s.next_number) (pos want_of_memory) (cast_signed w32 0) (pos 0) ∷ []);
       said = subst (AreSaid name (f.since ++ error_bytes (correlation_of s.next_number) (pos want_of_memory) (cast_signed w32 0) (pos 0) ∷ [])) (append_assoc f.heard s.unread (Refusal s.next_number ∷ []))
-          (said-append name f.since (error_bytes (correlation_of s.next_number) (pos want_of_memory) (cast_signed w32 0) (pos 0) ∷ []) (f.heard ++ s.unread) (Refusal s.next_number ∷ []) f.said ((pos want_of_memory, (cast_signed w32 0, refl)), tt));
+          (said-append (AreBytesOf name) f.since (error_bytes (correlation_of s.next_number) (pos want_of_memory) (cast_signed w32 0) (pos 0) ∷ []) (f.heard ++ s.unread) (Refusal s.next_number ∷ []) f.said ((pos want_of_memory, (cast_signed w32 0, refl)), tt));
     }

@@ -66,7 +66,7 @@ every_answer_is_heard number value small writable = record {
 abbrev error_frame : ℤ → ℤ → ℤ → Frame
 error_frame correlation code first = record { flags = single; payload = head_bytes 0 correlation ++ int32_bytes code ++ int32_bytes first ++ int32_bytes (pos 0) }
 
-error_writable : (correlation code first : ℤ) → IsWritable (error_frame correlation code first ∷ [])
+pub error_writable : (correlation code first : ℤ) → IsWritable (error_frame correlation code first ∷ [])
 error_writable correlation code first = record {
   each = All-cons IsWithinLimits (error_frame correlation code first) [] (lit< tt, lit≤ tt) (All-nil IsWithinLimits);
   form = refl;

@@ -21,3 +21,8 @@ pub mod Lines
 pub mod OwnLines
 pub mod Feeds
 pub mod ClientRuns
+pub mod Values
+pub mod Telling
+pub mod Quiet
+pub mod Spoken
+pub mod Proper

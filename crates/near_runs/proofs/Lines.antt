@@ -24,6 +24,7 @@ use Rattle.session_core.specs.declared.item.Item.{Item}
 use Rattle.session_core.specs.declared.item.Item.TheVariants.{Call as Asks, Wait, Register, Reply}
 use Rattle.script_lang.specs.declared.line.Line.{Line}
 use Rattle.script_lang.specs.declared.line.Line.TheVariants.{OpenConn, Arrive, Clock, Flow, FlowAll, Crash, Detect, Rebalance, Deliver, Lose, Repeat, Resend, Move, Join, Handover, Advance, Reopen}
+use Rattle.near_protocol.specs.Client.{Said}
 use Rattle.near_protocol.specs.Near.{Occurs, occurred as machine_occurred, is_call_on}
 use Rattle.near_protocol.proofs.Hear.{find_in}
 use Rattle.replay_run.specs.ScriptRuns.{home}
@@ -90,15 +91,15 @@ nothing_to c xs new none = sent_to-append c xs new ∙ ap (λ ys. sent_to c xs +
 another : (c : ℕ) (m : Appended) → m.conn ≢ c → sent_to c (m ∷ []) ≡ []
 another c m apart = ap (λ b. map (λ (x : Appended). x.bytes) (cond b (m ∷ []) [])) (number_other m.conn c apart)
 
-module _ (settings : Settings) (client : ℕ) (name : List ℕ) (s : Machine) where
+module _ (settings : Settings) (client : ℕ) (name : List ℕ) (s : Machine) (earlier : List (List ℕ)) (heard : List (Said (List ℕ))) where
   abbrev o : Object Request Partition
   o = partition_object settings
 
   abbrev Goes : Run → Type 0
-  Goes r = GoesOn settings client name s r
+  Goes r = GoesOn settings client name s earlier heard r
 
   aside : (r next : Run) → Goes r → IsAside s.conn r next → Goes next
-  aside r next g a = record { machine = g.machine; run = went_aside r next g.machine g.run (subst (λ n. IsAside n r next) (sym g.conn) a); conn = g.conn; idle = g.idle; number = g.number }
+  aside r next g a = record { machine = g.machine; run = went_aside r next g.machine earlier heard g.run (subst (λ n. IsAside n r next) (sym g.conn) a); conn = g.conn; idle = g.idle; number = g.number }
 
   counted : (r : Run) → Goes r → Goes (next_line r)
   counted r g = aside r (next_line r) g (record { members = refl; backups = refl; events = refl; connection = λ k e still. (k, e, refl, still); registered = refl; sent = refl })
@@ -107,21 +108,21 @@ module _ (settings : Settings) (client : ℕ) (name : List ℕ) (s : Machine) wh
   given r g = aside r (given_up r) g (record { members = refl; backups = refl; events = refl; connection = λ k e still. (k, e, refl, still); registered = refl; sent = refl })
 
   -- a step of the machine's grid
-  stepped : (r next : Run) (g : Goes r) (p : ℕ) (e : Event Request) → IsNearRun settings client name next (step settings client name g.machine (Occurs p e)) → Goes next
+  stepped : (r next : Run) (g : Goes r) (p : ℕ) (e : Event Request) → IsNearRun settings client name next (step settings client name g.machine (Occurs p e)) earlier heard → Goes next
   stepped r next g p e run = by (is_call_on g.machine.conn e) refl
     where
       by : (b : Bool) → is_call_on g.machine.conn e ≡ b → Goes next
-      by true t = record { machine = g.machine; run = subst (IsNearRun settings client name next) (ap (λ b. cond b g.machine (machine_occurred (partition_object settings) (keyed settings g.machine.conn name client) g.machine p e)) t) run; conn = g.conn; idle = g.idle; number = g.number }
+      by true t = record { machine = g.machine; run = subst (λ z. IsNearRun settings client name next z earlier heard) (ap (λ b. cond b g.machine (machine_occurred (partition_object settings) (keyed settings g.machine.conn name client) g.machine p e)) t) run; conn = g.conn; idle = g.idle; number = g.number }
       by false t = record {
         machine = machine_occurred (partition_object settings) (keyed settings g.machine.conn name client) g.machine p e;
-        run = subst (IsNearRun settings client name next) (ap (λ b. cond b g.machine (machine_occurred (partition_object settings) (keyed settings g.machine.conn name client) g.machine p e)) t) run;
+        run = subst (λ z. IsNearRun settings client name next z earlier heard) (ap (λ b. cond b g.machine (machine_occurred (partition_object settings) (keyed settings g.machine.conn name client) g.machine p e)) t) run;
         conn = g.conn;
         idle = g.idle;
         number = g.number;
       }
 
   event_on : (r : Run) (p : ℕ) (e : Event Request) → asked_by e ≡ [] → Goes r → Goes (takes o r p e)
-  event_on r p e quiet g = takes_keeps o Goes r p e (given r g) (stepped r (occurred o r p e) g p e (event_happened r g.machine p e g.run quiet))
+  event_on r p e quiet g = takes_keeps o Goes r p e (given r g) (stepped r (occurred o r p e) g p e (event_happened r g.machine earlier heard p e g.run quiet))
 
   -- ---- a call of another connection
 
@@ -136,7 +137,7 @@ module _ (settings : Settings) (client : ℕ) (name : List ℕ) (s : Machine) wh
       by true t = subst Goes (sym (ap (λ b. cond b (arrived r a [] (refusal a.line a.request (pos want_of_memory) 0 ∷ [])) (arrived r a (record { partition = a.request.partition; event = call_of a } ∷ []) (happening o r a))) t))
           (unmade r a (refusal a.line a.request (pos want_of_memory) 0 ∷ []) (another s.conn (refusal a.line a.request (pos want_of_memory) 0) apart) g)
       by false t = stepped r (asked o skips r a) g a.request.partition (call_of a)
-          (call_arrived r g.machine a skips g.run (λ e. apart (e ∙ g.conn)) (placed, λ e. absurd (apart (e ∙ g.conn))) t)
+          (call_arrived r g.machine earlier heard a skips g.run (λ e. apart (e ∙ g.conn)) (placed, λ e. absurd (apart (e ∙ g.conn))) t)
 
   asks_on : (skips : List CallId) (r : Run) (a : Arrival) → a.request.id.conn ≢ s.conn → home a.request ≡ a.request.partition → Goes r → Goes (asks o skips r a)
   asks_on skips r a apart placed g = on_if Goes (is_full (world_at o r a.request.partition)) (given_up (arrived r a [] [])) (asked o skips r a) (given (arrived r a [] []) (unmade r a [] refl g)) (asked_on skips r a apart placed g)
@@ -218,4 +219,4 @@ module _ (settings : Settings) (client : ℕ) (name : List ℕ) (s : Machine) wh
   line_on skips r line others g = after_on (next_line r) (event_by line) (quiet_line line) (counted r g)
 
 pub every_other_line_is_followed : EveryOtherLineIsFollowed
-every_other_line_is_followed settings client name r s skips line run others = line_on settings client name s skips r line others (record { machine = s; run = run; conn = refl; idle = refl; number = refl })
+every_other_line_is_followed settings client name r s earlier heard skips line run others = line_on settings client name s earlier heard skips r line others (record { machine = s; run = run; conn = refl; idle = refl; number = refl })

@@ -36,7 +36,7 @@ moved_more o l s [] m = refl
 moved_more o l s (n ∷ ms) m = moved_more o l (moved o l s n) ms m
 
 -- a move leaves the connection
-same_conn : {C State K V : Type 0} (o : Object C State) (l : Keyed C State K V) (s : Near C K V) (m : Move C K) → (moved o l s m).conn ≡ s.conn
+pub same_conn : {C State K V : Type 0} (o : Object C State) (l : Keyed C State K V) (s : Near C K V) (m : Move C K) → (moved o l s m).conn ≡ s.conn
 same_conn {C} {K = K} {V} o l s (Occurs p e) = by (is_call_on s.conn e)
   where
     by : (b : Bool) → (cond b s (machine_occurred o l s p e)).conn ≡ s.conn
@@ -116,7 +116,7 @@ module _ (settings : Settings) (client : ℕ) (name : List ℕ) where
     follows : Follows settings client name r s
 
   -- the names before a step stand once, where they do after it
-  before : (s : Machine) (move : Move Request (List ℕ)) → AreNamedOnce (step settings client name s move).grid → AreNamedOnce s.grid
+  pub before : (s : Machine) (move : Move Request (List ℕ)) → AreNamedOnce (step settings client name s move).grid → AreNamedOnce s.grid
   before s move named = named_later s.grid (step settings client name s move).grid (move_later o (keyed settings s.conn name client) s move) named
 
   -- the grid after an event is that of the run
@@ -133,7 +133,7 @@ module _ (settings : Settings) (client : ℕ) (name : List ℕ) where
       by true = refl
       by false = refl
 
-  both : {r : Run} {s : Machine} → IsNearRun settings client name r s → AreNamedOnce s.grid → Both r s
+  both : {r : Run} {s : Machine} {earlier : List (List ℕ)} {heard : List (Said (List ℕ))} → IsNearRun settings client name r s earlier heard → AreNamedOnce s.grid → Both r s
   both (client_came r0 k first capacity one within fresh new may) named =
       let at = every_opening_attaches settings r0 k client name one within fresh may in
       record {
@@ -149,14 +149,14 @@ module _ (settings : Settings) (client : ℕ) (name : List ℕ) where
           said = at.told first capacity;
         };
       }
-  both (went_aside r next s run aside) named =
+  both (went_aside r next s earlier heard run aside) named =
       let b = both run named in
       record { members = subst (λ n. 1 ≤ n) (sym aside.members) b.members; made = b.made; follows = every_other_step_is_aside settings client name r next s b.follows aside }
-  both (event_happened r s p e run quiet) named =
+  both (event_happened r s earlier heard p e run quiet) named =
       let b = both run (before s (Occurs p e) named) in
       let once = after_event r s (step settings client name s (Occurs p e)) p e b.follows (goes_event r s p e (no_call_on s.conn e quiet)) named in
       record { members = b.members; made = made_step s b.made (Occurs p e); follows = every_event_is_followed settings client name r s p e b.members b.follows quiet once }
-  both (call_arrived r s a skips run apart right found) named =
+  both (call_arrived r s earlier heard a skips run apart right found) named =
       let b = both run (before s (Occurs a.request.partition (call_of a)) named) in
       let once = after_event r s (step settings client name s (Occurs a.request.partition (call_of a))) a.request.partition (call_of a) b.follows (goes_event r s a.request.partition (call_of a) (number_other a.request.id.conn s.conn apart)) named in
       record {
@@ -164,7 +164,7 @@ module _ (settings : Settings) (client : ℕ) (name : List ℕ) where
         made = made_step s b.made (Occurs a.request.partition (call_of a));
         follows = every_other_call_is_followed settings client name r s a skips b.members b.follows apart right once found;
       }
-  both (client_missed r s key a skips run next none found) named =
+  both (client_missed r s earlier heard key a skips run next none found) named =
       let b = both run (before s (LooksUp key a.now) named) in
       let once = after_event r s (step settings client name s (LooksUp key a.now)) a.request.partition (call_of a) b.follows (ap (λ (z : Machine). z.grid) (missed settings client name key r s a b.follows next none)) named in
       record {
@@ -172,21 +172,21 @@ module _ (settings : Settings) (client : ℕ) (name : List ℕ) where
         made = made_step s b.made (LooksUp key a.now);
         follows = every_miss_is_followed settings client name key r s a skips b.members b.follows next none once found;
       }
-  both (client_missed_in_vain r s key a skips run request none skipped) named =
+  both (client_missed_in_vain r s earlier heard key a skips run may request none skipped) named =
       let b = both run (before s (LooksUpInVain key) named) in
       record {
         members = subst (λ n. 1 ≤ n) (sym (asked_members r a skips)) b.members;
         made = made_step s b.made (LooksUpInVain key);
         follows = every_miss_in_vain_is_followed settings client name key r s a skips b.follows request none skipped;
       }
-  both (client_hit r s key value now run found) named =
+  both (client_hit r s earlier heard key value now run found) named =
       let b = both run (before s (LooksUp key now) named) in
       record { members = b.members; made = made_step s b.made (LooksUp key now); follows = every_hit_is_followed settings client name key r s now value b.follows found }
-  both (client_heard r s message rest run is) named =
+  both (client_heard r s earlier heard message rest run is) named =
       let b = both run (before s Hears named) in
       record { members = b.members; made = made_step s b.made Hears; follows = every_hearing_is_followed settings client name r s message rest b.follows is }
 
 pub every_near_run_goes_well : EveryNearRunGoesWell
-every_near_run_goes_well settings client name r s run named =
+every_near_run_goes_well settings client name r s earlier heard run named =
     let b = both settings client name run named in
     record { members = b.members; follows = b.follows; hits = made_hits settings client name s b.made named }

@@ -11,13 +11,14 @@ use Rattle.call_engine.specs.Objects.{partition_object}
 use Rattle.partition_protocol.proofs.RowFacts.{same_number}
 use Rattle.script_lang.specs.declared.line.Line.TheVariants.{Arrive}
 use Rattle.request_codecs.specs.Openings.{opening}
-use Rattle.near_protocol.specs.Client.{hit}
+use Rattle.near_protocol.specs.Client.{Said, hit}
 use Rattle.near_protocol.specs.Near.{LooksUp, LooksUpInVain, looked_up_in_vain, missed_in_vain, attached}
 use Rattle.near_protocol.specs.Claims.{AreNamedOnce}
 use Rattle.near_protocol.proofs.Hear.{find_in}
 use Rattle.replay_run.specs.Runs.{Run, Connection, Arrival, connection_of, is_connection, took_bytes, with_bytes, arrival_at, is_skipped, arrived, given_up, asked, asks, next_line, bytes_arrived, partitions}
 use Rattle.replay_run.specs.AfterLines.{after_line}
 use Rattle.near_runs.specs.Maps.{keyed, get_request}
+use Rattle.near_runs.specs.Messages.{sent_to}
 use Rattle.near_runs.specs.NearConnections.{grid_of}
 use Rattle.near_runs.specs.Sessions.{MayGet, get_bytes}
 use Rattle.near_runs.specs.Following.{Machine, Follows, step, IsNextGet}
@@ -34,11 +35,11 @@ arrives o skips r c k bytes there = ap (λ x. elim x [ None ↦ next_line r | So
 
 pub every_opening_line_is_followed : EveryOpeningLineIsFollowed
 every_opening_line_is_followed settings client name r k skips first capacity one within fresh new may takes =
-    subst (λ (z : Run). IsNearRun settings client name z (attached (partition_object settings) partitions k.member k.conn first capacity (grid_of settings k.conn name client z)))
+    subst (λ (z : Run). IsNearRun settings client name z (attached (partition_object settings) partitions k.member k.conn first capacity (grid_of settings k.conn name client z)) (sent_to k.conn r.appended) [])
     (sym (arrives (partition_object settings) skips r k.conn k (opening client (Some name)) fresh.there ∙ every_opening_is_served (partition_object settings) skips r k client name takes fresh.empty may))
     (client_came r k first capacity one within fresh new may)
 
-module _ (settings : Settings) (client : ℕ) (name key : List ℕ) (r : Run) (s : Machine) (k : Connection) (skips : List CallId) (run : IsNearRun settings client name r s) (named : AreNamedOnce s.grid) (may : MayMiss settings client name key r s k) (none : hit (keyed settings s.conn name client) key s.client ≡ None) where
+module _ (settings : Settings) (client : ℕ) (name key : List ℕ) (r : Run) (s : Machine) (earlier : List (List ℕ)) (heard : List (Said (List ℕ))) (k : Connection) (skips : List CallId) (run : IsNearRun settings client name r s earlier heard) (named : AreNamedOnce s.grid) (may : MayMiss settings client name key r s k) (none : hit (keyed settings s.conn name client) key s.client ≡ None) where
   abbrev o : Object Request Partition
   o = partition_object settings
 
@@ -66,8 +67,8 @@ module _ (settings : Settings) (client : ℕ) (name key : List ℕ) (r : Run) (s
   whole : fault_of true (k.bytes ++ bytes) ≡ None
   whole = subst (λ n. MayGet name client n key → fault_of true (k.bytes ++ get_bytes name client n key) ≡ None) may.number (λ fits. (every_get_is_heard k.conn k.member client name key k.bytes may.sent fits).0.whole) may.fits
 
-  run_taken : IsNearRun settings client name taken s
-  run_taken = went_aside r taken s run (record {
+  run_taken : IsNearRun settings client name taken s earlier heard
+  run_taken = went_aside r taken s earlier heard run (record {
     members = refl;
     backups = refl;
     events = refl;
@@ -86,17 +87,17 @@ module _ (settings : Settings) (client : ℕ) (name key : List ℕ) (r : Run) (s
   request_is = ap (λ c. get_request c name client s.next_number key) same_conn
 
   next_get : IsNextGet settings client name key taken s a
-  next_get = record { member = may.member_is; request = request_is; lives = may.lives }
+  next_get = record { may = may.fits; member = may.member_is; request = request_is; lives = may.lives }
 
   follows : Follows settings client name taken s
-  follows = (every_near_run_goes_well settings client name taken s run_taken named).follows
+  follows = (every_near_run_goes_well settings client name taken s earlier heard run_taken named).follows
 
-  by_memory : (b : Bool) → is_skipped skips a.request.id ≡ b → HasOpened settings client name key s (asked o skips taken a)
+  by_memory : (b : Bool) → is_skipped skips a.request.id ≡ b → HasOpened settings client name key s earlier heard (asked o skips taken a)
   by_memory false found =
       let is = missed settings client name key taken s a follows next_get none in
       record {
         machine = step settings client name s (LooksUp key a.now);
-        run = client_missed taken s key a skips run_taken next_get none found;
+        run = client_missed taken s earlier heard key a skips run_taken next_get none found;
         conn = ap (λ (z : Machine). z.conn) is;
         looks = ap (λ (z : Machine). z.client) is;
         number = ap (λ (z : Machine). z.next_number) is;
@@ -105,14 +106,14 @@ module _ (settings : Settings) (client : ℕ) (name key : List ℕ) (r : Run) (s
       let is : step settings client name s (LooksUpInVain key) ≡ missed_in_vain s key = ap (looked_up_in_vain (keyed settings s.conn name client) s key) none in
       record {
         machine = step settings client name s (LooksUpInVain key);
-        run = client_missed_in_vain taken s key a skips run_taken request_is none skipped;
+        run = client_missed_in_vain taken s earlier heard key a skips run_taken may.fits request_is none skipped;
         conn = ap (λ (z : Machine). z.conn) is;
         looks = ap (λ (z : Machine). z.client) is;
         number = ap (λ (z : Machine). z.next_number) is;
       }
 
-  pub get_followed : HasOpened settings client name key s (after_line o skips r (Arrive s.conn bytes))
-  get_followed = subst (HasOpened settings client name key s) (sym is_asked) (by_memory (is_skipped skips a.request.id) refl)
+  pub get_followed : HasOpened settings client name key s earlier heard (after_line o skips r (Arrive s.conn bytes))
+  get_followed = subst (HasOpened settings client name key s earlier heard) (sym is_asked) (by_memory (is_skipped skips a.request.id) refl)
 
 pub every_get_line_is_followed : EveryGetLineIsFollowed
-every_get_line_is_followed settings client name key r s k skips run named may none = get_followed settings client name key r s k skips run named may none
+every_get_line_is_followed settings client name key r s earlier heard k skips run named may none = get_followed settings client name key r s earlier heard k skips run named may none

@@ -34,12 +34,12 @@ use Rattle.replay_run.specs.ScriptRuns.{home}
 use Rattle.replay_run.specs.Runs.{Run, Arrival, At, Appended, world_at, call_of, refused_by, messages_by, happening, taker_of, given_to, given_out}
 use Rattle.replay_run.specs.Runs as replay
 use Rattle.near_runs.specs.Maps.{key_changed, keyed}
-use Rattle.near_runs.specs.Messages.{sent_to, AreSaid}
+use Rattle.near_runs.specs.Messages.{sent_to, AreBytesOf, AreSaidBy}
 use Rattle.near_runs.specs.NearConnections.{machine_events, grid_of, grid_after, IsRight, IsNear, EveryCallSays, EveryEventSays}
 use Rattle.near_runs.proofs.Moments.{WasCalled, call_keeps_row}
 use Rattle.near_runs.proofs.Changes.{said_change, ChangesRan, ChangesTold, none_elsewhere, events_here, world_here, ran_next, told_here, run_told}
 use Rattle.near_runs.proofs.Sent.{sent_to-append, said-append}
-use Rattle.near_runs.proofs.Says.{refused_says, not_refused, says_here, nothing_sent, nothing_said}
+use Rattle.near_runs.proofs.Says.{Speaks, speak_bytes, refused_says, not_refused, says_here, nothing_sent, nothing_said}
 
 -- ---- the machine's grid is that of the run
 
@@ -100,7 +100,7 @@ asked_event (BeginHandover f t) a i = absurd i
 asked_event Advance a i = absurd i
 asked_event Reopen a i = absurd i
 
-arrived_event : {C : Type 0} (es : List (Event C)) (a : Asked C) → In a (arrivals es) → (k : ℕ) × In (Call k a.conn a.number a.call a.now) es
+pub arrived_event : {C : Type 0} (es : List (Event C)) (a : Asked C) → In a (arrivals es) → (k : ℕ) × In (Call k a.conn a.number a.call a.now) es
 arrived_event [] a i = absurd i
 arrived_event {C} (e ∷ es) a i = ⊎_elim (λ j. let f = asked_event e a j in (f.0, inl f.1)) (λ j. let f = arrived_event es a j in (f.0, inr f.1)) (in_cases a (asked_by e) (arrivals es) i)
 
@@ -154,7 +154,12 @@ taken Reopen none = inl (refl, λ j s. s)
 
 -- ---- one event
 
-module _ (settings : Settings) (r : Run) (c m : ℕ) (name : List ℕ) (client : ℕ) (one : 1 ≤ r.members) (near : IsNear r c m name) (p : ℕ) (e : Event Request) (right : IsRight c m p e) (named : AreNamedOnce (grid_after settings c name client r p e)) where
+-- a partition's world after it
+abbrev pub after_event : Settings → Run → ℕ → List ℕ → ℕ → ℕ → Event Request → World Request
+after_event settings r c name client p e = (happens (partition_object settings) (world (partition_object settings) (grid_of settings c name client r) p) e).world
+
+module _ (settings : Settings) (r : Run) (c m : ℕ) (name : List ℕ) (client : ℕ) (one : 1 ≤ r.members) (near : IsNear r c m name) (p : ℕ) (e : Event Request) (right : IsRight c m p e) (named : AreNamedOnce (grid_after settings c name client r p e))
+    (P : List ℕ → Said (List ℕ) → Type 0) (speaks : Speaks settings P c m name p (after_event settings r c name client p e)) where
   abbrev pub o : Object Request Partition
   o = partition_object settings
 
@@ -232,19 +237,20 @@ module _ (settings : Settings) (r : Run) (c m : ℕ) (name : List ℕ) (client :
   abbrev pub freed : List (Said (List ℕ))
   freed = flat_map (said_of p m c next.changes) (released_between w u)
 
-  pub here : (own : Option ℕ) → ((k : ℕ) → IsStepOf e k → k ≡ m) → AreSaid name (sent_to c (messages_by o r own p m w u)) (rows ++ freed)
-  here own step = says_here settings r own c m name client near p w e next.changes es once released placed told step
+  pub here : (own : Option ℕ) → ((k : ℕ) → IsStepOf e k → k ≡ m) → AreSaidBy P (sent_to c (messages_by o r own p m w u)) (rows ++ freed)
+  here own step = says_here settings r own c m name client near p w e next.changes es P speaks once released placed told step
 
   pub unsent : (own : Option ℕ) (k : ℕ) → k ≢ m → ((j : ℕ) → IsStepOf e j → j ≡ k) → sent_to c (messages_by o r own p k w u) ≡ []
-  unsent own k apart step = nothing_sent settings r own c m name client near p w e next.changes es once released own_calls k apart step
+  unsent own k apart step = nothing_sent settings r own c m name client near p w e next.changes es P speaks once released own_calls k apart step
 
   pub unsaid : (IsStepOf e m → ⊥) → rows ++ freed ≡ []
-  unsaid away = nothing_said settings r None c m name client near p w e next.changes es once released own_calls none away
+  unsaid away = nothing_said settings r None c m name client near p w e next.changes es P speaks once released own_calls none away
 
 -- ---- of a call
 
 module _ (settings : Settings) (r : Run) (c m : ℕ) (name : List ℕ) (client : ℕ) (a : Arrival) (one : 1 ≤ r.members) (near : IsNear r c m name)
-    (right : IsRight c m a.request.partition (call_of a)) (named : AreNamedOnce (grid_after settings c name client r a.request.partition (call_of a))) where
+    (right : IsRight c m a.request.partition (call_of a)) (named : AreNamedOnce (grid_after settings c name client r a.request.partition (call_of a)))
+    (P : List ℕ → Said (List ℕ) → Type 0) (speaks : Speaks settings P c m name a.request.partition (after_event settings r c name client a.request.partition (call_of a))) where
   abbrev pub own : Option ℕ
   own = Some a.request.id.conn
 
@@ -266,8 +272,8 @@ module _ (settings : Settings) (r : Run) (c m : ℕ) (name : List ℕ) (client :
   abbrev pub given : List (Said (List ℕ))
   given = flat_map (said_of a.request.partition m c (grid_after settings c name client r a.request.partition (call_of a)).changes) (released_between before after)
 
-  refused : AreSaid name (sent_to c (refused_by a.line a.request outcome)) refusal
-  refused = refused_says c a.line a.request.id.number a.request name (λ s. (right.1 s).1) outcome (not_refused (partition_object settings) before a.member a.request.id.conn a.request.id.number a.request a.now)
+  refused : AreSaidBy P (sent_to c (refused_by a.line a.request outcome)) refusal
+  refused = refused_says c a.line a.request.id.number a.request P speaks.refuses (λ s. let its = (right.1 s).1 in (its.correlation, its.small)) outcome (not_refused (partition_object settings) before a.member a.request.id.conn a.request.id.number a.request a.now)
 
   -- a call makes no member adopt a row
   no_rows : a.member ≡ m → told_rows ≡ []
@@ -283,44 +289,44 @@ module _ (settings : Settings) (r : Run) (c m : ℕ) (name : List ℕ) (client :
           let t : nat_lt n.known.version b.known.version ≡ false = is_not_less n.known.version b.known.version (subst (λ k. k ≤ n.known.version) (sym version) (le_refl n.known.version)) in
           rw t refl
 
-  says_at : a.member ≡ m → AreSaid name (sent_to c (refused_by a.line a.request outcome) ++ sent_to c (messages_by (partition_object settings) r own a.request.partition m before after)) (told_rows ++ (refusal ++ given))
+  says_at : a.member ≡ m → AreSaidBy P (sent_to c (refused_by a.line a.request outcome) ++ sent_to c (messages_by (partition_object settings) r own a.request.partition m before after)) (told_rows ++ (refusal ++ given))
   says_at s =
-      let both = said-append name (sent_to c (refused_by a.line a.request outcome)) (sent_to c (messages_by (partition_object settings) r own a.request.partition m before after)) refusal (told_rows ++ given)
-      refused (here settings r c m name client one near a.request.partition (call_of a) right named own (λ k z. sym z ∙ s)) in
-      subst (λ ys. AreSaid name (sent_to c (refused_by a.line a.request outcome) ++ sent_to c (messages_by (partition_object settings) r own a.request.partition m before after)) (ys ++ (refusal ++ given))) (sym (no_rows s))
-      (subst (λ ys. AreSaid name (sent_to c (refused_by a.line a.request outcome) ++ sent_to c (messages_by (partition_object settings) r own a.request.partition m before after)) (refusal ++ (ys ++ given))) (no_rows s) both)
+      let both = said-append P (sent_to c (refused_by a.line a.request outcome)) (sent_to c (messages_by (partition_object settings) r own a.request.partition m before after)) refusal (told_rows ++ given)
+      refused (here settings r c m name client one near a.request.partition (call_of a) right named P speaks own (λ k z. sym z ∙ s)) in
+      subst (λ ys. AreSaidBy P (sent_to c (refused_by a.line a.request outcome) ++ sent_to c (messages_by (partition_object settings) r own a.request.partition m before after)) (ys ++ (refusal ++ given))) (sym (no_rows s))
+      (subst (λ ys. AreSaidBy P (sent_to c (refused_by a.line a.request outcome) ++ sent_to c (messages_by (partition_object settings) r own a.request.partition m before after)) (refusal ++ (ys ++ given))) (no_rows s) both)
 
-  silent : a.member ≢ m → AreSaid name (sent_to c (refused_by a.line a.request outcome) ++ sent_to c (messages_by (partition_object settings) r own a.request.partition a.member before after)) (told_rows ++ (refusal ++ given))
+  silent : a.member ≢ m → AreSaidBy P (sent_to c (refused_by a.line a.request outcome) ++ sent_to c (messages_by (partition_object settings) r own a.request.partition a.member before after)) (told_rows ++ (refusal ++ given))
   silent d =
       let other : (a.request.id.conn == c) ≡ false = number_other a.request.id.conn c (λ s. d ((right.1 s).0)) in
       let none : refusal ≡ [] = ap (λ b. cond (is_refused outcome && b) (Refusal a.request.id.number ∷ []) []) other ∙ no_refusal (is_refused outcome) (Refusal a.request.id.number ∷ []) in
-      subst (λ xs. AreSaid name (sent_to c (refused_by a.line a.request outcome) ++ xs) (told_rows ++ (refusal ++ given)))
-      (sym (unsent settings r c m name client one near a.request.partition (call_of a) right named own a.member d (λ j z. sym z)))
-      (subst (λ ys. AreSaid name (sent_to c (refused_by a.line a.request outcome) ++ []) (told_rows ++ (ys ++ given))) (sym none)
-      (subst (λ ys. AreSaid name (sent_to c (refused_by a.line a.request outcome) ++ []) ys) (sym (unsaid settings r c m name client one near a.request.partition (call_of a) right named (λ z. d z)))
-      (said-append name (sent_to c (refused_by a.line a.request outcome)) [] [] [] (subst (AreSaid name (sent_to c (refused_by a.line a.request outcome))) none refused) tt)))
+      subst (λ xs. AreSaidBy P (sent_to c (refused_by a.line a.request outcome) ++ xs) (told_rows ++ (refusal ++ given)))
+      (sym (unsent settings r c m name client one near a.request.partition (call_of a) right named P speaks own a.member d (λ j z. sym z)))
+      (subst (λ ys. AreSaidBy P (sent_to c (refused_by a.line a.request outcome) ++ []) (told_rows ++ (ys ++ given))) (sym none)
+      (subst (λ ys. AreSaidBy P (sent_to c (refused_by a.line a.request outcome) ++ []) ys) (sym (unsaid settings r c m name client one near a.request.partition (call_of a) right named P speaks (λ z. d z)))
+      (said-append P (sent_to c (refused_by a.line a.request outcome)) [] [] [] (subst (AreSaidBy P (sent_to c (refused_by a.line a.request outcome))) none refused) tt)))
     where
       no_refusal : (b : Bool) (ms : List (Said (List ℕ))) → cond (b && false) ms [] ≡ []
       no_refusal true ms = refl
       no_refusal false ms = refl
 
-  pub call_says : AreSaid name (sent_to c (happening (partition_object settings) r a)) (told_rows ++ (refusal ++ given))
+  pub call_says : AreSaidBy P (sent_to c (happening (partition_object settings) r a)) (told_rows ++ (refusal ++ given))
   call_says = subst
-      (λ (z : World Request). AreSaid name (sent_to c (refused_by a.line a.request (happens (partition_object settings) z (call_of a)).outcome ++ messages_by (partition_object settings) r own a.request.partition a.member z (happens (partition_object settings) z (call_of a)).world)) (told_rows ++ (refusal ++ given)))
+      (λ (z : World Request). AreSaidBy P (sent_to c (refused_by a.line a.request (happens (partition_object settings) z (call_of a)).outcome ++ messages_by (partition_object settings) r own a.request.partition a.member z (happens (partition_object settings) z (call_of a)).world)) (told_rows ++ (refusal ++ given)))
       (world_is settings c name client r a.request.partition)
-      (subst (λ xs. AreSaid name xs (told_rows ++ (refusal ++ given))) (sym (sent_to-append c (refused_by a.line a.request outcome) (messages_by (partition_object settings) r own a.request.partition a.member before after)))
+      (subst (λ xs. AreSaidBy P xs (told_rows ++ (refusal ++ given))) (sym (sent_to-append c (refused_by a.line a.request outcome) (messages_by (partition_object settings) r own a.request.partition a.member before after)))
       (⊎_elim at_it silent (number_cases a.member m)))
     where
-      at_it : a.member ≡ m → AreSaid name (sent_to c (refused_by a.line a.request outcome) ++ sent_to c (messages_by (partition_object settings) r own a.request.partition a.member before after)) (told_rows ++ (refusal ++ given))
-      at_it s = subst (λ k. AreSaid name (sent_to c (refused_by a.line a.request outcome) ++ sent_to c (messages_by (partition_object settings) r own a.request.partition k before after)) (told_rows ++ (refusal ++ given))) (sym s) (says_at s)
+      at_it : a.member ≡ m → AreSaidBy P (sent_to c (refused_by a.line a.request outcome) ++ sent_to c (messages_by (partition_object settings) r own a.request.partition a.member before after)) (told_rows ++ (refusal ++ given))
+      at_it s = subst (λ k. AreSaidBy P (sent_to c (refused_by a.line a.request outcome) ++ sent_to c (messages_by (partition_object settings) r own a.request.partition k before after)) (told_rows ++ (refusal ++ given))) (sym s) (says_at s)
 
 pub every_call_says : EveryCallSays
-every_call_says settings r c m name client a one near right named = call_says settings r c m name client a one near right named
+every_call_says settings r c m name client a one near right named = call_says settings r c m name client a one near right named (AreBytesOf name) (speak_bytes settings c m name a.request.partition (after_event settings r c name client a.request.partition (call_of a)))
 
 -- ---- of any other event
 
 module _ (settings : Settings) (r : Run) (c m : ℕ) (name : List ℕ) (client p : ℕ) (e : Event Request) (one : 1 ≤ r.members) (near : IsNear r c m name) (quiet : asked_by e ≡ [])
-    (named : AreNamedOnce (grid_after settings c name client r p e)) where
+    (named : AreNamedOnce (grid_after settings c name client r p e)) (P : List ℕ → Said (List ℕ) → Type 0) (speaks : Speaks settings P c m name p (after_event settings r c name client p e)) where
   its_right : IsRight c m p e
   its_right = quiet_right c m p e quiet
 
@@ -337,26 +343,26 @@ module _ (settings : Settings) (r : Run) (c m : ℕ) (name : List ℕ) (client p
   given_now = flat_map (said_of p m c (grid_after settings c name client r p e).changes) (released_between old new)
 
   -- no call is refused
-  no_call : (xs : List (List ℕ)) → AreSaid name xs (rows_now ++ given_now) → AreSaid name xs (rows_now ++ (refusal_said c e (happens (partition_object settings) old e).outcome ++ given_now))
-  no_call xs h = subst (λ ys. AreSaid name xs (rows_now ++ (ys ++ given_now))) (sym (quiet_refusal c e (happens (partition_object settings) old e).outcome quiet)) h
+  no_call : (xs : List (List ℕ)) → AreSaidBy P xs (rows_now ++ given_now) → AreSaidBy P xs (rows_now ++ (refusal_said c e (happens (partition_object settings) old e).outcome ++ given_now))
+  no_call xs h = subst (λ ys. AreSaidBy P xs (rows_now ++ (ys ++ given_now))) (sym (quiet_refusal c e (happens (partition_object settings) old e).outcome quiet)) h
 
-  nothing : (IsStepOf e m → ⊥) → AreSaid name [] (rows_now ++ given_now)
-  nothing away = subst (AreSaid name []) (sym (unsaid settings r c m name client one near p e its_right named away)) tt
+  nothing : (IsStepOf e m → ⊥) → AreSaidBy P [] (rows_now ++ given_now)
+  nothing away = subst (AreSaidBy P []) (sym (unsaid settings r c m name client one near p e its_right named P speaks away)) tt
 
-  of_taker : Taken e → AreSaid name (sent_to c (given_to (partition_object settings) r p e (taker_of e))) (rows_now ++ given_now)
-  of_taker (inl (no_one, away)) = subst (λ t. AreSaid name (sent_to c (given_to (partition_object settings) r p e t)) (rows_now ++ given_now)) (sym no_one) (nothing (away m))
-  of_taker (inr (t, is, step)) = subst (λ t. AreSaid name (sent_to c (given_to (partition_object settings) r p e t)) (rows_now ++ given_now)) (sym is)
-      (subst (λ (z : World Request). AreSaid name (sent_to c (messages_by (partition_object settings) r None p t z (happens (partition_object settings) z e).world)) (rows_now ++ given_now)) (world_is settings c name client r p)
+  of_taker : Taken e → AreSaidBy P (sent_to c (given_to (partition_object settings) r p e (taker_of e))) (rows_now ++ given_now)
+  of_taker (inl (no_one, away)) = subst (λ t. AreSaidBy P (sent_to c (given_to (partition_object settings) r p e t)) (rows_now ++ given_now)) (sym no_one) (nothing (away m))
+  of_taker (inr (t, is, step)) = subst (λ t. AreSaidBy P (sent_to c (given_to (partition_object settings) r p e t)) (rows_now ++ given_now)) (sym is)
+      (subst (λ (z : World Request). AreSaidBy P (sent_to c (messages_by (partition_object settings) r None p t z (happens (partition_object settings) z e).world)) (rows_now ++ given_now)) (world_is settings c name client r p)
       (⊎_elim at_it elsewhere (number_cases t m)))
     where
-      at_it : t ≡ m → AreSaid name (sent_to c (messages_by (partition_object settings) r None p t old new)) (rows_now ++ given_now)
-      at_it s = subst (λ k. AreSaid name (sent_to c (messages_by (partition_object settings) r None p k old new)) (rows_now ++ given_now)) (sym s) (here settings r c m name client one near p e its_right named None (λ k z. step k z ∙ s))
+      at_it : t ≡ m → AreSaidBy P (sent_to c (messages_by (partition_object settings) r None p t old new)) (rows_now ++ given_now)
+      at_it s = subst (λ k. AreSaidBy P (sent_to c (messages_by (partition_object settings) r None p k old new)) (rows_now ++ given_now)) (sym s) (here settings r c m name client one near p e its_right named P speaks None (λ k z. step k z ∙ s))
 
-      elsewhere : t ≢ m → AreSaid name (sent_to c (messages_by (partition_object settings) r None p t old new)) (rows_now ++ given_now)
-      elsewhere d = subst (λ xs. AreSaid name xs (rows_now ++ given_now)) (sym (unsent settings r c m name client one near p e its_right named None t d step)) (nothing (λ z. d (sym (step m z))))
+      elsewhere : t ≢ m → AreSaidBy P (sent_to c (messages_by (partition_object settings) r None p t old new)) (rows_now ++ given_now)
+      elsewhere d = subst (λ xs. AreSaidBy P xs (rows_now ++ given_now)) (sym (unsent settings r c m name client one near p e its_right named P speaks None t d step)) (nothing (λ z. d (sym (step m z))))
 
-  pub event_says : AreSaid name (sent_to c (given_out (partition_object settings) r p e)) (rows_now ++ (refusal_said c e (happens (partition_object settings) old e).outcome ++ given_now))
+  pub event_says : AreSaidBy P (sent_to c (given_out (partition_object settings) r p e)) (rows_now ++ (refusal_said c e (happens (partition_object settings) old e).outcome ++ given_now))
   event_says = no_call (sent_to c (given_out (partition_object settings) r p e)) (of_taker (taken e quiet))
 
 pub every_event_says : EveryEventSays
-every_event_says settings r c m name client p e one near quiet named = event_says settings r c m name client p e one near quiet named
+every_event_says settings r c m name client p e one near quiet named = event_says settings r c m name client p e one near quiet named (AreBytesOf name) (speak_bytes settings c m name p (after_event settings r c name client p e))

@@ -1,6 +1,6 @@
 -- What an event brings to a near connection is what the machine says at it.
-use Rattle.std.proofs.Common.{◌≡◌, ◌≢◌, ℕ, ◌<◌, ◌≤◌, Bool, true, false, cond, ◌&&◌, ◌==◌, bytes_eq, List, [], ◌∷◌, ◌++◌, map, length, drop, Option, Some, None, nat_lt, slice_get, refl, ap, sym, ◌∙◌, subst, ◌⊎◌, ⊎_elim, inl, inr, le_refl, arith}
-use Rattle.std.specs.Prelude.{ℤ, pos, nat_eq}
+use Rattle.std.proofs.Common.{◌≡◌, ◌≢◌, ℕ, ◌<◌, ◌≤◌, Bool, true, false, cond, ◌&&◌, ◌==◌, bytes_eq, List, [], ◌∷◌, ◌++◌, map, length, drop, Option, Some, None, nat_lt, slice_get, refl, ap, sym, ◌∙◌, subst, ◌⊎◌, ⊎_elim, inl, inr, le_refl, arith, lit<}
+use Rattle.std.specs.Prelude.{ℤ, pos, nat_eq, ◌^◌}
 use Rattle.std.specs.List.{flat_map}
 use Rattle.std.specs.Option.{option_and_then, option_eq}
 use Rattle.std.specs.Cmp.Lexicographic.{pointwise}
@@ -15,6 +15,7 @@ use Rattle.grid_base.specs.declared.calls.GridCall.TheVariants as call
 use Rattle.grid_base.specs.declared.calls.Request.{Request}
 use Rattle.frame_codec.specs.Laws.{spelled}
 use Rattle.fixed_fields.specs.Responses.{error_bytes}
+use Rattle.message_frames.specs.Assembly.{most_messages}
 use Rattle.partition_table.specs.declared.Row.{Row}
 use Rattle.partition_protocol.specs.Node.{Held, Node}
 use Rattle.partition_protocol.specs.Execution.{Reached, Executes, PartitionLost, WrongTarget, Migrating, reached}
@@ -27,16 +28,16 @@ use Rattle.partition_protocol.proofs.RowFacts.{same_number, number_same, number_
 use Rattle.partition_protocol.proofs.RowRules.{GoesOn, node_on}
 use Rattle.partition_protocol.proofs.EventFacts.{call_executed, call_refused}
 use Rattle.primary_hold.specs.declared.answer.CallAnswer.{CallAnswer}
-use Rattle.event_codecs.specs.Writing.{invalidation_frames}
+use Rattle.event_codecs.specs.Writing.{invalidation_frames, rows_frames}
 use Rattle.listeners.specs.Telling.{change_events}
 use Rattle.object_store.specs.Records.{Record, entry_in}
 use Rattle.object_store.specs.Partitions.{Partition}
 use Rattle.call_engine.specs.Calls.{Settings}
 use Rattle.call_engine.specs.Objects.{partition_object}
 use Rattle.session_core.specs.Places.{partition_of_key}
-use Rattle.request_codecs.specs.Openings.{invalidations_correlation}
+use Rattle.request_codecs.specs.Openings.{invalidations_correlation, rows_correlation}
 use Rattle.partition_world.specs.Answers.{answer_of, state_before, released_by}
-use Rattle.near_protocol.specs.Client.{Answer, Refusal, Rows}
+use Rattle.near_protocol.specs.Client.{Said, Answer, Refusal, Invalidation, Rows}
 use Rattle.near_protocol.specs.Near.{Change as MachineChange, name_of, called_in, released_between, invalidations, said_of, rows_said, is_refused}
 use Rattle.near_protocol.specs.Laws.{IsStepOf}
 use Rattle.near_protocol.proofs.Orders.{IsOnce, flat_map_in}
@@ -47,7 +48,7 @@ use Rattle.replay_run.specs.Changes.{change_between, change_by}
 use Rattle.replay_run.specs.ScriptRuns.{home, home_of}
 use Rattle.replay_run.specs.Runs.{Run, Appended, listening, hears, events_to, message_of, refusal, refused_at, refused_by, version_known, if_newer, adopted_since, row_messages, answer_messages, release_messages, messages_by}
 use Rattle.near_runs.specs.Maps.{key_changed, keyed}
-use Rattle.near_runs.specs.Messages.{sent_to, AreSaid}
+use Rattle.near_runs.specs.Messages.{sent_to, AreBytesOf, AreSaidBy}
 use Rattle.near_runs.specs.NearConnections.{IsNear}
 use Rattle.near_runs.proofs.Moments.{WasCalled, untouched, ReachesNone, IsExecuted, IsRefused, call_goes, none_happens}
 use Rattle.near_runs.proofs.Changes.{said_change}
@@ -76,21 +77,45 @@ unsent c m false f = refl
 sent : (c : ℕ) (m : Appended) → (m.conn == c) ≡ true → sent_to c (m ∷ []) ≡ m.bytes ∷ []
 sent c m t = ap (λ b. map (λ (x : Appended). x.bytes) (cond b (m ∷ []) [])) t
 
+-- ---- how the bytes of messages say things
+
+-- a refusal of a call of the client's
+abbrev pub Refuses : (List ℕ → Said (List ℕ) → Type 0) → Type 0
+Refuses P = (number code : ℕ) (first : ℤ) → number < most_messages → code < 2 ^ 31 → P (error_bytes (correlation_of number) (pos code) first (pos 0)) (Refusal number)
+
+-- what is sent of a partition, after an event
+pub record Speaks (settings : Settings) (P : List ℕ → Said (List ℕ) → Type 0) (c m : ℕ) (name : List ℕ) (p : ℕ) (u : World Request) : Type 0 where
+  pub refuses : Refuses P
+  pub rows : (a : Node) → slice_get u.nodes m ≡ Some a → P (spelled (rows_frames rows_correlation ((p, a.known) ∷ []))) (Rows (record { partition = p; version = a.known.version } ∷ []))
+  pub answers : (x : Executed Request) → In (Called x) u.recorded.log → x.conn ≡ c → P x.reply (Answer x.number x.reply)
+  pub changes : (x : Executed Request) → In (Called x) u.recorded.log → (d : Change) → change_by (partition_object settings) (state_before (partition_object settings) u x) x.call x.now ≡ Some d → bytes_eq name d.name ≡ true
+      → P (spelled (invalidation_frames invalidations_correlation p x.version x.seen name d.key)) (Invalidation d.key x.version x.seen)
+
+-- Whatever they are, they are the bytes of what is said.
+pub speak_bytes : (settings : Settings) (c m : ℕ) (name : List ℕ) (p : ℕ) (u : World Request) → Speaks settings (AreBytesOf name) c m name p u
+speak_bytes settings c m name p u = record {
+  refuses = λ number code first small low. (pos code, (first, refl));
+  rows = λ a at. ((p, a.known) ∷ [], (refl, refl));
+  answers = λ x i own. refl;
+  changes = λ x i d is named. (p, refl);
+}
+
 -- the message of a call that was refused
-module _ (c line number : ℕ) (request : Request) (name : List ℕ) (own : request.id.conn ≡ c → request.correlation ≡ correlation_of number) where
-  refusal_says : (code : ℤ) (first : ℕ) (b : Bool) → (request.id.conn == c) ≡ b → AreSaid name (sent_to c (refusal line request code first ∷ [])) (cond b (Refusal number ∷ []) [])
-  refusal_says code first false f = subst (λ xs. AreSaid name xs []) (sym (unsent c (refusal line request code first) true f)) tt
-  refusal_says code first true t =
-      subst (λ xs. AreSaid name xs (Refusal number ∷ [])) (sym (sent c (refusal line request code first) t))
-      ((code, (cast_signed w32 first, ap (λ k. error_bytes k code (cast_signed w32 first) (pos 0)) (own (same_number request.id.conn c t)))), tt)
+module _ (c line number : ℕ) (request : Request) (P : List ℕ → Said (List ℕ) → Type 0) (refuses : Refuses P) (own : request.id.conn ≡ c → (request.correlation ≡ correlation_of number) × (number < most_messages)) where
+  refusal_says : (code first : ℕ) (b : Bool) → code < 2 ^ 31 → (request.id.conn == c) ≡ b → AreSaidBy P (sent_to c (refusal line request (pos code) first ∷ [])) (cond b (Refusal number ∷ []) [])
+  refusal_says code first false low f = subst (λ xs. AreSaidBy P xs []) (sym (unsent c (refusal line request (pos code) first) true f)) tt
+  refusal_says code first true low t =
+      let its = own (same_number request.id.conn c t) in
+      subst (λ xs. AreSaidBy P xs (Refusal number ∷ [])) (sym (sent c (refusal line request (pos code) first) t))
+      (subst (λ k. P (error_bytes k (pos code) (cast_signed w32 first) (pos 0)) (Refusal number)) (sym its.0) (refuses number code (cast_signed w32 first) its.1 low), tt)
 
-  reached_says : (r : Reached) → (r ≡ Executes → ⊥) → AreSaid name (sent_to c (refused_at line request r)) (cond (request.id.conn == c) (Refusal number ∷ []) [])
+  reached_says : (r : Reached) → (r ≡ Executes → ⊥) → AreSaidBy P (sent_to c (refused_at line request r)) (cond (request.id.conn == c) (Refusal number ∷ []) [])
   reached_says Executes none = absurd (none refl)
-  reached_says (PartitionLost v) none = refusal_says (pos partition_lost) v (request.id.conn == c) refl
-  reached_says (WrongTarget v) none = refusal_says (pos wrong_target) v (request.id.conn == c) refl
-  reached_says (Migrating v) none = refusal_says (pos migrating) v (request.id.conn == c) refl
+  reached_says (PartitionLost v) none = refusal_says partition_lost v (request.id.conn == c) (lit< tt) refl
+  reached_says (WrongTarget v) none = refusal_says wrong_target v (request.id.conn == c) (lit< tt) refl
+  reached_says (Migrating v) none = refusal_says migrating v (request.id.conn == c) (lit< tt) refl
 
-  pub refused_says : (outcome : Outcome) → (outcome ≡ Refused Executes → ⊥) → AreSaid name (sent_to c (refused_by line request outcome)) (cond (is_refused outcome && (request.id.conn == c)) (Refusal number ∷ []) [])
+  pub refused_says : (outcome : Outcome) → (outcome ≡ Refused Executes → ⊥) → AreSaidBy P (sent_to c (refused_by line request outcome)) (cond (is_refused outcome && (request.id.conn == c)) (Refusal number ∷ []) [])
   refused_says (Refused r) none = reached_says r (λ e. none (ap (λ z. Refused z) e))
   refused_says NothingDone none = tt
   refused_says Done none = tt
@@ -117,7 +142,8 @@ not_refused {C} o w m conn number call now e = go (call_goes o w m conn number c
 -- ---- what an event brings
 
 -- the map, the connection and its member; an event of a partition
-module _ (settings : Settings) (r : Run) (own : Option ℕ) (c m : ℕ) (name : List ℕ) (client : ℕ) (near : IsNear r c m name) (p : ℕ) (w : World Request) (e : Event Request) (changes : List (MachineChange (List ℕ))) (es : List (Event Request)) where
+module _ (settings : Settings) (r : Run) (own : Option ℕ) (c m : ℕ) (name : List ℕ) (client : ℕ) (near : IsNear r c m name) (p : ℕ) (w : World Request) (e : Event Request) (changes : List (MachineChange (List ℕ))) (es : List (Event Request))
+    (P : List ℕ → Said (List ℕ) → Type 0) (speaks : Speaks settings P c m name p (happens (partition_object settings) w e).world) where
   abbrev pub o : Object Request Partition
   o = partition_object settings
 
@@ -132,35 +158,36 @@ module _ (settings : Settings) (r : Run) (own : Option ℕ) (c m : ℕ) (name : 
   abbrev pub adopted : Option Node → Option Node → Option Row
   adopted x y = option_and_then (λ (node : Node). if_newer (map_or x 0 (λ (n : Node). n.known.version)) node.known) y
 
-  rows_at : (x y : Option Node) → ((n : Node) → x ≡ Some n → (a : Node) × (y ≡ Some a) × GoesOn n a) → ((a : Node) → y ≡ Some a → (n : Node) × (x ≡ Some n))
-      → AreSaid name (sent_to c (row_messages r.lines p (listening r own m) (adopted x y))) (rows_said p x y)
-  rows_at None None goes back = tt
-  rows_at None (Some a) goes back = absurd (let k = (back a refl).1 in cc)
-  rows_at (Some n) None goes back = absurd (let k = (goes n refl).1 in cc)
-  rows_at (Some n) (Some a) goes back = by (goes n refl)
+  rows_at : (x y : Option Node) → ((a : Node) → y ≡ Some a → P (spelled (rows_frames rows_correlation ((p, a.known) ∷ []))) (Rows (record { partition = p; version = a.known.version } ∷ [])))
+      → ((n : Node) → x ≡ Some n → (a : Node) × (y ≡ Some a) × GoesOn n a) → ((a : Node) → y ≡ Some a → (n : Node) × (x ≡ Some n))
+      → AreSaidBy P (sent_to c (row_messages r.lines p (listening r own m) (adopted x y))) (rows_said p x y)
+  rows_at None None tells goes back = tt
+  rows_at None (Some a) tells goes back = absurd (let k = (back a refl).1 in cc)
+  rows_at (Some n) None tells goes back = absurd (let k = (goes n refl).1 in cc)
+  rows_at (Some n) (Some a) tells goes back = by (goes n refl)
     where
-      stays : a.known ≡ n.known → AreSaid name (sent_to c (row_messages r.lines p (listening r own m) (if_newer n.known.version a.known))) (rows_said p (Some n) (Some a))
+      stays : a.known ≡ n.known → AreSaidBy P (sent_to c (row_messages r.lines p (listening r own m) (if_newer n.known.version a.known))) (rows_said p (Some n) (Some a))
       stays s =
           let same : a.known.version ≡ n.known.version = ap (λ (row : Row). row.version) s in
           let t : (a.known.version == n.known.version) ≡ true = number_same a.known.version n.known.version same in
           let f : nat_lt n.known.version a.known.version ≡ false = is_not_less n.known.version a.known.version (subst (λ k. k ≤ n.known.version) (sym same) (le_refl n.known.version)) in
           rw (t, f) tt
 
-      rises : n.known.version < a.known.version → AreSaid name (sent_to c (row_messages r.lines p (listening r own m) (if_newer n.known.version a.known))) (rows_said p (Some n) (Some a))
+      rises : n.known.version < a.known.version → AreSaidBy P (sent_to c (row_messages r.lines p (listening r own m) (if_newer n.known.version a.known))) (rows_said p (Some n) (Some a))
       rises s =
           let f : (a.known.version == n.known.version) ≡ false = number_other a.known.version n.known.version (λ q. absurd (omega (arith, s, q))) in
           let t : nat_lt n.known.version a.known.version ≡ true = is_less n.known.version a.known.version s in
-          let it : AreSaid name (sent_to c (row_messages r.lines p (listening r own m) (Some a.known))) (Rows (record { partition = p; version = a.known.version } ∷ []) ∷ []) =
-          subst (λ xs. AreSaid name xs (Rows (record { partition = p; version = a.known.version } ∷ []) ∷ []))
-          (sym (rows_sent c r.lines ((p, a.known) ∷ []) (listening r own m) name (listens_here r own c m name near))) (((p, a.known) ∷ [], (refl, refl)), tt)
+          let it : AreSaidBy P (sent_to c (row_messages r.lines p (listening r own m) (Some a.known))) (Rows (record { partition = p; version = a.known.version } ∷ []) ∷ []) =
+          subst (λ xs. AreSaidBy P xs (Rows (record { partition = p; version = a.known.version } ∷ []) ∷ []))
+          (sym (rows_sent c r.lines ((p, a.known) ∷ []) (listening r own m) name (listens_here r own c m name near))) (tells a refl, tt)
           in
           rw (f, t) it
 
-      by : (b : Node) × (Some a ≡ Some b) × GoesOn n b → AreSaid name (sent_to c (row_messages r.lines p (listening r own m) (if_newer n.known.version a.known))) (rows_said p (Some n) (Some a))
+      by : (b : Node) × (Some a ≡ Some b) × GoesOn n b → AreSaidBy P (sent_to c (row_messages r.lines p (listening r own m) (if_newer n.known.version a.known))) (rows_said p (Some n) (Some a))
       by (b, s, g) = let same : b ≡ a = cc in ⊎_elim stays rises (subst (GoesOn n) same g)
 
-  rows_here : AreSaid name (sent_to c (row_messages r.lines p (listening r own m) (adopted_since (version_known w m) u m))) (rows_said p (slice_get w.nodes m) (slice_get u.nodes m))
-  rows_here = rows_at (slice_get w.nodes m) (slice_get u.nodes m) (λ n at. node_on o w m n at e) (λ a at. node_back o w e m a at)
+  rows_here : AreSaidBy P (sent_to c (row_messages r.lines p (listening r own m) (adopted_since (version_known w m) u m))) (rows_said p (slice_get w.nodes m) (slice_get u.nodes m))
+  rows_here = rows_at (slice_get w.nodes m) (slice_get u.nodes m) speaks.rows (λ n at. node_on o w m n at e) (λ a at. node_back o w e m a at)
 
   no_rows : (k : ℕ) → k ≢ m → (row : Option Row) → sent_to c (row_messages r.lines p (listening r own k) row) ≡ []
   no_rows k apart None = refl
@@ -168,34 +195,34 @@ module _ (settings : Settings) (r : Run) (own : Option ℕ) (c m : ℕ) (name : 
 
   -- answers
 
-  answer_says : (x : Executed Request) (b : Bool) → (x.conn == c) ≡ b → AreSaid name (sent_to c (answer_messages r own (answer x))) (cond b (Answer x.number x.reply ∷ []) [])
-  answer_says x false f = subst (λ xs. AreSaid name xs []) (sym (unsent c (message_of r.lines (answer x)) (hears r own x.conn) f)) tt
-  answer_says x true t =
+  answer_says : (x : Executed Request) (b : Bool) → In (Called x) u.recorded.log → (x.conn == c) ≡ b → AreSaidBy P (sent_to c (answer_messages r own (answer x))) (cond b (Answer x.number x.reply ∷ []) [])
+  answer_says x false i f = subst (λ xs. AreSaidBy P xs []) (sym (unsent c (message_of r.lines (answer x)) (hears r own x.conn) f)) tt
+  answer_says x true i t =
       let heard : hears r own x.conn ≡ true = ap (hears r own) (same_number x.conn c t) ∙ it_hears r own c m name near in
-      subst (λ xs. AreSaid name xs (Answer x.number x.reply ∷ [])) (sym (ap (λ b. sent_to c (cond b (message_of r.lines (answer x) ∷ []) [])) heard ∙ sent c (message_of r.lines (answer x)) t)) (refl, tt)
+      subst (λ xs. AreSaidBy P xs (Answer x.number x.reply ∷ [])) (sym (ap (λ b. sent_to c (cond b (message_of r.lines (answer x) ∷ []) [])) heard ∙ sent c (message_of r.lines (answer x)) t)) (speaks.answers x i (same_number x.conn c t), tt)
 
-  module _ (x : Executed Request) (placed : home x.call ≡ p) where
+  module _ (x : Executed Request) (logged : In (Called x) u.recorded.log) (placed : home x.call ≡ p) where
     change_says : (change : Option Change) → change_by o (state_before o u x) x.call x.now ≡ change
-        → AreSaid name (sent_to c (events_to r.lines (change_events p (answer x) change (listening r own m)))) (said_change (keyed settings c name client) p x (key_changed name change))
+        → AreSaidBy P (sent_to c (events_to r.lines (change_events p (answer x) change (listening r own m)))) (said_change (keyed settings c name client) p x (key_changed name change))
     change_says None s = tt
-    change_says (Some d) s = subst (λ xs. AreSaid name xs (said_change (keyed settings c name client) p x (key_changed name (Some d)))) (sym (change_sent c r.lines p (answer x) d (listening r own m) name (listens_here r own c m name near))) (go (bytes_eq name d.name) refl)
+    change_says (Some d) s = subst (λ xs. AreSaidBy P xs (said_change (keyed settings c name client) p x (key_changed name (Some d)))) (sym (change_sent c r.lines p (answer x) d (listening r own m) name (listens_here r own c m name near))) (go (bytes_eq name d.name) refl)
       where
         here : (partition_of_key d.key == p) ≡ true
         here = number_same (partition_of_key d.key) p (sym (change_key x.call.call _ _ x.now x.call.partition d s) ∙ placed)
 
         go : (b : Bool) → bytes_eq name d.name ≡ b
-            → AreSaid name (cond b (spelled (invalidation_frames invalidations_correlation p x.version x.seen d.name d.key) ∷ []) []) (said_change (keyed settings c name client) p x (cond b (Some d.key) None))
+            → AreSaidBy P (cond b (spelled (invalidation_frames invalidations_correlation p x.version x.seen d.name d.key) ∷ []) []) (said_change (keyed settings c name client) p x (cond b (Some d.key) None))
         go false t = tt
-        go true t = rw here ((p, ap (λ q. spelled (invalidation_frames invalidations_correlation p x.version x.seen q d.key)) (sym ((bytes_eq-Decides name d.name).0 t))), tt)
+        go true t = rw here (subst (λ q. P (spelled (invalidation_frames invalidations_correlation p x.version x.seen q d.key)) (Invalidation d.key x.version x.seen)) ((bytes_eq-Decides name d.name).0 t) (speaks.changes x logged d s t), tt)
 
     -- a release says the change and the answer
     release_says : flat_map (invalidations p m x) changes ≡ said_change (keyed settings c name client) p x (key_changed name (change_by o (state_before o u x) x.call x.now))
-        → AreSaid name (sent_to c (release_messages r own p (listening r own m) (answer x))) (said_of p m c changes x)
+        → AreSaidBy P (sent_to c (release_messages r own p (listening r own m) (answer x))) (said_of p m c changes x)
     release_says told =
-        subst (λ xs. AreSaid name xs (said_of p m c changes x)) (sym (sent_to-append c (events_to r.lines (change_events p (answer x) (answer x).change (listening r own m))) (answer_messages r own (answer x))))
-        (subst (λ ys. AreSaid name (sent_to c (events_to r.lines (change_events p (answer x) (answer x).change (listening r own m))) ++ sent_to c (answer_messages r own (answer x))) (ys ++ cond (x.conn == c) (Answer x.number x.reply ∷ []) [])) (sym told)
-        (said-append name (sent_to c (events_to r.lines (change_events p (answer x) (answer x).change (listening r own m)))) (sent_to c (answer_messages r own (answer x))) _ _
-        (change_says (change_by o (state_before o u x) x.call x.now) refl) (answer_says x (x.conn == c) refl)))
+        subst (λ xs. AreSaidBy P xs (said_of p m c changes x)) (sym (sent_to-append c (events_to r.lines (change_events p (answer x) (answer x).change (listening r own m))) (answer_messages r own (answer x))))
+        (subst (λ ys. AreSaidBy P (sent_to c (events_to r.lines (change_events p (answer x) (answer x).change (listening r own m))) ++ sent_to c (answer_messages r own (answer x))) (ys ++ cond (x.conn == c) (Answer x.number x.reply ∷ []) [])) (sym told)
+        (said-append P (sent_to c (events_to r.lines (change_events p (answer x) (answer x).change (listening r own m)))) (sent_to c (answer_messages r own (answer x))) _ _
+        (change_says (change_by o (state_before o u x) x.call x.now) refl) (answer_says x (x.conn == c) logged refl)))
 
   -- at another member nothing is sent
   no_change : (x : Executed Request) (k : ℕ) → k ≢ m → (change : Option Change) → sent_to c (events_to r.lines (change_events p (answer x) change (listening r own k))) ≡ []
@@ -233,18 +260,18 @@ module _ (settings : Settings) (r : Run) (own : Option ℕ) (c m : ℕ) (name : 
     pub says_here : ((x : Executed Request) → In (Called x) u.recorded.log → home x.call ≡ p)
         → ((x : Executed Request) → In (Called x) u.recorded.log → WasCalled es m (name_of x) → flat_map (invalidations p m x) changes ≡ said_change (keyed settings c name client) p x (key_changed name (change_by o (state_before o u x) x.call x.now)))
         → ((k : ℕ) → IsStepOf e k → k ≡ m)
-        → AreSaid name (sent_to c (messages_by o r own p m w u)) (rows_said p (slice_get w.nodes m) (slice_get u.nodes m) ++ flat_map (said_of p m c changes) (released_between w u))
+        → AreSaidBy P (sent_to c (messages_by o r own p m w u)) (rows_said p (slice_get w.nodes m) (slice_get u.nodes m) ++ flat_map (said_of p m c changes) (released_between w u))
     says_here placed told step =
-        subst (λ xs. AreSaid name xs (rows_said p (slice_get w.nodes m) (slice_get u.nodes m) ++ flat_map (said_of p m c changes) (released_between w u)))
+        subst (λ xs. AreSaidBy P xs (rows_said p (slice_get w.nodes m) (slice_get u.nodes m) ++ flat_map (said_of p m c changes) (released_between w u)))
         (sym (sent_to-append c (row_messages r.lines p (listening r own m) (adopted_since (version_known w m) u m)) (flat_map (release_messages r own p (listening r own m)) (released_by o (change_by o) w u))
         ∙ ap (λ ys. sent_to c (row_messages r.lines p (listening r own m) (adopted_since (version_known w m) u m)) ++ ys) (all_answers m)))
-        (said-append name (sent_to c (row_messages r.lines p (listening r own m) (adopted_since (version_known w m) u m))) (flat_map (λ x. sent_to c (release_messages r own p (listening r own m) (answer x))) answers) _ _
-        rows_here (said-flat_map name (λ x. sent_to c (release_messages r own p (listening r own m) (answer x))) (said_of p m c changes) answers each))
+        (said-append P (sent_to c (row_messages r.lines p (listening r own m) (adopted_since (version_known w m) u m))) (flat_map (λ x. sent_to c (release_messages r own p (listening r own m) (answer x))) answers) _ _
+        rows_here (said-flat_map P (λ x. sent_to c (release_messages r own p (listening r own m) (answer x))) (said_of p m c changes) answers each))
       where
-        each : (x : Executed Request) → In x (released_between w u) → AreSaid name (sent_to c (release_messages r own p (listening r own m) (answer x))) (said_of p m c changes x)
+        each : (x : Executed Request) → In x (released_between w u) → AreSaidBy P (sent_to c (release_messages r own p (listening r own m) (answer x))) (said_of p m c changes x)
         each x i =
             let it = answer_is x i in
-            release_says x (placed x it.0) (told x it.0 (subst (λ k. WasCalled es k (name_of x)) (step it.1.0 it.1.1.0) it.1.1.1))
+            release_says x it.0 (placed x it.0) (told x it.0 (subst (λ k. WasCalled es k (name_of x)) (step it.1.0 it.1.1.0) it.1.1.1))
 
     -- where it is a step of another one
     module _ (own_calls : (k number : ℕ) → WasCalled es k (record { conn = c; number = number }) → k ≡ m) where

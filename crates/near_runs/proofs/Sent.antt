@@ -20,7 +20,7 @@ use Rattle.listeners.proofs.Placing.{order-placed, filter-placed, filter-placed_
 use Rattle.request_codecs.specs.Openings.{invalidations_correlation, rows_correlation}
 use Rattle.near_protocol.specs.Client.{Said}
 use Rattle.replay_run.specs.Runs.{Run, Appended, is_open, hears, is_own, is_to as goes_to, listens_at, placed_in, listening, event_to, events_to}
-use Rattle.near_runs.specs.Messages.{is_to, sent_to, near_listeners, AreSaid}
+use Rattle.near_runs.specs.Messages.{is_to, sent_to, near_listeners, AreSaidBy}
 use Rattle.near_runs.specs.NearConnections.{is_of, IsNear}
 
 -- ---- lists
@@ -139,12 +139,12 @@ no_change_sent c line p answer change all is =
 
 -- ---- message by message
 
-pub said-append : (name : List ℕ) (a b : List (List ℕ)) (x y : List (Said (List ℕ))) → AreSaid name a x → AreSaid name b y → AreSaid name (a ++ b) (x ++ y)
-said-append name [] b [] y h k = k
-said-append name [] b (s ∷ x) y h k = absurd h
-said-append name (m ∷ a) b [] y h k = absurd h
-said-append name (m ∷ a) b (s ∷ x) y h k = (h.0, said-append name a b x y h.1 k)
+pub said-append : (P : List ℕ → Said (List ℕ) → Type 0) (a b : List (List ℕ)) (x y : List (Said (List ℕ))) → AreSaidBy P a x → AreSaidBy P b y → AreSaidBy P (a ++ b) (x ++ y)
+said-append P [] b [] y h k = k
+said-append P [] b (s ∷ x) y h k = absurd h
+said-append P (m ∷ a) b [] y h k = absurd h
+said-append P (m ∷ a) b (s ∷ x) y h k = (h.0, said-append P a b x y h.1 k)
 
-pub said-flat_map : {X : Type 0} (name : List ℕ) (f : X → List (List ℕ)) (h : X → List (Said (List ℕ))) (xs : List X) → ((x : X) → In x xs → AreSaid name (f x) (h x)) → AreSaid name (flat_map f xs) (flat_map h xs)
-said-flat_map name f h [] each = tt
-said-flat_map name f h (x ∷ xs) each = said-append name (f x) (flat_map f xs) (h x) (flat_map h xs) (each x (inl refl)) (said-flat_map name f h xs (λ y i. each y (inr i)))
+pub said-flat_map : {X : Type 0} (P : List ℕ → Said (List ℕ) → Type 0) (f : X → List (List ℕ)) (h : X → List (Said (List ℕ))) (xs : List X) → ((x : X) → In x xs → AreSaidBy P (f x) (h x)) → AreSaidBy P (flat_map f xs) (flat_map h xs)
+said-flat_map P f h [] each = tt
+said-flat_map P f h (x ∷ xs) each = said-append P (f x) (flat_map f xs) (h x) (flat_map h xs) (each x (inl refl)) (said-flat_map P f h xs (λ y i. each y (inr i)))

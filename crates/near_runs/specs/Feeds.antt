@@ -18,10 +18,10 @@ all_said [] = []
 all_said (None ∷ more) = all_said more
 all_said (Some said ∷ more) = said ∷ all_said more
 
--- The machine has heard what the client was handed, and goes with it.
-pub record HasRead (settings : Settings) (client : ℕ) (name : List ℕ) (r : Run) (s : Machine) (after : State) (rest : List (Said (List ℕ))) : Type 0 where
+-- The machine has heard what the client was handed, and so has heard all of this. It goes with the client.
+pub record HasRead (settings : Settings) (client : ℕ) (name : List ℕ) (r : Run) (s : Machine) (earlier : List (List ℕ)) (heard : List (Said (List ℕ))) (after : State) (rest : List (Said (List ℕ))) : Type 0 where
   pub machine : Machine
-  pub run : IsNearRun settings client name r machine
+  pub run : IsNearRun settings client name r machine earlier heard
   pub conn : machine.conn ≡ s.conn
   pub goes : GoesWith s.conn name after machine.client
   pub unread : machine.unread ≡ rest
@@ -29,6 +29,6 @@ pub record HasRead (settings : Settings) (client : ℕ) (name : List ℕ) (r : R
 
 -- Where the messages that a piece completes mean what the machine's client has to read next, a client that is fed the piece goes on with it.
 abbrev pub EveryFeedIsFollowed : Type 0
-EveryFeedIsFollowed = (settings : Settings) (client : ℕ) (name : List ℕ) (r : Run) (s : Machine) (st : State) (sent : List (List Frame)) (text piece : List ℕ) (says : List (Option (Said (List ℕ)))) (rest : List (Said (List ℕ)))
-    → IsNearRun settings client name r s → GoesWith s.conn name st s.client → (h : HearsNext sent text piece) → AllMean name (messages_sent h.new) says → s.unread ≡ all_said says ++ rest
-    → HasRead settings client name r s (told_by_piece s.conn text piece st).after rest
+EveryFeedIsFollowed = (settings : Settings) (client : ℕ) (name : List ℕ) (r : Run) (s : Machine) (earlier : List (List ℕ)) (heard : List (Said (List ℕ))) (st : State) (sent : List (List Frame)) (text piece : List ℕ) (says : List (Option (Said (List ℕ)))) (rest : List (Said (List ℕ)))
+    → IsNearRun settings client name r s earlier heard → GoesWith s.conn name st s.client → (h : HearsNext sent text piece) → AllMean name (messages_sent h.new) says → s.unread ≡ all_said says ++ rest
+    → HasRead settings client name r s earlier (heard ++ all_said says) (told_by_piece s.conn text piece st).after rest

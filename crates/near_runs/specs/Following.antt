@@ -14,6 +14,7 @@ use Rattle.grid_client.specs.Nears.{Value}
 use Rattle.replay_run.specs.Runs.{Run, Connection, Arrival, world_at, connection_of, is_open, call_of, is_skipped, asked, occurred}
 use Rattle.near_runs.specs.Maps.{keyed, get_request}
 use Rattle.near_runs.specs.Messages.{sent_to, AreSaid}
+use Rattle.near_runs.specs.Sessions.{MayGet}
 use Rattle.near_runs.specs.NearConnections.{is_of, IsRight, IsNear, grid_of, grid_after}
 
 abbrev pub Machine : Type 0
@@ -64,6 +65,7 @@ EveryOtherCallIsFollowed = (settings : Settings) (client : ℕ) (name : List ℕ
 
 -- A look-up that misses: its get arrives at the connection's member, under the machine's next number.
 pub record IsNextGet (settings : Settings) (client : ℕ) (name key : List ℕ) (r : Run) (s : Machine) (a : Arrival) : Type 0 where
+  pub may : MayGet name client s.next_number key
   pub member : a.member ≡ s.member
   pub request : a.request ≡ get_request s.conn name client s.next_number key
   pub lives : is_live (world_at (partition_object settings) r a.request.partition) s.member ≡ true

@@ -17,3 +17,5 @@ pub mod Lines
 pub mod OwnLines
 pub mod Feeds
 pub mod ClientRuns
+pub mod Modest
+pub mod Spoken

@@ -5,6 +5,7 @@ use Rattle.call_engine.specs.Calls.{Settings}
 use Rattle.call_engine.specs.Objects.{partition_object}
 use Rattle.script_lang.specs.declared.line.Line.{Line}
 use Rattle.script_lang.specs.declared.line.Line.TheVariants.{OpenConn, Arrive}
+use Rattle.near_protocol.specs.Client.{Said}
 use Rattle.replay_run.specs.Runs.{Run}
 use Rattle.replay_run.specs.AfterLines.{after_line}
 use Rattle.near_runs.specs.Following.{Machine}
@@ -16,14 +17,14 @@ IsOthers c (OpenConn k member) = k ≢ c
 IsOthers c (Arrive k bytes) = k ≢ c
 IsOthers c line = Unit {0}
 
--- The run goes on with its machine, whose client does nothing.
-pub record GoesOn (settings : Settings) (client : ℕ) (name : List ℕ) (s : Machine) (next : Run) : Type 0 where
+-- The run goes on with its machine, whose client does nothing, and has heard no more.
+pub record GoesOn (settings : Settings) (client : ℕ) (name : List ℕ) (s : Machine) (earlier : List (List ℕ)) (heard : List (Said (List ℕ))) (next : Run) : Type 0 where
   pub machine : Machine
-  pub run : IsNearRun settings client name next machine
+  pub run : IsNearRun settings client name next machine earlier heard
   pub conn : machine.conn ≡ s.conn
   pub idle : machine.client ≡ s.client
   pub number : machine.next_number ≡ s.next_number
 
 abbrev pub EveryOtherLineIsFollowed : Type 0
-EveryOtherLineIsFollowed = (settings : Settings) (client : ℕ) (name : List ℕ) (r : Run) (s : Machine) (skips : List CallId) (line : Line)
-    → IsNearRun settings client name r s → IsOthers s.conn line → GoesOn settings client name s (after_line (partition_object settings) skips r line)
+EveryOtherLineIsFollowed = (settings : Settings) (client : ℕ) (name : List ℕ) (r : Run) (s : Machine) (earlier : List (List ℕ)) (heard : List (Said (List ℕ))) (skips : List CallId) (line : Line)
+    → IsNearRun settings client name r s earlier heard → IsOthers s.conn line → GoesOn settings client name s earlier heard (after_line (partition_object settings) skips r line)

@@ -36,8 +36,11 @@ AreBytesOf name bytes (Invalidation key version number) = (p : ℕ) × (bytes �
 AreBytesOf name bytes (Rows rows) = (known : List (ℕ × Row)) × ((bytes ≡ spelled (rows_frames rows_correlation known)) × (rows ≡ map row_said known))
 
 -- message by message
+abbrev pub AreSaidBy : (List ℕ → Said (List ℕ) → Type 0) → List (List ℕ) → List (Said (List ℕ)) → Type 0
+AreSaidBy P [] [] = Unit {0}
+AreSaidBy P [] (said ∷ rest) = ⊥
+AreSaidBy P (bytes ∷ more) [] = ⊥
+AreSaidBy P (bytes ∷ more) (said ∷ rest) = P bytes said × AreSaidBy P more rest
+
 abbrev pub AreSaid : List ℕ → List (List ℕ) → List (Said (List ℕ)) → Type 0
-AreSaid name [] [] = Unit {0}
-AreSaid name [] (said ∷ rest) = ⊥
-AreSaid name (bytes ∷ more) [] = ⊥
-AreSaid name (bytes ∷ more) (said ∷ rest) = AreBytesOf name bytes said × AreSaid name more rest
+AreSaid name bytes said = AreSaidBy (AreBytesOf name) bytes said

@@ -1,6 +1,11 @@
 -- Near connections in a run, and what each event says on one.
-use Rattle.std.specs.Prelude.{◌≡◌, ℕ, ◌≤◌, true, ◌==◌, Bool, List, [], map, filter, Some, Contains}
+use Rattle.std.specs.Prelude.{◌≡◌, ℕ, ◌<◌, ◌≤◌, true, ◌==◌, Bool, List, [], map, filter, Some, Contains}
+use Rattle.grid_base.specs.declared.calls.GridCall.TheVariants.{Map}
+use Rattle.grid_base.specs.declared.calls.MapCall.TheVariants.{Get}
 use Rattle.grid_base.specs.declared.calls.Request.{Request}
+use Rattle.grid_base.specs.declared.names.Owner.{Owner}
+use Rattle.message_frames.specs.Assembly.{most_messages}
+use Rattle.map_codecs.specs.Calls.{get_kind}
 use Rattle.call_engine.specs.Calls.{Settings}
 use Rattle.call_engine.specs.Objects.{partition_object}
 use Rattle.partition_protocol.specs.Events.{Event, Call}
@@ -29,9 +34,19 @@ grid_after settings c name client r p e = happened (partition_object settings) (
 abbrev pub is_of : ℕ → Listener → Bool
 is_of c listener = listener.conn == c
 
--- A call is in the partition of its object. One on the near connection reaches that connection's member, and its correlation is that of its number.
+-- the get of a key, by the number of its message
+pub record IsGet (number : ℕ) (request : Request) : Type 0 where
+  pub map : List ℕ
+  pub key : List ℕ
+  pub owner : Owner
+  pub call : request.call ≡ Map (Get map key owner)
+  pub kind : request.kind ≡ get_kind
+  pub correlation : request.correlation ≡ correlation_of number
+  pub small : number < most_messages
+
+-- A call is in the partition of its object. One on the near connection is a get that reaches that connection's member.
 abbrev pub IsRight : ℕ → ℕ → ℕ → Event Request → Type 0
-IsRight c m p (Call k conn number request now) = (home request ≡ p) × (conn ≡ c → (k ≡ m) × (request.correlation ≡ correlation_of number))
+IsRight c m p (Call k conn number request now) = (home request ≡ p) × (conn ≡ c → (k ≡ m) × IsGet number request)
 IsRight c m p event = Unit {0}
 
 -- A connection to a member, which is open, on which a client listens to the invalidations of a map and to rows, and to nothing else.

@@ -14,6 +14,7 @@ ghost use Rattle.near_runs.specs.Hearings.{EveryAnswerIsHeard, EveryRefusalIsHea
 ghost use Rattle.near_runs.specs.Lines.{EveryOtherLineIsFollowed};
 ghost use Rattle.near_runs.specs.Looks.{EveryHitIsTheMachines, EveryMissIsTheMachines};
 ghost use Rattle.near_runs.specs.Maps.{EveryMapIsKeyed};
+ghost use Rattle.near_runs.specs.Modest.{EveryLineStaysProper};
 ghost use Rattle.near_runs.specs.NearConnections.{EveryCallSays, EveryEventSays};
 ghost use Rattle.near_runs.specs.NearHits.{EveryHitOfANearClientStands};
 ghost use Rattle.near_runs.specs.NearRuns.{EveryNearRunGoesWell};
@@ -21,6 +22,7 @@ ghost use Rattle.near_runs.specs.OwnLines.{EveryGetLineIsFollowed, EveryOpeningL
 ghost use Rattle.near_runs.specs.Pieces.{EveryPieceIsHeard};
 ghost use Rattle.near_runs.specs.Readings.{EveryOutputIsHeard};
 ghost use Rattle.near_runs.specs.Speaking.{EveryMessageSaysIt};
+ghost use Rattle.near_runs.specs.Spoken.{EveryNearRunSpeaks};
 ghost use Rattle.near_runs.specs.Sessions.{EveryGetIsHeard, EveryGetIsServed, EveryOpeningIsHeard, EveryOpeningIsServed};
 
 /// Each map of a grid is one that the near cache's machine can go by: it tells keys apart, has each key in its partition, and
@@ -135,4 +137,16 @@ pub fn every_feed_is_followed()
 /// reads, each value that it hits is a hit of the run, and stands as the machine's does.
 pub fn every_hit_of_a_client_run_stands()
     ensures { EveryHitOfAClientRunStands }
+{}
+
+/// Whatever line of a script is run, each event of the run is in one of the grid's partitions, and the parts of each call fit
+/// frames.
+pub fn every_line_stays_proper()
+    ensures { EveryLineStaysProper }
+{}
+
+/// All that was sent on a near connection since its client came is one stream of messages. They mean what the client has heard,
+/// and then what it has yet to read; and the machine has processed just the invalidations among what was heard.
+pub fn every_near_run_speaks()
+    ensures { EveryNearRunSpeaks }
 {}

@@ -12,7 +12,7 @@ use Rattle.running_grid.specs.declared.running.RunningGrid.{RunningGrid}
 pub record HasRun {V : Type 0} {T : V → Type 0} (form : FormOf V T) (members : ℕ) (grid : ScriptGrid V T) : Type 0 where
   pub settings : Settings
   pub run : ScriptRun
-  pub stands : Stands form settings grid sun
+  pub stands : Stands form settings grid run
   pub same : members ≡ run.run.members
 
 -- A run that wasn't given up is one of a script.

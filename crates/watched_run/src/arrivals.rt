@@ -97,7 +97,9 @@ impl Notes {
         let mut all = Appendings::new(alloc);
         for appended in all_appended(alloc, text)? {
             match appended {
-                Appended::Output { conn, output } => self.add_output(alloc, conn, output, &mut all)?,
+                Appended::Output { conn, output } => self.add_output(
+                    alloc, conn, output, &mut all,
+                )?,
                 Appended::Close { conn, at, why } => {
                     self.clients.close(conn);
                     let words = fault_words(why);

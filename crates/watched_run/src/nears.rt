@@ -32,10 +32,7 @@ fn push_value(alloc: Global, out: &mut String, printed: &str) -> Result<(), Memo
 fn push_overtaking(out: &mut String, rest: &str) -> Result<(), Memory> {
     match rest.split_once(' ') {
         Some((version, "0")) => write!(out, ", overtaken by row {version}"),
-        Some((version, number)) => write!(
-            out,
-            ", overtaken by change {version}.{number}"
-        ),
+        Some((version, number)) => write!(out, ", overtaken by change {version}.{number}"),
         None => Ok(()),
     }
 }

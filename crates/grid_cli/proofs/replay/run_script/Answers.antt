@@ -1,4 +1,5 @@
 use Rattle.grid_cli.proofs.CommandLaws.{prints_histories}
+use Rattle.grid_cli.proofs.NearHits.{prints_hits}
 use Rattle.grid_cli.proofs.ReplayRuns.{nothing_played}
 use Rattle.grid_cli.proofs.replay.run_script.Goals as goal
 
@@ -8,11 +9,17 @@ returns-in_default-clause-text g c = nothing_played _ _ _
 pub returns-in_default-clause-headline : goal.returns-in_default-clause-headline
 returns-in_default-clause-headline g c = prints_histories _ _ _ _ _ _ (nothing_played _ _ _)
 
+pub returns-in_default-clause-hits : goal.returns-in_default-clause-hits
+returns-in_default-clause-hits g c = prints_hits _ _ _ _ _ _ (nothing_played _ _ _)
+
 pub returns-clause-text : goal.returns-clause-text
 returns-clause-text g c = c.run_pieces.ensures.text
 
 pub returns-clause-headline : goal.returns-clause-headline
 returns-clause-headline g c = prints_histories _ c.run_pieces.result _ _ _ _ c.run_pieces.ensures.text
+
+pub returns-clause-hits : goal.returns-clause-hits
+returns-clause-hits g c = prints_hits _ c.run_pieces.result _ _ _ _ c.run_pieces.ensures.text
 
 pub returns-clause-runs : goal.returns-clause-runs
 returns-clause-runs g c = c.run_pieces.ensures.runs

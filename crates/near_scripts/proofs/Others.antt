@@ -1,0 +1,81 @@
+-- A near client goes on at a line of others.
+use Rattle.std.proofs.Common.{◌≡◌, ℕ, false, List, ◌++◌, ap, sym, ◌∙◌, subst, inl, inr, append_assoc, arith}
+use Rattle.grid_base.specs.declared.names.CallId.{CallId}
+use Rattle.call_engine.specs.Calls.{Settings}
+use Rattle.call_engine.specs.Objects.{partition_object}
+use Rattle.script_lang.specs.declared.line.Line.{Line}
+use Rattle.script_lang.specs.declared.line.Line.TheVariants as line
+use Rattle.replay_run.specs.Runs.{Run}
+use Rattle.replay_run.specs.AfterLines.{after_line}
+use Rattle.replay_run.specs.Appending.{new_messages}
+use Rattle.replay_run.proofs.Growing.{line_grows}
+use Rattle.replay_run.proofs.SkipLaws.{line_counts}
+use Rattle.near_runs.specs.Messages.{sent_to}
+use Rattle.near_runs.specs.Clients.{GoesWith}
+use Rattle.near_runs.specs.Lines.{IsOthers}
+use Rattle.near_runs.proofs.Sent.{sent_to-append}
+use Rattle.near_runs.proofs.Lines.{every_other_line_is_followed}
+use Rattle.script_run.specs.NearClients.{NearClient}
+use Rattle.script_run.specs.AfterLines.{noting}
+use Rattle.near_scripts.proofs.Lives.{stays_dead}
+use Rattle.near_scripts.proofs.Connections.{IsApart, keeps_connection, keeps_members}
+use Rattle.near_scripts.proofs.Facts.{IsLive, IsDead, Goes, Appends, read_more}
+
+apart_too : (c : ℕ) (l : Line) → IsOthers c l → IsApart c l
+apart_too c (line.Arrive k bytes) others = others
+apart_too c l others = tt
+
+pub line_appends : (settings : Settings) (skips : List CallId) (r : Run) (l : Line) → Appends r (after_line (partition_object settings) skips r l)
+line_appends settings skips r l = let front = (line_grows (partition_object settings) skips r l).appended in record { more = front.0; are = sym front.1 }
+
+module _ (settings : Settings) (skips : List CallId) (r : Run) (l : Line) (n : NearClient) (others : IsOthers n.conn l) where
+  abbrev next : Run
+  next = after_line (partition_object settings) skips r l
+
+  abbrev after : NearClient
+  after = noting (new_messages r next) n
+
+  live_on : IsLive settings r n → IsLive settings next after
+  live_on a =
+      let g = every_other_line_is_followed settings a.client a.name r a.machine a.earlier a.heard skips l a.run (subst (λ (c : ℕ). IsOthers c l) (sym a.conn) others) in
+      let adds = line_appends settings skips r l in
+      let lines = (line_counts (partition_object settings) skips r l).lines in
+      let few = a.few in
+      let same = g.number in
+      record {
+        client = a.client;
+        name = a.name;
+        machine = g.machine;
+        earlier = a.earlier;
+        heard = a.heard;
+        run = g.run;
+        conn = g.conn ∙ a.conn;
+        goes = subst (GoesWith n.conn a.name n.state) (sym g.idle) a.goes;
+        number = g.number ∙ a.number;
+        its_client = a.its_client;
+        one = record { uuid = a.one.uuid; connections = a.one.connections; near = a.one.near; keeps = a.one.keeps; short = a.one.short };
+        text = a.text;
+        connection = a.connection;
+        there = keeps_connection (partition_object settings) skips r l n.conn a.connection (apart_too n.conn l others) a.there;
+        sent = a.sent;
+        messages = a.messages ∙ sym g.number;
+        few = omega (arith, few, same, lines);
+        since = a.since ++ sent_to n.conn adds.more;
+        appended = ap (sent_to n.conn) adds.are ∙ sent_to-append n.conn r.appended adds.more ∙ ap (λ xs. xs ++ sent_to n.conn adds.more) a.appended ∙ append_assoc a.earlier a.since (sent_to n.conn adds.more);
+        reading = read_more r next adds n a.since a.reading;
+        says = a.says;
+        mean = a.mean;
+        is_heard = a.is_heard;
+      }
+
+  dead_on : next.full ≡ false → IsDead settings r n → IsDead settings next after
+  dead_on going a = record {
+    bare = record { near = a.bare.near; keeps = a.bare.keeps; entries = a.bare.entries; waiting = a.bare.waiting; calls = a.bare.calls };
+    connection = a.connection;
+    there = keeps_connection (partition_object settings) skips r l n.conn a.connection (apart_too n.conn l others) a.there;
+    crashed = stays_dead (partition_object settings) skips r l a.connection.member (keeps_members (partition_object settings) skips r l) going a.crashed;
+  }
+
+  pub goes_on : next.full ≡ false → Goes settings r n → Goes settings next after
+  goes_on going (inl a) = inl (live_on a)
+  goes_on going (inr a) = inr (dead_on going a)
