@@ -23,8 +23,10 @@ impl Masters {
         requires { (events : List (Event DecisionOf)) × StandsFor self.now events }
         ensures published { (events : List (Event DecisionOf)) → StandsFor self.now events → result.now ≡ published_of self.now events }
         // At any two moments the earlier list is a front of the later one, whoever was master.
-        ensures earlier { (old : MastersOf) (before after : List (Event DecisionOf)) → IsLater old self.now before after → IsFrontOf (published_of old before) result.now }
-        ensures later { (new : MastersOf) (before after : List (Event DecisionOf)) → IsLater self.now new before after → IsFrontOf result.now (published_of new (before ++ after)) }
+        ensures earlier { (old : MastersOf) (before after : List (Event DecisionOf)) → IsLater old self.now before after
+            → IsFrontOf (published_of old before) result.now }
+        ensures later { (new : MastersOf) (before after : List (Event DecisionOf)) → IsLater self.now new before after
+            → IsFrontOf result.now (published_of new (before ++ after)) }
     {
         let log = self.members[usize::from(self.publisher)].log();
         &log[..self.published]
