@@ -1,0 +1,10 @@
+pub mod Agreement
+pub mod Handing
+pub mod Proposing
+pub mod Rooms
+pub mod Runs
+pub mod Seen
+pub mod Showing
+pub mod Starts
+pub mod Waiting
+pub mod Whole

@@ -1,0 +1,28 @@
+-- The message leaves its link, if there is one.
+use Rattle.std.proofs.Common.{◌<◌, ◌≤◌, length, refl, subst}
+use Rattle.masters_protocol.specs.Members.{Done, NothingDone}
+use Rattle.masters_protocol.specs.Machine.{Lose, with_packets, taken_out, done}
+use Rattle.master_log.specs.Standing.{run_of}
+use Rattle.master_log.proofs.Runs.{ran_to, packet_at, nothing_there, lost_there}
+use Rattle.master_log.proofs.Showing.{less, taken_shows}
+use Rattle.master_log.proofs.masters.Masters.lose.Goals as goal
+
+pub returns-then-place-list : goal.returns-then-place-list
+returns-then-place-list c events stands =
+    let old = c.args.self.now in
+    let w = run_of old events in
+    let past = subst (λ xs. length xs ≤ c.args.place) c.list.ensures c.if-place-list.true in
+    ran_to old old events stands refl (Lose c.args.from c.args.to c.args.place) w NothingDone
+    (nothing_there old w stands.shows c.args.from c.args.to c.args.place (λ p. done (with_packets w (taken_out c.args.from c.args.to c.args.place w.packets))) past) stands.shows
+
+pub returns : goal.returns
+returns c events stands =
+    let old = c.args.self.now in
+    let w = run_of old events in
+    let f = c.args.from in
+    let t = c.args.to in
+    let i = c.args.place in
+    let p = packet_at old w stands.shows f t i (subst (λ xs. i < length xs) c.list.ensures c.if-place-list.false) in
+    let new = record old { links = c.lose.new.self } in
+    ran_to old new events stands refl (Lose f t i) (less w f t i) Done (lost_there old w stands.shows f t i p.0 p.1)
+    (taken_shows old w stands.shows new f t i refl c.lose.ensures.ends c.lose.ensures.lists)
