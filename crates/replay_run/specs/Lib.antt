@@ -3,6 +3,7 @@ pub mod Appending
 pub mod Changes
 pub mod Counts
 pub mod Dumps
+pub mod Endings
 pub mod Grids
 pub mod Linearizability
 pub mod PrintedEntries

@@ -30,20 +30,21 @@ use crate::tally::Reception;
 use call_engine::{GridEnv, GridShelf};
 use client_codecs::write_error;
 use frame_codec::Malformed;
-use grid_base::errors::{UNKNOWN_TYPE, WANT_OF_MEMORY};
+use grid_base::errors::WANT_OF_MEMORY;
 use grid_base::{Bytes, MemberId, Memory, Moment, Request};
 use listeners::Listeners;
 use partition_world::{CallOutcome, Event, Happened, Recorder, World};
 use script_lang::Line;
 use session_core::Item;
 use std::alloc::Global;
+use wait_lists::Spot;
 
 /// The error that answers a call which was not run: its number, and the version of the row that its
 /// member knows.
 #[derive(Clone, Copy, Debug, PartialEq, Eq)]
-struct Refusal {
-    code: i32,
-    version: u32,
+pub(crate) struct Refusal {
+    pub(crate) code: i32,
+    pub(crate) version: u32,
 }
 
 /// A call found no memory.
@@ -77,14 +78,14 @@ fn reception_of(refusal: Option<Refusal>) -> Reception
 
 /// What an error that answers a call carries of it.
 #[derive(Clone, Copy)]
-struct Caller {
-    line: u32,
-    conn: u32,
-    correlation: i64,
+pub(crate) struct Caller {
+    pub(crate) line: u32,
+    pub(crate) conn: u32,
+    pub(crate) correlation: i64,
 }
 
 /// Appends the error that refuses a call, if it is refused.
-fn push_refusal(
+pub(crate) fn push_refusal(
     alloc: Global,
     out: &mut Vec<u8>,
     to: Caller,
@@ -102,15 +103,15 @@ fn push_refusal(
 
 /// What a call of a request meets at a member: its moment there, and the line at which it arrives.
 #[derive(Clone, Copy)]
-struct Arriving {
-    line: u32,
-    member: MemberId,
-    now: Moment,
+pub(crate) struct Arriving {
+    pub(crate) line: u32,
+    pub(crate) member: MemberId,
+    pub(crate) now: Moment,
 }
 
 /// A call reaches a member at a line. It is answered at once where it is refused or finds no memory, and what became of
 /// it is told.
-fn call(
+pub(crate) fn call(
     alloc: Global,
     world: &mut World<GridShelf, Recorder<Request>>,
     env: &GridEnv,
@@ -193,6 +194,9 @@ impl Grid {
         self.count(number, out)?;
         self.handle_all(alloc, conn, member, fed.items, out)?;
         forget_closed(&mut self.listeners, conn, member, fed.closed);
+        if fed.closed.is_some() {
+            self.waiters.drop_conn(conn);
+        }
         Ok(push_close(out, number, conn, fed.closed)?)
     }
 
@@ -230,15 +234,20 @@ impl Grid {
         for item in items {
             match item {
                 Item::Reply(answer) => self.tell(alloc, conn, answer, out)?,
-                Item::Wait { request, .. } => {
-                    let correlation = request.correlation;
-                    drop(request);
-                    self.refuse(alloc, conn, correlation, out)?
+                Item::Wait { request, timeout } => {
+                    self.wait(alloc, member, request, timeout, out)?
                 }
                 Item::Register(registration) => {
                     self.register(alloc, conn, member, registration, out)?
                 }
-                Item::Call(request) => self.ask(alloc, member, request, out)?,
+                Item::Call(request) => {
+                    let at = Spot {
+                        member,
+                        partition: request.partition,
+                    };
+                    self.ask(alloc, member, request, out)?;
+                    self.make_turns(alloc, at, Some(conn), out)?
+                }
             }
         }
         Ok(())
@@ -258,22 +267,6 @@ impl Grid {
     {
         self.connections.reply(conn)?;
         push_appended(alloc, out, self.lines, conn, answer.as_slice())
-    }
-
-    /// What isn't served yet, a call that waits, is answered on its connection as a message of an unknown type.
-    fn refuse(
-        &mut self,
-        alloc: Global,
-        conn: u32,
-        correlation: i64,
-        out: &mut Vec<u8>,
-    ) -> Result<(), Memory>
-        ensures { (settings : Settings) (r : Run) (number : ℕ) → Holds (boxed form) settings self.old r
-            → AreListening self.old.listeners.items r (Some conn) → IsCounting self.old.connections r conn number
-            → OnOk result (HasTold (boxed form) settings self.new r conn number (unserved correlation) out.old.items out.new.items) }
-    {
-        let error = write_error(alloc, correlation, UNKNOWN_TYPE, 0, 0)?;
-        self.tell(alloc, conn, error, out)
     }
 
     /// A call arrives at its connection's member. A full partition takes none.

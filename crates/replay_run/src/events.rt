@@ -23,10 +23,12 @@ use crate::outgoing::{Reaching, append_reached, version_known};
 use crate::print::push_text;
 use crate::reopened::Reopened;
 use crate::run_end::RunEnd;
+use crate::waiting::stirred_by;
 use grid_base::{MemberId, Memory, PARTITIONS, PartitionId, Request, Shelf};
 use partition_world::{Event, Happened, Link, Records, World};
 use script_lang::Line;
 use std::alloc::Global;
+use wait_lists::Spot;
 
 /// What happens to a member in all partitions.
 #[derive(Clone, Copy)]
@@ -189,6 +191,7 @@ impl Grid {
             return Err(RunEnd::InFlight);
         }
         let reopens = matches!(event, Event::Reopen);
+        let stirred = stirred_by(&event);
         let happened = world.step(alloc, &self.env, event)?;
         if let Some(at) = reaching {
             append_reached(
@@ -201,6 +204,11 @@ impl Grid {
             )?;
         }
         self.note_reopening(partition, reopens, happened)?;
+        if let Some(member) = stirred {
+            if member < self.members {
+                self.make_turns(alloc, Spot { member, partition }, None, out)?;
+            }
+        }
         Ok(happened)
     }
 

@@ -33,6 +33,15 @@ impl Tally {
         }
     }
 
+    /// Counts what became of a call that waited.
+    pub(crate) fn count_later(&mut self, reception: Reception) {
+        match reception {
+            Reception::Taken => {}
+            Reception::Refused => self.refused += 1,
+            Reception::OutOfMemory => self.memory += 1,
+        }
+    }
+
     /// Counts a call that arrived.
     pub(crate) fn count(&mut self, reception: Reception)
         requires room { self.old.arrived + 1 < 2 ^ 32 }
