@@ -16,7 +16,7 @@ use Rattle.partition_protocol.proofs.RowFacts.{false_or_not}
 use Rattle.partition_protocol.proofs.Faithful.{part_in, part_map, part_once}
 use Rattle.partition_protocol.proofs.Theorem.{every_run_is_safe}
 use Rattle.partition_world.specs.Answers.{id_of}
-use Rattle.replay_run.specs.Runs.{Run, Arrival, Appended, Connection, reopened_at, world_at, events_at, connection_of, messages_on}
+use Rattle.replay_run.specs.Runs.{Run, Arrival, Waiter, Appended, Connection, reopened_at, world_at, events_at, connection_of, messages_on}
 use Rattle.replay_run.specs.ScriptRuns.{IsPlaced}
 use Rattle.replay_run.specs.Printing.{arrival_of, is_answer_to}
 use Rattle.replay_run.specs.Linearizability.{Before}
@@ -47,14 +47,30 @@ pub record ArrivalsOk (r : Run) : Type 0 where
   pub once : NamedOnce (map arrival_name r.arrivals)
   -- it is one of the messages of its connection
   pub counted : (a : Arrival) → In a r.arrivals → (k : Connection) × (connection_of r a.request.id.conn ≡ Some k) × (a.request.id.number < length (messages_on k))
-  -- they stand by line, and those of one connection by number
-  pub in_order : (a b : Arrival) → Before r.arrivals a b → a.line ≤ b.line
-  pub rising : (a b : Arrival) → Before r.arrivals a b → a.request.id.conn ≡ b.request.id.conn → a.request.id.number < b.request.id.number
+  -- those of one connection that don't wait stand by number
+  pub rising : (a b : Arrival) → Before r.arrivals a b → a.waits ≡ false → b.waits ≡ false → a.request.id.conn ≡ b.request.id.conn → a.request.id.number < b.request.id.number
   -- those of one line are of one connection
   pub of_line : (a b : Arrival) → In a r.arrivals → In b r.arrivals → a.line ≡ b.line → a.request.id.conn ≡ b.request.id.conn
-  pub by_now : (a : Arrival) → In a r.arrivals → a.line ≤ r.lines
+  -- it was made no sooner than it arrived
+  pub later : (a : Arrival) → In a r.arrivals → a.line ≤ a.made
+  pub by_now : (a : Arrival) → In a r.arrivals → a.made ≤ r.lines
   -- the calls that reach a partition's members are arrivals of that partition, in order
   pub calls : (p : ℕ) → IsPart (arrivals (events_at p r.events)) (map asked_of (filter (is_of p) r.arrivals))
+
+-- calls that wait
+
+abbrev pub waiter_name : Waiter → CallName
+waiter_name w = record { conn = w.request.id.conn; number = w.request.id.number }
+
+pub record WaitersOk (r : Run) : Type 0 where
+  pub placed : (w : Waiter) → In w r.waiters → IsPlaced w.request
+  -- no two have one name, nor has one that of an arrival
+  pub once : NamedOnce (map waiter_name r.waiters)
+  pub apart : (a : Arrival) (w : Waiter) → In a r.arrivals → In w r.waiters → arrival_name a ≢ waiter_name w
+  pub counted : (w : Waiter) → In w r.waiters → (k : Connection) × (connection_of r w.request.id.conn ≡ Some k) × (w.request.id.number < length (messages_on k))
+  pub of_line : (a : Arrival) (w : Waiter) → In a r.arrivals → In w r.waiters → a.line ≡ w.line → a.request.id.conn ≡ w.request.id.conn
+  pub of_one_line : (v w : Waiter) → In v r.waiters → In w r.waiters → v.line ≡ w.line → v.request.id.conn ≡ w.request.id.conn
+  pub by_now : (w : Waiter) → In w r.waiters → w.line ≤ r.lines
 
 -- answers
 
@@ -103,6 +119,7 @@ pub record RunOk {State : Type 0} (o : Object Request State) (r : Run) : Type 0 
   pub members : 1 ≤ r.members
   pub connections : AreApart r.connections
   pub of_arrivals : ArrivalsOk r
+  pub of_waiters : WaitersOk r
   pub of_answers : AnswersOk o r
   pub of_refusals : RefusalsOk o r
   pub of_reopenings : ReopeningsOk o r

@@ -274,7 +274,7 @@ abbrev pub happening : Object Request Partition → Run → Option ℕ → Arriv
 happening o r own a =
     let before = world_at o r a.request.partition in
     let next = happens o before (call_of a) in
-    refused_by r.lines a.request next.outcome ++ messages_by o r own a.request.partition a.member before next.world
+    refused_by a.made a.request next.outcome ++ messages_by o r own a.request.partition a.member before next.world
 
 abbrev pub arrived : Run → Arrival → List At → List Appended → Run
 arrived r a events appended = record r {
@@ -289,7 +289,7 @@ is_skipped skips id = list_any (is_same_call id) skips
 
 abbrev pub asked : Object Request Partition → List CallId → Run → Option ℕ → Arrival → Run
 asked o skips r own a =
-    if is_skipped skips a.request.id then arrived r a [] (refusal r.lines a.request (pos want_of_memory) 0 ∷ [])
+    if is_skipped skips a.request.id then arrived r a [] (refusal a.made a.request (pos want_of_memory) 0 ∷ [])
     else arrived r a (record { partition = a.request.partition; event = call_of a } ∷ []) (happening o r own a)
 
 -- A full partition takes no event but a loss. The run is then given up: nothing is printed of that line, and no other line runs.
