@@ -1,23 +1,27 @@
 -- A line that is counted, and a call that is asked, keep what holds of arrivals.
-use Rattle.std.proofs.Common.{◌≡◌, ◌≢◌, ℕ, ◌+◌, ◌≤◌, ◌<◌, Bool, true, false, cond, ◌==◌, List, [], ◌∷◌, ◌++◌, length, map, filter, None, Some, refl, ap, sym, ◌∙◌, subst, ◌⊎◌, ⊎_elim, inl, inr, arith, append-nil, append_assoc, true≢false}
+use Rattle.std.proofs.Common.{◌≡◌, ◌≢◌, ℕ, ◌+◌, ◌≤◌, ◌<◌, Bool, true, false, cond, not, ◌==◌, List, [], ◌∷◌, ◌++◌, length, map, filter, None, Some, refl, ap, sym, ◌∙◌, subst, ◌⊎◌, ⊎_elim, inl, inr, arith, append-nil, append_assoc, true≢false}
 use Rattle.std.proofs.lemmas.List.{map-append}
 use Rattle.std.proofs.lemmas.List.Elements.{filter-append}
 use Rattle.std.proofs.lemmas.Bool.Decides.{nat_tests}
 use Rattle.std.specs.List.{find}
 use Rattle.std.specs.Option.{option_map}
 use Rattle.grid_base.specs.Objects.{Object}
+use Rattle.grid_base.specs.Names.{is_same_call}
+use Rattle.grid_base.specs.declared.names.CallId.{CallId}
 use Rattle.grid_base.specs.declared.calls.Request.{Request}
 use Rattle.partition_protocol.specs.Events.{Event}
 use Rattle.partition_protocol.specs.Arrivals.{CallName, asked_by, arrivals}
 use Rattle.partition_protocol.proofs.Lists.{In, in_cases, contains_in, IsPart, part_longer, part_both, cases}
-use Rattle.replay_run.specs.Runs.{Run, Arrival, Appended, Reopened, Connection, At, is_at, events_at, world_at, reopened_at, is_connection, connection_of, messages_on, updated, arrival_at, call_of, arrived}
+use Rattle.partition_protocol.proofs.Faithful.{part_map, part_once}
+use Rattle.replay_run.specs.Runs.{Run, Arrival, Waiter, Appended, Reopened, Connection, At, is_at, events_at, world_at, reopened_at, is_connection, connection_of, messages_on, updated, arrival_at, call_of, arrived, is_waiter, waits, without, ending}
 use Rattle.replay_run.specs.ScriptRuns.{IsPlaced, IsNext}
-use Rattle.replay_run.proofs.Parts.{in_mapped, before_last, named_more}
-use Rattle.replay_run.proofs.Places.{same_number}
+use Rattle.replay_run.proofs.Parts.{in_mapped, in_filtered, part_filter, before_last, named_more}
+use Rattle.replay_run.proofs.Places.{same_number, same_call_refl}
 use Rattle.replay_run.proofs.Trails.{find_some}
 use Rattle.replay_run.proofs.Stamps.{stamped_later}
-use Rattle.replay_run.proofs.EventRuns.{events_at-append}
-use Rattle.replay_run.proofs.RunFacts.{asked_of, arrival_name, is_of, ArrivalsOk, AreApart, RunOk}
+use Rattle.replay_run.proofs.EventRuns.{events_at-append, is_other}
+pub use Rattle.replay_run.proofs.Turns.{IsMade, its_event}
+use Rattle.replay_run.proofs.RunFacts.{asked_of, arrival_name, waiter_name, is_of, ArrivalsOk, WaitersOk, AreApart, RunOk}
 
 -- connections
 
@@ -171,9 +175,6 @@ part_maybe_both xs ys false y h = rw (append-nil xs, append-nil ys) h
 
 -- a call
 
-abbrev pub its_event : Arrival → At
-its_event a = record { partition = a.request.partition; event = call_of a }
-
 -- the partition's arrivals with one more
 pub arrivals_of_more : (p : ℕ) (come : List Arrival) (a : Arrival)
     → map asked_of (filter (is_of p) (come ++ a ∷ [])) ≡ map asked_of (filter (is_of p) come) ++ maybe_one (is_of p a) (asked_of a)
@@ -197,10 +198,6 @@ pub calls_of_more : (p : ℕ) (es : List At) (a : Arrival) → arrivals (events_
 calls_of_more p es a =
     ap arrivals (events_of_more p es a) ∙ arrivals-append (events_at p es) (maybe_one (is_of p a) (call_of a))
     ∙ ap (λ ks. arrivals (events_at p es) ++ ks) (asked_of_maybe (is_of p a) a)
-
--- it makes its event, or none
-abbrev pub IsMade : Arrival → List At → Type 0
-IsMade a events = (events ≡ []) ⊎ (events ≡ its_event a ∷ [])
 
 -- A call may come next among the arrivals: its name is new, and it is of its line and connection.
 pub record MayCome (r : Run) (a : Arrival) : Type 0 where
@@ -368,9 +365,6 @@ waiter_more r ok w next at = record {
     last_now v (inr i) = absurd i
 
 -- one less
-
-abbrev pub is_other : Waiter → Waiter → Bool
-is_other w x = not (is_waiter w.request.id x)
 
 -- whoever is left waited, and isn't that one
 pub in_without : (r : Run) (w v : Waiter) → In v (without r w).waiters → In v r.waiters × (is_waiter w.request.id v ≡ false)

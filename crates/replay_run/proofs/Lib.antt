@@ -1,4 +1,5 @@
 pub mod Parts
+pub mod Turns
 pub mod EventRuns
 pub mod Rebalanced
 pub mod Counting

@@ -74,7 +74,7 @@ pub record WaitersOk (r : Run) : Type 0 where
 
 -- answers
 
--- a message answers the call of that name: the call was executed, and its answer was released, by which time all that was executed had arrived
+-- a message answers the call of that name: the call was executed, and its answer was released, by which time all that was executed had been made
 pub record IsGiven (log : List (Entry Request)) (released : List Held) (come : List Arrival) (m : Appended) (id : CallId) : Type 0 where
   pub call : Executed Request
   pub call_is : id_of call ≡ id
@@ -86,7 +86,7 @@ pub record IsGiven (log : List (Entry Request)) (released : List Held) (come : L
   pub log_then : List (Entry Request)
   pub front : IsFrontOf log_then log
   pub has : In call (executed log_then)
-  pub arrived : (x : Executed Request) → In x (executed log_then) → (a : Arrival) × In a come × (arrival_name a ≡ executed_name x) × (a.line ≤ m.line)
+  pub arrived : (x : Executed Request) → In x (executed log_then) → (a : Arrival) × In a come × (arrival_name a ≡ executed_name x) × (a.made ≤ m.line)
 
 abbrev pub IsGivenIn : {State : Type 0} → Object Request State → Run → ℕ → Appended → CallId → Type 0
 IsGivenIn o r p m id = IsGiven (world_at o r p).recorded.log (world_at o r p).released r.arrivals m id

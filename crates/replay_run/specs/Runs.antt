@@ -369,8 +369,16 @@ served_in o skips r member (p ∷ ps) = served_in o skips (served o skips r None
 abbrev pub is_waiting_on : ℕ → Waiter → Bool
 is_waiting_on c w = w.request.id.conn == c
 
+abbrev pub left_by : Run → Option Waiter → Run
+left_by r None = r
+left_by r (Some w) = leaves r w
+
+abbrev pub left_so_often : ℕ → ℕ → Run → Run
+left_so_often c zero r = r
+left_so_often c (suc more) r = left_so_often c more (left_by r (find (is_waiting_on c) r.waiters))
+
 abbrev pub forsaken : Run → ℕ → Run
-forsaken r c = if is_open (connection_of r c) then r else fold leaves r (filter (is_waiting_on c) r.waiters)
+forsaken r c = if is_open (connection_of r c) then r else left_so_often c (length r.waiters) r
 
 -- Something else than a call happens to a partition: a member may adopt a row and release answers, the partition may be reopened, and then calls that wait may have their turns.
 
