@@ -413,7 +413,7 @@ part_run skips r k bytes items more is there e =
 -- lines
 
 -- An event that is a line is no call.
-abbrev IsNoCall : Option At → Type 0
+abbrev pub IsNoCall : Option At → Type 0
 IsNoCall None = Unit {0}
 IsNoCall (Some e) = asked_by e.event ≡ []
 

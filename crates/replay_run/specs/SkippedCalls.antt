@@ -1,5 +1,5 @@
 -- How a run tells that a call found no memory: it refuses the call with error 10, at the line at which it was to be made.
-use Rattle.std.specs.Prelude.{◌≡◌, ◌≢◌, ℕ, ◌⊎◌, true, false, List, [], Some, Contains, pos}
+use Rattle.std.specs.Prelude.{◌≡◌, ◌≢◌, ℕ, true, false, List, [], Some, Contains, pos}
 use Rattle.fixed_fields.specs.Responses.{error_bytes}
 use Rattle.grid_base.specs.Errors.{want_of_memory}
 use Rattle.grid_base.specs.declared.names.CallId.{CallId}
@@ -20,14 +20,10 @@ pub record TellsOfSkip (a : Arrival) (m : Appended) : Type 0 where
 abbrev pub IsTold : Run → Arrival → Type 0
 IsTold r a = (m : Appended) × Contains r.appended m × TellsOfSkip a m
 
--- A call that waited, and that was never made: it was refused as it waited, or left without an answer.
-pub record IsUnmade (r : Run) (a : Arrival) : Type 0 where
-  pub waited : a.waits ≡ true
-  pub unmade : (e : At) → Contains r.events e → e.event ≢ call_of a
-
--- Each arrival whose call is among the skips is told of, but for those that were never made.
-abbrev pub TellsOfSkips : List CallId → Run → Type 0
-TellsOfSkips skips r = (a : Arrival) → Contains r.arrivals a → is_skipped skips a.request.id ≡ true → IsTold r a ⊎ IsUnmade r a
+-- A call that is among the skips makes no event, and is told of as it would have been made: at its arrival, if it doesn't wait.
+pub record TellsOfSkips (skips : List CallId) (r : Run) : Type 0 where
+  pub told : (a : Arrival) → Contains r.arrivals a → is_skipped skips a.request.id ≡ true → a.waits ≡ false → IsTold r a
+  pub unmade : (a : Arrival) (e : At) → is_skipped skips a.request.id ≡ true → Contains r.events e → e.event ≢ call_of a
 
 -- no message of a run is an error 10
 abbrev pub TellsOfNoSkip : Run → Type 0
