@@ -10,18 +10,19 @@ use Rattle.grid_base.specs.Names.{is_same_call}
 use Rattle.grid_base.specs.declared.names.CallId.{CallId}
 use Rattle.grid_base.specs.declared.calls.Request.{Request}
 use Rattle.partition_protocol.specs.Events.{Event}
-use Rattle.partition_protocol.specs.Arrivals.{CallName, asked_by, arrivals}
+use Rattle.partition_protocol.specs.Arrivals.{CallName, NamedOnce, asked_by, arrivals}
+use Rattle.partition_protocol.proofs.RowFacts.{false_or_not}
 use Rattle.partition_protocol.proofs.Lists.{In, in_cases, contains_in, IsPart, part_longer, part_both, cases}
 use Rattle.partition_protocol.proofs.Faithful.{part_map, part_once}
 use Rattle.replay_run.specs.Runs.{Run, Arrival, Waiter, Appended, Reopened, Connection, At, is_at, events_at, world_at, reopened_at, is_connection, connection_of, messages_on, updated, arrival_at, call_of, arrived, is_waiter, waits, without, ending}
 use Rattle.replay_run.specs.ScriptRuns.{IsPlaced, IsNext}
-use Rattle.replay_run.proofs.Parts.{in_mapped, in_filtered, part_filter, before_last, named_more}
-use Rattle.replay_run.proofs.Places.{same_number, same_call_refl}
+use Rattle.replay_run.proofs.Parts.{in_map, in_mapped, in_filtered, part_filter, before_last, named_more}
+use Rattle.replay_run.proofs.Places.{same_number, same_call, same_call_refl}
 use Rattle.replay_run.proofs.Trails.{find_some}
 use Rattle.replay_run.proofs.Stamps.{stamped_later}
 use Rattle.replay_run.proofs.EventRuns.{events_at-append, is_other}
 pub use Rattle.replay_run.proofs.Turns.{IsMade, its_event}
-use Rattle.replay_run.proofs.RunFacts.{asked_of, arrival_name, waiter_name, is_of, ArrivalsOk, WaitersOk, AreApart, RunOk}
+use Rattle.replay_run.proofs.RunFacts.{asked_of, arrival_name, waiter_name, id_name, is_of, ArrivalsOk, WaitersOk, AreApart, RunOk}
 
 -- connections
 
@@ -373,6 +374,32 @@ in_without r w v i = let k = in_filtered (is_other w) r.waiters v i in (k.0, oth
     other : (b : Bool) → not b ≡ true → b ≡ false
     other true e = absurd cc
     other false e = refl
+
+-- The list is shorter by just that one, since no other has its name.
+pub one_less : (r : Run) (w : Waiter) → WaitersOk r → In w r.waiters → length (without r w).waiters + 1 ≡ length r.waiters
+one_less r w ok i = go r.waiters ok.once i
+  where
+    itself : is_waiter w.request.id w ≡ true
+    itself = same_call_refl w.request.id
+
+    others : (vs : List Waiter) → ((v : Waiter) → In v vs → is_waiter w.request.id v ≡ false) → filter (is_other w) vs ≡ vs
+    others [] h = refl
+    others (v ∷ vs) h = let here = ap not (h v (inl refl)) in let rest = others vs (λ u j. h u (inr j)) in rw (here, rest) refl
+
+    go : (ws : List Waiter) → NamedOnce (map waiter_name ws) → In w ws → length (filter (is_other w) ws) + 1 ≡ length ws
+    go [] once j = absurd j
+    go (v ∷ vs) once (inl e) =
+        let gone : is_other w v ≡ false = ap not (subst (λ (x : Waiter). is_waiter w.request.id x ≡ true) (sym e) itself) in
+        let stay = others vs (λ u j. false_or_not (is_waiter w.request.id u) (λ s.
+            (let id = same_call u.request.id w.request.id s in
+            once.0 (waiter_name u) (contains_in (waiter_name u) (map waiter_name vs) (in_map waiter_name vs u j)) (ap id_name id ∙ ap waiter_name (sym e))))) in
+        rw (gone, stay) (omega arith)
+    go (v ∷ vs) once (inr j) =
+        let rest = go vs once.1 j in
+        let stays : is_other w v ≡ true = ap not (false_or_not (is_waiter w.request.id v) (λ s.
+            (let id = same_call v.request.id w.request.id s in
+            once.0 (waiter_name w) (contains_in (waiter_name w) (map waiter_name vs) (in_map waiter_name vs w j)) (ap id_name (sym id))))) in
+        rw stays (omega (arith, rest))
 
 pub waiters_without : (r : Run) (w : Waiter) → WaitersOk r → WaitersOk (without r w)
 waiters_without r w ok = record {

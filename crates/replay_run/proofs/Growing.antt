@@ -394,7 +394,7 @@ module _ (o : Object Request Partition) where
   all_left_go c zero r = goes_nowhere r
   all_left_go c (suc more) r = goes_then r (λ s. left_by r (find (is_waiting_on c) r.waiters)) (λ x s. left_so_often c more x) (left_goes c r (find (is_waiting_on c) r.waiters)) (λ x. all_left_go c more x)
 
-  forsaken_goes : (r : Run) (c : ℕ) → GoesBy r (λ s. forsaken r c)
+  pub forsaken_goes : (r : Run) (c : ℕ) → GoesBy r (λ s. forsaken r c)
   forsaken_goes r c = goes_if r (is_open (connection_of r c)) (λ s. r) (λ s. left_so_often c (length r.waiters) r) (goes_nowhere r) (all_left_go c (length r.waiters) r)
 
   arrived_goes : (r : Run) (k : Connection) (bytes : List ℕ) → GoesBy r (λ s. bytes_arrived o s r k bytes)
