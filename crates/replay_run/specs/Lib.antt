@@ -17,4 +17,5 @@ pub mod SkippedCalls
 pub mod Skips
 pub mod Tables
 pub mod Tallies
+pub mod WaiterCalls
 pub mod WorldCalls

@@ -11,7 +11,7 @@ ghost use Rattle.call_engine.specs.Objects.{partition_object};
 ghost use Rattle.partition_world.specs.Events.{happened_of};
 ghost use Rattle.grid_base.specs.Shelves.{meaning};
 ghost use Rattle.partition_world.specs.Worlds.{steps_of, waiting};
-ghost use Rattle.replay_run.specs.Runs.{Run, Connection as RunConnection, partitions, call_of, refused_by, connection_of, fault_on, is_full, world_at, unserved};
+ghost use Rattle.replay_run.specs.Runs.{Run, Connection as RunConnection, partitions, call_of, refused_by, connection_of, fault_on, is_full, world_at};
 ghost use Rattle.replay_run.specs.Printing.{appended_text};
 ghost use Rattle.replay_run.specs.Rebalancing.{most_line_events};
 ghost use Rattle.replay_run.specs.Tables.{with_answer};

@@ -246,7 +246,8 @@ impl Grid {
         out: &mut Vec<u8>,
     ) -> Result<(), RunEnd>
         requires { MayRun (boxed form) self.old number (Line.Clock member moment) }
-        ensures { (settings : Settings) (r : Run) → Stands (boxed form) settings self.old r → OnOk result (HasRun (boxed form) settings self.new r (Line.Clock member moment) out.old.items out.new.items) }
+        ensures ok { (settings : Settings) (r : Run) → Stands (boxed form) settings self.old r → OnOk result (HasRun (boxed form) settings self.new r (Line.Clock member moment) out.old.items out.new.items) }
+        ensures full { (settings : Settings) (r : Run) → Stands (boxed form) settings self.old r → IsErrOf result RunEnds.InFlight → IsGivenUp settings r (Line.Clock member moment) }
     {
         self.moments[usize::from(member)] = moment;
         self.count(number, out)?;

@@ -1,5 +1,22 @@
 //! Calls that wait: they join the list of their member and partition, and leave it as their turn comes.
 
+ghost use Rattle.std.specs.Prelude.{◌≡◌, ℕ, true, ◌<◌, ◌∷◌, ◌++◌, [], Some, None, map, length, IfOk, OnOk, IsErrOf};
+ghost use Rattle.grid_base.specs.declared.calls.Request.{Request as Call};
+ghost use Rattle.grid_base.specs.Limits.{CallFits};
+ghost use Rattle.partition_world.specs.Events.{event_of};
+ghost use Rattle.call_engine.specs.Calls.{Settings};
+ghost use Rattle.call_engine.specs.Objects.{partition_object};
+
+ghost use Rattle.replay_run.specs.Runs.{Run, Waiter as RunWaiter, partitions, stirred_by, next_in_turn, fate_now, served_in, begins_to_wait};
+ghost use Rattle.replay_run.specs.ScriptRuns.{IsRun, IsNext};
+ghost use Rattle.replay_run.specs.Rebalancing.{most_line_events};
+ghost use Rattle.replay_run.specs.Grids.{boxed, AreListening, AreFew, Holds, IsCounting};
+ghost use Rattle.replay_run.specs.WorldCalls.{HasCallRoom, GivesUpSo};
+ghost use Rattle.replay_run.specs.WaiterCalls.{IsBetween, SameCounts, HasServed, HoldsBut, HasTakenOut, IsTurnOf, by_turns, by_leaving, MayLeave, HasWaited};
+ghost use Rattle.wait_lists.specs.declared.turn.Turn.TheVariants.{Call as Called};
+ghost use Rattle.partition_protocol.specs.Service.{numbers_below};
+ghost use Rattle.replay_run.specs.declared.run_end.RunEnd.TheVariants as RunEnds;
+
 use crate::calls::{Arriving, Caller, Refusal, call, push_refusal};
 use crate::grid::Grid;
 use crate::links::MOST_IN_FLIGHT;
@@ -13,7 +30,9 @@ use wait_lists::{Spot, Turn, standing_of};
 use wait_sets::{Waiter, deadline_of};
 
 /// The member at which an event may make waiters leave: the one that takes a message, or that crashes.
-pub(crate) fn stirred_by(event: &Event<Request>) -> Option<MemberId> {
+pub(crate) fn stirred_by(event: &Event<Request>) -> Option<MemberId>
+    ensures { result ≡ stirred_by (event_of event.now) }
+{
     match event {
         Event::Deliver { to, .. } => Some(*to),
         Event::Crash { member } => Some(*member),
@@ -30,7 +49,17 @@ impl Grid {
         request: Request,
         timeout: i64,
         out: &mut Vec<u8>,
-    ) -> Result<(), RunEnd> {
+    ) -> Result<(), RunEnd>
+        requires limits { CallFits request.call }
+        requires placed { request.partition < partitions }
+        requires member { member < self.old.members }
+        requires stands { (settings : Settings) × (r : Run) × IsBetween (boxed form) settings self.old r (Some request.id.conn) × IsNext r request × HasCallRoom r × AreFew r }
+        ensures ok { (settings : Settings) (r : Run) → IsBetween (boxed form) settings self.old r (Some request.id.conn) → IsNext r request
+            → IsCounting self.old.connections r request.id.conn request.id.number
+            → OnOk result (HasWaited (boxed form) settings self.new r member request timeout out.old.items out.new.items) }
+        ensures full { (settings : Settings) (r : Run) → IsBetween (boxed form) settings self.old r (Some request.id.conn) → IsNext r request
+            → IsErrOf result RunEnds.InFlight → GivesUpSo r (λ skips. begins_to_wait (partition_object settings) skips r member request timeout) }
+    {
         let conn = request.id.conn;
         let at = Spot {
             member,
@@ -53,7 +82,15 @@ impl Grid {
         at: Spot,
         own: Option<u32>,
         out: &mut Vec<u8>,
-    ) -> Result<(), RunEnd> {
+    ) -> Result<(), RunEnd>
+        requires member { at.member < self.old.members }
+        requires partition { at.partition < partitions }
+        requires stands { (settings : Settings) × (r : Run) × IsBetween (boxed form) settings self.old r own × HasCallRoom r × AreFew r }
+        ensures ok { (settings : Settings) (r : Run) → IsBetween (boxed form) settings self.old r own
+            → OnOk result (HasServed (boxed form) settings self.old self.new r own (by_turns settings r own at.partition at.member) out.old.items out.new.items) }
+        ensures full { (settings : Settings) (r : Run) → IsBetween (boxed form) settings self.old r own
+            → IsErrOf result RunEnds.InFlight → GivesUpSo r (by_turns settings r own at.partition at.member) }
+    {
         while let Some(turn) = self.next_turn(at) {
             self.make_turn(alloc, at, own, turn, out)?;
         }
@@ -66,7 +103,14 @@ impl Grid {
         alloc: Global,
         member: MemberId,
         out: &mut Vec<u8>,
-    ) -> Result<(), RunEnd> {
+    ) -> Result<(), RunEnd>
+        requires member { member < self.old.members }
+        requires stands { (settings : Settings) × (r : Run) × IsBetween (boxed form) settings self.old r None × HasCallRoom r × AreFew r }
+        ensures ok { (settings : Settings) (r : Run) → IsBetween (boxed form) settings self.old r None
+            → OnOk result (HasServed (boxed form) settings self.old self.new r None (λ skips. served_in (partition_object settings) skips r member (numbers_below partitions)) out.old.items out.new.items) }
+        ensures full { (settings : Settings) (r : Run) → IsBetween (boxed form) settings self.old r None
+            → IsErrOf result RunEnds.InFlight → GivesUpSo r (λ skips. served_in (partition_object settings) skips r member (numbers_below partitions)) }
+    {
         if self.waiters.is_idle() {
             return Ok(());
         }
@@ -77,7 +121,12 @@ impl Grid {
     }
 
     /// The waiter whose turn it is in a list, which leaves it.
-    fn next_turn(&mut self, at: Spot) -> Option<Turn> {
+    fn next_turn(&mut self, at: Spot) -> Option<Turn>
+        requires member { at.member < self.old.members }
+        requires partition { at.partition < partitions }
+        requires stands { (settings : Settings) × (r : Run) × IsRun (partition_object settings) r × Holds (boxed form) settings self.old r }
+        ensures { (settings : Settings) (r : Run) → IsRun (partition_object settings) r → Holds (boxed form) settings self.old r → HasTakenOut (boxed form) settings self.new r at.partition at.member result }
+    {
         let world = &self.worlds[usize::from(at.partition)];
         let standing = standing_of(world, at.member);
         let shelf = world.contents(at.member).shelf;
@@ -93,7 +142,13 @@ impl Grid {
         own: Option<u32>,
         turn: Turn,
         out: &mut Vec<u8>,
-    ) -> Result<(), RunEnd> {
+    ) -> Result<(), RunEnd>
+        requires stands { (settings : Settings) × (r : Run) × (w : RunWaiter) × MayLeave (boxed form) settings self.old r at own turn w × HasCallRoom r × AreFew r }
+        ensures ok { (settings : Settings) (r : Run) (w : RunWaiter) → MayLeave (boxed form) settings self.old r at own turn w
+            → OnOk result (HasServed (boxed form) settings self.old self.new r own (by_leaving settings r own w) out.old.items out.new.items) }
+        ensures full { (settings : Settings) (r : Run) (w : RunWaiter) → MayLeave (boxed form) settings self.old r at own turn w
+            → IsErrOf result RunEnds.InFlight → GivesUpSo r (by_leaving settings r own w) }
+    {
         match turn {
             Turn::Call(request) => self.make_call(alloc, at, own, request, out),
             Turn::Refusal(request, why) => Ok(self.refuse_waiter(alloc, &request, why, out)?),
@@ -130,7 +185,13 @@ impl Grid {
         own: Option<u32>,
         request: Request,
         out: &mut Vec<u8>,
-    ) -> Result<(), RunEnd> {
+    ) -> Result<(), RunEnd>
+        requires stands { (settings : Settings) × (r : Run) × (w : RunWaiter) × MayLeave (boxed form) settings self.old r at own (Called request) w × HasCallRoom r × AreFew r }
+        ensures ok { (settings : Settings) (r : Run) (w : RunWaiter) → MayLeave (boxed form) settings self.old r at own (Called request) w
+            → OnOk result (HasServed (boxed form) settings self.old self.new r own (by_leaving settings r own w) out.old.items out.new.items) }
+        ensures full { (settings : Settings) (r : Run) (w : RunWaiter) → MayLeave (boxed form) settings self.old r at own (Called request) w
+            → IsErrOf result RunEnds.InFlight → GivesUpSo r (by_leaving settings r own w) }
+    {
         let world = &mut self.worlds[usize::from(at.partition)];
         if world.has_crowded_link(MOST_IN_FLIGHT) {
             return Err(RunEnd::InFlight);
