@@ -63,15 +63,15 @@ Agree come s t = (a : Arrival) → In a come → is_skipped s a.request.id ≡ i
 abbrev pub IsFed : List CallId → At → Type 0
 IsFed s e = (a : Arrival) → e.event ≡ call_of a → is_skipped s a.request.id ≡ false
 
--- A run goes on by the skips: it grows, and asks them only of calls that it makes, which are then arrivals, and which it tells of where they are skipped.
+-- A run goes on by the skips: it grows, and asks them only of calls that it tries to make, which are then arrivals, and which it tells of where they are skipped.
 pub record GoesBy (r : Run) (onward : List CallId → Run) : Type 0 where
-  pub asks : List CallId → List Arrival
+  pub tries : List CallId → List Arrival
   pub grows : (s : List CallId) → Grows r (onward s)
-  pub come : (s : List CallId) (a : Arrival) → In a (asks s) → In a (grows s).arrivals.0
-  pub tells : (s : List CallId) (a : Arrival) → In a (asks s) → is_skipped s a.request.id ≡ true → IsTold (onward s) a
-  pub alike : (s t : List CallId) → Agree (asks s) s t → onward s ≡ onward t
+  pub come : (s : List CallId) (a : Arrival) → In a (tries s) → In a (grows s).arrivals.0
+  pub tells : (s : List CallId) (a : Arrival) → In a (tries s) → is_skipped s a.request.id ≡ true → IsTold (onward s) a
+  pub alike : (s t : List CallId) → Agree (tries s) s t → onward s ≡ onward t
   -- unless it is given up, it makes all calls that arrive and don't wait
-  pub plain : (s : List CallId) (a : Arrival) → In a (grows s).arrivals.0 → a.waits ≡ false → (onward s).full ≡ false → In a (asks s)
+  pub plain : (s : List CallId) (a : Arrival) → In a (grows s).arrivals.0 → a.waits ≡ false → (onward s).full ≡ false → In a (tries s)
   pub fed : (s : List CallId) (e : At) → In e (grows s).events.0 → IsFed s e
 
 -- It makes no call, and no event that is one.
@@ -85,7 +85,7 @@ no_call e a quiet is = let clash : asked_by (call_of a) ≡ [] = subst (λ (x : 
 
 pub goes_on : (r next : Run) → GoesQuietly r next → GoesBy r (λ s. next)
 goes_on r next quiet = record {
-  asks = λ s. [];
+  tries = λ s. [];
   grows = λ s. quiet.grows;
   come = λ s a i. absurd i;
   tells = λ s a i. absurd i;
@@ -108,22 +108,22 @@ goes_nowhere r = goes_on r r (goes_quietly r r refl refl (same r.appended) (λ e
 -- one step, and then another from where that leads
 pub goes_then : (r : Run) (first : List CallId → Run) (then : Run → List CallId → Run) → GoesBy r first → ((x : Run) → GoesBy x (then x)) → GoesBy r (λ s. then (first s) s)
 goes_then r first then g h = record {
-  asks = λ s. g.asks s ++ (h (first s)).asks s;
+  tries = λ s. g.tries s ++ (h (first s)).tries s;
   grows = λ s. grows_trans r (first s) (then (first s) s) (g.grows s) ((h (first s)).grows s);
   come = λ s a i. ⊎_elim
       (λ j. in_left a (g.grows s).arrivals.0 ((h (first s)).grows s).arrivals.0 (g.come s a j))
       (λ j. in_right a (g.grows s).arrivals.0 ((h (first s)).grows s).arrivals.0 ((h (first s)).come s a j))
-      (in_cases a (g.asks s) ((h (first s)).asks s) i);
+      (in_cases a (g.tries s) ((h (first s)).tries s) i);
   tells = λ s a i skipped. ⊎_elim
       (λ j. told_still (first s) (then (first s) s) a ((h (first s)).grows s) (g.tells s a j skipped))
       (λ j. (h (first s)).tells s a j skipped)
-      (in_cases a (g.asks s) ((h (first s)).asks s) i);
+      (in_cases a (g.tries s) ((h (first s)).tries s) i);
   alike = λ s t agree.
-      (h (first s)).alike s t (λ a i. agree a (in_right a (g.asks s) ((h (first s)).asks s) i))
-      ∙ ap (λ x. then x t) (g.alike s t (λ a i. agree a (in_left a (g.asks s) ((h (first s)).asks s) i)));
+      (h (first s)).alike s t (λ a i. agree a (in_right a (g.tries s) ((h (first s)).tries s) i))
+      ∙ ap (λ x. then x t) (g.alike s t (λ a i. agree a (in_left a (g.tries s) ((h (first s)).tries s) i)));
   plain = λ s a i plain lasts. ⊎_elim
-      (λ j. in_left a (g.asks s) ((h (first s)).asks s) (g.plain s a j plain (lasted s lasts)))
-      (λ j. in_right a (g.asks s) ((h (first s)).asks s) ((h (first s)).plain s a j plain lasts))
+      (λ j. in_left a (g.tries s) ((h (first s)).tries s) (g.plain s a j plain (lasted s lasts)))
+      (λ j. in_right a (g.tries s) ((h (first s)).tries s) ((h (first s)).plain s a j plain lasts))
       (in_cases a (g.grows s).arrivals.0 ((h (first s)).grows s).arrivals.0 i);
   fed = λ s e i. ⊎_elim (λ j. g.fed s e j) (λ j. (h (first s)).fed s e j) (in_cases e (g.grows s).events.0 ((h (first s)).grows s).events.0 i);
 }
@@ -134,7 +134,7 @@ goes_then r first then g h = record {
 -- a step that makes no call first
 pub goes_from : (r mid : Run) (onward : List CallId → Run) → GoesQuietly r mid → GoesBy mid onward → GoesBy r onward
 goes_from r mid onward quiet g = record {
-  asks = g.asks;
+  tries = g.tries;
   grows = λ s. grows_trans r mid (onward s) quiet.grows (g.grows s);
   come = λ s a i. in_right a quiet.grows.arrivals.0 (g.grows s).arrivals.0 (g.come s a i);
   tells = g.tells;
@@ -156,7 +156,7 @@ goes_if r false first other g h = h
 module _ (o : Object Request Partition) where
   asked_goes : (r : Run) (own : Option ℕ) (a : Arrival) → GoesBy r (λ s. asked o s r own a)
   asked_goes r own a = record {
-    asks = λ s. a ∷ [];
+    tries = λ s. a ∷ [];
     grows = λ s. record {
       events = more_events (is_skipped s a.request.id);
       arrivals = (a ∷ [], come (is_skipped s a.request.id));
@@ -240,10 +240,13 @@ module _ (o : Object Request Partition) where
       its a (inl e) plain = true≢false (ap (λ (x : Arrival). x.waits) e ∙ plain)
       its a (inr i) plain = i
 
+  made_goes : (r : Run) (own : Option ℕ) (w : Waiter) → GoesBy r (λ s. asks o s (without r w) own (ending r w))
+  made_goes r own w = goes_from r (without r w) (λ s. asks o s (without r w) own (ending r w)) (goes_quietly r (without r w) refl refl (same r.appended) (λ e. e)) (asks_goes (without r w) own (ending r w))
+
   leaving_goes : (r : Run) (own : Option ℕ) (w : Waiter) (fate : Fate) → GoesBy r (λ s. leaves_so o s r own w fate)
   leaving_goes r own w Stays = goes_nowhere r
-  leaving_goes r own w Runs = goes_from r (without r w) (λ s. asks o s (without r w) own (ending r w)) (goes_quietly r (without r w) refl refl (same r.appended) (λ e. e)) (asks_goes (without r w) own (ending r w))
-  leaving_goes r own w Starves = leaving_goes r own w Runs
+  leaving_goes r own w Runs = made_goes r own w
+  leaving_goes r own w Starves = made_goes r own w
   leaving_goes r own w (IsRefused why) = goes_on r (arrived (without r w) (ending r w) [] (refused_at r.lines w.request why)) (ended_quietly r w (refused_at r.lines w.request why))
   leaving_goes r own w Leaves = goes_on r (leaves r w) (ended_quietly r w [])
 

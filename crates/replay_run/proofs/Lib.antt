@@ -33,6 +33,7 @@ pub mod NamedFew
 pub mod Bounds
 pub mod LineBounds
 pub mod Midway
+pub mod Lookups
 pub mod Slots
 pub mod TableChanges
 pub mod TableRuns

@@ -39,14 +39,14 @@ connection_there r c k there = ap (connection_of r) (same_number k.conn c (find_
 -- items
 
 -- What items leave of a run, and how many calls they bring at most: each is an arrival more, or waits.
-pub record HasCome (r : Run) (calls : ℕ) (next : Run) : Type 0 where
+pub record HasCome (r : Run) (brought : ℕ) (next : Run) : Type 0 where
   pub members : next.members ≡ r.members
   pub backups : next.backups ≡ r.backups
   pub lines : next.lines ≡ r.lines
   pub moments : next.moments ≡ r.moments
   pub connections : next.connections ≡ r.connections
   pub arrivals : IsFrontOf r.arrivals next.arrivals
-  pub come : length next.arrivals + length next.waiters ≤ length r.arrivals + length r.waiters + calls
+  pub come : length next.arrivals + length next.waiters ≤ length r.arrivals + length r.waiters + brought
   pub appended : IsFrontOf r.appended next.appended
 
 pub come_both : (r mid next : Run) (first then all : ℕ) → first + then ≤ all → HasCome r first mid → HasCome mid then next → HasCome r all next
@@ -76,8 +76,8 @@ arrived_come r a events appended = record {
   appended = (appended, refl);
 }
 
-pub given_up_come : (r next : Run) (calls : ℕ) → HasCome r calls next → HasCome r calls (given_up next)
-given_up_come r next calls h = record { members = h.members; backups = h.backups; lines = h.lines; moments = h.moments; connections = h.connections; arrivals = h.arrivals; come = h.come; appended = h.appended }
+pub given_up_come : (r next : Run) (brought : ℕ) → HasCome r brought next → HasCome r brought (given_up next)
+given_up_come r next brought h = record { members = h.members; backups = h.backups; lines = h.lines; moments = h.moments; connections = h.connections; arrivals = h.arrivals; come = h.come; appended = h.appended }
 
 pub waits_come : (r : Run) (w : Waiter) → HasCome r 1 (waits r w)
 waits_come r w = record {

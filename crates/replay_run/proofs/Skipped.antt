@@ -26,7 +26,7 @@ goes_none r onward g skips none =
     g.alike skips [] (λ a i. false_or_not (is_skipped skips a.request.id) (λ skipped.
     none a (contains_in a (onward skips).arrivals (come a i)) (g.tells skips a i skipped)))
   where
-    come : (a : Arrival) → In a (g.asks skips) → In a (onward skips).arrivals
+    come : (a : Arrival) → In a (g.tries skips) → In a (onward skips).arrivals
     come a i = let front = (g.grows skips).arrivals in subst (In a) front.1 (in_right a r.arrivals front.0 (g.come skips a i))
 
 pub line_none : (o : Object Request Partition) (skips : List CallId) (r : Run) (line : Line) → TellsOfNoSkip (after_line o skips r line) → after_line o skips r line ≡ after_line o [] r line

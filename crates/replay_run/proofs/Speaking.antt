@@ -1,16 +1,16 @@
 -- Messages that answer or refuse a call: what is proved of a run looks at these alone.
 use Rattle.std.proofs.Common.{◌≡◌, ◌+◌, Bool, true, false, cond, ◌||◌, arith, List, [], ◌∷◌, ◌++◌, filter, Option, Some, None, refl, ap, sym, ◌∙◌, subst}
-use Rattle.std.specs.Option.{is_some, option_map, option_or}
+use Rattle.std.specs.Option.{is_some, option_map}
 use Rattle.std.specs.List.{find}
 use Rattle.std.proofs.lemmas.List.Elements.{filter-append}
 use Rattle.grid_base.specs.Objects.{Object}
 use Rattle.grid_base.specs.declared.names.CallId.{CallId}
 use Rattle.grid_base.specs.declared.calls.Request.{Request}
 use Rattle.partition_protocol.proofs.Lists.{In}
-use Rattle.replay_run.specs.Runs.{Run, Arrival, Appended}
-use Rattle.replay_run.specs.Printing.{arrival_of, is_named, is_answer_to}
+use Rattle.replay_run.specs.Runs.{Run, Appended}
+use Rattle.replay_run.specs.Printing.{is_named, is_answer_to}
 use Rattle.replay_run.specs.Tables.{Table}
-use Rattle.replay_run.specs.Grids.{HasTable, lines_waiting}
+use Rattle.replay_run.specs.Grids.{HasTable, came_at}
 use Rattle.replay_run.proofs.Parts.{in_filter, in_filtered}
 use Rattle.replay_run.proofs.Counting.{count}
 use Rattle.replay_run.proofs.RunFacts.{RunOk}
@@ -75,7 +75,7 @@ alike_table t r ms same h = record {
   size = h.size;
   connections = h.connections;
   calls = λ id. h.calls id
-      ∙ ap (λ (x : Option Appended). option_or (option_map (λ (a : Arrival). record { arrived = a.line; answered = option_map (λ (m : Appended). m.line) x }) (arrival_of r id)) (lines_waiting r id)) (find_alike id r.appended ms same);
+      ∙ ap (λ (x : Option Appended). option_map (λ line. record { arrived = line; answered = option_map (λ (m : Appended). m.line) x }) (came_at r id)) (find_alike id r.appended ms same);
 }
 
 pub alike_ok : {State : Type 0} (o : Object Request State) (r : Run) (ms : List Appended) → spoken ms ≡ spoken r.appended → RunOk o r → RunOk o (record r { appended = ms })

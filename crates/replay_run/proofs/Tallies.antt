@@ -24,19 +24,13 @@ use Rattle.replay_run.specs.Counts.{is_refusal_of, refusal_among, has_number, is
 use Rattle.replay_run.specs.Grids.{IsTally}
 use Rattle.replay_run.proofs.Places.{same_call, same_call_refl}
 use Rattle.replay_run.proofs.Trails.{find_some}
+use Rattle.replay_run.proofs.Lookups.{find_none}
 use Rattle.replay_run.proofs.TableChanges.{or_none}
 use Rattle.replay_run.proofs.RunFacts.{RunOk, WaitersOk, id_name}
 use Rattle.replay_run.proofs.Arriving.{MayCome, one_less}
 use Rattle.replay_run.proofs.Refusals.{refusals_name_the_call}
 
 -- lists
-
-pub find_none : {X : Type 0} (t : X → Bool) (xs : List X) → ((x : X) → In x xs → t x ≡ true → ⊥) → find t xs ≡ None
-find_none t [] f = refl
-find_none t (x ∷ xs) f =
-    let e : t x ≡ false = false_or_not (t x) (f x (inl refl)) in
-    let rest = find_none t xs (λ y i. f y (inr i)) in
-    rw (e, rest) refl
 
 pub count_same : {X : Type 0} (p q : X → Bool) (xs : List X) → ((x : X) → In x xs → p x ≡ q x) → count_by p xs ≡ count_by q xs
 count_same p q [] h = refl

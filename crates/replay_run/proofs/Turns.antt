@@ -1,5 +1,5 @@
 -- Whoever waits has a turn: what holds of a run however a waiter leaves it holds after the turns of a list, and after an event.
-use Rattle.std.proofs.Common.{◌≡◌, ℕ, zero, suc, ◌==◌, Bool, true, false, ◌&&◌, List, [], ◌∷◌, length, pos, Option, Some, None, refl, ◌×◌, ◌⊎◌, inl, inr}
+use Rattle.std.proofs.Common.{◌≡◌, ℕ, zero, suc, ◌==◌, Bool, true, false, ◌&&◌, List, [], ◌∷◌, length, pos, Option, Some, None, refl, ◌⊎◌, inl, inr}
 use Rattle.std.specs.List.{find}
 use Rattle.grid_base.specs.Objects.{Object}
 use Rattle.grid_base.specs.Errors.{want_of_memory}
@@ -10,7 +10,7 @@ use Rattle.partition_protocol.specs.Execution.{Reached}
 use Rattle.partition_protocol.specs.Events.{Event}
 use Rattle.partition_protocol.proofs.Lists.{In, on_if}
 use Rattle.waiting_protocol.specs.Machine.{Fate, Stays, Runs, Starves, IsRefused, Leaves, is_over}
-use Rattle.replay_run.specs.Runs.{Run, At, Arrival, Waiter, Appended, world_at, call_of, is_full, is_skipped, refusal, refused_at, happening, arrived, asked, given_up, without, ending, leaves, leaves_so, fate_now, is_its_turn, next_in_turn, is_waiting_on, left_by, left_so_often, forsaken, connection_of, is_open, turn_of, served_so_often, served, served_at, stirred_by, meets_full, occurred, takes}
+use Rattle.replay_run.specs.Runs.{Run, At, Arrival, Waiter, Appended, world_at, call_of, is_full, is_skipped, refusal, refused_at, happening, arrived, asked, asks, given_up, without, ending, leaves, leaves_so, fate_now, is_its_turn, next_in_turn, is_waiting_on, left_by, left_so_often, forsaken, connection_of, is_open, turn_of, served_so_often, served, served_at, stirred_by, meets_full, occurred, takes}
 use Rattle.replay_run.proofs.Places.{same_number}
 use Rattle.replay_run.proofs.Trails.{find_some}
 
@@ -52,10 +52,13 @@ by_endings o skips p P up ends = record {
 
 -- After the turns of a list it holds still.
 module _ (o : Object Request Partition) (skips : List CallId) (p : ℕ) (P : Run → Type 0) (keeps : KeepsTurns o skips p P) where
+  made_keeps : (r : Run) (own : Option ℕ) (w : Waiter) → In w r.waiters → w.request.partition ≡ p → P r → P (asks o skips (without r w) own (ending r w))
+  made_keeps r own w i here h = on_if P (is_full (world_at o (without r w) w.request.partition)) (given_up (leaves r w)) (asked o skips (without r w) own (ending r w)) (keeps.up (leaves r w) (keeps.left r w i here h)) (keeps.asked r own w i here h)
+
   pub leaving_keeps : (r : Run) (own : Option ℕ) (w : Waiter) (fate : Fate) → In w r.waiters → w.request.partition ≡ p → P r → P (leaves_so o skips r own w fate)
   leaving_keeps r own w Stays i here h = h
-  leaving_keeps r own w Runs i here h = on_if P (is_full (world_at o (without r w) w.request.partition)) (given_up (leaves r w)) (asked o skips (without r w) own (ending r w)) (keeps.up (leaves r w) (keeps.left r w i here h)) (keeps.asked r own w i here h)
-  leaving_keeps r own w Starves i here h = leaving_keeps r own w Runs i here h
+  leaving_keeps r own w Runs i here h = made_keeps r own w i here h
+  leaving_keeps r own w Starves i here h = made_keeps r own w i here h
   leaving_keeps r own w (IsRefused why) i here h = keeps.refused r w why i here h
   leaving_keeps r own w Leaves i here h = keeps.left r w i here h
 

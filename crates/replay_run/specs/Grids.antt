@@ -53,16 +53,13 @@ Matches _ _ = ⊥
 abbrev pub HasConnections : Table → Run → Type 0
 HasConnections table r = (c : ℕ) → Matches (opened_at table c) (connection_of r c)
 
--- the lines of a call, where it arrived and waits no more, or where it waits
+-- the line at which a call arrived, be it that it waits
+abbrev pub came_at : Run → CallId → Option ℕ
+came_at r id = option_or (option_map (λ (a : Arrival). a.line) (arrival_of r id)) (option_map (λ (w : Waiter). w.line) (find (is_waiter id) r.waiters))
 
-abbrev pub lines_arrived : Run → CallId → Option CallLines
-lines_arrived r id = option_map (λ (a : Arrival). record { arrived = a.line; answered = option_map (λ (m : Appended). m.line) (answer_of r id) }) (arrival_of r id)
-
-abbrev pub lines_waiting : Run → CallId → Option CallLines
-lines_waiting r id = option_map (λ (w : Waiter). record { arrived = w.line; answered = None }) (find (is_waiter id) r.waiters)
-
+-- the lines of a call, where it arrived
 abbrev pub lines_in : Run → CallId → Option CallLines
-lines_in r id = option_or (lines_arrived r id) (lines_waiting r id)
+lines_in r id = option_map (λ line. record { arrived = line; answered = option_map (λ (m : Appended). m.line) (answer_of r id) }) (came_at r id)
 
 pub record HasTable (table : Table) (r : Run) : Type 0 where
   pub size : length table ≡ most_connections
