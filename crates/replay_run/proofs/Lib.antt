@@ -49,6 +49,7 @@ pub mod Telling
 pub mod RegisteringLine
 pub mod Refusing
 pub mod GivingOut
+pub mod WaiterLists
 pub mod GridCalls
 pub mod GridLines
 pub mod LineCalls
