@@ -92,26 +92,27 @@ module _ (r : Run) (first : List CallId → Run) (then : Run → List CallId →
       ∙ sym ((h mid).alike t (s ++ t) (λ a i. sym (alike_then a i)))
 
   -- and the skips of either are among those of both
+
+  whole_come : r.arrivals ++ (first_come ++ then_come) ≡ last.arrivals
+  whole_come = sym (append_assoc r.arrivals first_come then_come) ∙ ap (λ xs. xs ++ then_come) (g.grows s).arrivals.1 ∙ ((h mid).grows t).arrivals.1
+
+  among_left : (id : CallId) → In id s → (a : Arrival) × Contains (first_come ++ then_come) a × (a.request.id ≡ id)
+  among_left id i =
+      let from = among_first id (contains_in id s i) in
+      (from.0, contains_in from.0 (first_come ++ then_come) (in_left from.0 first_come then_come (in_contains from.0 first_come from.1)), from.2)
+
+  among_right : (id : CallId) → In id t → (a : Arrival) × Contains (first_come ++ then_come) a × (a.request.id ≡ id)
+  among_right id i =
+      let from = among_then id (contains_in id t i) in
+      (from.0, contains_in from.0 (first_come ++ then_come) (in_right from.0 first_come then_come (in_contains from.0 then_come from.1)), from.2)
+
+  among_either : AreAmong (first_come ++ then_come) (s ++ t)
+  among_either id c = ⊎_elim (among_left id) (among_right id) (in_cases id s t (in_contains id (s ++ t) c))
+
   pub both_among : AreAmong (new_arrivals r (then (first (s ++ t)) (s ++ t))) (s ++ t)
-  both_among = subst (λ x. AreAmong (new_arrivals r x) (s ++ t)) (sym both_go) whole_among
-    where
-      whole : new_arrivals r last ≡ first_come ++ then_come
-      whole = new_of r last (first_come ++ then_come, all)
-        where
-          all : r.arrivals ++ (first_come ++ then_come) ≡ last.arrivals
-          all = sym (append_assoc r.arrivals first_come then_come) ∙ ap (λ xs. xs ++ then_come) (g.grows s).arrivals.1 ∙ ((h mid).grows t).arrivals.1
-
-      among_either : AreAmong (first_come ++ then_come) (s ++ t)
-      among_either id c = ⊎_elim left right (in_cases id s t (in_contains id (s ++ t) c))
-        where
-          left : In id s → (a : Arrival) × Contains (first_come ++ then_come) a × (a.request.id ≡ id)
-          left i = let from = among_first id (contains_in id s i) in (from.0, contains_in from.0 (first_come ++ then_come) (in_left from.0 first_come then_come (in_contains from.0 first_come from.1)), from.2)
-
-          right : In id t → (a : Arrival) × Contains (first_come ++ then_come) a × (a.request.id ≡ id)
-          right i = let from = among_then id (contains_in id t i) in (from.0, contains_in from.0 (first_come ++ then_come) (in_right from.0 first_come then_come (in_contains from.0 then_come from.1)), from.2)
-
-      whole_among : AreAmong (new_arrivals r last) (s ++ t)
-      whole_among = subst (λ come. AreAmong come (s ++ t)) (sym whole) among_either
+  both_among =
+      subst (λ x. AreAmong (new_arrivals r x) (s ++ t)) (sym both_go)
+      (subst (λ come. AreAmong come (s ++ t)) (sym (new_of r last (first_come ++ then_come, whole_come))) among_either)
 
 -- the items of a front, and then the others
 pub handled_all-append : (o : Object Request Partition) (skips : List CallId) (r : Run) (c : Connection) (first then : List Item)

@@ -15,7 +15,7 @@ use Rattle.replay_run.specs.declared.grid.Grid.{Grid}
 use Rattle.replay_run.specs.Appending.{new_messages}
 use Rattle.replay_run.specs.Endings.{AreAmong, new_arrivals}
 use Rattle.replay_run.specs.Grids.{FormOf, HasTable, HasWaiters, IsTally, HasWorld, AreListening, IsCounting, Holds}
-use Rattle.replay_run.specs.Runs.{Run, Waiter, Appended, partitions, without, fate_now, next_in_turn, turn_of, leaves_so, served, begins_to_wait}
+use Rattle.replay_run.specs.Runs.{Run, Waiter, Appended, partitions, without, fate_now, next_in_turn, turn_of, leaves_so, served, calls, begins_to_wait}
 use Rattle.replay_run.specs.ScriptRuns.{IsRun}
 use Rattle.replay_run.specs.Tables.{Table, Opened, opened_at}
 use Rattle.replay_run.specs.WorldCalls.{Onward, texts_of}
@@ -92,10 +92,16 @@ pub record MayLeave {V : Type 0} {T : V → Type 0} (form : FormOf V T) (setting
   pub partition : w.request.partition ≡ at.partition
   pub turns : IsTurnOf turn w (fate_now (partition_object settings) r w)
 
--- A waiting call arrived, and those who wait where it does had their turns.
-pub record HasWaited {V : Type 0} {T : V → Type 0} (form : FormOf V T) (settings : Settings) (new : Grid V T) (r : Run) (member : ℕ) (request : Request) (timeout : ℤ) (written text : List ℕ) : Type 0 where
+-- A call was handled, waiting or not, and those who wait where it came had their turns: so many messages of its connection were handled by then.
+pub record HasHandledCall {V : Type 0} {T : V → Type 0} (form : FormOf V T) (settings : Settings) (new : Grid V T) (r : Run) (conn number : ℕ) (onward : Onward) (written text : List ℕ) : Type 0 where
   pub skips : List CallId
-  pub among : AreAmong (new_arrivals r (begins_to_wait (partition_object settings) skips r member request timeout)) skips
-  pub between : IsBetween form settings new (begins_to_wait (partition_object settings) skips r member request timeout) (Some request.id.conn)
-  pub counting : IsCounting new.connections (begins_to_wait (partition_object settings) skips r member request timeout) request.id.conn (request.id.number + 1)
-  pub added : text ≡ written ++ texts_of (new_messages r (begins_to_wait (partition_object settings) skips r member request timeout))
+  pub among : AreAmong (new_arrivals r (onward skips)) skips
+  pub between : IsBetween form settings new (onward skips) (Some conn)
+  pub counting : IsCounting new.connections (onward skips) conn number
+  pub added : text ≡ written ++ texts_of (new_messages r (onward skips))
+
+abbrev pub by_call : Settings → Run → ℕ → Request → Onward
+by_call settings r member request skips = calls (partition_object settings) skips r member request
+
+abbrev pub by_waiting : Settings → Run → ℕ → Request → ℤ → Onward
+by_waiting settings r member request timeout skips = begins_to_wait (partition_object settings) skips r member request timeout

@@ -18,7 +18,8 @@ ghost use Rattle.replay_run.specs.Tables.{with_answer};
 ghost use Rattle.replay_run.specs.Tallies.{received, tallied};
 ghost use Rattle.replay_run.specs.ScriptRuns.{IsRun, IsNext};
 ghost use Rattle.replay_run.specs.Grids.{boxed, AreFew, AreListening, Stands, StandsForEvents, Holds, IsCounting, MayRun, HasRun, IsGivenUp};
-ghost use Rattle.replay_run.specs.WorldCalls.{arrival_to, refusals, texts_of, IsCalledSo, IsSkippedSo, HasAsked, HasTold, HasCallRoom, HasRoom, open_member_in, Brings, HasHandledSome, IsGivenUpMidway};
+ghost use Rattle.replay_run.specs.WaiterCalls.{IsBetween, HasHandledCall, by_call};
+ghost use Rattle.replay_run.specs.WorldCalls.{GivesUpSo, arrival_to, refusals, texts_of, IsCalledSo, IsSkippedSo, HasAsked, HasTold, HasCallRoom, HasRoom, open_member_in, Brings, HasHandledSome, IsGivenUpMidway};
 ghost use Rattle.replay_run.specs.declared.run_end.RunEnd.TheVariants as RunEnds;
 
 use crate::grid::Grid;
@@ -240,14 +241,7 @@ impl Grid {
                 Item::Register(registration) => {
                     self.register(alloc, conn, member, registration, out)?
                 }
-                Item::Call(request) => {
-                    let at = Spot {
-                        member,
-                        partition: request.partition,
-                    };
-                    self.ask(alloc, member, request, out)?;
-                    self.make_turns(alloc, at, Some(conn), out)?
-                }
+                Item::Call(request) => self.ask(alloc, member, request, out)?,
             }
         }
         Ok(())
@@ -269,8 +263,35 @@ impl Grid {
         push_appended(alloc, out, self.lines, conn, answer.as_slice())
     }
 
-    /// A call arrives at its connection's member. A full partition takes none.
+    /// A call arrives at its connection's member and is made, and those who wait there have their turns.
     fn ask(
+        &mut self,
+        alloc: Global,
+        member: MemberId,
+        request: Request,
+        out: &mut Vec<u8>,
+    ) -> Result<(), RunEnd>
+        requires limits { CallFits request.call }
+        requires placed { request.partition < partitions }
+        requires member { member < self.old.members }
+        requires stands { (settings : Settings) × (r : Run) × IsBetween (boxed form) settings self.old r (Some request.id.conn) × IsNext r request × HasCallRoom r × AreFew r }
+        ensures ok { (settings : Settings) (r : Run) → IsBetween (boxed form) settings self.old r (Some request.id.conn) → IsNext r request
+            → IsCounting self.old.connections r request.id.conn request.id.number
+            → OnOk result (HasHandledCall (boxed form) settings self.new r request.id.conn (request.id.number + 1) (by_call settings r member request) out.old.items out.new.items) }
+        ensures full { (settings : Settings) (r : Run) → IsBetween (boxed form) settings self.old r (Some request.id.conn) → IsNext r request
+            → IsErrOf result RunEnds.InFlight → GivesUpSo r (by_call settings r member request) }
+    {
+        let conn = request.id.conn;
+        let at = Spot {
+            member,
+            partition: request.partition,
+        };
+        self.admit(alloc, member, request, out)?;
+        self.make_turns(alloc, at, Some(conn), out)
+    }
+
+    /// A call arrives at its connection's member and is made. A full partition takes none.
+    fn admit(
         &mut self,
         alloc: Global,
         member: MemberId,

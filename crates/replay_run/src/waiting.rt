@@ -7,12 +7,12 @@ ghost use Rattle.partition_world.specs.Events.{event_of};
 ghost use Rattle.call_engine.specs.Calls.{Settings};
 ghost use Rattle.call_engine.specs.Objects.{partition_object};
 
-ghost use Rattle.replay_run.specs.Runs.{Run, Waiter as RunWaiter, partitions, stirred_by, next_in_turn, fate_now, served_in, begins_to_wait};
+ghost use Rattle.replay_run.specs.Runs.{Run, Waiter as RunWaiter, partitions, stirred_by, next_in_turn, fate_now, served_in};
 ghost use Rattle.replay_run.specs.ScriptRuns.{IsRun, IsNext};
 ghost use Rattle.replay_run.specs.Rebalancing.{most_line_events};
 ghost use Rattle.replay_run.specs.Grids.{boxed, AreListening, AreFew, Holds, IsCounting};
 ghost use Rattle.replay_run.specs.WorldCalls.{HasCallRoom, GivesUpSo};
-ghost use Rattle.replay_run.specs.WaiterCalls.{IsBetween, SameCounts, HasServed, HoldsBut, HasTakenOut, IsTurnOf, by_turns, by_leaving, MayLeave, HasWaited};
+ghost use Rattle.replay_run.specs.WaiterCalls.{IsBetween, SameCounts, HasServed, HoldsBut, HasTakenOut, IsTurnOf, by_turns, by_leaving, MayLeave, HasHandledCall, by_waiting};
 ghost use Rattle.wait_lists.specs.declared.turn.Turn.TheVariants.{Call as Called};
 ghost use Rattle.partition_protocol.specs.Service.{numbers_below};
 ghost use Rattle.replay_run.specs.declared.run_end.RunEnd.TheVariants as RunEnds;
@@ -56,9 +56,9 @@ impl Grid {
         requires stands { (settings : Settings) × (r : Run) × IsBetween (boxed form) settings self.old r (Some request.id.conn) × IsNext r request × HasCallRoom r × AreFew r }
         ensures ok { (settings : Settings) (r : Run) → IsBetween (boxed form) settings self.old r (Some request.id.conn) → IsNext r request
             → IsCounting self.old.connections r request.id.conn request.id.number
-            → OnOk result (HasWaited (boxed form) settings self.new r member request timeout out.old.items out.new.items) }
+            → OnOk result (HasHandledCall (boxed form) settings self.new r request.id.conn (request.id.number + 1) (by_waiting settings r member request timeout) out.old.items out.new.items) }
         ensures full { (settings : Settings) (r : Run) → IsBetween (boxed form) settings self.old r (Some request.id.conn) → IsNext r request
-            → IsErrOf result RunEnds.InFlight → GivesUpSo r (λ skips. begins_to_wait (partition_object settings) skips r member request timeout) }
+            → IsErrOf result RunEnds.InFlight → GivesUpSo r (by_waiting settings r member request timeout) }
     {
         let conn = request.id.conn;
         let at = Spot {

@@ -7,7 +7,7 @@ use Rattle.replay_run.specs.Tallies.{tallied}
 use Rattle.replay_run.proofs.Asking.{world_within, told_of}
 use Rattle.replay_run.proofs.GridCalls.{counted_as}
 use Rattle.replay_run.proofs.Tallies.{tally_room}
-use Rattle.replay_run.proofs.grid.Grid.ask.Goals as goal
+use Rattle.replay_run.proofs.grid.Grid.admit.Goals as goal
 
 pub index-requires : goal.index-requires
 index-requires g c =
