@@ -1,5 +1,5 @@
 -- What a call does to its partition's world, and the messages that it makes.
-use Rattle.std.specs.Prelude.{◌≡◌, ◌≢◌, ℕ, ◌+◌, ◌-◌, ◌*◌, ◌<◌, ◌≤◌, ◌^◌, Bool, true, false, if◌then◌else◌, is_none, option_and_then, pos, List, length, filter, [], ◌∷◌, ◌++◌, Option, Some, None, slice_get, Contains}
+use Rattle.std.specs.Prelude.{◌≡◌, ◌≢◌, ℤ, ℕ, ◌+◌, ◌-◌, ◌*◌, ◌<◌, ◌≤◌, ◌^◌, Bool, true, false, if◌then◌else◌, is_none, option_and_then, pos, List, length, filter, [], ◌∷◌, ◌++◌, Option, Some, None, slice_get, Contains}
 use Rattle.std.specs.List.{flat_map}
 use Rattle.grid_base.specs.declared.names.CallId.{CallId}
 use Rattle.grid_base.specs.declared.calls.Request.{Request}
@@ -35,7 +35,7 @@ use Rattle.call_engine.specs.Objects.{partition_object}
 use Rattle.grid_base.specs.Errors.{want_of_memory}
 use Rattle.grid_base.specs.Limits.{CallFits}
 use Rattle.session_core.specs.declared.item.Item.{Item}
-use Rattle.session_core.specs.declared.item.Item.TheVariants.{Call as Asks}
+use Rattle.session_core.specs.declared.item.Item.TheVariants.{Call as Asks, Wait}
 use Rattle.replay_run.specs.Runs.{Run, Connection, Arrival, Appended, partitions, connection_of, messages_on, takes_bytes, took_bytes, told, refusal, refused_by, call_of, arrival_at, items_by, asked, handled_all, event_by, events_at, world_at, is_full, served, takes, takes_in, goes_out, version_known, adopted_since, messages_at, events_to, rows_known, registers}
 use Rattle.replay_run.specs.Printing.{appended_text, new_messages, outcome_at, deliveries}
 use Rattle.replay_run.specs.Endings.{AreAmong, new_arrivals}
@@ -186,6 +186,7 @@ pub record Brings (settings : Settings) (r : Run) (k : Connection) (bytes : List
   pub reached : k.member < r.members
   pub come : items_by k bytes ≡ items
   pub fit : (q : Request) → Contains items (Asks q) → CallFits q.call
+  pub waits_fit : (q : Request) (timeout : ℤ) → Contains items (Wait q timeout) → CallFits q.call
 
 -- In the midst of a line of bytes: these of its items were handled, and the messages that they appended were printed.
 pub record HasHandledSome {V : Type 0} {T : V → Type 0} (form : FormOf V T) (settings : Settings) (grid : Grid V T) (r : Run) (k : Connection) (bytes : List ℕ) (done : List Item) (written text : List ℕ) : Type 0 where
