@@ -20,7 +20,7 @@ use Rattle.script_lang.specs.Limits.{most_lines}
 use Rattle.script_lang.specs.Lines.{IsWithin}
 use Rattle.script_lang.specs.declared.line.Line.{Line}
 use Rattle.script_lang.specs.declared.line.Line.TheVariants.{OpenConn, Arrive, Clock, Flow, FlowAll, Crash, Detect, Rebalance}
-use Rattle.replay_run.specs.Runs.{Run, At, Connection, Arrival, partitions, events_at, world_at, clock_set, is_connection, connection_of, messages_on, bytes_of, updated, takes_bytes, can_open, is_full, with_bytes, took_bytes, opened, next_line, items_by, told, refusal, arrival_at, happening, arrived, is_skipped, given_up, asked, asks, waiter_at, waits, forsaken, clock_turned, takes, takes_in, flowed, flowed_in, bytes_arrived, event_by, handled, handled_all}
+use Rattle.replay_run.specs.Runs.{Run, At, Connection, Arrival, partitions, world_at, clock_set, is_connection, connection_of, messages_on, bytes_of, updated, takes_bytes, can_open, is_full, with_bytes, took_bytes, opened, next_line, items_by, refusal, arrival_at, happening, arrived, is_skipped, given_up, asked, asks, waiter_at, waits, forsaken, clock_turned, takes, takes_in, flowed, flowed_in, bytes_arrived, event_by, handled, handled_all}
 use Rattle.replay_run.specs.AfterLines.{after_event, after_line}
 use Rattle.replay_run.specs.ScriptRuns.{IsRun, calls_in}
 use Rattle.replay_run.specs.Rebalancing.{most_line_events, rebalanced}

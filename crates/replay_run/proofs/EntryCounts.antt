@@ -112,7 +112,7 @@ by_numbers {X = X} number (x ∷ xs) n =
 -- a log has its calls, and a reset for each line
 length_stamped : (come : List Arrival) (since now : ℕ) (lines : List ℕ) (es : List (Entry Request)) → AreStamped come since now lines es → length es ≡ length (executed es) + length lines
 length_stamped come since now lines [] h = let none = ap length h.0 in omega (arith, none)
-length_stamped come since now lines (Called x ∷ es) (a, i, e, l, h) = let rest = length_stamped come a.line now lines es h in omega (arith, rest)
+length_stamped come since now lines (Called x ∷ es) (a, i, e, l, h) = let rest = length_stamped come a.made now lines es h in omega (arith, rest)
 length_stamped come since now [] (Reset version ∷ es) h = absurd h
 length_stamped come since now (line ∷ lines) (Reset version ∷ es) (l, h) = let rest = length_stamped come line now lines es h in omega (arith, rest)
 

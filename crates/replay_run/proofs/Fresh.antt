@@ -1,8 +1,7 @@
 -- The calls that come to their end at a line have names of their own.
-use Rattle.std.proofs.Common.{◌≡◌, ◌≢◌, map, ◌++◌, ap, sym, subst}
+use Rattle.std.proofs.Common.{◌≢◌, map, ap, sym, subst}
 use Rattle.grid_base.specs.Objects.{Object}
 use Rattle.grid_base.specs.declared.calls.Request.{Request}
-use Rattle.grid_base.specs.declared.names.CallId.{CallId}
 use Rattle.object_store.specs.Partitions.{Partition}
 use Rattle.partition_protocol.specs.Arrivals.{NamedOnce}
 use Rattle.partition_protocol.specs.Sequences.{IsFrontOf}

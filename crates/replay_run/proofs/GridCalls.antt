@@ -1,5 +1,5 @@
 -- The grid after a call, one that arrives or one that waited, which its partition's world ran or which found no memory.
-use Rattle.std.proofs.Common.{◌≡◌, ℕ, ◌+◌, ◌<◌, true, false, cond, List, [], ◌∷◌, ◌++◌, length, count_by, map, pos, Some, None, slice_get, slice_set, refl, ap, sym, ◌∙◌, subst, ◌⊎◌, ⊎_elim, inl, inr, append-nil, append_assoc}
+use Rattle.std.proofs.Common.{◌≡◌, ℕ, ◌+◌, ◌<◌, true, false, cond, List, [], ◌∷◌, ◌++◌, length, count_by, map, pos, Option, None, slice_set, refl, ap, sym, ◌∙◌, subst, ◌⊎◌, ⊎_elim, inl, inr, append-nil, append_assoc}
 use Rattle.std.specs.List.{Contains}
 use Rattle.std.proofs.lemmas.Bool.{eq-eqb}
 use Rattle.grid_base.specs.Names.{is_same_call}
@@ -25,7 +25,7 @@ use Rattle.call_engine.specs.Changes.{change_of}
 use Rattle.call_engine.specs.Objects.{partition_object}
 use Rattle.call_engine.specs.Env.{settings_of}
 use Rattle.grid_base.specs.Errors.{want_of_memory}
-use Rattle.replay_run.specs.Runs.{Run, Arrival, Appended, events_at, call_of, world_at, listening, message_of, version_known, adopted_since, messages_at, messages_by, happening, is_full, refused_by, refusal, asked, arrived, is_skipped, partitions}
+use Rattle.replay_run.specs.Runs.{Run, Arrival, Appended, events_at, call_of, world_at, listening, message_of, version_known, adopted_since, messages_at, messages_by, happening, refused_by, refusal, asked, arrived, is_skipped, partitions}
 use Rattle.replay_run.specs.Printing.{new_messages}
 use Rattle.replay_run.specs.Tables.{Table}
 use Rattle.replay_run.specs.Tallies.{received}

@@ -28,7 +28,7 @@ use Rattle.rebalance.specs.declared.StepKind.TheVariants.{Move, Handover}
 use Rattle.replay_run.specs.Runs.{Run, At, Connection, Arrival, Waiter, Appended, partitions, connection_of, is_open, call_of, world_at, is_full, takes_bytes, items_by, took_bytes, next_line, clock_set, can_open, opened, bytes_arrived, own_answer, told, registers, given_out, refusal, happening, arrived, is_skipped, given_up, asked, asks, waiter_at, waits, without, ending, refused_at, leaves, leaves_so, fate_now, next_in_turn, turn_of, served_so_often, served, served_in, is_waiting_on, left_by, left_so_often, forsaken, calls, begins_to_wait, arrival_at, handled, handled_all, occurred, meets_full, stirred_by, served_at, takes, takes_in, delivery_on, flowed, flowed_in, event_by}
 use Rattle.replay_run.specs.AfterLines.{after_event, after_line, after_lines}
 use Rattle.replay_run.specs.Rebalancing.{service_at, is_moving_at, most_deliveries, most_turns, event_begun, first_resends, turned, turned_on, joined, rejoined, stepped, stepped_all, steps_in, rebalanced}
-use Rattle.replay_run.specs.SkippedCalls.{TellsOfSkip, IsTold}
+use Rattle.replay_run.specs.SkippedCalls.{IsTold}
 use Rattle.replay_run.proofs.Turns.{its_event}
 use Rattle.replay_run.proofs.EventRuns.{flowed_on}
 use Rattle.replay_run.proofs.Rebalanced.{begun_unasked}

@@ -1,12 +1,11 @@
 -- The items of a line of bytes on the grid, one after the other.
-use Rattle.std.proofs.Common.{◌≡◌, ℕ, ◌+◌, ◌<◌, ◌^◌, ◌-◌, ◌*◌, true, List, [], ◌∷◌, ◌++◌, length, get_or, map, take, drop, Option, Some, None, Result, Ok, Err, OnOk, inl, refl, ap, sym, ◌∙◌, subst, append_assoc, arith, length-append}
+use Rattle.std.proofs.Common.{◌≡◌, ℕ, ◌+◌, ◌<◌, ◌-◌, List, [], ◌∷◌, ◌++◌, length, get_or, map, take, drop, Option, Some, None, Result, Ok, Err, OnOk, refl, ap, sym, ◌∙◌, subst, append_assoc, arith, length-append}
 use Rattle.std.proofs.lemmas.List.{take-append-drop, drop_more}
 use Rattle.std.specs.Iterator.{Yields}
 use Rattle.std.proofs.lemmas.Iterator.Adapters.{YieldsList-from_vec}
 use Rattle.std.proofs.lemmas.Iterator.Consumers.{YieldsList-so_far, YieldsList-turn, YieldsList-end}
 use Rattle.std.specs.Vec.Iter.{into_iter_items, into_iter_len, into_iter_steps}
 use Rattle.std.specs.declared.vec.IntoIter.{IntoIter}
-use Rattle.partition_protocol.proofs.Lists.{in_right, contains_in}
 use Rattle.grid_base.specs.declared.names.CallId.{CallId}
 use Rattle.grid_base.specs.declared.calls.Request.{Request}
 use Rattle.replay_run.specs.declared.grid.Grid.{Grid}
@@ -20,7 +19,7 @@ use Rattle.replay_run.specs.Printing.{new_messages}
 use Rattle.replay_run.specs.ScriptRuns.{IsRun, IsNext, MayAsk, calls_in}
 use Rattle.session_core.specs.declared.item.Item.{Item}
 use Rattle.session_core.specs.declared.item.Item.TheVariants.{Register, Reply}
-use Rattle.replay_run.specs.Grids.{FormOf, IsCounting, AreListening, Holds, AreFew}
+use Rattle.replay_run.specs.Grids.{FormOf, IsCounting, AreListening, AreFew}
 use Rattle.replay_run.specs.WaiterCalls.{IsBetween, HasHandledCall}
 use Rattle.replay_run.specs.WorldCalls.{Onward, GivesUpSo, texts_of, IsTo, HasRegistered, HasTold, HasCallRoom, HasRoom, Brings, HasHandledSome, IsGivenUpMidway}
 use Rattle.replay_run.proofs.Items.{IsNamed, IsNumbered}

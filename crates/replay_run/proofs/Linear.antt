@@ -1,7 +1,7 @@
 -- What is printed for an object fits the run: it is the history of that object, used by one thread.
 use Rattle.std.proofs.Common.{◌≡◌, ◌≢◌, ℕ, ◌≤◌, ◌<◌, true, false, List, [], length, Some, Contains, ap, sym, ◌∙◌, subst, arith}
 use Rattle.std.proofs.lemmas.Bool.Decides.{nat_tests}
-use Rattle.std.specs.Prelude.{nat_lt, option_map}
+use Rattle.std.specs.Prelude.{nat_lt, option_map, unwrap_or}
 use Rattle.grid_base.specs.Objects.{Object}
 use Rattle.grid_base.specs.declared.names.CallId.{CallId}
 use Rattle.grid_base.specs.declared.calls.Request.{Request}
@@ -20,14 +20,14 @@ use Rattle.object_store.specs.Records.{nothing_of}
 use Rattle.object_store.proofs.PartitionLaws.{record_at-nothing}
 use Rattle.replay_run.specs.Runs.{Run, begun, Arrival, Appended, reopened_at, world_at, partitions}
 use Rattle.replay_run.specs.AfterLines.{after_lines}
-use Rattle.replay_run.specs.Printing.{PrintedCall, PrintedReset, Printed, Call, Reset, entries_of, all_entries, printed_from, arrival_of, is_answer_to, answer_of}
+use Rattle.replay_run.specs.Printing.{PrintedCall, PrintedReset, Printed, Call, Reset, entries_of, all_entries, printed_from, arrival_of, came_at, is_answer_to, answer_of}
 use Rattle.replay_run.specs.Linearizability.{GridObject, is_on, is_of, history_of, Before, IsLegal, reset_lines, IsOf, Fits, IsLinearizable, EveryRunIsLinearizable}
 use Rattle.replay_run.proofs.Parts.{subsequence_part, before_first, before_second, part_filter, before_part, named_apart, in_filter, in_filtered}
 use Rattle.replay_run.specs.ScriptRuns.{home, grid_begun}
 use Rattle.replay_run.proofs.Places.{same_number}
 use Rattle.replay_run.proofs.Trails.{executed, asked, executed_name, Prints, printed_in, in_printed, printed_before}
-use Rattle.replay_run.proofs.Stamps.{AreStamped, stamped_part, line_of, made_of, stamp, NeverFalls, falls_filtered, stands_first, printed_falls, printed_resets, history_resets}
-use Rattle.replay_run.proofs.RunFacts.{RunOk, asked_of, arrival_name, id_name, safe, log_once, origin, origins, one_arrival, arrival_found, IsGivenIn, given_executed, asked_as}
+use Rattle.replay_run.proofs.Stamps.{AreStamped, stamped_part, made_of, stamp, NeverFalls, falls_filtered, stands_first, printed_falls, printed_resets, history_resets}
+use Rattle.replay_run.proofs.RunFacts.{RunOk, asked_of, arrival_name, id_name, safe, log_once, origin, origins, one_arrival, arrival_found, came_of, IsGivenIn, given_executed, asked_as}
 use Rattle.replay_run.proofs.RunsOfLines.{run_ok}
 use Rattle.replay_run.proofs.Lines.{lines_run}
 use Rattle.replay_run.proofs.Locality.{on_partition, legal_on, history_elsewhere, history_at}
@@ -89,7 +89,7 @@ module _ (settings : Settings) (r : Run) (ok : RunOk (partition_object settings)
           id = ap (λ (f : PrintedCall). f.id) entry ∙ named;
           request = ap (λ (f : PrintedCall). f.request) entry ∙ ap (λ (k : Asked Request). k.call) (sym same);
           now = ap (λ (f : PrintedCall). f.now) entry ∙ ap (λ (k : Asked Request). k.now) (sym same);
-          line = ap (λ (f : PrintedCall). f.arrived) entry ∙ ap (λ c. line_of (arrival_of r c)) named ∙ ap line_of (arrival_found r ok.of_arrivals a i);
+          line = ap (λ (f : PrintedCall). f.arrived) entry ∙ ap (λ c. unwrap_or (came_at r c) 0) named ∙ ap (λ line. unwrap_or line 0) (came_of r ok.of_arrivals a i);
         }
 
     -- it has the line of that arrival

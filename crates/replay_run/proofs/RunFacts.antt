@@ -1,5 +1,6 @@
 -- What holds of a run after every line: what its arrivals, its events and its answers have to do with one another.
 use Rattle.std.proofs.Common.{◌≡◌, ◌≢◌, ℕ, ◌≤◌, ◌<◌, Bool, true, false, ◌==◌, List, [], ◌∷◌, ◌++◌, length, map, filter, Some, refl, ap, sym, ◌∙◌, subst, inl, inr}
+use Rattle.std.specs.Option.{option_map, option_or}
 use Rattle.std.specs.List.{find}
 use Rattle.grid_base.specs.Objects.{Object}
 use Rattle.grid_base.specs.Names.{is_same_call}
@@ -16,9 +17,9 @@ use Rattle.partition_protocol.proofs.RowFacts.{false_or_not}
 use Rattle.partition_protocol.proofs.Faithful.{part_in, part_map, part_once}
 use Rattle.partition_protocol.proofs.Theorem.{every_run_is_safe}
 use Rattle.partition_world.specs.Answers.{id_of}
-use Rattle.replay_run.specs.Runs.{Run, Arrival, Waiter, Appended, Connection, reopened_at, world_at, events_at, connection_of, messages_on}
+use Rattle.replay_run.specs.Runs.{Run, Arrival, Waiter, Appended, Connection, is_waiter, reopened_at, world_at, events_at, connection_of, messages_on}
 use Rattle.replay_run.specs.ScriptRuns.{IsPlaced}
-use Rattle.replay_run.specs.Printing.{arrival_of, is_answer_to}
+use Rattle.replay_run.specs.Printing.{arrival_of, came_at, is_answer_to}
 use Rattle.replay_run.specs.Linearizability.{Before}
 use Rattle.replay_run.proofs.Parts.{in_map, before_map, subsequence_part, part_filter, part_trans, before_part, before_mapped, in_mapped, in_filtered, named_same}
 use Rattle.replay_run.proofs.Counting.{count}
@@ -188,6 +189,9 @@ one_arrival r ok a b i j e = named_same arrival_name r.arrivals a b ok.once i j 
 
 pub arrival_found : (r : Run) → ArrivalsOk r → (a : Arrival) → In a r.arrivals → arrival_of r a.request.id ≡ Some a
 arrival_found r ok a i = find_named r.arrivals a ok.once i
+
+pub came_of : (r : Run) → ArrivalsOk r → (a : Arrival) → In a r.arrivals → came_at r a.request.id ≡ Some a.line
+came_of r ok a i = ap (λ x. option_or (option_map (λ (b : Arrival). b.line) x) (option_map (λ (w : Waiter). w.line) (find (is_waiter a.request.id) r.waiters))) (arrival_found r ok a i)
 
 -- a call was executed as it arrived, in the partition in which it arrived
 module _ {State : Type 0} (o : Object Request State) (r : Run) (members : 1 ≤ r.members) (ok : ArrivalsOk r) (a : Arrival) (p : ℕ) (x : Executed Request) (i : In a r.arrivals)

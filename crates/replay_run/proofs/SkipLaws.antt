@@ -1,5 +1,5 @@
 -- Who is skipped: what a line asks of the skips it asks of calls that come to their end at it, so the skips of two parts of a line, or of two lines, can be put together.
-use Rattle.std.proofs.Common.{◌≡◌, ◌≢◌, ℕ, Bool, true, false, ◌||◌, List, [], ◌∷◌, ◌++◌, length, drop, map, Contains, append_assoc, refl, ap, sym, ◌∙◌, subst, ⊎_elim, inl, inr}
+use Rattle.std.proofs.Common.{◌≡◌, ◌≢◌, Bool, true, false, ◌||◌, List, [], ◌∷◌, ◌++◌, length, drop, map, Contains, append_assoc, refl, arith, ap, sym, ◌∙◌, subst, ⊎_elim, inl, inr}
 use Rattle.std.proofs.Math.Seq.{drop-append_seam}
 use Rattle.grid_base.specs.Objects.{Object}
 use Rattle.grid_base.specs.declared.names.CallId.{CallId}
@@ -16,10 +16,10 @@ use Rattle.replay_run.specs.AfterLines.{after_line}
 use Rattle.replay_run.specs.Endings.{AreAmong, new_arrivals}
 use Rattle.replay_run.specs.Skips.{AgreeOn}
 use Rattle.session_core.specs.declared.item.Item.{Item}
-use Rattle.replay_run.proofs.Parts.{in_map, named_append}
+use Rattle.replay_run.proofs.Parts.{named_append}
 use Rattle.replay_run.proofs.Places.{same_call}
 use Rattle.replay_run.proofs.RunFacts.{ArrivalsOk, arrival_name, id_name}
-use Rattle.replay_run.proofs.Growing.{Grows, GoesBy, Agree, line_goes}
+use Rattle.replay_run.proofs.Growing.{GoesBy, Agree, line_goes}
 
 -- who is skipped
 

@@ -1,5 +1,5 @@
 -- A call that is skipped is told of, unless its run is given up; so a run that tells of no skip has none.
-use Rattle.std.proofs.Common.{◌≡◌, ℕ, true, false, List, [], ◌∷◌, refl, ap, sym, ◌∙◌, subst, true≢false}
+use Rattle.std.proofs.Common.{◌≡◌, true, false, List, [], refl, sym, ◌∙◌, subst, true≢false}
 use Rattle.grid_base.specs.Objects.{Object}
 use Rattle.grid_base.specs.declared.names.CallId.{CallId}
 use Rattle.grid_base.specs.declared.calls.Request.{Request}
@@ -9,9 +9,9 @@ use Rattle.partition_protocol.proofs.RowFacts.{false_or_not}
 use Rattle.object_store.specs.Partitions.{Partition}
 use Rattle.call_engine.specs.Objects.{partition_object}
 use Rattle.script_lang.specs.declared.line.Line.{Line}
-use Rattle.replay_run.specs.Runs.{Run, At, Arrival, begun, is_skipped, call_of}
+use Rattle.replay_run.specs.Runs.{Run, Arrival, begun, is_skipped}
 use Rattle.replay_run.specs.AfterLines.{after_line, after_lines}
-use Rattle.replay_run.specs.SkippedCalls.{IsTold, TellsOfSkips, TellsOfNoSkip, EverySkippedCallIsTold, EveryRunThatTellsOfNoSkipHasNone}
+use Rattle.replay_run.specs.SkippedCalls.{TellsOfNoSkip, EverySkippedCallIsTold, EveryRunThatTellsOfNoSkipHasNone}
 use Rattle.replay_run.proofs.Growing.{Grows, told_still, GoesBy, line_goes, lines_go}
 
 in_front : {X : Type 0} (x : X) (xs ys : List X) → IsFrontOf xs ys → In x xs → In x ys

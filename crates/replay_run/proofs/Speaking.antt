@@ -10,7 +10,8 @@ use Rattle.partition_protocol.proofs.Lists.{In}
 use Rattle.replay_run.specs.Runs.{Run, Appended}
 use Rattle.replay_run.specs.Printing.{is_named, is_answer_to}
 use Rattle.replay_run.specs.Tables.{Table}
-use Rattle.replay_run.specs.Grids.{HasTable, came_at}
+use Rattle.replay_run.specs.Printing.{came_at}
+use Rattle.replay_run.specs.Grids.{HasTable}
 use Rattle.replay_run.proofs.Parts.{in_filter, in_filtered}
 use Rattle.replay_run.proofs.Counting.{count}
 use Rattle.replay_run.proofs.RunFacts.{RunOk}

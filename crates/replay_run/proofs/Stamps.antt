@@ -71,8 +71,6 @@ stamped_part come since now (line ∷ lines) es (Reset version ∷ fs) (inr (zs,
 -- what is printed
 
 -- the line at which an arrival that was found arrived, and that at which its call was made
-abbrev pub line_of : Option Arrival → ℕ
-line_of found = unwrap_or (option_map (λ (a : Arrival). a.line) found) 0
 
 abbrev pub made_of : Option Arrival → ℕ
 made_of found = unwrap_or (option_map (λ (a : Arrival). a.made) found) 0

@@ -15,9 +15,9 @@ use Rattle.partition_protocol.proofs.RowFacts.{false_or_not}
 use Rattle.primary_hold.specs.declared.answer.CallAnswer.{CallAnswer}
 use Rattle.replay_run.specs.declared.connections.CallLines.{CallLines}
 use Rattle.replay_run.specs.Runs.{Run, At, Connection, Arrival, Waiter, Appended, is_waiter, waits, without, ending, is_connection, connection_of, with_bytes, took_bytes, own_answer, told, opened, message_of}
-use Rattle.replay_run.specs.Printing.{arrival_of, answer_of, is_answer_to, is_named}
+use Rattle.replay_run.specs.Printing.{arrival_of, answer_of, came_at, is_answer_to, is_named}
 use Rattle.replay_run.specs.Tables.{Table, Opened, most_connections, opened_at, lines_of, silent, present, with_opened, with_change, heard, with_session, replied, with_reply, called, with_arrival, or_line, lines_answered, answered, with_answer}
-use Rattle.replay_run.specs.Grids.{IsConnection, Matches, HasConnections, HasTable, came_at, lines_in}
+use Rattle.replay_run.specs.Grids.{IsConnection, Matches, HasConnections, HasTable, lines_in}
 use Rattle.replay_run.specs.WorldCalls.{with_answers}
 use Rattle.replay_run.proofs.Parts.{in_map}
 use Rattle.replay_run.proofs.RunFacts.{WaitersOk, waiter_name, id_name}

@@ -13,7 +13,6 @@ use Rattle.grid_base.specs.Objects.{Object}
 use Rattle.partition_protocol.specs.Execution.{Executes, PartitionLost, WrongTarget, Migrating}
 use Rattle.partition_protocol.specs.Events.{Outcome, NothingDone, Done, HeldAt, ReleasedAt, Refused, TookMessage, RowMadeAt, MoveIsRefused, ReopenIsRefused}
 use Rattle.partition_protocol.proofs.Lists.{In, in_cases}
-use Rattle.partition_protocol.proofs.RowFacts.{false_or_not}
 use Rattle.replay_run.specs.declared.tally.Reception.{Reception}
 use Rattle.replay_run.specs.declared.tally.Reception.TheVariants.{Taken, Refused as WasRefused, OutOfMemory}
 use Rattle.replay_run.specs.declared.tally.Tally.{Tally}

@@ -1,6 +1,5 @@
 -- The grid of the code stands for a run: its worlds for the events of their partitions, its table for the connections and the calls.
-use Rattle.std.specs.Prelude.{◌≡◌, ◌≢◌, ℕ, ◌+◌, ◌*◌, ◌<◌, ◌≤◌, ◌==◌, ◌&&◌, Bool, true, false, List, [], ◌++◌, length, map, filter, count_by, Option, Some, None, option_map, option_or, slice_get, Contains}
-use Rattle.std.specs.List.{find}
+use Rattle.std.specs.Prelude.{◌≡◌, ◌≢◌, ℕ, ◌+◌, ◌*◌, ◌<◌, ◌≤◌, ◌==◌, ◌&&◌, Bool, true, false, List, [], ◌++◌, length, map, filter, count_by, Option, Some, None, option_map, slice_get, Contains}
 use Rattle.std.specs.declared.alloc.Global.{Global}
 use Rattle.std.specs.declared.dyn_box.DynBox.{DynBox}
 use Rattle.entry_processors.specs.Processors.{ProcessorForm}
@@ -26,12 +25,12 @@ use Rattle.call_engine.specs.Objects.{partition_object}
 use Rattle.partition_world.specs.LinkOrder.{links_of}
 use Rattle.wait_sets.specs.declared.waiter.Waiter.{Waiter as ListedWaiter}
 use Rattle.wait_lists.specs.Lists.{list_at}
-use Rattle.replay_run.specs.Runs.{Run, Connection, Arrival, Waiter, Appended, partitions, is_waiter, connection_of, messages_on, bytes_of, events_at, listening}
+use Rattle.replay_run.specs.Runs.{Run, Connection, Waiter, Appended, partitions, connection_of, messages_on, bytes_of, events_at, listening}
 use Rattle.replay_run.specs.AfterLines.{after_line}
 use Rattle.replay_run.specs.Counts.{is_refused, is_out_of_memory}
 use Rattle.replay_run.specs.Rebalancing.{most_line_events}
 use Rattle.replay_run.specs.Shelves.{grid_meaning}
-use Rattle.replay_run.specs.Printing.{arrival_of, answer_of, line_text}
+use Rattle.replay_run.specs.Printing.{answer_of, came_at, line_text}
 use Rattle.replay_run.specs.ScriptRuns.{IsRun}
 use Rattle.replay_run.specs.Skips.{AreOfLine}
 use Rattle.replay_run.specs.Tables.{Table, Opened, most_connections, opened_at, lines_of}
@@ -52,10 +51,6 @@ Matches _ _ = ⊥
 -- It has the connections of the run.
 abbrev pub HasConnections : Table → Run → Type 0
 HasConnections table r = (c : ℕ) → Matches (opened_at table c) (connection_of r c)
-
--- the line at which a call arrived, be it that it waits
-abbrev pub came_at : Run → CallId → Option ℕ
-came_at r id = option_or (option_map (λ (a : Arrival). a.line) (arrival_of r id)) (option_map (λ (w : Waiter). w.line) (find (is_waiter id) r.waiters))
 
 -- the lines of a call, where it arrived
 abbrev pub lines_in : Run → CallId → Option CallLines

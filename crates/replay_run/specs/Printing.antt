@@ -1,5 +1,5 @@
 -- The text of a line's outcome and of what happened at it.
-use Rattle.std.specs.Prelude.{ℕ, ◌+◌, Bool, true, false, not, List, [], ◌∷◌, ◌++◌, length, drop, sum_by, count_by, Option, Some, None, is_some, option_map, unwrap_or, if◌then◌else◌, codes, decimal}
+use Rattle.std.specs.Prelude.{ℕ, ◌+◌, Bool, true, false, not, List, [], ◌∷◌, ◌++◌, length, drop, sum_by, count_by, Option, Some, None, is_some, option_map, option_or, unwrap_or, if◌then◌else◌, codes, decimal}
 use Rattle.std.specs.List.{find, flat_map}
 use Rattle.hex.specs.Hex.{encode_lower}
 use Rattle.grid_base.specs.Objects.{Object}
@@ -31,7 +31,7 @@ use Rattle.replay_run.specs.Rebalancing.{plan_in, steps_in}
 use Rattle.replay_run.specs.RebalancingTexts.{plan_text, ran_texts}
 use Rattle.partition_world.specs.Answers.{id_of}
 use Rattle.partition_world.specs.LinkOrder.{links_of}
-use Rattle.replay_run.specs.Runs.{Run, Connection, Arrival, Appended, At, partitions, reopened_at, world_at, connection_of, fault_on, can_open, takes_bytes, next_line, taker_of, event_by}
+use Rattle.replay_run.specs.Runs.{Run, Connection, Arrival, Waiter, Appended, At, is_waiter, partitions, reopened_at, world_at, connection_of, fault_on, can_open, takes_bytes, next_line, taker_of, event_by}
 use Rattle.replay_run.specs.Shelves.{grid_meaning}
 use Rattle.partition_world.specs.declared.Link.{Link}
 use Rattle.script_lang.specs.declared.line.Line.{Line}
@@ -65,6 +65,10 @@ pub data Printed : Type 0 where
 abbrev pub arrival_of : Run → CallId → Option Arrival
 arrival_of r id = find (λ (a : Arrival). is_same_call a.request.id id) r.arrivals
 
+-- the line at which a call arrived, be it that it waits
+abbrev pub came_at : Run → CallId → Option ℕ
+came_at r id = option_or (option_map (λ (a : Arrival). a.line) (arrival_of r id)) (option_map (λ (w : Waiter). w.line) (find (is_waiter id) r.waiters))
+
 abbrev pub is_named : CallId → Option CallId → Bool
 is_named id None = false
 is_named id (Some other) = is_same_call other id
@@ -80,7 +84,7 @@ printed r p place x = record {
   partition = p;
   place = place;
   id = id_of x;
-  arrived = unwrap_or (option_map (λ (a : Arrival). a.line) (arrival_of r (id_of x))) 0;
+  arrived = unwrap_or (came_at r (id_of x)) 0;
   answered = option_map (λ (m : Appended). m.line) (answer_of r (id_of x));
   now = x.now;
   request = x.call;

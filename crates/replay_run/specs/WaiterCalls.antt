@@ -15,7 +15,7 @@ use Rattle.replay_run.specs.declared.grid.Grid.{Grid}
 use Rattle.replay_run.specs.Appending.{new_messages}
 use Rattle.replay_run.specs.Endings.{AreAmong, new_arrivals}
 use Rattle.replay_run.specs.Grids.{FormOf, HasTable, HasWaiters, IsTally, HasWorld, AreListening, IsCounting, Holds}
-use Rattle.replay_run.specs.Runs.{Run, Waiter, Appended, partitions, without, fate_now, next_in_turn, turn_of, leaves_so, served, calls, begins_to_wait}
+use Rattle.replay_run.specs.Runs.{Run, Waiter, partitions, without, fate_now, next_in_turn, turn_of, leaves_so, served, calls, begins_to_wait}
 use Rattle.replay_run.specs.ScriptRuns.{IsRun}
 use Rattle.replay_run.specs.Tables.{Table, Opened, opened_at}
 use Rattle.replay_run.specs.WorldCalls.{Onward, texts_of}
