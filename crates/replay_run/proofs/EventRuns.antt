@@ -362,6 +362,12 @@ module _ (o : Object Request Partition) (skips : List CallId) where
   flowed_in_come : (r : Run) (most n : ℕ) → NoFewer (flowed_in o skips r most (numbers_below n)) (flowed_in o skips r most (numbers_below (suc n)))
   flowed_in_come r most n = let before = flowed_in o skips r most (numbers_below n) in subst (NoFewer before) (sym (flowed_in_more r most n)) (flowed_come before n most)
 
+  pub takes_in_no_fewer : (r : Run) (event : Event Request) (n : ℕ) → NoFewer r (takes_in o skips r event (numbers_below n))
+  takes_in_no_fewer r event n = all_come (λ k. takes_in o skips r event (numbers_below k)) 0 (takes_in_elsewhere r event 0) (takes_in_come r event) n
+
+  pub flowed_in_no_fewer : (r : Run) (most n : ℕ) → NoFewer r (flowed_in o skips r most (numbers_below n))
+  flowed_in_no_fewer r most n = all_come (λ k. flowed_in o skips r most (numbers_below k)) 0 (flowed_in_elsewhere r most 0) (flowed_in_come r most) n
+
   pub takes_in_later : (r : Run) (event : Event Request) (n q : ℕ) → n ≤ q → events_at q (takes_in o skips r event (numbers_below n)).events ≡ events_at q r.events
   takes_in_later r event n q = to_come (λ k. takes_in o skips r event (numbers_below k)) q (takes_in_elsewhere r event q) (takes_in_come r event) n
 

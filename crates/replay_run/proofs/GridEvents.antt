@@ -41,6 +41,7 @@ use Rattle.replay_run.proofs.Tallies.{quiet_tally}
 use Rattle.replay_run.proofs.TableCounts.{counting_answers}
 use Rattle.replay_run.proofs.WorldRuns.{same_events, run_is, ran_to}
 use Rattle.partition_world.specs.Recorders.{KeepsAll}
+use Rattle.replay_run.proofs.WaiterLists.{waiters_alike}
 
 -- what an event releases
 
@@ -278,7 +279,8 @@ module _ {V : Type 0} {T : V → Type 0} {form : FormOf V T} {settings : Setting
     moments = after.moments ∙ amid.holds.moments;
     clocks = amid.holds.clocks;
     table = table_now;
-    tally = subst (λ t. IsTally t next) (sym after.tally) (quiet_tally grid.tally r next (given_out o r p event) refl refl (given_refuse_none o r p event (taker_of event)) amid.holds.tally);
+    waiters = subst (λ ls. HasWaiters ls next) (sym after.waiters) (waiters_alike grid.waiters r next refl refl amid.holds.waiters);
+    tally = subst (λ t. IsTally t next) (sym after.tally) (quiet_tally grid.tally r next (given_out o r p event) refl refl refl (given_refuse_none o r p event (taker_of event)) amid.holds.tally);
     reopened = after.reopened ∙ (λ i. amid.holds.reopened i ++ reopening_by p (amid.holds.lines i) event (its_outcome i));
     worlds = λ q below. subst (λ ws. HasWorld settings ws next q) (sym after.worlds) (worlds_now q (amid.holds.worlds q below));
   }

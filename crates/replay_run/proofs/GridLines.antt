@@ -35,6 +35,7 @@ use Rattle.replay_run.proofs.Reaching.{opened_reached, taken_reached}
 use Rattle.replay_run.proofs.Trails.{find_some}
 use Rattle.replay_run.proofs.TableRuns.{none_opened, opened_table, fed_table}
 use Rattle.replay_run.proofs.TableCounts.{settled_opened, counting_fed}
+use Rattle.replay_run.proofs.WaiterLists.{waiters_alike}
 
 -- the grid once the line of that number is counted
 abbrev pub counted : {V : Type 0} {T : V → Type 0} → Grid V T → ℕ → Grid V T
@@ -54,6 +55,7 @@ counted_holds grid r number t ks h at_line table = record {
   moments = h.moments;
   clocks = h.clocks;
   table = table;
+  waiters = waiters_alike grid.waiters r (record r { lines = r.lines + 1; connections = ks }) refl refl h.waiters;
   tally = record { arrived = h.tally.arrived; refused = h.tally.refused; memory = h.tally.memory };
   reopened = h.reopened;
   worlds = λ p low. let w = h.worlds p low in record { world = w.world; there = w.there; is = record { stands = w.is.stands; setup = w.is.setup }; given = w.given };
@@ -252,6 +254,7 @@ holds_with grid listeners r h = record {
   moments = h.moments;
   clocks = h.clocks;
   table = h.table;
+  waiters = h.waiters;
   tally = h.tally;
   reopened = h.reopened;
   worlds = h.worlds;

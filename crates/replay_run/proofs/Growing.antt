@@ -292,7 +292,7 @@ module _ (o : Object Request Partition) where
 
   -- events
 
-  served_at_goes : (r : Run) (p : ℕ) (stirred : Option ℕ) → GoesBy r (λ s. served_at o s r p stirred)
+  pub served_at_goes : (r : Run) (p : ℕ) (stirred : Option ℕ) → GoesBy r (λ s. served_at o s r p stirred)
   served_at_goes r p None = goes_nowhere r
   served_at_goes r p (Some member) = served_goes r None p member
 
@@ -335,14 +335,14 @@ module _ (o : Object Request Partition) where
 
   -- steps of a plan
 
-  first_goes : (r : Run) (p : ℕ) → GoesBy r (λ s. first_resends o s r p)
+  pub first_goes : (r : Run) (p : ℕ) → GoesBy r (λ s. first_resends o s r p)
   first_goes r p = go (first_of (service_at o r p).row.members)
     where
       go : (first : Option ℕ) → GoesBy r (λ s. elim first [ None ↦ r | Some member ↦ takes o s r p (Resend member) ])
       go None = goes_nowhere r
       go (Some member) = takes_goes r p (Resend member) refl
 
-  turned_goes : (r : Run) (p : ℕ) → GoesBy r (λ s. turned o s r p)
+  pub turned_goes : (r : Run) (p : ℕ) → GoesBy r (λ s. turned o s r p)
   turned_goes r p =
       goes_then r (λ s. flowed o s (first_resends o s (takes o s r p (Resend r.members)) p) p most_deliveries) (λ x s. takes o s x p Advance)
       (goes_then r (λ s. first_resends o s (takes o s r p (Resend r.members)) p) (λ x s. flowed o s x p most_deliveries)
@@ -350,16 +350,16 @@ module _ (o : Object Request Partition) where
       (λ x. flowed_goes x p most_deliveries))
       (λ x. takes_goes x p Advance refl)
 
-  turned_on_goes : (r : Run) (p turns : ℕ) → GoesBy r (λ s. turned_on o s r p turns)
+  pub turned_on_goes : (r : Run) (p turns : ℕ) → GoesBy r (λ s. turned_on o s r p turns)
   turned_on_goes r p zero = goes_nowhere r
   turned_on_goes r p (suc turns) =
       goes_if r (is_moving_at o r p) (λ s. turned_on o s (turned o s r p) p turns) (λ s. r)
       (goes_then r (λ s. turned o s r p) (λ x s. turned_on o s x p turns) (turned_goes r p) (λ x. turned_on_goes x p turns)) (goes_nowhere r)
 
-  joined_goes : (r : Run) (p member : ℕ) → GoesBy r (λ s. joined o s r p member)
+  pub joined_goes : (r : Run) (p member : ℕ) → GoesBy r (λ s. joined o s r p member)
   joined_goes r p member = goes_then r (λ s. takes o s r p (BeginJoin member)) (λ x s. flowed o s x p most_deliveries) (takes_goes r p (BeginJoin member) refl) (λ x. flowed_goes x p most_deliveries)
 
-  rejoined_goes : (r : Run) (p from : ℕ) (kind : StepKind) → GoesBy r (λ s. rejoined o s r p from kind)
+  pub rejoined_goes : (r : Run) (p from : ℕ) (kind : StepKind) → GoesBy r (λ s. rejoined o s r p from kind)
   rejoined_goes r p from Move = goes_nowhere r
   rejoined_goes r p from Handover = goes_if r (is_moving_at o r p) (λ s. r) (λ s. joined o s r p from) (goes_nowhere r) (joined_goes r p from)
 
