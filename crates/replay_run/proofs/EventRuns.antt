@@ -77,7 +77,7 @@ kept_trans a b = record {
 abbrev pub is_other : Waiter → Waiter → Bool
 is_other w x = not (is_waiter w.request.id x)
 
-fewer : (w : Waiter) (ws : List Waiter) → In w ws → length (filter (is_other w) ws) + 1 ≤ length ws
+pub fewer : (w : Waiter) (ws : List Waiter) → In w ws → length (filter (is_other w) ws) + 1 ≤ length ws
 fewer w [] i = absurd i
 fewer w (v ∷ vs) (inl e) =
     let gone : is_other w v ≡ false = ap not (subst (λ (c : CallId). is_same_call v.request.id c ≡ true) (ap (λ (x : Waiter). x.request.id) e) (same_call_refl v.request.id)) in

@@ -1,6 +1,6 @@
 -- A run that goes on by several steps, each by skips of its own, and the grid that follows it.
-use Rattle.std.proofs.Common.{◌≡◌, ℕ, zero, suc, ◌+◌, ◌-◌, ◌≤◌, ◌<◌, true, false, cond, List, [], ◌∷◌, ◌++◌, length, drop, count_by, Option, Some, None, refl, ap, sym, ◌∙◌, subst, ⊎_elim, inl, inr, append-nil, append_assoc, add-one, arith}
-use Rattle.std.proofs.lemmas.Bool.{cases_eq, true≢false}
+use Rattle.std.proofs.Common.{◌≡◌, ℕ, zero, suc, ◌+◌, ◌-◌, ◌≤◌, ◌<◌, true, false, cond, List, [], ◌∷◌, ◌++◌, length, drop, count_by, Option, Some, None, refl, ap, sym, ◌∙◌, subst, inl, inr, append-nil, append_assoc, add-one, arith}
+use Rattle.std.proofs.lemmas.Bool.{true≢false}
 use Rattle.std.proofs.lemmas.List.Sums.{sum_by-append, sum_by-cons}
 use Rattle.std.proofs.Math.Seq.{drop-append_seam}
 use Rattle.grid_base.specs.Objects.{Object}
@@ -33,7 +33,7 @@ use Rattle.replay_run.proofs.Growing.{GoesBy, takes_goes, takes_in_goes, flowed_
 use Rattle.replay_run.proofs.RunFacts.{ArrivalsOk}
 use Rattle.replay_run.proofs.RunsOfLines.{run_ok}
 use Rattle.replay_run.proofs.SkipLaws.{both_go, both_among}
-use Rattle.replay_run.proofs.Midway.{among_more}
+use Rattle.replay_run.proofs.GivingUp.{stays_on, up_as, gives_up_first, gives_up_then}
 
 module _ {V : Type 0} {T : V → Type 0} {form : FormOf V T} {settings : Settings} where
   pub gone_nowhere : (grid : Grid V T) (r : Run) (text : List ℕ) → IsAmid form settings grid r → HasGoneOn form settings grid r r text text
@@ -83,29 +83,7 @@ module _ {V : Type 0} {T : V → Type 0} {form : FormOf V T} {settings : Setting
 
     -- or the run is given up at the other
     pub gives_up_after : GivesUpSo (first a.skips) (then (first a.skips)) → ((s : List CallId) → IsRun (partition_object settings) (then (first a.skips) s)) → GivesUpSo r (λ s. then (first s) s)
-    gives_up_after b runs =
-        let once : ArrivalsOk (then (first a.skips) b.skips) = (run_ok (runs b.skips)).of_arrivals in
-        record {
-          skips = a.skips ++ b.skips;
-          own = both_among r first then g h a.skips b.skips once a.own b.own;
-          full = ap (λ (x : Run). x.full) (both_go r first then g h a.skips b.skips once a.own b.own) ∙ b.full;
-        }
-
--- A run that is given up stays so, whatever is to come.
-
-pub up_as : (r : Run) (f g : Onward) → ((s : List CallId) → f s ≡ g s) → GivesUpSo r f → GivesUpSo r g
-up_as r f g same a = record {
-  skips = a.skips;
-  own = subst (λ (x : Run). AreAmong (new_arrivals r x) a.skips) (same a.skips) a.own;
-  full = sym (ap (λ (x : Run). x.full) (same a.skips)) ∙ a.full;
-}
-
-pub gives_up_first : (r : Run) (first : Onward) (then : Run → Onward) → GoesBy r first → ((x : Run) → GoesBy x (then x)) → GivesUpSo r first → GivesUpSo r (λ s. then (first s) s)
-gives_up_first r first then g h a = record {
-  skips = a.skips;
-  own = among_more r (first a.skips) (then (first a.skips) a.skips) a.skips (g.grows a.skips) ((h (first a.skips)).grows a.skips) a.own;
-  full = ((h (first a.skips)).grows a.skips).full a.full;
-}
+    gives_up_after b runs = gives_up_then r first then g h a.skips a.own b runs
 
 -- how many messages were delivered
 
@@ -238,11 +216,6 @@ module _ {V : Type 0} {T : V → Type 0} {form : FormOf V T} {settings : Setting
     all_flowed most within reached = let same : most ≡ number = omega (arith, within, reached) in delivered_all most (ap (flowed (partition_object settings) did.on.skips r p) same)
 
 -- partition after partition
-
--- What stays from one to the next stays to the end.
-stays_on : (P : ℕ → Type 0) → ((k : ℕ) → P k → P (suc k)) → (n m : ℕ) → n ≤ m → P n → P m
-stays_on P on n zero l has = let none : n ≡ 0 = omega (arith, l) in subst P none has
-stays_on P on n (suc m) l has = ⊎_elim (λ e. subst P e has) (λ apart. on m (stays_on P on n m (omega (arith, l, apart)) has)) (cases_eq n (suc m))
 
 module _ (o : Object Request Partition) where
   -- A run that is given up in one partition is so in the end.

@@ -250,11 +250,11 @@ module _ (o : Object Request Partition) where
   leaving_goes r own w (IsRefused why) = goes_on r (arrived (without r w) (ending r w) [] (refused_at r.lines w.request why)) (ended_quietly r w (refused_at r.lines w.request why))
   leaving_goes r own w Leaves = goes_on r (leaves r w) (ended_quietly r w [])
 
-  turn_goes : (r : Run) (own : Option ℕ) (next : Option Waiter) → GoesBy r (λ s. turn_of o s r own next)
+  pub turn_goes : (r : Run) (own : Option ℕ) (next : Option Waiter) → GoesBy r (λ s. turn_of o s r own next)
   turn_goes r own None = goes_nowhere r
   turn_goes r own (Some w) = leaving_goes r own w (fate_now o r w)
 
-  so_often_goes : (own : Option ℕ) (p member turns : ℕ) (r : Run) → GoesBy r (λ s. served_so_often o s own p member turns r)
+  pub so_often_goes : (own : Option ℕ) (p member turns : ℕ) (r : Run) → GoesBy r (λ s. served_so_often o s own p member turns r)
   so_often_goes own p member zero r = goes_nowhere r
   so_often_goes own p member (suc turns) r =
       goes_then r (λ s. turn_of o s r own (next_in_turn o r p member)) (λ x s. served_so_often o s own p member turns x) (turn_goes r own (next_in_turn o r p member)) (λ x. so_often_goes own p member turns x)

@@ -59,7 +59,9 @@ pub mod Feeding
 pub mod DumpTexts
 pub mod LinkTexts
 pub mod GridEvents
+pub mod GivingUp
 pub mod Flowing
+pub mod Serving
 pub mod EventLines
 pub mod RebalanceLine
 pub mod LineCases
