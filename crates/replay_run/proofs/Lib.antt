@@ -62,6 +62,7 @@ pub mod GridEvents
 pub mod GivingUp
 pub mod Flowing
 pub mod Serving
+pub mod Leaving
 pub mod EventLines
 pub mod RebalanceLine
 pub mod LineCases
