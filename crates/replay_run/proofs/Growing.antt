@@ -1,5 +1,5 @@
 -- What arrived and what was appended stays, at each step of a run, and a run that is given up stays so. And a step asks of the skips only which of the calls are among them that it makes.
-use Rattle.std.specs.List.{find}
+use Rattle.std.specs.List.{find, flat_map}
 use Rattle.std.proofs.Common.{◌≡◌, ◌≢◌, true≢false, ℤ, ℕ, zero, suc, Bool, true, false, cond, List, [], ◌∷◌, ◌++◌, length, Option, Some, None, pos, refl, ap, sym, ◌∙◌, subst, ⊎_elim, inl, inr, append-nil}
 use Rattle.grid_base.specs.Errors.{want_of_memory}
 use Rattle.grid_base.specs.Objects.{Object}
@@ -28,6 +28,8 @@ use Rattle.rebalance.specs.declared.StepKind.TheVariants.{Move, Handover}
 use Rattle.replay_run.specs.Runs.{Run, At, Connection, Arrival, Waiter, Appended, partitions, connection_of, is_open, call_of, world_at, is_full, takes_bytes, items_by, took_bytes, next_line, clock_set, can_open, opened, bytes_arrived, own_answer, told, registers, given_out, refusal, happening, arrived, is_skipped, given_up, asked, asks, waiter_at, waits, without, ending, refused_at, leaves, leaves_so, fate_now, next_in_turn, turn_of, served_so_often, served, served_in, is_waiting_on, left_by, left_so_often, forsaken, calls, begins_to_wait, arrival_at, handled, handled_all, occurred, meets_full, stirred_by, served_at, takes, takes_in, delivery_on, flowed, flowed_in, event_by}
 use Rattle.replay_run.specs.AfterLines.{after_event, after_line, after_lines}
 use Rattle.replay_run.specs.Rebalancing.{service_at, is_moving_at, most_deliveries, most_turns, event_begun, first_resends, turned, turned_on, joined, rejoined, stepped, stepped_all, steps_in, rebalanced}
+use Rattle.replay_run.specs.Appending.{appended_text, new_messages}
+use Rattle.replay_run.specs.RebalancingTexts.{end_text, ran_text, ran_texts}
 use Rattle.replay_run.specs.SkippedCalls.{IsTold}
 use Rattle.replay_run.proofs.Turns.{its_event}
 use Rattle.replay_run.proofs.EventRuns.{flowed_on}
@@ -374,6 +376,18 @@ module _ (o : Object Request Partition) where
   pub stepped_all_goes : (r : Run) (steps : List Step) → GoesBy r (λ s. stepped_all o s r steps)
   stepped_all_goes r [] = goes_nowhere r
   stepped_all_goes r (step ∷ steps) = goes_then r (λ s. stepped o s r step) (λ x s. stepped_all o s x steps) (stepped_goes r step) (λ x. stepped_all_goes x steps)
+
+  -- and what they print is the same where they skip the same
+  pub ran_alike : (r : Run) (steps : List Step) (s t : List CallId) → Agree ((stepped_all_goes r steps).tries s) s t → ran_texts o s r steps ≡ ran_texts o t r steps
+  unfolding stepped_all_goes goes_then
+  ran_alike r [] s t agree = refl
+  ran_alike r (step ∷ steps) s t agree =
+      let next = stepped o s r step in
+      let here = (stepped_goes r step).tries s in
+      let later = (stepped_all_goes next steps).tries s in
+      let same : next ≡ stepped o t r step = (stepped_goes r step).alike s t (λ a i. agree a (in_left a here later i)) in
+      (λ i. (flat_map appended_text (new_messages r (same i)) ++ end_text r.lines step.partition (is_moving_at o (same i) step.partition)) ++ ran_texts o s next steps)
+      ∙ ap (λ xs. ran_text o t r step ++ xs) (ran_alike next steps s t (λ a i. agree a (in_right a here later i)) ∙ ap (λ (x : Run). ran_texts o t x steps) same)
 
   -- lines
 

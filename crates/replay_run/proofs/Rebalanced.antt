@@ -92,6 +92,12 @@ module _ (o : Object Request Partition) (skips : List CallId) where
   pub turned_kept : (r : Run) (p : ℕ) → Kept r (turned o skips r p)
   turned_kept r p = turn_keeps o skips (Kept r) p (λ x event of_step h. kept_trans h (takes_kept o skips x p event)) r (kept_refl r)
 
+  pub first_kept : (r : Run) (p : ℕ) → Kept r (first_resends o skips r p)
+  first_kept r p = first_keeps o skips (Kept r) p (λ x event of_step h. kept_trans h (takes_kept o skips x p event)) r (kept_refl r)
+
+  pub turned_on_kept : (r : Run) (p turns : ℕ) → Kept r (turned_on o skips r p turns)
+  turned_on_kept r p turns = turns_keep o skips (Kept r) p (λ x event of_step h. kept_trans h (takes_kept o skips x p event)) r turns (kept_refl r)
+
   pub stepped_kept : (r : Run) (step : Step) → Kept r (stepped o skips r step)
   stepped_kept r step = step_keeps o skips (Kept r) step (λ x event of_step h. kept_trans h (takes_kept o skips x step.partition event)) r (kept_refl r)
 
@@ -115,6 +121,25 @@ module _ (o : Object Request Partition) (skips : List CallId) where
 
   pub stepped_all_full : (r : Run) (steps : List Step) → r.full ≡ true → (stepped_all o skips r steps).full ≡ true
   stepped_all_full r steps full = steps_keep o skips IsGivenUp (λ x p event of_step h. takes_full o skips x p event h) steps r full
+
+module _ {o : Object Request Partition} (skips : List CallId) where
+  pub first_run : (r : Run) (p : ℕ) → IsRun o r → IsRun o (first_resends o skips r p)
+  first_run r p is = first_keeps o skips (IsRun o) p (λ x event of_step h. takes_run skips x p event h of_step.asks) r is
+
+  pub turned_run : (r : Run) (p : ℕ) → IsRun o r → IsRun o (turned o skips r p)
+  turned_run r p is = turn_keeps o skips (IsRun o) p (λ x event of_step h. takes_run skips x p event h of_step.asks) r is
+
+  pub turned_on_run : (r : Run) (p turns : ℕ) → IsRun o r → IsRun o (turned_on o skips r p turns)
+  turned_on_run r p turns is = turns_keep o skips (IsRun o) p (λ x event of_step h. takes_run skips x p event h of_step.asks) r turns is
+
+  pub rejoined_run : (r : Run) (p from : ℕ) (kind : StepKind) → IsRun o r → IsRun o (rejoined o skips r p from kind)
+  rejoined_run r p from kind is = rejoin_keeps o skips (IsRun o) p (λ x event of_step h. takes_run skips x p event h of_step.asks) r from kind is
+
+  pub stepped_run : (r : Run) (step : Step) → IsRun o r → IsRun o (stepped o skips r step)
+  stepped_run r step is = step_keeps o skips (IsRun o) step (λ x event of_step h. takes_run skips x step.partition event h of_step.asks) r is
+
+  pub steps_run : (r : Run) (steps : List Step) → IsRun o r → IsRun o (stepped_all o skips r steps)
+  steps_run r steps is = steps_keep o skips (IsRun o) (λ x p event of_step h. takes_run skips x p event h of_step.asks) steps r is
 
 pub rebalanced_run : {o : Object Request Partition} (skips : List CallId) (r : Run) (most : ℕ) → IsRun o r → IsRun o (rebalanced o skips r most)
 rebalanced_run {o} skips r most is = rebalance_keeps o skips (IsRun o) (λ x p event of_step h. takes_run skips x p event h of_step.asks) r most is

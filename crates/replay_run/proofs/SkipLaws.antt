@@ -76,7 +76,7 @@ module _ (r : Run) (first : List CallId → Run) (then : Run → List CallId →
       let there = subst (In a) (g.grows s).arrivals.1 (in_right a r.arrivals first_come i) in
       named_append arrival_name mid.arrivals then_come a b (subst (λ xs. NamedOnce (map arrival_name xs)) (sym whole) once.once) there j (ap id_name e)
 
-  alike_first : Agree (g.tries s) (s ++ t) s
+  pub alike_first : Agree (g.tries s) (s ++ t) s
   alike_first a i =
       let none = none_skipped t then_come a among_then (λ b j. apart a b (g.come s a i) j) in
       skipped_by_either s t a.request.id ∙ ap (λ b. is_skipped s a.request.id || b) none ∙ either_left (is_skipped s a.request.id)
