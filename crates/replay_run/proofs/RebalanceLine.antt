@@ -14,7 +14,7 @@ use Rattle.grid_base.specs.Objects.{Object}
 use Rattle.grid_base.specs.declared.calls.Request.{Request}
 use Rattle.object_store.specs.Partitions.{Partition}
 use Rattle.partition_table.specs.Rows.{first_of}
-use Rattle.partition_protocol.specs.Events.{Resend}
+use Rattle.partition_protocol.specs.Events.{Resend, Advance}
 use Rattle.partition_protocol.specs.Service.{numbers_below}
 use Rattle.rebalance.specs.declared.Step.{Step}
 use Rattle.rebalance.specs.declared.StepKind.TheVariants.{Handover}
@@ -39,7 +39,7 @@ use Rattle.replay_run.proofs.EventRuns.{Kept, kept_refl, kept_trans, takes_few, 
 use Rattle.replay_run.proofs.EventLines.{line_given_up}
 use Rattle.replay_run.proofs.Flowing.{so_nowhere, so_as, so_further, gives_up_after}
 use Rattle.replay_run.proofs.GivingUp.{up_as, gives_up_first, gives_up_then}
-use Rattle.replay_run.proofs.Growing.{goes_then, turned_goes, turned_on_goes, stepped_goes, stepped_all_goes, ran_alike}
+use Rattle.replay_run.proofs.Growing.{GoesBy, goes_then, takes_goes, first_goes, flowed_goes, turned_goes, turned_on_goes, stepped_goes, stepped_all_goes, ran_alike}
 use Rattle.replay_run.proofs.RunFacts.{ArrivalsOk}
 use Rattle.replay_run.proofs.RunsOfLines.{run_ok}
 use Rattle.replay_run.proofs.SkipLaws.{alike_first, both_go, both_among}
@@ -192,6 +192,41 @@ read_any (x ∷ xs) (suc i) d e l = read_any xs i d e (omega (arith, l))
 
 pub take_one : {X : Type 0} (xs : List X) (i : ℕ) (x : X) → i < length xs → x ≡ get_or xs i x → take (i + 1) xs ≡ take i xs ++ x ∷ []
 take_one xs i x within at = take_more xs i x within ∙ ap (λ y. take i xs ++ y ∷ []) (sym at)
+
+-- the parts of a turn
+
+abbrev pub resent : Object Request Partition → Run → ℕ → Onward
+resent o r p skips = takes o skips r p (Resend r.members)
+
+abbrev pub again : Object Request Partition → ℕ → Run → Onward
+again o p r skips = first_resends o skips r p
+
+abbrev pub flows : Object Request Partition → ℕ → Run → Onward
+flows o p r skips = flowed o skips r p most_deliveries
+
+abbrev pub advances : Object Request Partition → ℕ → Run → Onward
+advances o p r skips = takes o skips r p Advance
+
+abbrev pub sent_again : Object Request Partition → Run → ℕ → Onward
+sent_again o r p skips = again o p (resent o r p skips) skips
+
+abbrev pub late_flows : Object Request Partition → Run → ℕ → Onward
+late_flows o r p skips = flows o p (sent_again o r p skips) skips
+
+module _ (o : Object Request Partition) (r : Run) (p : ℕ) where
+  pub sent_goes : GoesBy r (sent_again o r p)
+  sent_goes = goes_then r (resent o r p) (again o p) (takes_goes o r p (Resend r.members) refl) (λ x. first_goes o x p)
+
+  pub late_goes : GoesBy r (late_flows o r p)
+  late_goes = goes_then r (sent_again o r p) (flows o p) sent_goes (λ x. flowed_goes o x p most_deliveries)
+
+  -- A run that is given up at a part of it is so at its end.
+
+  pub ends_again : GivesUpSo r (sent_again o r p) → GivesUpSo r (late_flows o r p)
+  ends_again = gives_up_first r (sent_again o r p) (flows o p) sent_goes (λ x. flowed_goes o x p most_deliveries)
+
+  pub ends_later : GivesUpSo r (late_flows o r p) → GivesUpSo r (λ skips. turned o skips r p)
+  ends_later = gives_up_first r (late_flows o r p) (advances o p) late_goes (λ x. takes_goes o x p Advance refl)
 
 -- the room for a turn's last event
 pub late_room : (o : Object Request Partition) (s t u : List CallId) (r : Run) (p : ℕ) → HasRoomAt r p 1003 → HasRoomAt (flowed o u (first_resends o t (takes o s r p (Resend r.members)) p) p most_deliveries) p 1
