@@ -305,11 +305,11 @@ waiters_with r ok a may events appended = record {
   where
     last_apart : (b : Arrival) (w : Waiter) → In b (a ∷ []) → In w r.waiters → arrival_name b ≢ waiter_name w
     last_apart b w (inl e) j s = may.apart w j (ap arrival_name e ∙ s)
-    last_apart b w (inr i) j = absurd i
+    last_apart b w (inr i) j s = absurd i
 
     last_line : (b : Arrival) (w : Waiter) → In b (a ∷ []) → In w r.waiters → b.line ≡ w.line → b.request.id.conn ≡ w.request.id.conn
     last_line b w (inl e) j s = ap (λ (c : Arrival). c.request.id.conn) (sym e) ∙ may.waiters_of_line w j (ap (λ (c : Arrival). c.line) e ∙ s)
-    last_line b w (inr i) j = absurd i
+    last_line b w (inr i) j s = absurd i
 
 -- who waits
 
@@ -341,11 +341,11 @@ waiter_more r ok w next at = record {
 
     last_apart : (a : Arrival) (v : Waiter) → In a r.arrivals → In v (w ∷ []) → arrival_name a ≢ waiter_name v
     last_apart a v i (inl e) s = may.fresh a i (s ∙ ap waiter_name (sym e))
-    last_apart a v i (inr j) = absurd j
+    last_apart a v i (inr j) s = absurd j
 
     last_line : (a : Arrival) (v : Waiter) → In a r.arrivals → In v (w ∷ []) → a.line ≡ v.line → a.request.id.conn ≡ v.request.id.conn
     last_line a v i (inl e) s = may.of_line a i (s ∙ ap (λ (u : Waiter). u.line) (sym e) ∙ at) ∙ ap (λ (u : Waiter). u.request.id.conn) e
-    last_line a v i (inr j) = absurd j
+    last_line a v i (inr j) s = absurd j
 
     -- one of its line
     its_line : (v : Waiter) → In v r.waiters → w.line ≡ v.line → w.request.id.conn ≡ v.request.id.conn

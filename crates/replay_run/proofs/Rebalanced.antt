@@ -146,6 +146,10 @@ rebalanced_run {o} skips r most is = rebalance_keeps o skips (IsRun o) (λ x p e
 
 -- the events of a partition
 
+-- one part's, and another's
+adds_then : (q a b c : ℕ) (r mid next : Run) → a + b ≡ c → Adds q a r mid → Adds q b mid next → Adds q c r next
+adds_then q a b c r mid next sum first then = omega (arith, sum, first, then)
+
 module _ (o : Object Request Partition) (skips : List CallId) where
   pub stepped_elsewhere : (r : Run) (step : Step) (q : ℕ) → q ≢ step.partition → events_at q (stepped o skips r step).events ≡ events_at q r.events
   stepped_elsewhere r step q other = step_keeps o skips (HasEvents q (events_at q r.events)) step (λ x event of_step h. takes_elsewhere o skips x step.partition event q other ∙ h) r refl
@@ -177,7 +181,7 @@ module _ (o : Object Request Partition) (skips : List CallId) where
     joined_few r member =
         let one = takes_few o skips r p (BeginJoin member) q in
         let more = flowed_few o skips (takes o skips r p (BeginJoin member)) p most_deliveries q in
-        omega (arith, one, more)
+        adds_then q 1 most_deliveries 1001 r (takes o skips r p (BeginJoin member)) (joined o skips r p member) (omega arith) one more
 
     pub rejoined_few : (r : Run) (from : ℕ) (kind : StepKind) → Adds q 1001 r (rejoined o skips r p from kind)
     rejoined_few r from Move = omega arith
@@ -191,7 +195,8 @@ module _ (o : Object Request Partition) (skips : List CallId) where
       let one = takes_few o skips r p event q in
       let turns = turned_on_few p q begun most_turns in
       let last = rejoined_few p q (turned_on o skips begun p most_turns) step.from step.kind in
-      omega (arith, one, turns, last)
+      adds_then q 1 5013 most_line_events r begun (stepped o skips r step) (omega arith) one
+      (adds_then q 4012 1001 5013 begun (turned_on o skips begun p most_turns) (stepped o skips r step) (omega arith) turns last)
 
   -- no arrival is one less
   pub stepped_come : (r : Run) (step : Step) → NoFewer r (stepped o skips r step)
