@@ -65,6 +65,9 @@ module _ {V : Type 0} {T : V → Type 0} {form : FormOf V T} {settings : Setting
     sym same,
   )
 
+  pub so_all : (new : Grid V T) (r : Run) (f g : Onward) (written text : List ℕ) → ((s : List CallId) → f s ≡ g s) → HasGoneOnSo form settings new r f written text → HasGoneOnSo form settings new r g written text
+  so_all new r f g written text same a = (so_as new r f g written text a (same a.skips)).0
+
   -- one step, and then another: both with the skips of either
   module _ (mid new : Grid V T) (r : Run) (first : Onward) (then : Run → Onward) (g : GoesBy r first) (h : (x : Run) → GoesBy x (then x)) (written so_far : List ℕ) (a : HasGoneOnSo form settings mid r first written so_far) where
     pub so_further : (text : List ℕ) (b : HasGoneOnSo form settings new (first a.skips) (then (first a.skips)) so_far text)

@@ -29,7 +29,7 @@ use Rattle.replay_run.specs.declared.grid.Grid.{Grid}
 use Rattle.replay_run.specs.Runs.{Run, is_connection, events_at, next_line, takes, flowed}
 use Rattle.replay_run.specs.Appending.{appended_text, new_messages}
 use Rattle.replay_run.specs.Endings.{new_arrivals, AreAmong}
-use Rattle.replay_run.specs.Rebalancing.{service_at, is_moving_at, most_deliveries, most_turns, most_line_events, first_resends, turned, turned_on, joined, rejoined, stepped, stepped_all, plan_in, first_steps, steps_in, rebalanced}
+use Rattle.replay_run.specs.Rebalancing.{service_at, is_moving_at, most_deliveries, most_turns, most_line_events, event_begun, first_resends, turned, turned_on, joined, rejoined, stepped, stepped_all, plan_in, first_steps, steps_in, rebalanced}
 use Rattle.replay_run.specs.RebalancingTexts.{plan_text, end_text, ran_text, ran_texts}
 use Rattle.replay_run.specs.Grids.{FormOf, Stands, HasRun, IsGivenUp}
 use Rattle.replay_run.specs.WorldCalls.{texts_of, Onward, GivesUpSo, HasGoneOnSo, HasRoomAt, IsAmid, MayStep, HasStepped, HasNoSteps}
@@ -39,12 +39,12 @@ use Rattle.replay_run.proofs.EventRuns.{Kept, kept_refl, kept_trans, takes_few, 
 use Rattle.replay_run.proofs.EventLines.{line_given_up}
 use Rattle.replay_run.proofs.Flowing.{so_nowhere, so_as, so_further, gives_up_after}
 use Rattle.replay_run.proofs.GivingUp.{up_as, gives_up_first, gives_up_then}
-use Rattle.replay_run.proofs.Growing.{GoesBy, goes_then, takes_goes, first_goes, flowed_goes, turned_goes, turned_on_goes, stepped_goes, stepped_all_goes, ran_alike}
+use Rattle.replay_run.proofs.Growing.{GoesBy, goes_then, takes_goes, first_goes, flowed_goes, turned_goes, turned_on_goes, rejoined_goes, stepped_goes, stepped_all_goes, ran_alike}
 use Rattle.replay_run.proofs.RunFacts.{ArrivalsOk}
 use Rattle.replay_run.proofs.RunsOfLines.{run_ok}
 use Rattle.replay_run.proofs.SkipLaws.{alike_first, both_go, both_among}
 use Rattle.replay_run.proofs.LineTexts.{new_with}
-use Rattle.replay_run.proofs.Rebalanced.{first_few, first_kept, turned_on_few, turned_on_kept, turned_on_run, stepped_kept, stepped_run, steps_run, rebalanced_kept, stepped_elsewhere, stepped_come, steps_come}
+use Rattle.replay_run.proofs.Rebalanced.{begun_unasked, first_few, first_kept, turned_on_few, turned_on_kept, turned_on_run, stepped_kept, stepped_run, steps_run, rebalanced_kept, stepped_elsewhere, stepped_come, steps_come}
 
 -- parts of the line
 module _ (o : Object Request Partition) (skips : List CallId) (r : Run) (p : ℕ) where
@@ -227,6 +227,30 @@ module _ (o : Object Request Partition) (r : Run) (p : ℕ) where
 
   pub ends_later : GivesUpSo r (late_flows o r p) → GivesUpSo r (λ skips. turned o skips r p)
   ends_later = gives_up_first r (late_flows o r p) (advances o p) late_goes (λ x. takes_goes o x p Advance refl)
+
+-- the parts of a step
+
+abbrev pub begins : Object Request Partition → Run → Step → Onward
+begins o r step skips = takes o skips r step.partition (event_begun step.kind step.from step.to)
+
+abbrev pub turns_of : Object Request Partition → Step → Run → Onward
+turns_of o step r skips = turned_on o skips r step.partition most_turns
+
+abbrev pub joins_of : Object Request Partition → Step → Run → Onward
+joins_of o step r skips = rejoined o skips r step.partition step.from step.kind
+
+abbrev pub turned_after : Object Request Partition → Run → Step → Onward
+turned_after o r step skips = turns_of o step (begins o r step skips) skips
+
+module _ (o : Object Request Partition) (r : Run) (step : Step) where
+  pub begins_goes : GoesBy r (begins o r step)
+  begins_goes = takes_goes o r step.partition (event_begun step.kind step.from step.to) (begun_unasked step.kind step.from step.to)
+
+  pub after_goes : GoesBy r (turned_after o r step)
+  after_goes = goes_then r (begins o r step) (turns_of o step) begins_goes (λ x. turned_on_goes o x step.partition most_turns)
+
+  pub ends_after : GivesUpSo r (turned_after o r step) → GivesUpSo r (λ skips. stepped o skips r step)
+  ends_after = gives_up_first r (turned_after o r step) (joins_of o step) after_goes (λ x. rejoined_goes o x step.partition step.from step.kind)
 
 -- the room for a turn's last event
 pub late_room : (o : Object Request Partition) (s t u : List CallId) (r : Run) (p : ℕ) → HasRoomAt r p 1003 → HasRoomAt (flowed o u (first_resends o t (takes o s r p (Resend r.members)) p) p most_deliveries) p 1
