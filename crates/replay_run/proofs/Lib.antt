@@ -63,6 +63,7 @@ pub mod GivingUp
 pub mod Flowing
 pub mod Serving
 pub mod Leaving
+pub mod LateCalls
 pub mod EventLines
 pub mod RebalanceLine
 pub mod LineCases

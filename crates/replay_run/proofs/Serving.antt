@@ -1,6 +1,7 @@
 -- Calls that wait have their turns, one after the other, and the grid follows.
-use Rattle.std.proofs.Common.{◌≡◌, ℕ, zero, suc, ◌+◌, ◌-◌, ◌≤◌, ◌<◌, ◌==◌, Bool, true, false, ◌&&◌, List, [], ◌∷◌, ◌++◌, length, Option, Some, None, refl, ap, sym, ◌∙◌, subst, append-nil, append_assoc, add-one, arith}
+use Rattle.std.proofs.Common.{◌≡◌, ℕ, zero, suc, ◌+◌, ◌-◌, ◌≤◌, ◌<◌, ◌==◌, Bool, true, false, ◌&&◌, List, [], ◌∷◌, ◌++◌, length, Option, Some, None, refl, ap, sym, ◌∙◌, subst, append-nil, append_assoc, add-one, ⊎_elim, arith}
 use Rattle.std.specs.Option.{option_map}
+use Rattle.std.proofs.lemmas.Bool.{cases_eq}
 use Rattle.std.specs.List.{find}
 use Rattle.grid_base.specs.Objects.{Object}
 use Rattle.grid_base.specs.declared.names.CallId.{CallId}
@@ -16,9 +17,9 @@ use Rattle.replay_run.specs.Runs.{Run, Waiter, world_at, is_connection, is_full,
 use Rattle.replay_run.specs.Endings.{new_arrivals, AreAmong}
 use Rattle.replay_run.specs.Printing.{new_messages}
 use Rattle.replay_run.specs.ScriptRuns.{IsRun}
-use Rattle.replay_run.specs.Tables.{Table, Opened, opened_at}
+use Rattle.replay_run.specs.Tables.{Table, Opened, opened_at, lines_answered, answered, with_answer}
 use Rattle.replay_run.specs.Grids.{FormOf, IsSettled, IsCounting}
-use Rattle.replay_run.specs.WorldCalls.{texts_of, Onward, GivesUpSo}
+use Rattle.replay_run.specs.WorldCalls.{texts_of, with_answers, Onward, GivesUpSo}
 use Rattle.replay_run.specs.WaiterCalls.{IsBetween, handled_count, SameCounts, HasServed, by_turns, by_leaving}
 use Rattle.replay_run.proofs.EventRuns.{fewer, run_turns, served_run}
 use Rattle.replay_run.proofs.GivingUp.{stays_on, up_as, gives_up_first, gives_up_then}
@@ -27,6 +28,8 @@ use Rattle.replay_run.proofs.LineTexts.{new_with, texts_more}
 use Rattle.replay_run.proofs.RunFacts.{ArrivalsOk}
 use Rattle.replay_run.proofs.RunsOfLines.{run_ok}
 use Rattle.replay_run.proofs.SkipLaws.{both_go, both_among}
+use Rattle.primary_hold.specs.declared.answer.CallAnswer.{CallAnswer}
+use Rattle.replay_run.proofs.TableChanges.{length-changed_at, opened_changed, opened_unchanged}
 use Rattle.replay_run.proofs.Trails.{find_some}
 use Rattle.replay_run.proofs.Turns.{so_often_keeps}
 
@@ -52,6 +55,24 @@ counting_by old new r next conn number counts same counting = record {
       (let x = as_many (opened_at old c) (opened_at new c) o (counts c) at in
       x.2 ∙ counting.others c x.0 k apart x.1 (sym (ap (find (is_connection c)) same) ∙ there));
 }
+
+-- An answer that is given out changes none.
+
+counts_answered : (t : Table) (id : CallId) (line : ℕ) → SameCounts t (with_answer t id line)
+counts_answered t id line c = ⊎_elim here (λ apart. ap (option_map handled_count) (opened_unchanged t id.conn c (answered id.number line) apart)) (cases_eq c id.conn)
+  where
+    kept : (x : Option Opened) → option_map handled_count (option_map (answered id.number line) x) ≡ option_map handled_count x
+    kept None = refl
+    kept (Some x) = ap Some (length-changed_at (option_map (lines_answered line)) x.calls id.number)
+
+    here : c ≡ id.conn → option_map handled_count (opened_at (with_answer t id line) c) ≡ option_map handled_count (opened_at t c)
+    here e =
+        subst (λ d. option_map handled_count (opened_at (with_answer t id line) d) ≡ option_map handled_count (opened_at t d)) (sym e)
+        (ap (option_map handled_count) (opened_changed t id.conn (answered id.number line)) ∙ kept (opened_at t id.conn))
+
+pub counts_answers : (line : ℕ) (answers : List CallAnswer) (t : Table) → SameCounts t (with_answers t line answers)
+counts_answers line [] t c = refl
+counts_answers line (answer ∷ answers) t c = counts_answers line answers (with_answer t answer.id line) c ∙ counts_answered t answer.id line c
 
 -- step by step
 

@@ -1,12 +1,15 @@
-use Rattle.std.proofs.Common.{◌∙◌, Err, ap, sym, arith}
+use Rattle.std.proofs.Common.{◌∙◌, [], Err, ap, sym, arith}
 use Rattle.partition_table.specs.Rows.{first_of}
 use Rattle.partition_protocol.specs.Events.{Resend}
 use Rattle.call_engine.specs.Objects.{partition_object}
 use Rattle.call_engine.specs.Env.{settings_of}
+use Rattle.replay_run.specs.Runs.{takes}
+use Rattle.replay_run.specs.Rebalancing.{first_resends}
 use Rattle.replay_run.specs.declared.run_end.RunEnd.TheVariants.{InFlight}
 use Rattle.replay_run.proofs.Asking.{handed_on, world_within, told_of}
-use Rattle.replay_run.proofs.Flowing.{gone_nowhere, gone_as}
-use Rattle.replay_run.proofs.RebalanceLine.{took, take_ends, none_resends, one_resends}
+use Rattle.replay_run.proofs.Flowing.{so_nowhere, so_as}
+use Rattle.replay_run.proofs.GivingUp.{up_as}
+use Rattle.replay_run.proofs.RebalanceLine.{none_resends, one_resends}
 use Rattle.replay_run.proofs.grid.Grid.resend_first.Goals as goal
 
 pub index-requires : goal.index-requires
