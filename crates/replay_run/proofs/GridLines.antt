@@ -25,8 +25,8 @@ use Rattle.replay_run.specs.Printing.{ok_text, nothing_text, close_text, outcome
 use Rattle.replay_run.specs.Skips.{AreOfLine}
 use Rattle.replay_run.specs.ScriptRuns.{line_counted, clock_was_set, connection_opened}
 use Rattle.replay_run.specs.Tables.{Table, most_connections, opened_at, with_opened, with_session}
-use Rattle.replay_run.specs.Grids.{FormOf, GridWorld, HasTable, HasWaiters, IsSettled, IsCounting, IsTally, AreListening, Holds, IsSmall, AreFew, IsBounded, AreReached, Stands, MayRun, HasRun, most_arriving}
-use Rattle.replay_run.specs.WorldCalls.{texts_of, member_if_open, open_member_in, Brings, HasHandledSome}
+use Rattle.replay_run.specs.Grids.{FormOf, GridWorld, HasTable, HasWaiters, IsSettled, IsCounting, IsTally, AreListening, Holds, IsSmall, AreFew, IsBounded, AreReached, Stands, MayRun, HasRun, IsGivenUp, most_arriving}
+use Rattle.replay_run.specs.WorldCalls.{GivesUpSo, texts_of, member_if_open, open_member_in, Brings, HasHandledSome}
 use Rattle.replay_run.proofs.Bounds.{stays_small, adds_few, clock_few}
 use Rattle.replay_run.proofs.LineBounds.{line_bounded}
 use Rattle.replay_run.proofs.Items.{items_room}
@@ -278,6 +278,10 @@ module _ {V : Type 0} {T : V → Type 0} {form : FormOf V T} {settings : Setting
             ∙ append_assoc written (ok_text (r.lines + 1)) (texts_of ms)
             ∙ ap (λ xs. written ++ xs) (sym its_text);
       }
+
+-- The run is given up at its turns.
+pub clock_given_up : (settings : Settings) (r : Run) (member moment : ℕ) → GivesUpSo (clock_set r member moment) (λ skips. served_in (partition_object settings) skips (clock_set r member moment) member (numbers_below partitions)) → IsGivenUp settings r (Clock member moment)
+clock_given_up settings r member moment up = record { skips = up.skips; of_line = up.own; full = up.full }
 
 -- Who listens and who waits is no matter of what the grid holds else.
 pub else_with : {V : Type 0} {T : V → Type 0} {form : FormOf V T} {settings : Settings} (grid : Grid V T) (listeners : Vec Listeners Global) (waiters : List (List ListedWaiter)) (r : Run) → HoldsElse form settings grid r → HoldsElse form settings (record grid { listeners = listeners; waiters = waiters }) r
