@@ -26,11 +26,12 @@ use Rattle.call_engine.specs.Objects.{partition_object}
 use Rattle.object_store.specs.Partitions.{Partition}
 use Rattle.replay_run.specs.declared.grid.Grid.{Grid}
 use Rattle.replay_run.specs.Runs.{Run, Appended, Reopened, partitions, messages_on, events_at, world_at, listening, message_of, version_known, adopted_since, messages_at, taker_of, given_to, given_out, reopening_by, occurred, meets_full}
+use Rattle.replay_run.specs.Printing.{outcome_at}
 use Rattle.replay_run.specs.ScriptRuns.{event_occurred}
 use Rattle.replay_run.specs.Shelves.{grid_meaning}
 use Rattle.replay_run.specs.Tables.{Table}
-use Rattle.replay_run.specs.Grids.{FormOf, GridWorld, StandsForEvents, IsWorld, HasTable, IsSettled, IsTally, AreListening, HasWorld, Holds}
-use Rattle.replay_run.specs.WorldCalls.{texts_of, with_answers, going_out, messages_in, reaching_of, HasRoomAt, IsAmid, HasTaken}
+use Rattle.replay_run.specs.Grids.{FormOf, GridWorld, StandsForEvents, IsWorld, HasTable, HasWaiters, IsSettled, IsTally, AreListening, HasWorld, Holds}
+use Rattle.replay_run.specs.WorldCalls.{texts_of, with_answers, going_out, messages_in, reaching_of, HasRoomAt, IsAmid, HasGoneOn}
 use Rattle.replay_run.proofs.Arriving.{arrivals-append, events_with_one, maybe_one}
 use Rattle.replay_run.proofs.Asking.{world_there, world_is, stands_by}
 use Rattle.replay_run.proofs.GivingOut.{HasGivenOut}
@@ -143,6 +144,12 @@ abbrev pub said_at : Settings → Run → ℕ → Event Request → GridWorld �
 said_at settings r p event called None = []
 said_at settings r p event called (Some member) = messages_in (grid_meaning settings) called (events_at p r.events ++ event ∷ []) (reaching_of settings r p member) r (listening r None member)
 
+-- The event has happened, and what it appended was printed; those whom it stirs are still to have their turns.
+pub record HasOccurred {V : Type 0} {T : V → Type 0} (form : FormOf V T) (settings : Settings) (new : Grid V T) (r : Run) (p : ℕ) (event : Event Request) (happened : Happened) (written text : List ℕ) : Type 0 where
+  pub goes : meets_full (world_at (partition_object settings) r p) event ≡ false
+  pub on : HasGoneOn form settings new r (occurred (partition_object settings) r p event) written text
+  pub outcome : happened_of happened ≡ outcome_at (partition_object settings) r p event
+
 -- The table, the reopenings and the worlds after an event.
 pub record IsAfterEvent {V : Type 0} {T : V → Type 0} (grid new : Grid V T) (partition : ℕ) (world : GridWorld) (answers : List CallAnswer) (more : List Reopened) : Type 0 where
   pub env : new.env ≡ grid.env
@@ -151,6 +158,7 @@ pub record IsAfterEvent {V : Type 0} {T : V → Type 0} (grid new : Grid V T) (p
   pub links : new.links.items ≡ grid.links.items
   pub moments : new.moments.items ≡ grid.moments.items
   pub table : new.connections ≡ with_answers grid.connections grid.lines answers
+  pub waiters : new.waiters ≡ grid.waiters
   pub tally : new.tally ≡ grid.tally
   pub listeners : new.listeners.items ≡ grid.listeners.items
   pub reopened : new.reopened.items ≡ grid.reopened.items ++ more
@@ -291,7 +299,7 @@ module _ {V : Type 0} {T : V → Type 0} {form : FormOf V T} {settings : Setting
   listening_now : AreListening new.listeners.items next None
   listening_now = subst (λ ls. AreListening ls next None) (sym after.listeners) (record { size = amid.listeners.size; each = amid.listeners.each })
 
-  pub event_taken : meets_full before event ≡ false → (written text : List ℕ) → text ≡ written ++ texts_of (said taker) → HasTaken form settings new r p event happened written text
+  pub event_taken : meets_full before event ≡ false → (written text : List ℕ) → text ≡ written ++ texts_of (said taker) → HasOccurred form settings new r p event happened written text
   event_taken goes written text wrote = record {
     goes = goes;
     on = record {
@@ -334,6 +342,7 @@ with_table grid p world given table worlds answered placed = record {
   links = refl;
   moments = refl;
   table = answered;
+  waiters = refl;
   tally = refl;
   listeners = refl;
   reopened = sym (append-nil grid.reopened.items);
@@ -396,7 +405,7 @@ module _ {V : Type 0} {T : V → Type 0} {form : FormOf V T} {settings : Setting
       cc
 
   pub has_taken : (more : List Reopened) → new.reopened.items ≡ mid.reopened.items ++ more → record new { reopened = mid.reopened } ≡ mid → more ≡ reopening_by p grid.lines event (happened_of happened)
-      → HasTaken form settings new r p event happened written text
+      → HasOccurred form settings new r p event happened written text
   has_taken more reopened rest is =
       event_taken grid r amid p low event quiet taker its_taker new called gave.world happened
       (subst (λ w. HasStepped settings w called (events_at p r.events) event happened) same_world did) gave.out

@@ -140,7 +140,7 @@ module _ (o : Object Request Partition) (skips : List CallId) (own : Option ℕ)
   often_more r n = often_parts r n (suc zero) (n + 1) (omega arith)
 
   -- where nobody has a turn
-  often_none : (r : Run) (n : ℕ) → next_in_turn o r p member ≡ None → served_so_often o skips own p member n r ≡ r
+  pub often_none : (r : Run) (n : ℕ) → next_in_turn o r p member ≡ None → served_so_often o skips own p member n r ≡ r
   often_none r zero none = refl
   often_none r (suc n) none = ap (λ next. served_so_often o skips own p member n (turn_of o skips r own next)) none ∙ often_none r n none
 
@@ -155,7 +155,11 @@ module _ (o : Object Request Partition) (skips : List CallId) (own : Option ℕ)
 abbrev one_waits_less : Run → Run → Type 0
 one_waits_less r next = length next.waiters + 1 ≤ length r.waiters
 
-second_holds : (a b : Bool) → a && b ≡ true → b ≡ true
+pub first_holds : (a b : Bool) → a && b ≡ true → a ≡ true
+first_holds true b e = refl
+first_holds false b e = e
+
+pub second_holds : (a b : Bool) → a && b ≡ true → b ≡ true
 second_holds true b e = e
 second_holds false b e = absurd cc
 
