@@ -25,7 +25,7 @@ use Rattle.replay_run.specs.AfterLines.{after_event, after_line}
 use Rattle.replay_run.specs.ScriptRuns.{IsRun, calls_in}
 use Rattle.replay_run.specs.Rebalancing.{most_line_events, rebalanced}
 use Rattle.replay_run.specs.Grids.{IsSmall, AreFew, most_arriving}
-use Rattle.replay_run.specs.WorldCalls.{HasRoom, HasCallRoom}
+use Rattle.replay_run.specs.WorldCalls.{HasRoom}
 use Rattle.replay_run.proofs.Counting.{count}
 use Rattle.replay_run.proofs.Hearing.{header, messages_sized}
 use Rattle.replay_run.proofs.Items.{items_room}
@@ -222,13 +222,6 @@ module _ {o : Object Request Partition} (r : Run) (k : Connection) (bytes : List
       let fewer = messages_fewer (took_bytes r k bytes) in
       let all = (items_room k bytes).1 in
       omega (arith, small, lines, size, its, fewer, all, bytes_taken_more, messages_taken_more)
-
--- and for the calls that wait, as a line is counted
-pub call_room : {o : Object Request Partition} (r : Run) → IsRun o r → IsSmall r → r.lines + 1 ≤ most_lines → HasCallRoom (next_line r)
-call_room r is small lines =
-    let come = arrivals_fewer r is in
-    let fewer = messages_fewer r in
-    omega (arith, small, lines, come, fewer)
 
 pub opened_no_more : (r : Run) (c member : ℕ) → bytes_of (opened r c member) ≡ bytes_of r
 opened_no_more r c member =

@@ -91,8 +91,12 @@ unasked_within (BeginHandover from to) quiet = tt
 unasked_within Advance quiet = tt
 unasked_within Reopen quiet = tt
 
+-- The partition may have one event more: four bytes count them.
+abbrev pub HasEventRoom : Run → ℕ → Type 0
+HasEventRoom r p = length (events_at p r.events) + 2 < 2 ^ 32
+
 -- It may come next in its partition's world.
-pub event_comes : (settings : Settings) (world : GridWorld) (r : Run) (p : ℕ) (event : Event Request) → asked_by event ≡ [] → HasRoomAt r p 1 → StandsForEvents settings world (events_at p r.events)
+pub event_comes : (settings : Settings) (world : GridWorld) (r : Run) (p : ℕ) (event : Event Request) → asked_by event ≡ [] → HasEventRoom r p → StandsForEvents settings world (events_at p r.events)
     → Comes (grid_meaning settings) KeepsAll RequestFits world (events_at p r.events) event
 event_comes settings world r p event quiet room stands = record {
   stands = stands;
@@ -317,14 +321,17 @@ module _ {V : Type 0} {T : V → Type 0} {form : FormOf V T} {settings : Setting
   is_its : IsWorld settings world r p
   is_its = world_is grid r h p i low same world read
 
+  pub event_room : HasRoomAt r p 1 → HasEventRoom r p
+  event_room room = omega (arith, room)
+
   -- It has as much room in another run that it stands for.
-  pub room_in : {form2 : FormOf V T} {settings2 : Settings} (r2 : Run) (h2 : Holds form2 settings2 grid r2) (most : ℕ) → HasRoomAt r p most → HasRoomAt r2 p most
-  room_in r2 h2 most room =
+  pub room_in : {form2 : FormOf V T} {settings2 : Settings} (r2 : Run) (h2 : Holds form2 settings2 grid r2) → HasEventRoom r p → HasEventRoom r2 p
+  room_in r2 h2 room =
       let here = is_its.stands.steps in
       let there = (world_is grid r2 h2 p i low same world read).stands.steps in
       omega (arith, room, here, there)
 
-  pub comes_in : (event : Event Request) → asked_by event ≡ [] → HasRoomAt r p 1 → Comes (grid_meaning (settings_of form grid.env)) KeepsAll RequestFits world (events_at p r.events) event
+  pub comes_in : (event : Event Request) → asked_by event ≡ [] → HasEventRoom r p → Comes (grid_meaning (settings_of form grid.env)) KeepsAll RequestFits world (events_at p r.events) event
   comes_in event quiet room = event_comes (settings_of form grid.env) world r p event quiet room (stands_by form grid.env settings h.goes_by world (events_at p r.events) is_its.stands)
 
 -- A step in an environment that makes these settings

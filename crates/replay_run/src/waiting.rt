@@ -11,7 +11,7 @@ ghost use Rattle.replay_run.specs.Runs.{Run, Waiter as RunWaiter, partitions, st
 ghost use Rattle.replay_run.specs.ScriptRuns.{IsRun, IsNext};
 ghost use Rattle.replay_run.specs.Rebalancing.{most_line_events};
 ghost use Rattle.replay_run.specs.Grids.{boxed, AreListening, AreFew, Holds, IsCounting};
-ghost use Rattle.replay_run.specs.WorldCalls.{HasCallRoom, GivesUpSo};
+ghost use Rattle.replay_run.specs.WorldCalls.{HasCallRoom, GivesUpSo, HasRoomAt};
 ghost use Rattle.replay_run.specs.WaiterCalls.{IsBetween, SameCounts, HasServed, HoldsBut, HasTakenOut, IsTurnOf, by_turns, by_leaving, MayLeave, HasHandledCall, by_waiting};
 ghost use Rattle.wait_lists.specs.declared.turn.Turn.TheVariants.{Call as Called};
 ghost use Rattle.partition_protocol.specs.Service.{numbers_below};
@@ -85,7 +85,7 @@ impl Grid {
     ) -> Result<(), RunEnd>
         requires member { at.member < self.old.members }
         requires partition { at.partition < partitions }
-        requires stands { (settings : Settings) × (r : Run) × IsBetween (boxed form) settings self.old r own × HasCallRoom r × AreFew r }
+        requires stands { (settings : Settings) × (r : Run) × IsBetween (boxed form) settings self.old r own × HasRoomAt r at.partition 0 }
         ensures ok { (settings : Settings) (r : Run) → IsBetween (boxed form) settings self.old r own
             → OnOk result (HasServed (boxed form) settings self.old self.new r own (by_turns settings r own at.partition at.member) out.old.items out.new.items) }
         ensures full { (settings : Settings) (r : Run) → IsBetween (boxed form) settings self.old r own
@@ -105,7 +105,7 @@ impl Grid {
         out: &mut Vec<u8>,
     ) -> Result<(), RunEnd>
         requires member { member < self.old.members }
-        requires stands { (settings : Settings) × (r : Run) × IsBetween (boxed form) settings self.old r None × HasCallRoom r × AreFew r }
+        requires stands { (settings : Settings) × (r : Run) × IsBetween (boxed form) settings self.old r None × ((p : ℕ) → HasRoomAt r p 0) }
         ensures ok { (settings : Settings) (r : Run) → IsBetween (boxed form) settings self.old r None
             → OnOk result (HasServed (boxed form) settings self.old self.new r None (λ skips. served_in (partition_object settings) skips r member (numbers_below partitions)) out.old.items out.new.items) }
         ensures full { (settings : Settings) (r : Run) → IsBetween (boxed form) settings self.old r None
@@ -143,7 +143,7 @@ impl Grid {
         turn: Turn,
         out: &mut Vec<u8>,
     ) -> Result<(), RunEnd>
-        requires stands { (settings : Settings) × (r : Run) × (w : RunWaiter) × MayLeave (boxed form) settings self.old r at own turn w × HasCallRoom r × AreFew r }
+        requires stands { (settings : Settings) × (r : Run) × (w : RunWaiter) × MayLeave (boxed form) settings self.old r at own turn w × HasRoomAt r at.partition 0 }
         ensures ok { (settings : Settings) (r : Run) (w : RunWaiter) → MayLeave (boxed form) settings self.old r at own turn w
             → OnOk result (HasServed (boxed form) settings self.old self.new r own (by_leaving settings r own w) out.old.items out.new.items) }
         ensures full { (settings : Settings) (r : Run) (w : RunWaiter) → MayLeave (boxed form) settings self.old r at own turn w
@@ -186,7 +186,7 @@ impl Grid {
         request: Request,
         out: &mut Vec<u8>,
     ) -> Result<(), RunEnd>
-        requires stands { (settings : Settings) × (r : Run) × (w : RunWaiter) × MayLeave (boxed form) settings self.old r at own (Called request) w × HasCallRoom r × AreFew r }
+        requires stands { (settings : Settings) × (r : Run) × (w : RunWaiter) × MayLeave (boxed form) settings self.old r at own (Called request) w × HasRoomAt r at.partition 0 }
         ensures ok { (settings : Settings) (r : Run) (w : RunWaiter) → MayLeave (boxed form) settings self.old r at own (Called request) w
             → OnOk result (HasServed (boxed form) settings self.old self.new r own (by_leaving settings r own w) out.old.items out.new.items) }
         ensures full { (settings : Settings) (r : Run) (w : RunWaiter) → MayLeave (boxed form) settings self.old r at own (Called request) w

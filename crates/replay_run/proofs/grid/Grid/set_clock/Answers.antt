@@ -4,7 +4,7 @@ use Rattle.script_lang.specs.declared.line.Line.TheVariants.{Clock}
 use Rattle.replay_run.specs.declared.grid.Grid.{Grid}
 use Rattle.replay_run.specs.Runs.{clock_set}
 use Rattle.replay_run.proofs.Asking.{moment_within}
-use Rattle.replay_run.proofs.Bounds.{call_room}
+use Rattle.replay_run.proofs.EventLines.{stands_room}
 use Rattle.replay_run.proofs.GridLines.{HasClock, next_number, few_lines, clocked_between, clock_line, clock_given_up}
 use Rattle.replay_run.proofs.grid.Grid.set_clock.Goals as goal
 
@@ -45,8 +45,7 @@ make_turns_of-requires-clause-stands g c =
     let line = Clock c.args.member c.args.moment in
     (may.settings, clock_set r c.args.member c.args.moment,
       clocked_between grid c.count.new.self r c.args.number c.args.member c.args.moment s may.next may.within (has_clock g c),
-      call_room r s.run s.small (few_lines grid c.args.number line may r s),
-      λ p. (let few = s.few p in omega (arith, few)))
+      λ p. stands_room grid r s (few_lines grid c.args.number line may r s) p 0 (omega arith))
 
 pub returns-clause-ok : goal.returns-clause-ok
 returns-clause-ok g c = λ settings r s.
