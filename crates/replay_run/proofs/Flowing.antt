@@ -1,6 +1,5 @@
 -- A run that goes on by several steps, each by skips of its own, and the grid that follows it.
-use Rattle.std.proofs.Common.{◌≡◌, ℕ, zero, suc, ◌+◌, ◌-◌, ◌≤◌, ◌<◌, true, false, cond, List, [], ◌∷◌, ◌++◌, length, drop, count_by, Option, Some, None, refl, ap, sym, ◌∙◌, subst, inl, inr, append-nil, append_assoc, add-one, arith}
-use Rattle.std.proofs.lemmas.Bool.{true≢false}
+use Rattle.std.proofs.Common.{◌≡◌, ℕ, zero, suc, ◌+◌, ◌-◌, ◌≤◌, ◌<◌, true≢false, true, false, cond, List, [], ◌∷◌, ◌++◌, length, drop, count_by, Option, Some, None, refl, ap, sym, ◌∙◌, subst, inl, inr, append-nil, append_assoc, add-one, arith}
 use Rattle.std.proofs.lemmas.List.Sums.{sum_by-append, sum_by-cons}
 use Rattle.std.proofs.Math.Seq.{drop-append_seam}
 use Rattle.grid_base.specs.Objects.{Object}
@@ -141,17 +140,17 @@ module _ (o : Object Request Partition) (skips : List CallId) where
   flowed_parts : (r : Run) (p a b all : ℕ) → a + b ≡ all → flowed o skips r p all ≡ flowed o skips (flowed o skips r p a) p b
   flowed_parts r p zero b all e = let same : all ≡ b = omega (arith, e) in ap (flowed o skips r p) same
   flowed_parts r p (suc a) b zero e = absurd (omega (arith, e))
-  flowed_parts r p (suc a) b (suc all) e = go (next_link (world_at o r p)) refl
+  flowed_parts r p (suc a) b (suc all) e = go (next_link (world_at o r p)) refl (λ x. flowed_parts x p a b all left)
     where
       left : a + b ≡ all
       left = omega (arith, e)
 
-      go : (next : Option Link) → next_link (world_at o r p) ≡ next → flowed o skips r p (suc all) ≡ flowed o skips (flowed o skips r p (suc a)) p b
-      go None none =
+      go : (next : Option Link) → next_link (world_at o r p) ≡ next → ((x : Run) → flowed o skips x p all ≡ flowed o skips (flowed o skips x p a) p b) → flowed o skips r p (suc all) ≡ flowed o skips (flowed o skips r p (suc a)) p b
+      go None none parts =
           flowed_none o skips r p (suc all) none
           ∙ sym (ap (λ (x : Run). flowed o skips x p b) (flowed_none o skips r p (suc a) none) ∙ flowed_none o skips r p b none)
-      go (Some l) some =
-          flowed_some o skips r p all l some ∙ flowed_parts (takes o skips r p (delivery_on l)) p a b all left
+      go (Some l) some parts =
+          flowed_some o skips r p all l some ∙ parts (takes o skips r p (delivery_on l))
           ∙ sym (ap (λ (x : Run). flowed o skips x p b) (flowed_some o skips r p a l some))
 
 -- Of a flow of one partition so many messages were delivered.

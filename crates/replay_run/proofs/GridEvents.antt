@@ -1,5 +1,5 @@
 -- The grid after an event that is no call: its partition's world ran it and gave out what it released.
-use Rattle.std.proofs.Common.{◌≡◌, ◌≢◌, ℕ, ◌==◌, ◌<◌, true, false, List, [], ◌∷◌, ◌++◌, length, map, Option, Some, None, slice_set, get_or, refl, ap, sym, ◌∙◌, subst, ⊎_elim, append-nil, arith, Vec, Global}
+use Rattle.std.proofs.Common.{◌≡◌, ◌≢◌, ℕ, ◌==◌, ◌<◌, ◌+◌, ◌^◌, true, false, List, [], ◌∷◌, ◌++◌, length, map, Option, Some, None, slice_set, get_or, refl, ap, sym, ◌∙◌, subst, ⊎_elim, append-nil, arith, Vec, Global}
 use Rattle.std.specs.Option.{option_map}
 use Rattle.std.proofs.lemmas.Bool.{cases_eq, eq-eqb, ne_eqb}
 use Rattle.grid_base.specs.Objects.{Object}

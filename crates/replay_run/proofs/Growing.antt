@@ -1,6 +1,6 @@
 -- What arrived and what was appended stays, at each step of a run, and a run that is given up stays so. And a step asks of the skips only which of the calls are among them that it makes.
 use Rattle.std.specs.List.{find, flat_map}
-use Rattle.std.proofs.Common.{◌≡◌, ◌≢◌, true≢false, ℤ, ℕ, zero, suc, Bool, true, false, cond, List, [], ◌∷◌, ◌++◌, length, Option, Some, None, pos, refl, ap, sym, ◌∙◌, subst, ⊎_elim, inl, inr, append-nil}
+use Rattle.std.proofs.Common.{◌≡◌, ◌≢◌, true≢false, ℤ, ℕ, zero, suc, Bool, true, false, cond, List, [], ◌∷◌, ◌++◌, length, Option, Some, None, pos, refl, ap, sym, ◌∙◌, subst, ⊎_elim, inl, inr, append-nil, append_assoc}
 use Rattle.grid_base.specs.Errors.{want_of_memory}
 use Rattle.grid_base.specs.Objects.{Object}
 use Rattle.grid_base.specs.declared.names.CallId.{CallId}
@@ -13,7 +13,6 @@ use Rattle.partition_protocol.specs.Events as event
 use Rattle.partition_protocol.specs.Arrivals.{asked_by}
 use Rattle.partition_protocol.specs.Sequences.{IsFrontOf}
 use Rattle.partition_protocol.specs.Service.{numbers_below}
-use Rattle.partition_protocol.proofs.Extends.{same, front_trans}
 use Rattle.partition_protocol.proofs.Lists.{In, in_left, in_right, in_cases, in_contains, contains_in}
 use Rattle.partition_protocol.proofs.RowFacts.{false_or_not}
 use Rattle.partition_world.specs.declared.Link.{Link}
@@ -42,14 +41,18 @@ pub record Grows (r next : Run) : Type 0 where
   pub appended : IsFrontOf r.appended next.appended
   pub full : r.full ≡ true → next.full ≡ true
 
-pub grows_refl : (r : Run) → Grows r r
-grows_refl r = record { events = same r.events; arrivals = same r.arrivals; appended = same r.appended; full = λ e. e }
+-- a list as it was, and what it grew by twice
+abbrev no_more : {X : Type 0} (xs : List X) → IsFrontOf xs xs
+no_more xs = ([], append-nil xs)
 
-pub grows_trans : (r mid next : Run) → Grows r mid → Grows mid next → Grows r next
+abbrev more_twice : {X : Type 0} (xs ys zs : List X) → IsFrontOf xs ys → IsFrontOf ys zs → IsFrontOf xs zs
+more_twice xs ys zs a b = (a.0 ++ b.0, sym (append_assoc xs a.0 b.0) ∙ ap (λ t. t ++ b.0) a.1 ∙ b.1)
+
+abbrev pub grows_trans : (r mid next : Run) → Grows r mid → Grows mid next → Grows r next
 grows_trans r mid next a b = record {
-  events = front_trans r.events mid.events next.events a.events b.events;
-  arrivals = front_trans r.arrivals mid.arrivals next.arrivals a.arrivals b.arrivals;
-  appended = front_trans r.appended mid.appended next.appended a.appended b.appended;
+  events = more_twice r.events mid.events next.events a.events b.events;
+  arrivals = more_twice r.arrivals mid.arrivals next.arrivals a.arrivals b.arrivals;
+  appended = more_twice r.appended mid.appended next.appended a.appended b.appended;
   full = λ e. b.full (a.full e);
 }
 
@@ -105,7 +108,7 @@ goes_quietly r next events arrivals appended full = record {
 }
 
 pub goes_nowhere : (r : Run) → GoesBy r (λ s. r)
-goes_nowhere r = goes_on r r (goes_quietly r r refl refl (same r.appended) (λ e. e))
+goes_nowhere r = goes_on r r (goes_quietly r r refl refl (no_more r.appended) (λ e. e))
 
 -- one step, and then another from where that leads
 pub goes_then : (r : Run) (first : List CallId → Run) (then : Run → List CallId → Run) → GoesBy r first → ((x : Run) → GoesBy x (then x)) → GoesBy r (λ s. then (first s) s)
@@ -243,7 +246,7 @@ module _ (o : Object Request Partition) where
       its a (inr i) plain = i
 
   made_goes : (r : Run) (own : Option ℕ) (w : Waiter) → GoesBy r (λ s. asks o s (without r w) own (ending r w))
-  made_goes r own w = goes_from r (without r w) (λ s. asks o s (without r w) own (ending r w)) (goes_quietly r (without r w) refl refl (same r.appended) (λ e. e)) (asks_goes (without r w) own (ending r w))
+  made_goes r own w = goes_from r (without r w) (λ s. asks o s (without r w) own (ending r w)) (goes_quietly r (without r w) refl refl (no_more r.appended) (λ e. e)) (asks_goes (without r w) own (ending r w))
 
   leaving_goes : (r : Run) (own : Option ℕ) (w : Waiter) (fate : Fate) → GoesBy r (λ s. leaves_so o s r own w fate)
   leaving_goes r own w Stays = goes_nowhere r
@@ -278,7 +281,7 @@ module _ (o : Object Request Partition) where
   pub begins_goes : (r : Run) (member : ℕ) (request : Request) (timeout : ℤ) → GoesBy r (λ s. begins_to_wait o s r member request timeout)
   begins_goes r member request timeout =
       let mid = waits r (waiter_at r member request timeout) in
-      goes_from r mid (λ s. begins_to_wait o s r member request timeout) (goes_quietly r mid refl refl (same r.appended) (λ e. e)) (served_goes mid (Some request.id.conn) request.partition member)
+      goes_from r mid (λ s. begins_to_wait o s r member request timeout) (goes_quietly r mid refl refl (no_more r.appended) (λ e. e)) (served_goes mid (Some request.id.conn) request.partition member)
 
   pub handled_goes : (r : Run) (k : Connection) (item : Item) → GoesBy r (λ s. handled o s r k item)
   handled_goes r k (Reply bytes) = goes_on r (told r k.conn bytes) (goes_quietly r (told r k.conn bytes) refl refl (own_answer r.lines k.conn bytes ∷ [], refl) (λ e. e))
@@ -300,7 +303,7 @@ module _ (o : Object Request Partition) where
 
   occurs_quietly : (r : Run) (p : ℕ) (event : Event Request) → asked_by event ≡ [] → GoesQuietly r (occurred o r p event)
   occurs_quietly r p event quiet = record {
-    grows = record { events = (one ∷ [], refl); arrivals = same r.arrivals; appended = (given_out o r p event, refl); full = λ e. e };
+    grows = record { events = (one ∷ [], refl); arrivals = no_more r.arrivals; appended = (given_out o r p event, refl); full = λ e. e };
     waited = λ a i. absurd i;
     uncalled = λ e i. its e i;
   }
@@ -316,7 +319,7 @@ module _ (o : Object Request Partition) where
   takes_goes r p event quiet =
       let next = occurred o r p event in
       goes_if r (meets_full (world_at o r p) event) (λ s. given_up r) (λ s. served_at o s next p (stirred_by event))
-      (goes_on r (given_up r) (goes_quietly r (given_up r) refl refl (same r.appended) (λ e. refl)))
+      (goes_on r (given_up r) (goes_quietly r (given_up r) refl refl (no_more r.appended) (λ e. refl)))
       (goes_from r next (λ s. served_at o s next p (stirred_by event)) (occurs_quietly r p event quiet) (served_at_goes next p (stirred_by event)))
 
   pub takes_in_goes : (r : Run) (event : Event Request) (ps : List ℕ) → asked_by event ≡ [] → GoesBy r (λ s. takes_in o s r event ps)
@@ -325,11 +328,11 @@ module _ (o : Object Request Partition) where
 
   pub flowed_goes : (r : Run) (p most : ℕ) → GoesBy r (λ s. flowed o s r p most)
   flowed_goes r p zero = goes_nowhere r
-  flowed_goes r p (suc most) = go (next_link (world_at o r p))
+  flowed_goes r p (suc most) = go (next_link (world_at o r p)) (λ x. flowed_goes x p most)
     where
-      go : (next : Option Link) → GoesBy r (λ s. flowed_on o s r p most next)
-      go None = goes_nowhere r
-      go (Some l) = goes_then r (λ s. takes o s r p (delivery_on l)) (λ x s. flowed o s x p most) (takes_goes r p (delivery_on l) refl) (λ x. flowed_goes x p most)
+      go : (next : Option Link) → ((x : Run) → GoesBy x (λ s. flowed o s x p most)) → GoesBy r (λ s. flowed_on o s r p most next)
+      go None on = goes_nowhere r
+      go (Some l) on = goes_then r (λ s. takes o s r p (delivery_on l)) (λ x s. flowed o s x p most) (takes_goes r p (delivery_on l) refl) on
 
   pub flowed_in_goes : (r : Run) (most : ℕ) (ps : List ℕ) → GoesBy r (λ s. flowed_in o s r most ps)
   flowed_in_goes r most [] = goes_nowhere r

@@ -95,14 +95,11 @@ stays c w = not (is_waiting_on c w)
 -- those of another connection stay, whoever of this one leaves
 other_stays : (c : ℕ) (w : Waiter) → is_waiting_on c w ≡ true → (ws : List Waiter) → filter (stays c) (filter (is_other w) ws) ≡ filter (stays c) ws
 other_stays c w on [] = refl
-other_stays c w on (v ∷ vs) = go (is_other w v) refl
+other_stays c w on (v ∷ vs) = go (is_other w v) refl (other_stays c w on vs)
   where
-    rest : filter (stays c) (filter (is_other w) vs) ≡ filter (stays c) vs
-    rest = other_stays c w on vs
-
-    go : (b : Bool) → is_other w v ≡ b → filter (stays c) (cond b (v ∷ filter (is_other w) vs) (filter (is_other w) vs)) ≡ filter (stays c) (v ∷ vs)
-    go true e = ap (λ xs. cond (stays c v) (v ∷ xs) xs) rest
-    go false e =
+    go : (b : Bool) → is_other w v ≡ b → filter (stays c) (filter (is_other w) vs) ≡ filter (stays c) vs → filter (stays c) (cond b (v ∷ filter (is_other w) vs) (filter (is_other w) vs)) ≡ filter (stays c) (v ∷ vs)
+    go true e rest = ap (λ xs. cond (stays c v) (v ∷ xs) xs) rest
+    go false e rest =
         let named : is_waiter w.request.id v ≡ true = it (is_waiter w.request.id v) e in
         let same = same_call v.request.id w.request.id named in
         let too : stays c v ≡ false = ap (λ (id : CallId). not (id.conn == c)) same ∙ ap not on in
@@ -143,30 +140,30 @@ fewer_on c w on ws i =
 -- where nobody waits on it all stay
 all_stay : (c : ℕ) (ws : List Waiter) → length (filter (is_waiting_on c) ws) ≤ 0 → filter (stays c) ws ≡ ws
 all_stay c [] none = refl
-all_stay c (v ∷ vs) none = go (is_waiting_on c v) refl none
+all_stay c (v ∷ vs) none = go (is_waiting_on c v) refl none (all_stay c vs)
   where
-    go : (b : Bool) → is_waiting_on c v ≡ b → length (cond b (v ∷ filter (is_waiting_on c) vs) (filter (is_waiting_on c) vs)) ≤ 0 → cond (not (is_waiting_on c v)) (v ∷ filter (stays c) vs) (filter (stays c) vs) ≡ v ∷ vs
-    go true e l = absurd (omega (arith, l))
-    go false e l = ap (λ b. cond (not b) (v ∷ filter (stays c) vs) (filter (stays c) vs)) e ∙ ap (λ xs. v ∷ xs) (all_stay c vs l)
+    go : (b : Bool) → is_waiting_on c v ≡ b → length (cond b (v ∷ filter (is_waiting_on c) vs) (filter (is_waiting_on c) vs)) ≤ 0 → (length (filter (is_waiting_on c) vs) ≤ 0 → filter (stays c) vs ≡ vs) → cond (not (is_waiting_on c v)) (v ∷ filter (stays c) vs) (filter (stays c) vs) ≡ v ∷ vs
+    go true e l rest = absurd (omega (arith, l))
+    go false e l rest = ap (λ b. cond (not b) (v ∷ filter (stays c) vs) (filter (stays c) vs)) e ∙ ap (λ xs. v ∷ xs) (rest l)
 
 nobody_on : (c : ℕ) (ws : List Waiter) → find (is_waiting_on c) ws ≡ None → length (filter (is_waiting_on c) ws) ≤ 0
 nobody_on c [] none = omega arith
-nobody_on c (v ∷ vs) none = go (is_waiting_on c v) refl none
+nobody_on c (v ∷ vs) none = go (is_waiting_on c v) refl none (nobody_on c vs)
   where
-    go : (b : Bool) → is_waiting_on c v ≡ b → cond b (Some v) (find (is_waiting_on c) vs) ≡ None → length (cond b (v ∷ filter (is_waiting_on c) vs) (filter (is_waiting_on c) vs)) ≤ 0
-    go true e n = absurd cc
-    go false e n = nobody_on c vs n
+    go : (b : Bool) → is_waiting_on c v ≡ b → cond b (Some v) (find (is_waiting_on c) vs) ≡ None → (find (is_waiting_on c) vs ≡ None → length (filter (is_waiting_on c) vs) ≤ 0) → length (cond b (v ∷ filter (is_waiting_on c) vs) (filter (is_waiting_on c) vs)) ≤ 0
+    go true e n rest = absurd cc
+    go false e n rest = rest n
 
 left_waiters : (c n : ℕ) (r : Run) → length (filter (is_waiting_on c) r.waiters) ≤ n → (left_so_often c n r).waiters ≡ filter (stays c) r.waiters
 left_waiters c zero r few = sym (all_stay c r.waiters few)
-left_waiters c (suc n) r few = go (find (is_waiting_on c) r.waiters) refl
+left_waiters c (suc n) r few = go (find (is_waiting_on c) r.waiters) refl (left_waiters c n)
   where
-    go : (next : Option Waiter) → find (is_waiting_on c) r.waiters ≡ next → (left_so_often c n (left_by r next)).waiters ≡ filter (stays c) r.waiters
-    go None none = let no_more = nobody_on c r.waiters none in left_waiters c n r (omega (arith, no_more))
-    go (Some w) some =
+    go : (next : Option Waiter) → find (is_waiting_on c) r.waiters ≡ next → ((x : Run) → length (filter (is_waiting_on c) x.waiters) ≤ n → (left_so_often c n x).waiters ≡ filter (stays c) x.waiters) → (left_so_often c n (left_by r next)).waiters ≡ filter (stays c) r.waiters
+    go None none rest = let no_more = nobody_on c r.waiters none in rest r (omega (arith, no_more))
+    go (Some w) some rest =
         let k = find_some (is_waiting_on c) r.waiters w some in
         let less = fewer_on c w k.1 r.waiters k.0 in
-        left_waiters c n (leaves r w) (omega (arith, few, less)) ∙ other_stays c w k.1 r.waiters
+        rest (leaves r w) (omega (arith, few, less)) ∙ other_stays c w k.1 r.waiters
 
 no_more_than : (t : Waiter → Bool) (ws : List Waiter) → length (filter t ws) ≤ length ws
 no_more_than t [] = omega arith

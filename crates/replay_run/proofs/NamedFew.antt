@@ -34,13 +34,13 @@ that_name c n name e =
 -- one at most has that name
 named_few : (c n : ℕ) (names : List CallName) → NamedOnce names → count (is_that c n) names ≤ 1
 named_few c n [] once = omega arith
-named_few c n (x ∷ xs) once = go (is_that c n x) refl
+named_few c n (x ∷ xs) once = go (is_that c n x) refl (named_few c n xs once.1)
   where
-    go : (b : Bool) → is_that c n x ≡ b → cond b 1 0 + count (is_that c n) xs ≤ 1
-    go true e =
+    go : (b : Bool) → is_that c n x ≡ b → count (is_that c n) xs ≤ 1 → cond b 1 0 + count (is_that c n) xs ≤ 1
+    go true e rest =
         let none = count_none (is_that c n) xs (λ y i f. once.0 y (contains_in y xs i) (sym (that_name c n y f) ∙ that_name c n x e)) in
         omega (arith, none)
-    go false e = let rest = named_few c n xs once.1 in omega (arith, rest)
+    go false e rest = omega (arith, rest)
 
 -- a number below the next one is below it or is it
 one_more : (c n : ℕ) (x : CallName) → cond (is_below c (suc n) x) 1 0 ≤ cond (is_below c n x) 1 0 + cond (is_that c n x) 1 0

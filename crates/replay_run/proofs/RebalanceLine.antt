@@ -78,16 +78,16 @@ module _ (o : Object Request Partition) (skips : List CallId) (r : Run) (p : ℕ
 turned_parts : (o : Object Request Partition) (skips : List CallId) (r : Run) (p a b all : ℕ) → a + b ≡ all → turned_on o skips r p all ≡ turned_on o skips (turned_on o skips r p a) p b
 turned_parts o skips r p zero b all e = let same : all ≡ b = omega (arith, e) in ap (turned_on o skips r p) same
 turned_parts o skips r p (suc a) b zero e = absurd (omega (arith, e))
-turned_parts o skips r p (suc a) b (suc all) e = go (is_moving_at o r p) refl
+turned_parts o skips r p (suc a) b (suc all) e = go (is_moving_at o r p) refl (λ x. turned_parts o skips x p a b all left)
   where
     left : a + b ≡ all
     left = omega (arith, e)
 
-    go : (b' : Bool) → is_moving_at o r p ≡ b' → turned_on o skips r p (suc all) ≡ turned_on o skips (turned_on o skips r p (suc a)) p b
-    go true moving =
-        turn_more o skips r p all moving ∙ turned_parts o skips (turned o skips r p) p a b all left
+    go : (m : Bool) → is_moving_at o r p ≡ m → ((x : Run) → turned_on o skips x p all ≡ turned_on o skips (turned_on o skips x p a) p b) → turned_on o skips r p (suc all) ≡ turned_on o skips (turned_on o skips r p (suc a)) p b
+    go true moving parts =
+        turn_more o skips r p all moving ∙ parts (turned o skips r p)
         ∙ sym (ap (λ (x : Run). turned_on o skips x p b) (turn_more o skips r p a moving))
-    go false still =
+    go false still parts =
         turns_end o skips r p (suc all) still
         ∙ sym (ap (λ (x : Run). turned_on o skips x p b) (turns_end o skips r p (suc a) still) ∙ turns_end o skips r p b still)
 
