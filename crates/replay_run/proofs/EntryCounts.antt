@@ -142,4 +142,4 @@ module _ {State : Type 0} (o : Object Request State) (r : Run) (ok : RunOk o r) 
 pub entries_fit : (o : Object Request Partition) (r : Run) → IsRun o r → IsSmall r → IsBounded r → sum_by (entries_at o r) (numbers_below partitions) < 2 ^ 32
 entries_fit o r is small bounded =
     few_entries (sum_by (entries_at o r) (numbers_below partitions)) (length r.arrivals) (length r.reopened) (messages_in r) (bytes_of r) r.lines
-    (all_entries_few o r (run_ok is) partitions) (arrivals_fewer r is) (messages_fewer r) small bounded.reopenings bounded.lines
+    (all_entries_few o r (run_ok is) partitions) (let fewer = arrivals_fewer r is in omega (arith, fewer)) (messages_fewer r) small bounded.reopenings bounded.lines

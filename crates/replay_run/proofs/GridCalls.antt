@@ -83,7 +83,7 @@ pub record IsAfter {V : Type 0} {T : V → Type 0} (grid new : Grid V T) (line p
   pub members : new.members ≡ grid.members
   pub links : new.links.items ≡ grid.links.items
   pub moments : new.moments.items ≡ grid.moments.items
-  pub table : new.connections ≡ with_answers table line answers
+  pub answered : new.connections ≡ with_answers table line answers
   pub waiters : new.waiters ≡ grid.waiters
   pub listeners : new.listeners.items ≡ grid.listeners.items
   pub reopened : new.reopened.items ≡ grid.reopened.items
@@ -175,7 +175,7 @@ module _ {V : Type 0} {T : V → Type 0} {form : FormOf V T} {settings : Setting
         let all = answers_table r.lines outgoing table (record counted { appended = r.appended ++ refused }) first in
         let same = ap spoken (append_assoc r.appended refused (map (message_of r.lines) outgoing)) ∙ spoken_more r.appended (refused ++ map (message_of r.lines) outgoing) (happening o r own a) said_alike in
         let whole = alike_table (with_answers table r.lines outgoing) (record counted { appended = (r.appended ++ refused) ++ map (message_of r.lines) outgoing }) (r.appended ++ happening o r own a) same all in
-        subst (λ t. HasTable t called_run) (sym after.table) (record { size = whole.size; connections = whole.connections; calls = whole.calls })
+        subst (λ t. HasTable t called_run) (sym after.answered) (record { size = whole.size; connections = whole.connections; calls = whole.calls })
 
     so_received : reception ≡ received refused
     so_received = did_so.so ∙ ap (λ w. received (refused_by a.made a.request (happens o w (call_of a)).outcome)) (run_is old.world r p old.is)
@@ -242,7 +242,7 @@ module _ {V : Type 0} {T : V → Type 0} {form : FormOf V T} {settings : Setting
     skipped_table : HasTable new.connections skipped_run
     skipped_table =
         let whole = refusals_table excuse table counted excuse_answers_none come_table in
-        subst (λ t. HasTable t skipped_run) (sym (after.table ∙ ap (with_answers table r.lines) none_go))
+        subst (λ t. HasTable t skipped_run) (sym (after.answered ∙ ap (with_answers table r.lines) none_go))
         (record { size = whole.size; connections = whole.connections; calls = whole.calls })
 
     skipped_holds : Holds form settings new skipped_run

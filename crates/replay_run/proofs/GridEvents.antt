@@ -423,6 +423,7 @@ module _ {V : Type 0} {T : V → Type 0} {form : FormOf V T} {settings : Setting
         links = ap (λ (g : Grid V T). g.links.items) rest ∙ gave.after.links;
         moments = ap (λ (g : Grid V T). g.moments.items) rest ∙ gave.after.moments;
         table = ap (λ (g : Grid V T). g.connections) rest ∙ gave.after.table;
+        waiters = ap (λ (g : Grid V T). g.waiters) rest ∙ gave.after.waiters;
         tally = ap (λ (g : Grid V T). g.tally) rest ∙ gave.after.tally;
         listeners = ap (λ (g : Grid V T). g.listeners.items) rest ∙ gave.after.listeners;
         reopened = reopened ∙ (λ j. (gave.after.reopened ∙ append-nil grid.reopened.items) j ++ is j);

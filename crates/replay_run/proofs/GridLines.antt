@@ -435,8 +435,8 @@ module _ {V : Type 0} {T : V → Type 0} {form : FormOf V T} {settings : Setting
 
   -- what becomes of the lists of those who wait
   pub record AreLeft (waiters : List (List ListedWaiter)) : Type 0 where
-    pub open : is_open (Some (with_bytes k bytes)) ≡ true → waiters ≡ handled.waiters
-    pub closed : is_open (Some (with_bytes k bytes)) ≡ false → waiters ≡ map (dropped k.conn) handled.waiters
+    pub if_open : is_open (Some (with_bytes k bytes)) ≡ true → waiters ≡ handled.waiters
+    pub if_closed : is_open (Some (with_bytes k bytes)) ≡ false → waiters ≡ map (dropped k.conn) handled.waiters
 
   its_open : is_open (connection_of did.now k.conn) ≡ is_open (Some (with_bytes k bytes))
   its_open = ap is_open did.midway.may.there
@@ -445,9 +445,9 @@ module _ {V : Type 0} {T : V → Type 0} {form : FormOf V T} {settings : Setting
   closing_waiters waiters left = go (is_open (Some (with_bytes k bytes))) refl
     where
       go : (b : Bool) → is_open (Some (with_bytes k bytes)) ≡ b → HasWaiters waiters closing
-      go true e = subst (HasWaiters waiters) (sym (forsaken_open did.now k.conn (its_open ∙ e))) (subst (λ ls. HasWaiters ls did.now) (sym (left.open e)) did.holds.waiters)
+      go true e = subst (HasWaiters waiters) (sym (forsaken_open did.now k.conn (its_open ∙ e))) (subst (λ ls. HasWaiters ls did.now) (sym (left.if_open e)) did.holds.waiters)
       go false e =
-          subst (λ ls. HasWaiters ls closing) (sym (left.closed e))
+          subst (λ ls. HasWaiters ls closing) (sym (left.if_closed e))
           (dropped_lists handled.waiters did.now closing k.conn closing_kept.members (forsaken_waiters did.now k.conn (its_open ∙ e)) did.holds.waiters)
 
   closing_holds : (listeners : Vec Listeners Global) (waiters : List (List ListedWaiter)) → AreLeft waiters → Holds form settings (record handled { listeners = listeners; waiters = waiters }) closing

@@ -57,7 +57,7 @@ uncome_unanswered r is id none = unheard_unanswered r is id (go (arrival_of r id
   where
     go : (found : Option Arrival) → arrival_of r id ≡ found → arrival_of r id ≡ None
     go None e = e
-    go (Some a) e = absurd (subst (λ (x : Option Arrival). option_or (option_map (λ (b : Arrival). b.line) x) (option_map (λ (w : Waiter). w.line) (find (is_waiter id) r.waiters)) ≡ None) e none)
+    go (Some a) e = absurd (let clash : Some a.line ≡ None = subst (λ (x : Option Arrival). option_or (option_map (λ (b : Arrival). b.line) x) (option_map (λ (w : Waiter). w.line) (find (is_waiter id) r.waiters)) ≡ None) e none in cc)
 
 -- what the run prints of an entry at that place
 abbrev pub printed_one : Run → ℕ → ℕ → List ℕ → ProtocolEntry Request → List Printed

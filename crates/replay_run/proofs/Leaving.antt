@@ -178,7 +178,7 @@ forsaken_waiters r c closed =
     ap (λ b. (cond b r (left_so_often c (length r.waiters) r)).waiters) closed ∙ left_waiters c (length r.waiters) r (no_more_than (is_waiting_on c) r.waiters)
 
 pub forsaken_open : (r : Run) (c : ℕ) → is_open (connection_of r c) ≡ true → forsaken r c ≡ r
-forsaken_open r c open = ap (λ b. cond b r (left_so_often c (length r.waiters) r)) open
+forsaken_open r c lasts = ap (λ b. cond b r (left_so_often c (length r.waiters) r)) lasts
 
 -- the lists
 

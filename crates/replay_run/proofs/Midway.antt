@@ -183,9 +183,9 @@ abbrev pub on_bytes : Object Request Partition → List CallId → Run → List 
 on_bytes o skips r bytes found = elim found [ None ↦ next_line r | Some c ↦ bytes_arrived o skips r c bytes ]
 
 -- The close of a connection adds to those that came to their end.
-closes_among : (r now after : Run) (c : ℕ) (skips : List CallId) → Grows r now → after ≡ forsaken now c → AreAmong (new_arrivals r now) skips → AreAmong (new_arrivals r after) skips
-closes_among r now after c skips grows is among =
-    subst (λ (x : Run). AreAmong (new_arrivals r x) skips) (sym is) (among_more r now (forsaken now c) skips grows ((forsaken_goes now c).grows skips) among)
+closes_among : (o : Object Request Partition) (r now after : Run) (c : ℕ) (skips : List CallId) → Grows r now → after ≡ forsaken now c → AreAmong (new_arrivals r now) skips → AreAmong (new_arrivals r after) skips
+closes_among o r now after c skips grows is among =
+    subst (λ (x : Run). AreAmong (new_arrivals r x) skips) (sym is) (among_more r now (forsaken now c) skips grows ((forsaken_goes o now c).grows skips) among)
 
 module _ (o : Object Request Partition) (r : Run) (c : ℕ) (bytes : List ℕ) where
   does_nothing_on : Option Connection → Bool
@@ -226,7 +226,7 @@ module _ (o : Object Request Partition) (r : Run) (c : ℕ) (bytes : List ℕ) w
         ended_line = taken_line skips ∙ ap (λ items. forsaken (handled_all o skips (took_bytes r k bytes) k items) k.conn) come ∙ ap (λ (x : Run). forsaken x k.conn) (sym m.is)
 
         pub ended_skips : AreOfLine o r (Arrive c bytes) skips
-        ended_skips = closes_among (took_bytes r k bytes) now (after_line o skips r (Arrive c bytes)) k.conn skips
+        ended_skips = closes_among o (took_bytes r k bytes) now (after_line o skips r (Arrive c bytes)) k.conn skips
             (subst (λ (x : Run). Grows (took_bytes r k bytes) x) (sym m.is) ((handled_all_goes o (took_bytes r k bytes) k done).grows skips)) ended_line m.own
 
 -- The run is given up.
@@ -239,6 +239,6 @@ given_up_line settings r c bytes k there takes up =
     let line = taken_line o r c bytes k there takes up.skips in
     record {
       skips = up.skips;
-      of_line = closes_among taken all (after_line o up.skips r (Arrive c bytes)) k.conn up.skips ((handled_all_goes o taken k (items_by k bytes)).grows up.skips) line up.own;
+      of_line = closes_among o taken all (after_line o up.skips r (Arrive c bytes)) k.conn up.skips ((handled_all_goes o taken k (items_by k bytes)).grows up.skips) line up.own;
       full = ap (λ (x : Run). x.full) line ∙ forsaken_full all k.conn up.full;
     }

@@ -224,7 +224,7 @@ module _ (r : Run) (a : Arrival) (events : List At) (unheard : came_at r a.reque
       ap (option_map line_of_arrival) (find-append (λ (x : Arrival). is_same_call x.request.id j) r.arrivals (a ∷ []))
       ∙ map_or_one line_of_arrival (arrival_of r j) (is_same_call a.request.id j) a
 
-  waiting_of : CallId → Option ℕ
+  abbrev waiting_of : CallId → Option ℕ
   waiting_of j = option_map line_of_waiter (find (is_waiter j) r.waiters)
 
   none_waits : waiting_of a.request.id ≡ None
@@ -284,18 +284,18 @@ module _ (r : Run) (w : Waiter) (ok : WaitersOk r) (there : In w r.waiters) (eve
           ap (option_map line_of_arrival) (find-append (λ (x : Arrival). is_same_call x.request.id j) r.arrivals (ending r w ∷ []))
           ∙ map_or_one line_of_arrival (arrival_of r j) (is_same_call w.request.id j) (ending r w)
 
-      go : (b : Bool) → is_same_call w.request.id j ≡ b → came_at without_it j ≡ came_at r j
-      go false e =
-          ap (λ x. option_or x (option_map line_of_waiter (find (is_waiter j) (filter (is_other w) r.waiters)))) (whole ∙ ap (λ b. option_or arrivals (cond b (Some w.line) None)) e ∙ or_none arrivals)
-          ∙ ap (λ x. option_or arrivals (option_map line_of_waiter x)) (found_other r.waiters j e)
-      go true e = subst (λ i. came_at without_it i ≡ came_at r i) (same_call w.request.id j e) at_it
-
       at_it : came_at without_it w.request.id ≡ came_at r w.request.id
       at_it =
           ap (λ x. option_or (option_map line_of_arrival x) (option_map line_of_waiter (find (is_waiter w.request.id) (filter (is_other w) r.waiters))))
           (find-append (λ (x : Arrival). is_same_call x.request.id w.request.id) r.arrivals (ending r w ∷ []) ∙ ap (λ x. option_or x (cond (is_same_call w.request.id w.request.id) (Some (ending r w)) None)) none_arrived
           ∙ ap (λ b. cond b (Some (ending r w)) None) (same_call_refl w.request.id))
           ∙ sym (ap (λ x. option_or (option_map line_of_arrival x) (option_map line_of_waiter (find (is_waiter w.request.id) r.waiters))) none_arrived ∙ ap (option_map line_of_waiter) (found_itself r.waiters ok.once there))
+
+      go : (b : Bool) → is_same_call w.request.id j ≡ b → came_at without_it j ≡ came_at r j
+      go false e =
+          ap (λ x. option_or x (option_map line_of_waiter (find (is_waiter j) (filter (is_other w) r.waiters)))) (whole ∙ ap (λ b. option_or arrivals (cond b (Some w.line) None)) e ∙ or_none arrivals)
+          ∙ ap (λ x. option_or arrivals (option_map line_of_waiter x)) (found_other r.waiters j e)
+      go true e = subst (λ i. came_at without_it i ≡ came_at r i) (same_call w.request.id j e) at_it
 
 -- The same calls came at the same lines, on the same connections, and were answered so.
 pub table_alike : (t : Table) (r next : Run) → next.connections ≡ r.connections → next.appended ≡ r.appended → ((j : CallId) → came_at next j ≡ came_at r j) → HasTable t r → HasTable t next

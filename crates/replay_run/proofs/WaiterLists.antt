@@ -2,7 +2,7 @@
 use Rattle.std.proofs.Common.{◌≡◌, ℕ, zero, suc, ◌*◌, ◌<◌, Bool, true, false, cond, ◌&&◌, List, [], ◌∷◌, length, replicate, map, filter, Contains, refl, ap, sym, ◌∙◌, subst, inl, inr}
 use Rattle.std.specs.Prelude.{All, slice_index_or}
 use Rattle.std.proofs.lemmas.Bool.{eq-eqb}
-use Rattle.partition_protocol.proofs.Lists.{In, contains_in}
+use Rattle.partition_protocol.proofs.Lists.{In, in_contains, contains_in}
 use Rattle.std.proofs.lemmas.List.{length-replicate}
 use Rattle.wait_sets.specs.declared.waiter.Waiter.{Waiter as ListedWaiter}
 use Rattle.replay_run.specs.Runs.{Run, Waiter, begun, partitions}
@@ -28,7 +28,7 @@ pub begun_waiters : (lists : List (List ListedWaiter)) (members backups : ℕ) �
 begun_waiters lists members backups is = record {
   size = ap (λ (xs : List (List ListedWaiter)). length xs) is ∙ length-replicate (members * partitions) nobody;
   listed = λ member p low below. ap (λ xs. list_at xs member p) is ∙ nobody_at (members * partitions) (place_of member p);
-  there = λ w c. absurd c;
+  there = λ w c. absurd (in_contains w [] c);
 }
 
 -- Where all lists are empty nobody waits.
