@@ -468,8 +468,13 @@ module _ {V : Type 0} {T : V → Type 0} {form : FormOf V T} {settings : Setting
     abbrev its_parts : List ℕ
     its_parts = (ok_text (r.lines + 1) ++ texts_of (new_messages r closing)) ++ close_text (r.lines + 1) c (fault_on (with_bytes k bytes))
 
+    text_of : (next : Run) → connection_of next c ≡ Some (with_bytes k bytes) → next.lines ≡ r.lines + 1
+        → line_text settings did.skips r (Arrive c bytes) next ≡ (ok_text (r.lines + 1) ++ texts_of (new_messages r next)) ++ close_text (r.lines + 1) c (fault_on (with_bytes k bytes))
+    text_of next found counted =
+        rw (open_does_something (partition_object settings) r c bytes k there takes, found, counted) (alone ((ok_text (r.lines + 1) ++ texts_of (new_messages r next)) ++ close_text (r.lines + 1) c (fault_on (with_bytes k bytes))))
+
     its_text : line_text settings did.skips r (Arrive c bytes) closing ≡ its_parts
-    its_text = rw (open_does_something (partition_object settings) r c bytes k there takes, closing_there, closing_lines) (alone its_parts)
+    its_text = text_of closing closing_there closing_lines
 
     pub bytes_line : (fault : Option Malformed) (number : ℕ) (written text : List ℕ) (listeners : Vec Listeners Global) (waiters : List (List ListedWaiter)) (new : Grid V T) → new ≡ record handled { listeners = listeners; waiters = waiters } → AreListening listeners.items did.now None → AreLeft waiters → IsSmall r → AreFew r → IsBounded r → AreReached r
         → 2 * length bytes ≤ most_arriving → start ≡ written ++ ok_text number → number ≡ r.lines + 1 → number ≤ most_lines
