@@ -1,12 +1,12 @@
 -- The lists of a partition beside its machine of calls that wait.
-use Rattle.std.specs.Prelude.{◌≡◌, ℕ, ◌<◌, Bool, true, not, ◌==◌, List, [], ◌∷◌, ◌++◌, map, filter, length, Option, Some, None, slice_get, Contains}
+use Rattle.std.specs.Prelude.{◌≡◌, ◌≢◌, ◌⊎◌, ℕ, ◌<◌, Bool, true, not, ◌==◌, List, [], ◌∷◌, ◌++◌, map, filter, length, Option, Some, None, slice_get, Contains}
 use Rattle.grid_base.specs.Objects.{Object}
 use Rattle.grid_base.specs.declared.TheConstants.{PARTITIONS}
 use Rattle.grid_base.specs.declared.calls.Request.{Request}
 use Rattle.partition_protocol.specs.Node.{Node}
 use Rattle.partition_protocol.specs.Execution.{Reached, Executes}
 use Rattle.partition_protocol.specs.World.{pair_state}
-use Rattle.waiting_protocol.specs.Machine.{Waiting, Fate, IsRefused, Leaves, is_made, fate, stirs, turn}
+use Rattle.waiting_protocol.specs.Machine.{Waiting, Fate, IsRefused, Leaves, is_made, fate, stirs, Picked, pick, turn}
 use Rattle.waiting_protocol.specs.Machine as machine
 use Rattle.waiting_protocol.specs.Claims.{IsQuiet, IsItsTurn}
 use Rattle.waiting_protocol.specs.LineClaims.{standing, is_at}
@@ -45,6 +45,14 @@ IsFate (Silence request) f = f ≡ Leaves
 abbrev pub AreOf : ℕ → List (List Waiter) → ℕ → List (machine.Waiter Request) → Type 0
 AreOf members lists p waiters = (m : ℕ) → m < members → all_meant m (list_at lists m p) ≡ filter (is_at m) waiters
 
+-- places
+
+-- Each member and partition has a list of its own: another list there leaves all others as they were.
+abbrev pub EveryListIsItsOwn : Type 0
+EveryListIsItsOwn = (m p : ℕ) (lists : List (List Waiter)) (list : List Waiter) → p < PARTITIONS → place_of m p < length lists
+    → (list_at (with_list lists m p list) m p ≡ list)
+    × ((n q : ℕ) → q < PARTITIONS → (n ≢ m) ⊎ (q ≢ p) → list_at (with_list lists m p list) n q ≡ list_at lists n q)
+
 -- joining
 
 -- A waiting call that arrives joins the list of its member and partition.
@@ -61,14 +69,32 @@ EveryClosingEmptiesLists = (members p conn : ℕ) (lists : List (List Waiter)) (
 
 -- turns
 
--- where a list's turn is that of the partition: only at one member is anything to be done, which stands so and has this of the partition
+-- a member of the partition would do so with a call, and has this of the partition
+pub record StandsSo (settings : Settings) (j : Waiting Request) (m : ℕ) (stands : Standing) (s : Partition) : Type 0 where
+  pub does : standing_as stands ≡ standing j.world m
+  pub has : (node : Node) → slice_get j.world.nodes m ≡ Some node → s ≡ pair_state (partition_object settings) j.world node.pair
+
+-- Nobody left, or this call left so: the one that was picked, and the others stay in their order.
+abbrev pub LeavesAsPicked : (machine.Waiter Request → Fate) → ℕ → Option (Picked Request) → List Waiter → Option Turn → List Waiter → Type 0
+LeavesAsPicked becomes m None old None new = new ≡ old
+LeavesAsPicked becomes m (Some picked) old (Some it) new = (picked.one.call ≡ request_of it) × IsFate it (becomes picked.one) × (all_meant m new ≡ picked.front ++ picked.back)
+LeavesAsPicked becomes m None old (Some it) new = ⊥
+LeavesAsPicked becomes m (Some picked) old None new = ⊥
+
+-- The turn in a member's list is that of the first there with which the machine has something to do: nobody's where there is none, and else this call leaves as the machine says. Whichever calls find no memory.
+abbrev pub EveryTurnIsItsLists : Settings → Type 0
+EveryTurnIsItsLists settings = (starves : machine.Waiter Request → Bool) (j : Waiting Request) (m : ℕ) (stands : Standing) (s : Partition) (old : List Waiter) (it : Option Turn) (new : List Waiter)
+    → let o = partition_object settings in
+    let t = grid_terms starves in
+    StandsSo settings j m stands s → TakesTurn settings s (j.clock m) stands old it new → LeavesAsPicked (fate o t j) m (pick (stirs o t j) (all_meant m old)) old it new
+
+-- where a list's turn is that of the partition: only at one member is anything to be done, which stands so
 pub record IsInTurn (settings : Settings) (starves : machine.Waiter Request → Bool) (j : Waiting Request) (members m p : ℕ) (stands : Standing) (s : Partition) (lists : List (List Waiter)) : Type 0 where
   pub member : m < members
   pub partition : p < PARTITIONS
   pub there : place_of m p < length lists
   pub listed : AreOf members lists p j.waiters
-  pub does : standing_as stands ≡ standing j.world m
-  pub has : (node : Node) → slice_get j.world.nodes m ≡ Some node → s ≡ pair_state (partition_object settings) j.world node.pair
+  pub does : StandsSo settings j m stands s
   pub only : (y : machine.Waiter Request) → Contains j.waiters y → stirs (partition_object settings) (grid_terms starves) j y ≡ true → y.member ≡ m
 
 -- It is the machine's turn: nobody's, or this call leaves so; and the lists are then those of the waiters that are left.

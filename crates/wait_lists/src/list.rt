@@ -1,7 +1,8 @@
-ghost use Rattle.std.specs.Prelude.{◌≡◌, ◌≤◌, ◌↔◌, [], ◌∷◌, ◌++◌, not, filter, position, remove, length, slice_get, option_to_list, IsTrue, OnOk, OnErr, None};
+ghost use Rattle.std.specs.Prelude.{◌≡◌, ◌↔◌, [], ◌∷◌, ◌++◌, not, filter, take, position, option_to_list, IsNone, IsTrue, OnOk, OnErr};
 ghost use Rattle.call_engine.specs.Env.{settings_of};
 ghost use Rattle.wait_sets.specs.Boxes.{boxed};
-ghost use Rattle.wait_sets.specs.WaitSets.{is_its_turn, is_of};
+ghost use Rattle.wait_sets.specs.WaitSets.{is_its_turn, NoneIsDue, is_of};
+ghost use Rattle.wait_lists.specs.Lists.{if_some};
 ghost use Rattle.wait_lists.specs.Turns.{TakesNext};
 
 use call_engine::{GridEnv, GridShelf};
@@ -46,10 +47,17 @@ impl WaitList {
     }
 
     /// Whether nobody waits.
-    pub(crate) fn is_empty(&self) -> bool
+    fn is_empty(&self) -> bool
         ensures { IsTrue result ↔ (self.now ≡ []) }
     {
         self.set.is_empty()
+    }
+
+    /// 1 where somebody waits, else 0.
+    pub(crate) fn busy(&self) -> usize
+        ensures { result ≡ if_some self.now }
+    {
+        if self.is_empty() { 0 } else { 1 }
     }
 
     /// The waiter comes last.
@@ -61,12 +69,23 @@ impl WaitList {
         Ok(())
     }
 
+    /// How many at the front are known not to be due at that moment.
+    fn known_undue(&self, now: Moment) -> usize
+        ensures { NoneIsDue now (take result self.now) }
+    {
+        if self.looked == Some(now) {
+            self.undue
+        } else {
+            0
+        }
+    }
+
     /// The first that is ready or due at that moment, which leaves; none exactly where nobody is.
     pub(crate) fn take_next(&mut self, shelf: &GridShelf, env: &GridEnv, now: Moment) -> Option<Waiter>
         ensures { TakesNext (position (is_its_turn (settings_of (boxed form) env.now) shelf.now now) self.old) self.old result self.new }
     {
         every_look_says_who_is_undue();
-        let undue = if self.looked == Some(now) { self.undue } else { 0 };
+        let undue = self.known_undue(now);
         let Some(place) = self.set.next_from(undue, shelf, env, now) else {
             self.undue = self.set.len();
             self.looked = Some(now);
@@ -81,7 +100,7 @@ impl WaitList {
     /// The first, which leaves; none exactly where nobody waits.
     pub(crate) fn drain(&mut self) -> Option<Waiter>
         ensures first { self.old ≡ option_to_list result ++ self.new }
-        ensures none { result ≡ None → self.new ≡ [] }
+        ensures none { IsNone result ↔ (self.old ≡ []) }
     {
         self.looked = None;
         self.undue = 0;

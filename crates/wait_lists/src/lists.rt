@@ -1,4 +1,4 @@
-ghost use Rattle.std.specs.Prelude.{◌≡◌, ◌≢◌, ◌<◌, ◌≤◌, ◌+◌, ◌*◌, ℕ, true, [], ◌∷◌, ◌++◌, not, filter, map, length, sum_by, replicate, slice_set, OnOk, OnErr, IfOk, All};
+ghost use Rattle.std.specs.Prelude.{◌≡◌, ◌<◌, ◌*◌, ◌↔◌, [], ◌∷◌, ◌++◌, not, filter, map, length, sum_by, replicate, IsTrue, OnOk, OnErr, IfOk, All};
 ghost use Rattle.grid_base.specs.declared.TheConstants.{PARTITIONS as partitions};
 ghost use Rattle.call_engine.specs.Env.{settings_of};
 ghost use Rattle.wait_sets.specs.Boxes.{boxed};
@@ -48,9 +48,9 @@ impl WaitLists {
         Ok(WaitLists { lists, busy: 0 })
     }
 
-    /// Whether it is known that nobody waits anywhere, in constant time.
+    /// Whether nobody waits anywhere, in constant time.
     pub fn is_idle(&self) -> bool
-        ensures { result ≡ true → All (λ list. list ≡ []) self.now }
+        ensures { IsTrue result ↔ All (λ list. list ≡ []) self.now }
     {
         self.busy == 0
     }
@@ -62,11 +62,9 @@ impl WaitLists {
         ensures err { OnErr result (self.new ≡ self.old) }
     {
         let list = &mut self.lists[at.place()];
-        let was_empty = list.is_empty();
+        let before = list.busy();
         list.add(waiter)?;
-        if was_empty {
-            self.busy += 1;
-        }
+        self.busy += 1 - before;
         Ok(())
     }
 
@@ -89,13 +87,9 @@ impl WaitLists {
         ensures others { self.new ≡ with_list self.old at.member at.partition (list_at self.new at.member at.partition) }
     {
         let list = &mut self.lists[at.place()];
-        if list.is_empty() {
-            return None;
-        }
+        let before = list.busy();
         let turn = turn_in(list, standing, shelf, env, now);
-        if list.is_empty() {
-            self.busy -= 1;
-        }
+        self.busy = self.busy - before + list.busy();
         turn
     }
 
@@ -132,9 +126,7 @@ fn drop_from(lists: &mut [WaitList], conn: u32) -> usize
     let mut busy = 0;
     for list in lists.iter_mut() {
         list.drop_conn(conn);
-        if !list.is_empty() {
-            busy += 1;
-        }
+        busy += list.busy();
     }
     busy
 }
