@@ -1,8 +1,8 @@
 -- As many calls are marked in the table as arrived and were answered.
 use Rattle.std.proofs.Common.{◌≡◌, ℕ, suc, ◌+◌, ◌-◌, ◌≤◌, ◌==◌, Bool, true, false, cond, ◌&&◌, List, [], ◌∷◌, map, Option, Some, None, slice_get, refl, ap, sym, ◌∙◌, inl, inr, arith}
 use Rattle.std.specs.Prelude.{nat_le, is_some, count_by}
-use Rattle.std.specs.Option.{option_map, option_and_then}
-use Rattle.std.specs.List.{sum_by}
+use Rattle.std.specs.Option.{option_map, option_and_then, option_or}
+use Rattle.std.specs.List.{find, sum_by}
 use Rattle.std.proofs.lemmas.Bool.Decides.{nat_tests}
 use Rattle.std.proofs.lemmas.List.Sums.{sum_by-cons}
 use Rattle.grid_base.specs.Names.{is_same_call}
@@ -11,8 +11,8 @@ use Rattle.partition_protocol.specs.Arrivals.{NamedOnce}
 use Rattle.partition_protocol.proofs.Lists.{In, contains_in}
 use Rattle.partition_protocol.proofs.RowFacts.{false_or_not}
 use Rattle.replay_run.specs.declared.connections.CallLines.{CallLines}
-use Rattle.replay_run.specs.Runs.{Run, Arrival, Appended}
-use Rattle.replay_run.specs.Printing.{arrival_of, answer_of}
+use Rattle.replay_run.specs.Runs.{Run, Arrival, Waiter, Appended, is_waiter}
+use Rattle.replay_run.specs.Printing.{arrival_of, came_at, answer_of}
 use Rattle.replay_run.specs.Counts.{is_answered}
 use Rattle.replay_run.specs.Tables.{Table, Opened, present, is_marked, marked_in, answered_count}
 use Rattle.replay_run.specs.Grids.{HasTable, lines_in}
@@ -20,7 +20,7 @@ use Rattle.replay_run.proofs.Parts.{in_map}
 use Rattle.replay_run.proofs.Places.{same_call, same_call_refl, same_number}
 use Rattle.replay_run.proofs.Tallies.{count_same}
 use Rattle.replay_run.proofs.Trails.{find_some}
-use Rattle.replay_run.proofs.RunFacts.{ArrivalsOk, arrival_name, id_name, arrival_found}
+use Rattle.replay_run.proofs.RunFacts.{ArrivalsOk, arrival_name, id_name, arrival_found, came_of}
 
 abbrev number : Bool → ℕ
 number b = cond b 1 0
@@ -118,7 +118,7 @@ on_connections false true true later ans e f = absurd (omega (arith, f))
 on_connections false false true true ans e f = absurd (omega (arith, f))
 on_connections false false true false ans e f = refl
 
-module _ (r : Run) (ok : ArrivalsOk r) where
+module _ (r : Run) (ok : ArrivalsOk r) (silent : (id : CallId) → arrival_of r id ≡ None → answer_of r id ≡ None) where
   abbrev come : List Arrival
   come = r.arrivals
 
@@ -133,8 +133,15 @@ module _ (r : Run) (ok : ArrivalsOk r) where
   one_marked : (id : CallId) → number (is_marked (lines_in r id)) ≡ count_by (λ (a : Arrival). is_same_call a.request.id id && is_answered r a) come
   one_marked id = go (arrival_of r id) refl
     where
-      lines : Arrival → CallLines
-      lines a = record { arrived = a.line; answered = option_map (λ (m : Appended). m.line) (answer_of r id) }
+      with_answer : Option Appended → ℕ → CallLines
+      with_answer answer line = record { arrived = line; answered = option_map (λ (m : Appended). m.line) answer }
+
+      waiting : Option ℕ
+      waiting = option_map (λ (w : Waiter). w.line) (find (is_waiter id) r.waiters)
+
+      unmarked : (line : Option ℕ) → number (is_marked (option_map (with_answer None) line)) ≡ 0
+      unmarked None = refl
+      unmarked (Some line) = refl
 
       mapped : (answer : Option Appended) → is_some (option_map (λ (m : Appended). m.line) answer) ≡ is_some answer
       mapped None = refl
@@ -143,7 +150,7 @@ module _ (r : Run) (ok : ArrivalsOk r) where
       go : (found : Option Arrival) → arrival_of r id ≡ found → number (is_marked (lines_in r id)) ≡ count_by (λ (a : Arrival). is_same_call a.request.id id && is_answered r a) come
       go None e =
           let none = count_nothing (λ (a : Arrival). is_same_call a.request.id id && is_answered r a) come unheard in
-          ap (λ (o : Option Arrival). number (is_marked (option_map (λ (a : Arrival). record { arrived = a.line; answered = option_map (λ (m : Appended). m.line) (answer_of r id) }) o))) e ∙ sym none
+          ap (λ (answer : Option Appended). number (is_marked (option_map (with_answer answer) (came_at r id)))) (silent id e) ∙ unmarked (came_at r id) ∙ sym none
         where
           unheard : (a : Arrival) → In a come → (is_same_call a.request.id id && is_answered r a) ≡ true → ⊥
           unheard a i t =
@@ -157,7 +164,7 @@ module _ (r : Run) (ok : ArrivalsOk r) where
       go (Some b) e =
           let there = find_some (λ (a : Arrival). is_same_call a.request.id id) come b e in
           let same : b.request.id ≡ id = same_call b.request.id id there.1 in
-          ap (λ (o : Option Arrival). number (is_marked (option_map (λ (a : Arrival). record { arrived = a.line; answered = option_map (λ (m : Appended). m.line) (answer_of r id) }) o))) e
+          ap (λ (o : Option Arrival). number (is_marked (option_map (with_answer (answer_of r id)) (option_or (option_map (λ (a : Arrival). a.line) o) waiting)))) e
           ∙ ap {B = ℕ} number (mapped (answer_of r id) ∙ ap (λ x. is_some (answer_of r x)) (sym same))
           ∙ sym (count_named (is_answered r) come b ok.once there.0)
           ∙ ap (λ x. count_by (λ (a : Arrival). is_same_call a.request.id x && is_answered r a) come) same
@@ -166,7 +173,7 @@ module _ (r : Run) (ok : ArrivalsOk r) where
   has_lines : (a : Arrival) → In a come → lines_in r a.request.id ≡ None → ⊥
   has_lines a i none =
       let lines : CallLines = record { arrived = a.line; answered = option_map (λ (m : Appended). m.line) (answer_of r a.request.id) } in
-      let found : lines_in r a.request.id ≡ Some lines = ap {B = Option CallLines} (option_map (λ (b : Arrival). record { arrived = b.line; answered = option_map (λ (m : Appended). m.line) (answer_of r a.request.id) })) (arrival_found r ok a i) in
+      let found : lines_in r a.request.id ≡ Some lines = ap {B = Option CallLines} (option_map (λ line. record { arrived = line; answered = option_map (λ (m : Appended). m.line) (answer_of r a.request.id) })) (came_of r ok a i) in
       no_clash lines (sym none ∙ found)
     where
       no_clash : (lines : CallLines) → None ≡ Some lines → ⊥

@@ -195,7 +195,7 @@ module _ {State : Type 0} (o : Object Request State) (r : Run) (ok : RunOk o r) 
           subst (λ (w : World Request). IsGiven w.recorded.log w.released arrivals m id) (sym (world_here o r p event)) answer
         where
           arrived_by_now : r.lines ≡ m.line → (x : Executed Request) → In x (executed after.recorded.log)
-              → (b : Arrival) × In b arrivals × (arrival_name b ≡ executed_name x) × (b.line ≤ m.line)
+              → (b : Arrival) × In b arrivals × (arrival_name b ≡ executed_name x) × (b.made ≤ m.line)
           arrived_by_now line x j =
               let origin_of = origin o next ok.members come p x (subst (λ (w : World Request). In x (executed w.recorded.log)) (sym (world_here o r p event)) j) in
               let now = come.by_now origin_of.0 origin_of.1 in

@@ -88,9 +88,9 @@ module _ {State : Type 0} (o : Object Request State) (r : Run) (ok : RunOk o r) 
   pub answer_found : (m : Appended) (id : CallId) → In m r.appended → m.answers ≡ Some id → answer_of r id ≡ Some m
   answer_found m id i e = find_only (is_answer_to id) r.appended m (ok.of_answers.once id) i (answer_named id m e)
 
-  -- what was executed before a call that was answered had arrived by then
+  -- what was executed before a call that was answered had been made by then
   pub arrived_before : (p : ℕ) (x y : Executed Request) (m : Appended) (id : CallId) (g : IsGivenIn o r p m id) → g.call ≡ y
-      → Before (executed (world_at o r p).recorded.log) x y → (a : Arrival) × In a r.arrivals × (arrival_name a ≡ executed_name x) × (a.line ≤ m.line)
+      → Before (executed (world_at o r p).recorded.log) x y → (a : Arrival) × In a r.arrivals × (arrival_name a ≡ executed_name x) × (a.made ≤ m.line)
   arrived_before p x y m id g same h =
       let log = log_since m id g in
       ⊎_elim (λ i. g.arrived x i)

@@ -1,5 +1,5 @@
 -- The world of a call's partition, where the code reads it.
-use Rattle.std.proofs.Common.{◌≡◌, ℕ, ◌+◌, ◌-◌, ◌*◌, ◌<◌, ◌^◌, true, List, [], ◌∷◌, length, get_or, map, Result, Err, Some, inl, inr, slice_get, refl, ap, sym, subst, ◌∙◌, ◌++◌, ◌⊎◌, arith}
+use Rattle.std.proofs.Common.{◌≡◌, ℕ, ◌+◌, ◌-◌, ◌*◌, ◌<◌, ◌^◌, true, List, [], ◌∷◌, length, get_or, map, Result, Err, None, Some, Contains, inl, inr, slice_get, refl, ap, sym, subst, ◌∙◌, ◌++◌, ◌⊎◌, arith}
 use Rattle.std.specs.Result.{IsErrAnd}
 use Rattle.std.specs.Prelude.{Option, unwrap_or}
 use Rattle.std.proofs.lemmas.Bool.{eq-eqb}
@@ -21,11 +21,11 @@ use Rattle.table_service.specs.Services.{Setup}
 use Rattle.partition_world.specs.Worlds.{steps_of, run_of, setup_of, node_count, Comes}
 use Rattle.partition_world.proofs.Places.{read_there}
 use Rattle.replay_run.specs.declared.grid.Grid.{Grid}
-use Rattle.replay_run.specs.Runs.{Run, Arrival, events_at, moment_of, world_at, call_of, arrival_at, arrived, happening, partitions}
+use Rattle.replay_run.specs.Runs.{Run, Arrival, events_at, moment_of, world_at, call_of, Appended, Waiter, arrival_at, without, ending, arrived, happening, partitions}
 use Rattle.replay_run.specs.Rebalancing.{most_line_events}
 use Rattle.replay_run.specs.Shelves.{grid_meaning}
 use Rattle.replay_run.specs.Grids.{FormOf, GridWorld, StandsForEvents, IsWorld, Holds, Stands, AreFew}
-use Rattle.replay_run.specs.ScriptRuns.{IsRun, IsNext, call_asked}
+use Rattle.replay_run.specs.ScriptRuns.{IsRun, IsNext, call_asked, waiter_asked}
 use Rattle.replay_run.specs.WorldCalls.{IsCalledSo, IsSkippedSo, arrival_to}
 use Rattle.replay_run.specs.declared.tally.Reception.{Reception}
 use Rattle.replay_run.proofs.Arriving.{its_event, maybe_one, events_of_more}
@@ -65,7 +65,7 @@ module _ {V : Type 0} {T : V → Type 0} {form : FormOf V T} {settings : Setting
     world_is = indexed_world grid.worlds.items r p i world (h.worlds p low) same read
 
     -- it has room for one event more
-    pub world_room : length r.arrivals + most_line_events * r.lines + 1 < 2 ^ 32 - 1 → AreFew r → steps_of world + 1 < 2 ^ 32 - 1
+    pub world_room : length r.arrivals + length r.waiters + most_line_events * r.lines + 1 < 2 ^ 32 - 1 → AreFew r → steps_of world + 1 < 2 ^ 32 - 1
     world_room room few = let own = few p in omega (arith, room, world_is.stands.steps, own)
 
 -- a node of each member
@@ -94,31 +94,39 @@ module _ {V : Type 0} {T : V → Type 0} {form : FormOf V T} {settings : Setting
       let there = ap (λ ms. slice_get ms member) (sym h.moments) ∙ ap (slice_get grid.moments.items) (sym same) ∙ slice_get-get_or grid.moments.items i now moment_within ∙ ap Some (sym read) in
       sym (ap (λ (o : Option ℕ). unwrap_or o 0) there)
 
--- The call that comes has a name of its own.
-pub named_next : (settings : Settings) (r : Run) → IsRun (partition_object settings) r → (member line now : ℕ) (request : Request) → IsNext r request → line ≡ r.lines → now ≡ moment_of r member
-    → NamedOnce (map name (arrivals (events_at request.partition r.events ++ call_of (arrival_to line member now request) ∷ [])))
-named_next settings r run member line now request next at_line at_moment =
-    ap_names (λ i. call_of (arrival_to (at_line i) member (at_moment i) request))
+-- The call that comes has a name of its own, where a run has its event next.
+named_event : (settings : Settings) (r : Run) (a : Arrival) (appended : List Appended) → IsRun (partition_object settings) (arrived r a (its_event a ∷ []) appended)
+    → NamedOnce (map name (arrivals (events_at a.request.partition r.events ++ call_of a ∷ [])))
+named_event settings r a appended run = subst (λ es. NamedOnce (map name (arrivals es))) its (named o then (run_ok run).members (run_ok run).of_arrivals a.request.partition)
   where
     o : Object Request Partition
     o = partition_object settings
 
-    a : Arrival
-    a = arrival_at r member request
-
     then : Run
-    then = arrived r a (its_event a ∷ []) (happening o r a)
+    then = arrived r a (its_event a ∷ []) appended
 
-    its : events_at request.partition then.events ≡ events_at request.partition r.events ++ call_of a ∷ []
+    its : events_at a.request.partition then.events ≡ events_at a.request.partition r.events ++ call_of a ∷ []
     its =
-        let here : is_of request.partition a ≡ true = eq-eqb request.partition request.partition refl in
-        events_of_more request.partition r.events a ∙ ap (λ b. events_at request.partition r.events ++ maybe_one b (call_of a)) here
+        let here : is_of a.request.partition a ≡ true = eq-eqb a.request.partition a.request.partition refl in
+        events_of_more a.request.partition r.events a ∙ ap (λ b. events_at a.request.partition r.events ++ maybe_one b (call_of a)) here
 
-    once : NamedOnce (map name (arrivals (events_at request.partition r.events ++ call_of a ∷ [])))
-    once = subst (λ es. NamedOnce (map name (arrivals es))) its (named o then (run_ok (call_asked [] r member request run next)).members (run_ok (call_asked [] r member request run next)).of_arrivals request.partition)
+-- as the code has it, of one that arrives
+pub named_next : (settings : Settings) (r : Run) → IsRun (partition_object settings) r → (member line now : ℕ) (request : Request) → IsNext r request → line ≡ r.lines → now ≡ moment_of r member
+    → NamedOnce (map name (arrivals (events_at request.partition r.events ++ call_of (arrival_to line member now request) ∷ [])))
+named_next settings r run member line now request next at_line at_moment =
+    let a = arrival_at r member request in
+    let e : call_of (arrival_to line member now request) ≡ call_of a = λ i. call_of (arrival_to (at_line i) member (at_moment i) request) in
+    subst (λ x. NamedOnce (map name (arrivals (events_at request.partition r.events ++ x ∷ [])))) (sym e)
+    (named_event settings r a (happening (partition_object settings) r None a) (call_asked [] r None member request run next))
 
-    ap_names : call_of (arrival_to line member now request) ≡ call_of a → NamedOnce (map name (arrivals (events_at request.partition r.events ++ call_of (arrival_to line member now request) ∷ [])))
-    ap_names e = subst (λ x. NamedOnce (map name (arrivals (events_at request.partition r.events ++ x ∷ [])))) (sym e) once
+-- and of one that waited
+pub named_late : (settings : Settings) (r : Run) → IsRun (partition_object settings) r → (w : Waiter) → Contains r.waiters w → (line now : ℕ) → line ≡ r.lines → now ≡ moment_of r w.member
+    → NamedOnce (map name (arrivals (events_at w.request.partition r.events ++ call_of (arrival_to line w.member now w.request) ∷ [])))
+named_late settings r run w there line now at_line at_moment =
+    let a = ending r w in
+    let e : call_of (arrival_to line w.member now w.request) ≡ call_of a = λ i. call_of (arrival_to (at_line i) w.member (at_moment i) w.request) in
+    subst (λ x. NamedOnce (map name (arrivals (events_at w.request.partition r.events ++ x ∷ [])))) (sym e)
+    (named_event settings (without r w) a (happening (partition_object settings) (without r w) None a) (waiter_asked [] r None w run there))
 
 -- It may come next in its partition's world.
 pub call_comes : (settings : Settings) (world : GridWorld) (events : List (Event Request)) (a : Arrival) → StandsForEvents settings world events → steps_of world + 1 < 2 ^ 32 - 1

@@ -13,7 +13,7 @@ use Rattle.replay_run.specs.Runs.{Run, begun, partitions}
 use Rattle.replay_run.specs.Tables.{most_connections, unopened, no_connections, opened_at}
 use Rattle.replay_run.specs.ScriptRuns.{grid_begun}
 use Rattle.replay_run.specs.Tallies.{no_tally}
-use Rattle.replay_run.specs.Grids.{FormOf, GridWorld, IsWorld, Matches, HasTable, IsSettled, IsTally, AreListening, HasWorld, Stands}
+use Rattle.replay_run.specs.Grids.{FormOf, GridWorld, IsWorld, Matches, HasTable, HasWaiters, IsSettled, IsTally, AreListening, HasWorld, Stands}
 use Rattle.replay_run.proofs.TableChanges.{got_last, got_before, line_at}
 
 -- one world more
@@ -50,9 +50,9 @@ begun_settled : (members backups : ℕ) → IsSettled no_connections (begun memb
 begun_settled members backups c o k at there = absurd cc
 
 pub begun_stands : {V : Type 0} {T : V → Type 0} {form : FormOf V T} (grid : Grid V T) (env : GridEnv V T) (members backups : ℕ) → 1 ≤ members → grid.env ≡ env → grid.lines ≡ 1 → grid.members ≡ members → grid.links.items ≡ links_of members → grid.moments.items ≡ replicate members 0
-    → grid.connections ≡ no_connections → grid.tally ≡ no_tally → AreListening grid.listeners.items (begun members backups) None → grid.reopened.items ≡ []
+    → grid.connections ≡ no_connections → HasWaiters grid.waiters (begun members backups) → grid.tally ≡ no_tally → AreListening grid.listeners.items (begun members backups) None → grid.reopened.items ≡ []
     → ((p : ℕ) → p < partitions → HasWorld (settings_of form env) grid.worlds.items (begun members backups) p) → Stands form (settings_of form env) grid (begun members backups)
-begun_stands {form = form} grid env members backups some same lines own links moments table tally nobody none worlds = record {
+begun_stands {form = form} grid env members backups some same lines own links moments table waiters tally nobody none worlds = record {
   run = grid_begun members backups some;
   small = omega arith;
   few = λ p. omega arith;
@@ -66,6 +66,7 @@ begun_stands {form = form} grid env members backups some same lines own links mo
     moments = moments;
     clocks = length-replicate members 0;
     table = subst (λ t. HasTable t (begun members backups)) (sym table) (begun_table members backups);
+    waiters = waiters;
     tally = subst (λ t. IsTally t (begun members backups)) (sym tally) (record { arrived = refl; refused = refl; memory = refl });
     reopened = none;
     worlds = worlds;

@@ -1,5 +1,6 @@
 -- A run has no more calls than messages, and far fewer messages than bytes; a partition has few events; and what a line adds to those.
-use Rattle.std.proofs.Common.{◌≡◌, ◌≢◌, ℕ, ◌+◌, ◌*◌, ◌≤◌, ◌<◌, ◌^◌, ◌-◌, ◌==◌, Bool, true, false, cond, List, [], ◌∷◌, length, Option, Some, None, pos, refl, ap, sym, ◌∙◌, subst, ⊎_elim, inl, inr, arith, length-append}
+use Rattle.std.proofs.Common.{◌≡◌, ◌≢◌, ℕ, ◌+◌, ◌*◌, ◌≤◌, ◌<◌, ◌^◌, ◌-◌, ◌==◌, Bool, true, false, cond, List, [], ◌∷◌, ◌++◌, map, length, Option, Some, None, pos, refl, ap, sym, ◌∙◌, subst, ⊎_elim, inl, inr, arith, length-append}
+use Rattle.std.proofs.lemmas.List.{length-map}
 use Rattle.std.proofs.lemmas.List.Sums.{sum_by-cons, sum_by-append}
 use Rattle.std.specs.List.{find, sum_by}
 use Rattle.grid_base.specs.Errors.{want_of_memory}
@@ -10,7 +11,8 @@ use Rattle.object_store.specs.Partitions.{Partition}
 use Rattle.partition_protocol.specs.Events.{Event}
 use Rattle.partition_protocol.specs.Events as event
 use Rattle.partition_protocol.specs.Service.{numbers_below}
-use Rattle.partition_protocol.proofs.Lists.{In, contains_in, cases, on_if}
+use Rattle.partition_protocol.specs.Arrivals.{CallName, NamedOnce}
+use Rattle.partition_protocol.proofs.Lists.{In, in_cases, on_if}
 use Rattle.partition_protocol.proofs.RowFacts.{false_or_not}
 use Rattle.session_core.specs.declared.item.Item.{Item}
 use Rattle.session_core.specs.declared.item.Item.TheVariants.{Call as Asks, Wait, Register, Reply}
@@ -18,10 +20,9 @@ use Rattle.script_lang.specs.Limits.{most_lines}
 use Rattle.script_lang.specs.Lines.{IsWithin}
 use Rattle.script_lang.specs.declared.line.Line.{Line}
 use Rattle.script_lang.specs.declared.line.Line.TheVariants.{OpenConn, Arrive, Clock, Flow, FlowAll, Crash, Detect, Rebalance}
-use Rattle.replay_run.specs.Runs.{Run, At, Connection, Arrival, partitions, events_at, world_at, clock_set, is_connection, connection_of, messages_on, bytes_of, updated, takes_bytes, can_open, is_full, with_bytes, took_bytes, opened, next_line, items_by, told, refusal, arrival_at, happening, arrived, is_skipped, given_up, asked, asks, takes, takes_in, flowed, flowed_in, bytes_arrived, event_by, handled_all, unserved, registers}
+use Rattle.replay_run.specs.Runs.{Run, At, Connection, Arrival, partitions, world_at, clock_set, is_connection, connection_of, messages_on, bytes_of, updated, takes_bytes, can_open, is_full, with_bytes, took_bytes, opened, next_line, items_by, refusal, arrival_at, happening, arrived, is_skipped, given_up, asked, asks, waiter_at, waits, forsaken, clock_turned, takes, takes_in, flowed, flowed_in, bytes_arrived, event_by, handled, handled_all}
 use Rattle.replay_run.specs.AfterLines.{after_event, after_line}
-use Rattle.replay_run.specs.Linearizability.{Before}
-use Rattle.replay_run.specs.ScriptRuns.{IsRun}
+use Rattle.replay_run.specs.ScriptRuns.{IsRun, calls_in}
 use Rattle.replay_run.specs.Rebalancing.{most_line_events, rebalanced}
 use Rattle.replay_run.specs.Grids.{IsSmall, AreFew, most_arriving}
 use Rattle.replay_run.specs.WorldCalls.{HasRoom}
@@ -30,14 +31,15 @@ use Rattle.replay_run.proofs.Hearing.{header, messages_sized}
 use Rattle.replay_run.proofs.Items.{items_room}
 use Rattle.replay_run.proofs.Places.{same_number}
 use Rattle.replay_run.proofs.Trails.{find_some}
-use Rattle.replay_run.proofs.RunFacts.{AreApart, RunOk}
-use Rattle.replay_run.proofs.EventRuns.{Kept, kept_refl, takes_kept, takes_in_kept, flowed_kept, flowed_in_kept, events_more, takes_few, takes_in_few, flowed_few, flowed_in_few}
+use Rattle.replay_run.proofs.RunFacts.{AreApart, RunOk, arrival_name, waiter_name}
+use Rattle.replay_run.proofs.EventRuns.{Kept, Adds, kept_refl, takes_kept, takes_in_kept, flowed_kept, flowed_in_kept, served_in_kept, forsaken_kept, events_more, takes_few, takes_in_few, flowed_few, flowed_in_few, served_few, served_in_few, forsaken_few}
 use Rattle.replay_run.proofs.Rebalanced.{rebalanced_kept}
 use Rattle.replay_run.proofs.Planning.{rebalanced_few}
 use Rattle.replay_run.proofs.Arriving.{same_test, its_event}
+use Rattle.replay_run.proofs.Parts.{in_mapped}
 use Rattle.replay_run.proofs.RunsOfLines.{run_ok}
-use Rattle.replay_run.proofs.Lines.{connection_there, asks_come, handled_all_come}
-use Rattle.replay_run.proofs.SkipLaws.{event_kept, line_counts}
+use Rattle.replay_run.proofs.Lines.{connection_there, asked_come, handled_come, handled_all_come}
+use Rattle.replay_run.proofs.NamedFew.{numbers_fewer, once_both}
 
 -- sums
 
@@ -90,39 +92,18 @@ messages_fewer r = all_sized r.connections
 
 -- the calls of a connection
 
-abbrev pub is_on_conn : ℕ → Arrival → Bool
-is_on_conn c a = a.request.id.conn == c
-
--- numbers that rise below a bound are no more than it
-rising_fewer : (c low high : ℕ) (xs : List Arrival) → low ≤ high → ((a b : Arrival) → Before xs a b → a.request.id.conn ≡ b.request.id.conn → a.request.id.number < b.request.id.number)
-    → ((a : Arrival) → In a xs → a.request.id.conn ≡ c → (low ≤ a.request.id.number) × (a.request.id.number < high)) → count (is_on_conn c) xs + low ≤ high
-rising_fewer c low high [] l rising within = omega (arith, l)
-rising_fewer c low high (x ∷ xs) l rising within =
-    ⊎_elim (λ e. here e (λ m w. rising_fewer c (x.request.id.number + 1) high xs m (λ a b h. rising a b (inr h)) w))
-    (λ e. let rest = rising_fewer c low high xs l (λ a b h. rising a b (inr h)) (λ a i. within a (inr i)) in rw e (omega (arith, rest)))
-    (cases (is_on_conn c x))
-  where
-    here : is_on_conn c x ≡ true
-        → (x.request.id.number + 1 ≤ high → ((a : Arrival) → In a xs → a.request.id.conn ≡ c → (x.request.id.number + 1 ≤ a.request.id.number) × (a.request.id.number < high)) → count (is_on_conn c) xs + (x.request.id.number + 1) ≤ high)
-        → count (is_on_conn c) (x ∷ xs) + low ≤ high
-    here e more =
-        let conn = same_number x.request.id.conn c e in
-        let at = within x (inl refl) conn in
-        let rest = more (omega (arith, at.1)) (λ a i s.
-        (let later = rising x a (inl (refl, contains_in a xs i)) (conn ∙ sym s) in
-        let w = within a (inr i) s in
-        (omega (arith, later), w.1))) in
-        rw e (omega (arith, rest, at.0))
+abbrev pub is_on_conn : ℕ → CallName → Bool
+is_on_conn c name = name.conn == c
 
 -- each call is of a connection, so all calls are no more than those of each connection together
-all_counted : (xs : List Arrival) (ks : List Connection) → ((a : Arrival) → In a xs → (k : Connection) × In k ks × (a.request.id.conn ≡ k.conn))
-    → length xs ≤ sum_by (λ (k : Connection). count (is_on_conn k.conn) xs) ks
+all_counted : (names : List CallName) (ks : List Connection) → ((name : CallName) → In name names → (k : Connection) × In k ks × (name.conn ≡ k.conn))
+    → length names ≤ sum_by (λ (k : Connection). count (is_on_conn k.conn) names) ks
 all_counted [] ks h = omega arith
 all_counted (x ∷ xs) ks h =
     let rest = all_counted xs ks (λ a i. h a (inr i)) in
     let at = h x (inl refl) in
     let its = sum_has (λ (k : Connection). cond (is_on_conn k.conn x) 1 0) ks at.0 at.1 in
-    let test : is_on_conn at.0.conn x ≡ true = same_test x.request.id.conn at.0.conn at.2 in
+    let test : is_on_conn at.0.conn x ≡ true = same_test x.conn at.0.conn at.2 in
     let one = ap {B = ℕ} (λ b. cond b 1 0) test in
     let both = sum_both (λ (k : Connection). cond (is_on_conn k.conn x) 1 0) (λ (k : Connection). count (is_on_conn k.conn) xs) ks in
     omega (arith, rest, its, one, both)
@@ -137,30 +118,56 @@ apart_found (j ∷ js) k apart (inr i) =
 
 -- calls
 
-pub arrivals_fewer : {o : Object Request Partition} (r : Run) → IsRun o r → length r.arrivals ≤ messages_in r
+-- the names of all that arrived, waiting or not
+abbrev pub names_of : Run → List CallName
+names_of r = map arrival_name r.arrivals ++ map waiter_name r.waiters
+
+pub arrivals_fewer : {o : Object Request Partition} (r : Run) → IsRun o r → length r.arrivals + length r.waiters ≤ messages_in r
 arrivals_fewer {o} r is =
-    let all = all_counted r.arrivals r.connections there in
-    let each = sum_more (λ (k : Connection). count (is_on_conn k.conn) r.arrivals) messages_at r.connections fewer in
-    omega (arith, all, each)
+    let all = all_counted (names_of r) r.connections there in
+    let each = sum_more (λ (k : Connection). count (is_on_conn k.conn) (names_of r)) messages_at r.connections fewer in
+    let both = length-append (map arrival_name r.arrivals) (map waiter_name r.waiters) in
+    let ended = length-map r.arrivals arrival_name in
+    let waiting = length-map r.waiters waiter_name in
+    omega (arith, all, each, both, ended, waiting)
   where
     ok : RunOk o r
     ok = run_ok is
 
-    there : (a : Arrival) → In a r.arrivals → (k : Connection) × In k r.connections × (a.request.id.conn ≡ k.conn)
-    there a i =
-        let k = ok.of_arrivals.counted a i in
-        let found = find_some (is_connection a.request.id.conn) r.connections k.0 k.1 in
-        (k.0, found.0, sym (same_number k.0.conn a.request.id.conn found.1))
+    apart : (a b : CallName) → In a (map arrival_name r.arrivals) → In b (map waiter_name r.waiters) → a ≢ b
+    apart a b i j e =
+        let from = in_mapped arrival_name r.arrivals a i in
+        let to = in_mapped waiter_name r.waiters b j in
+        ok.of_waiters.apart from.0 to.0 from.1 to.1 (from.2 ∙ e ∙ sym to.2)
 
-    below : (k : Connection) → In k r.connections → (a : Arrival) → In a r.arrivals → a.request.id.conn ≡ k.conn → (0 ≤ a.request.id.number) × (a.request.id.number < length (messages_on k))
-    below k j a i e =
-        let c = ok.of_arrivals.counted a i in
+    once : NamedOnce (names_of r)
+    once = once_both (map arrival_name r.arrivals) (map waiter_name r.waiters) ok.of_arrivals.once ok.of_waiters.once apart
+
+    -- it is one of the messages of its connection
+    IsCounted : CallName → Type 0
+    IsCounted name = (k : Connection) × (connection_of r name.conn ≡ Some k) × (name.number < length (messages_on k))
+
+    counted : (name : CallName) → In name (names_of r) → IsCounted name
+    counted name i = ⊎_elim
+        (λ j. let from = in_mapped arrival_name r.arrivals name j in subst IsCounted from.2 (ok.of_arrivals.counted from.0 from.1))
+        (λ j. let from = in_mapped waiter_name r.waiters name j in subst IsCounted from.2 (ok.of_waiters.counted from.0 from.1))
+        (in_cases name (map arrival_name r.arrivals) (map waiter_name r.waiters) i)
+
+    there : (name : CallName) → In name (names_of r) → (k : Connection) × In k r.connections × (name.conn ≡ k.conn)
+    there name i =
+        let k = counted name i in
+        let found = find_some (is_connection name.conn) r.connections k.0 k.1 in
+        (k.0, found.0, sym (same_number k.0.conn name.conn found.1))
+
+    below : (k : Connection) → In k r.connections → (name : CallName) → In name (names_of r) → name.conn ≡ k.conn → name.number < length (messages_on k)
+    below k j name i e =
+        let c = counted name i in
         let found : Some c.0 ≡ Some k = sym c.1 ∙ ap (connection_of r) e ∙ apart_found r.connections k ok.connections j in
         let one : c.0 ≡ k = cc in
-        (omega arith, subst (λ (x : Connection). a.request.id.number < length (messages_on x)) one c.2)
+        subst (λ (x : Connection). name.number < length (messages_on x)) one c.2
 
-    fewer : (k : Connection) → In k r.connections → count (is_on_conn k.conn) r.arrivals ≤ messages_at k
-    fewer k j = let messages = rising_fewer k.conn 0 (length (messages_on k)) r.arrivals (omega arith) ok.of_arrivals.rising (below k j) in omega (arith, messages)
+    fewer : (k : Connection) → In k r.connections → count (is_on_conn k.conn) (names_of r) ≤ messages_at k
+    fewer k j = numbers_fewer k.conn (length (messages_on k)) (names_of r) once (below k j)
 
 -- what bytes add
 
@@ -225,42 +232,51 @@ opened_no_more r c member =
 pub handled_no_more : (o : Object Request Partition) (skips : List CallId) (r : Run) (k : Connection) (items : List Item) → bytes_of (handled_all o skips r k items) ≡ bytes_of r
 handled_no_more o skips r k items = ap (sum_by bytes_at) (handled_all_come o skips r k items).connections
 
--- what items add: one call at most for each, and no more events than calls
+-- What items add: no more events than calls that come to their end.
+
+-- what adds no event but those of arrivals leaves few
+pub adds_few : (r next : Run) → next.lines ≡ r.lines → ((q : ℕ) → Adds q 0 r next) → AreFew r → AreFew next
+adds_few r next lines adds few p = let f = few p in let more = adds p in omega (arith, f, more, lines)
 
 module _ (o : Object Request Partition) (skips : List CallId) where
-  pub asked_few : (r : Run) (a : Arrival) → AreFew r → AreFew (asked o skips r a)
-  asked_few r a few p = go (is_skipped skips a.request.id)
+  asked_adds : (r : Run) (own : Option ℕ) (a : Arrival) (q : ℕ) → Adds q 0 r (asked o skips r own a)
+  asked_adds r own a q = go (is_skipped skips a.request.id)
     where
-      go : (b : Bool) → let next = cond b (arrived r a [] (refusal a.line a.request (pos want_of_memory) 0 ∷ [])) (arrived r a (its_event a ∷ []) (happening o r a)) in
-          length (events_at p next.events) ≤ length next.arrivals + most_line_events * next.lines
-      go true = let f = few p in let more = events_more p r.events [] in let come = length-append r.arrivals (a ∷ []) in omega (arith, f, more, come)
-      go false = let f = few p in let more = events_more p r.events (its_event a ∷ []) in let come = length-append r.arrivals (a ∷ []) in omega (arith, f, more, come)
+      go : (b : Bool) → Adds q 0 r (cond b (arrived r a [] (refusal a.made a.request (pos want_of_memory) 0 ∷ [])) (arrived r a (its_event a ∷ []) (happening o r own a)))
+      go true = let more = events_more q r.events [] in let come = length-append r.arrivals (a ∷ []) in omega (arith, more, come)
+      go false = let more = events_more q r.events (its_event a ∷ []) in let come = length-append r.arrivals (a ∷ []) in omega (arith, more, come)
 
-  asks_few : (r : Run) (a : Arrival) → AreFew r → AreFew (asks o skips r a)
-  asks_few r a few = on_if AreFew (is_full (world_at o r a.request.partition)) (given_up (arrived r a [] [])) (asked o skips r a) unasked (asked_few r a few)
-    where
-      unasked : AreFew (given_up (arrived r a [] []))
-      unasked p = let f = few p in let more = events_more p r.events [] in let come = length-append r.arrivals (a ∷ []) in omega (arith, f, more, come)
+  pub asked_few : (r : Run) (own : Option ℕ) (a : Arrival) → AreFew r → AreFew (asked o skips r own a)
+  asked_few r own a few = adds_few r (asked o skips r own a) (asked_come o skips r own a).lines (asked_adds r own a) few
+
+  asks_adds : (r : Run) (own : Option ℕ) (a : Arrival) (q : ℕ) → Adds q 0 r (asks o skips r own a)
+  asks_adds r own a q = on_if (Adds q 0 r) (is_full (world_at o r a.request.partition)) (given_up (arrived r a [] [])) (asked o skips r own a)
+      (let more = events_more q r.events [] in let come = length-append r.arrivals (a ∷ []) in omega (arith, more, come)) (asked_adds r own a q)
+
+  handled_adds : (r : Run) (k : Connection) (item : Item) (q : ℕ) → Adds q 0 r (handled o skips r k item)
+  handled_adds r k (Reply bytes) q = omega arith
+  handled_adds r k (Wait request timeout) q = let more = served_few o skips (waits r (waiter_at r k.member request timeout)) (Some request.id.conn) request.partition k.member q in omega (arith, more)
+  handled_adds r k (Register registration) q = omega arith
+  handled_adds r k (Asks request) q =
+      let own = Some request.id.conn in
+      let one = asks_adds r own (arrival_at r k.member request) q in
+      let more = served_few o skips (asks o skips r own (arrival_at r k.member request)) own request.partition k.member q in
+      omega (arith, one, more)
 
   pub handled_few : (r : Run) (k : Connection) (items : List Item) → AreFew r → AreFew (handled_all o skips r k items)
   handled_few r k [] few = few
-  handled_few r k (Reply bytes ∷ items) few = handled_few (told r k.conn bytes) k items few
-  handled_few r k (Wait request timeout ∷ items) few = handled_few (told r k.conn (unserved request.correlation)) k items few
-  handled_few r k (Register registration ∷ items) few = handled_few (registers o r k.conn k.member registration) k items few
-  handled_few r k (Asks request ∷ items) few = handled_few (asks o skips r (arrival_at r k.member request)) k items (asks_few r (arrival_at r k.member request) few)
+  handled_few r k (item ∷ items) few = handled_few (handled o skips r k item) k items (adds_few r (handled o skips r k item) (handled_come o skips r k item).lines (handled_adds r k item) few)
 
-  asks_arrivals : (r : Run) (a : Arrival) → length (asks o skips r a).arrivals ≤ length r.arrivals + 1
-  asks_arrivals r a = let whole = ap length (asks_come o skips r a).arrivals in let more = length-append r.arrivals (a ∷ []) in omega (arith, whole, more)
+  -- each item brings one call at most
+  calls_fewer : (items : List Item) → length (calls_in items) ≤ length items
+  calls_fewer [] = omega arith
+  calls_fewer (Reply bytes ∷ items) = let rest = calls_fewer items in omega (arith, rest)
+  calls_fewer (Wait request timeout ∷ items) = let rest = calls_fewer items in omega (arith, rest)
+  calls_fewer (Register registration ∷ items) = let rest = calls_fewer items in omega (arith, rest)
+  calls_fewer (Asks request ∷ items) = let rest = calls_fewer items in omega (arith, rest)
 
-  pub handled_arrivals : (r : Run) (k : Connection) (items : List Item) → length (handled_all o skips r k items).arrivals ≤ length r.arrivals + length items
-  handled_arrivals r k [] = omega arith
-  handled_arrivals r k (Reply bytes ∷ items) = let rest = handled_arrivals (told r k.conn bytes) k items in omega (arith, rest)
-  handled_arrivals r k (Wait request timeout ∷ items) = let rest = handled_arrivals (told r k.conn (unserved request.correlation)) k items in omega (arith, rest)
-  handled_arrivals r k (Register registration ∷ items) = let rest = handled_arrivals (registers o r k.conn k.member registration) k items in omega (arith, rest)
-  handled_arrivals r k (Asks request ∷ items) =
-      let one = asks_arrivals r (arrival_at r k.member request) in
-      let rest = handled_arrivals (asks o skips r (arrival_at r k.member request)) k items in
-      omega (arith, one, rest)
+  pub handled_calls : (r : Run) (k : Connection) (items : List Item) → let next = handled_all o skips r k items in length next.arrivals + length next.waiters ≤ length r.arrivals + length r.waiters + length items
+  handled_calls r k items = let come = (handled_all_come o skips r k items).come in let fewer = calls_fewer items in omega (arith, come, fewer)
 
   -- lines
 
@@ -273,11 +289,19 @@ module _ (o : Object Request Partition) (skips : List CallId) where
   pub opened_few : (r : Run) (c member : ℕ) → AreFew r → AreFew (opened r c member)
   opened_few r c member few p = let f = few p in omega (arith, f)
 
-  pub clock_few : (r : Run) (member moment : ℕ) → AreFew r → AreFew (clock_set r member moment)
-  clock_few r member moment few p = let f = few p in omega (arith, f)
+  pub clock_few : (r : Run) (member moment : ℕ) → AreFew r → AreFew (clock_turned o skips r member moment)
+  clock_few r member moment few p =
+      let f = few p in
+      let set = clock_set r member moment in
+      let more = served_in_few o skips set member (numbers_below partitions) p in
+      let lines = (served_in_kept o skips set member (numbers_below partitions)).lines in
+      omega (arith, f, more, lines)
 
   bytes_few : (r : Run) (k : Connection) (bytes : List ℕ) → AreFew r → AreFew (bytes_arrived o skips r k bytes)
-  bytes_few r k bytes few = on_if AreFew (takes_bytes o r k) (handled_all o skips (took_bytes r k bytes) k (items_by k bytes)) (next_line r) (handled_few (took_bytes r k bytes) k (items_by k bytes) (took_few r k bytes few)) (next_few r few)
+  bytes_few r k bytes few =
+      let all = handled_all o skips (took_bytes r k bytes) k (items_by k bytes) in
+      on_if AreFew (takes_bytes o r k) (forsaken all k.conn) (next_line r)
+      (adds_few all (forsaken all k.conn) (forsaken_kept all k.conn).lines (forsaken_few all k.conn) (handled_few (took_bytes r k bytes) k (items_by k bytes) (took_few r k bytes few))) (next_few r few)
 
   found_few : (r : Run) (bytes : List ℕ) (found : Option Connection) → AreFew r → AreFew (elim found [ None ↦ next_line r | Some k ↦ bytes_arrived o skips r k bytes ])
   found_few r bytes None few = next_few r few
@@ -285,45 +309,72 @@ module _ (o : Object Request Partition) (skips : List CallId) where
 
 -- what lines of events add: 5,014 events of a partition at most
 
-module _ (o : Object Request Partition) (r : Run) (few : AreFew r) where
-  kept_few : (next : Run) (most : ℕ) → most ≤ most_line_events → Kept (next_line r) next → ((p : ℕ) → length (events_at p next.events) ≤ length (events_at p r.events) + most) → AreFew next
+module _ (o : Object Request Partition) (skips : List CallId) (r : Run) (few : AreFew r) where
+  kept_few : (next : Run) (most : ℕ) → most ≤ most_line_events → Kept (next_line r) next → ((p : ℕ) → Adds p most (next_line r) next) → AreFew next
   kept_few next most size kept more p =
       let f = few p in
       let m = more p in
-      let come = ap length kept.arrivals in
       let lines = kept.lines in
-      omega (arith, size, f, m, come, lines)
+      omega (arith, size, f, m, lines)
 
-  pub event_line_few : (e : Option At) → AreFew (after_event o (next_line r) e)
+  pub event_line_few : (e : Option At) → AreFew (after_event o skips (next_line r) e)
   event_line_few None = kept_few (next_line r) 0 (omega arith) (kept_refl (next_line r)) (λ p. omega arith)
-  event_line_few (Some e) = kept_few (takes o (next_line r) e.partition e.event) 1 (omega arith) (takes_kept o (next_line r) e.partition e.event) (takes_few o (next_line r) e.partition e.event)
+  event_line_few (Some e) = kept_few (takes o skips (next_line r) e.partition e.event) 1 (omega arith) (takes_kept o skips (next_line r) e.partition e.event) (takes_few o skips (next_line r) e.partition e.event)
 
-  pub flow_few : (p most : ℕ) → most ≤ 1000 → AreFew (flowed o (next_line r) p most)
-  flow_few p most size = kept_few (flowed o (next_line r) p most) most (omega (arith, size)) (flowed_kept o (next_line r) p most) (flowed_few o (next_line r) p most)
+  pub flow_few : (p most : ℕ) → most ≤ 1000 → AreFew (flowed o skips (next_line r) p most)
+  flow_few p most size = kept_few (flowed o skips (next_line r) p most) most (omega (arith, size)) (flowed_kept o skips (next_line r) p most) (flowed_few o skips (next_line r) p most)
 
-  pub flow_all_few : (most : ℕ) → most ≤ 1000 → AreFew (flowed_in o (next_line r) most (numbers_below partitions))
+  pub flow_all_few : (most : ℕ) → most ≤ 1000 → AreFew (flowed_in o skips (next_line r) most (numbers_below partitions))
   flow_all_few most size =
-      kept_few (flowed_in o (next_line r) most (numbers_below partitions)) most (omega (arith, size)) (flowed_in_kept o (next_line r) most (numbers_below partitions))
-      (flowed_in_few o (next_line r) most partitions)
+      kept_few (flowed_in o skips (next_line r) most (numbers_below partitions)) most (omega (arith, size)) (flowed_in_kept o skips (next_line r) most (numbers_below partitions))
+      (flowed_in_few o skips (next_line r) most partitions)
 
-  pub rebalance_few : (most : ℕ) → AreFew (rebalanced o (next_line r) most)
-  rebalance_few most = kept_few (rebalanced o (next_line r) most) most_line_events (omega arith) (rebalanced_kept o (next_line r) most) (rebalanced_few o (next_line r) most)
+  pub rebalance_few : (most : ℕ) → AreFew (rebalanced o skips (next_line r) most)
+  rebalance_few most = kept_few (rebalanced o skips (next_line r) most) most_line_events (omega arith) (rebalanced_kept o skips (next_line r) most) (rebalanced_few o (next_line r) skips most)
 
-  pub in_all_few : (event : Event Request) → AreFew (takes_in o (next_line r) event (numbers_below partitions))
+  pub in_all_few : (event : Event Request) → AreFew (takes_in o skips (next_line r) event (numbers_below partitions))
   in_all_few event =
-      kept_few (takes_in o (next_line r) event (numbers_below partitions)) 1 (omega arith) (takes_in_kept o (next_line r) event (numbers_below partitions)) (takes_in_few o (next_line r) event partitions)
+      kept_few (takes_in o skips (next_line r) event (numbers_below partitions)) 1 (omega arith) (takes_in_kept o skips (next_line r) event (numbers_below partitions)) (takes_in_few o skips (next_line r) event partitions)
 
 -- A line within its limits adds 5,014 events of a partition at most beside those of its calls.
 pub stays_few : (o : Object Request Partition) (skips : List CallId) (r : Run) (members size : ℕ) (line : Line) → IsWithin members size line → AreFew r → AreFew (after_line o skips r line)
 stays_few o skips r members size (OpenConn c member) within few = on_if AreFew (can_open o r c member) (opened r c member) (next_line r) (opened_few o skips r c member few) (next_few o skips r few)
 stays_few o skips r members size (Arrive c bytes) within few = found_few o skips r bytes (connection_of r c) few
 stays_few o skips r members size (Clock member moment) within few = clock_few o skips r member moment few
-stays_few o skips r members size (Flow partition most) within few = flow_few o r few partition most within.2
-stays_few o skips r members size (FlowAll most) within few = flow_all_few o r few most within.1
-stays_few o skips r members size (Crash member) within few = in_all_few o r few (event.Crash member)
-stays_few o skips r members size (Detect member) within few = in_all_few o r few (event.Detect member)
-stays_few o skips r members size (Rebalance most) within few = rebalance_few o r few most
-stays_few o skips r members size line within few = event_line_few o r few (event_by line)
+stays_few o skips r members size (Flow partition most) within few = flow_few o skips r few partition most within.2
+stays_few o skips r members size (FlowAll most) within few = flow_all_few o skips r few most within.1
+stays_few o skips r members size (Crash member) within few = in_all_few o skips r few (event.Crash member)
+stays_few o skips r members size (Detect member) within few = in_all_few o skips r few (event.Detect member)
+stays_few o skips r members size (Rebalance most) within few = rebalance_few o skips r few most
+stays_few o skips r members size line within few = event_line_few o skips r few (event_by line)
+
+-- an event, if the line is one
+pub event_kept : (o : Object Request Partition) (skips : List CallId) (r : Run) (e : Option At) → Kept r (after_event o skips r e)
+event_kept o skips r None = kept_refl r
+event_kept o skips r (Some e) = takes_kept o skips r e.partition e.event
+
+-- Each line is counted.
+module _ (o : Object Request Partition) (skips : List CallId) (r : Run) where
+  abbrev IsCountedIn : Run → Type 0
+  IsCountedIn next = next.lines ≡ r.lines + 1
+
+  bytes_counted : (bytes : List ℕ) (found : Option Connection) → IsCountedIn (elim found [ None ↦ next_line r | Some k ↦ bytes_arrived o skips r k bytes ])
+  bytes_counted bytes None = refl
+  bytes_counted bytes (Some k) =
+      let all = handled_all o skips (took_bytes r k bytes) k (items_by k bytes) in
+      on_if IsCountedIn (takes_bytes o r k) (forsaken all k.conn) (next_line r)
+      ((forsaken_kept all k.conn).lines ∙ (handled_all_come o skips (took_bytes r k bytes) k (items_by k bytes)).lines) refl
+
+  pub line_lines : (line : Line) → IsCountedIn (after_line o skips r line)
+  line_lines (OpenConn c member) = on_if IsCountedIn (can_open o r c member) (opened r c member) (next_line r) refl refl
+  line_lines (Arrive c bytes) = bytes_counted bytes (connection_of r c)
+  line_lines (Clock member moment) = (served_in_kept o skips (clock_set r member moment) member (numbers_below partitions)).lines
+  line_lines (Flow partition most) = (flowed_kept o skips (next_line r) partition most).lines
+  line_lines (FlowAll most) = (flowed_in_kept o skips (next_line r) most (numbers_below partitions)).lines
+  line_lines (Crash member) = (takes_in_kept o skips (next_line r) (event.Crash member) (numbers_below partitions)).lines
+  line_lines (Detect member) = (takes_in_kept o skips (next_line r) (event.Detect member) (numbers_below partitions)).lines
+  line_lines (Rebalance most) = (rebalanced_kept o skips (next_line r) most).lines
+  line_lines line = (event_kept o skips (next_line r) (event_by line)).lines
 
 -- the bytes of a line
 abbrev pub length_of : Line → ℕ
@@ -336,11 +387,15 @@ module _ {o : Object Request Partition} (skips : List CallId) (r : Run) (is : Is
   bytes_more c bytes None there = omega arith
   bytes_more c bytes (Some k) there = go (takes_bytes o r k)
     where
-      go : (takes : Bool) → bytes_of (cond takes (handled_all o skips (took_bytes r k bytes) k (items_by k bytes)) (next_line r)) ≤ bytes_of r + length bytes
+      all : Run
+      all = handled_all o skips (took_bytes r k bytes) k (items_by k bytes)
+
+      go : (takes : Bool) → bytes_of (cond takes (forsaken all k.conn) (next_line r)) ≤ bytes_of r + length bytes
       go true =
-          let all = handled_no_more o skips (took_bytes r k bytes) k (items_by k bytes) in
+          let same = handled_no_more o skips (took_bytes r k bytes) k (items_by k bytes) in
+          let closed = ap (sum_by bytes_at) (forsaken_kept all k.conn).connections in
           let more = bytes_taken_more r k bytes is (connection_there r c k there) in
-          omega (arith, all, more)
+          omega (arith, same, closed, more)
       go false = omega arith
 
   open_more : (c member : ℕ) (opens : Bool) → bytes_of (cond opens (opened r c member) (next_line r)) ≤ bytes_of r + 0
@@ -354,19 +409,19 @@ module _ {o : Object Request Partition} (skips : List CallId) (r : Run) (is : Is
   pub line_adds : (line : Line) → bytes_of (after_line o skips r line) ≤ bytes_of r + length_of line
   line_adds (OpenConn c member) = open_more c member (can_open o r c member)
   line_adds (Arrive c bytes) = bytes_more c bytes (connection_of r c) refl
-  line_adds (Clock member moment) = omega arith
-  line_adds (Flow partition most) = kept_no_more (flowed o (next_line r) partition most) (flowed_kept o (next_line r) partition most)
-  line_adds (FlowAll most) = kept_no_more (flowed_in o (next_line r) most (numbers_below partitions)) (flowed_in_kept o (next_line r) most (numbers_below partitions))
-  line_adds (Crash member) = kept_no_more (takes_in o (next_line r) (event.Crash member) (numbers_below partitions)) (takes_in_kept o (next_line r) (event.Crash member) (numbers_below partitions))
-  line_adds (Detect member) = kept_no_more (takes_in o (next_line r) (event.Detect member) (numbers_below partitions)) (takes_in_kept o (next_line r) (event.Detect member) (numbers_below partitions))
-  line_adds (Rebalance most) = kept_no_more (rebalanced o (next_line r) most) (rebalanced_kept o (next_line r) most)
-  line_adds line = kept_no_more (after_event o (next_line r) (event_by line)) (event_kept o (next_line r) (event_by line))
+  line_adds (Clock member moment) = let same = ap (sum_by bytes_at) (served_in_kept o skips (clock_set r member moment) member (numbers_below partitions)).connections in omega (arith, same)
+  line_adds (Flow partition most) = kept_no_more (flowed o skips (next_line r) partition most) (flowed_kept o skips (next_line r) partition most)
+  line_adds (FlowAll most) = kept_no_more (flowed_in o skips (next_line r) most (numbers_below partitions)) (flowed_in_kept o skips (next_line r) most (numbers_below partitions))
+  line_adds (Crash member) = kept_no_more (takes_in o skips (next_line r) (event.Crash member) (numbers_below partitions)) (takes_in_kept o skips (next_line r) (event.Crash member) (numbers_below partitions))
+  line_adds (Detect member) = kept_no_more (takes_in o skips (next_line r) (event.Detect member) (numbers_below partitions)) (takes_in_kept o skips (next_line r) (event.Detect member) (numbers_below partitions))
+  line_adds (Rebalance most) = kept_no_more (rebalanced o skips (next_line r) most) (rebalanced_kept o skips (next_line r) most)
+  line_adds line = kept_no_more (after_event o skips (next_line r) (event_by line)) (event_kept o skips (next_line r) (event_by line))
 
   -- and so many lines have no more bytes than their texts have room for
   pub stays_small : (line : Line) → IsSmall r → 2 * length_of line ≤ most_arriving → IsSmall (after_line o skips r line)
   stays_small line small size =
       let adds = line_adds line in
-      let lines = (line_counts o skips r line).lines in
+      let lines = line_lines o skips r line in
       omega (arith, small, size, adds, lines)
 
 -- lines that leave the connections as they are

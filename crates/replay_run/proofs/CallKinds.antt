@@ -77,4 +77,4 @@ pub every_call_counts_once : EveryCallCountsOnce
 every_call_counts_once settings members backups skips lines grid =
     let r = after_lines (partition_object settings) skips (begun members backups) lines in
     let ok : RunOk (partition_object settings) r = run_ok (lines_run skips (begun members backups) lines (grid_begun members backups grid)) in
-    record { kinds = λ a there. one_kind (partition_object settings) r ok a; all = kinds_of_all (partition_object settings) r ok }
+    record { kinds = λ a there. one_kind (partition_object settings) r ok a; all = let all = kinds_of_all (partition_object settings) r ok in omega (arith, all) }

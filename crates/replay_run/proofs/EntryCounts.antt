@@ -112,7 +112,7 @@ by_numbers {X = X} number (x ∷ xs) n =
 -- a log has its calls, and a reset for each line
 length_stamped : (come : List Arrival) (since now : ℕ) (lines : List ℕ) (es : List (Entry Request)) → AreStamped come since now lines es → length es ≡ length (executed es) + length lines
 length_stamped come since now lines [] h = let none = ap length h.0 in omega (arith, none)
-length_stamped come since now lines (Called x ∷ es) (a, i, e, l, h) = let rest = length_stamped come a.line now lines es h in omega (arith, rest)
+length_stamped come since now lines (Called x ∷ es) (a, i, e, l, h) = let rest = length_stamped come a.made now lines es h in omega (arith, rest)
 length_stamped come since now [] (Reset version ∷ es) h = absurd h
 length_stamped come since now (line ∷ lines) (Reset version ∷ es) (l, h) = let rest = length_stamped come line now lines es h in omega (arith, rest)
 
@@ -142,4 +142,4 @@ module _ {State : Type 0} (o : Object Request State) (r : Run) (ok : RunOk o r) 
 pub entries_fit : (o : Object Request Partition) (r : Run) → IsRun o r → IsSmall r → IsBounded r → sum_by (entries_at o r) (numbers_below partitions) < 2 ^ 32
 entries_fit o r is small bounded =
     few_entries (sum_by (entries_at o r) (numbers_below partitions)) (length r.arrivals) (length r.reopened) (messages_in r) (bytes_of r) r.lines
-    (all_entries_few o r (run_ok is) partitions) (arrivals_fewer r is) (messages_fewer r) small bounded.reopenings bounded.lines
+    (all_entries_few o r (run_ok is) partitions) (let fewer = arrivals_fewer r is in omega (arith, fewer)) (messages_fewer r) small bounded.reopenings bounded.lines

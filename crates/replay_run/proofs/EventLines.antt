@@ -1,7 +1,7 @@
 -- The lines of events: the run goes on from its next line, whose text is the outcome and the messages.
-use Rattle.std.proofs.Common.{◌≡◌, ℕ, ◌+◌, ◌≤◌, ◌<◌, true, false, List, [], ◌++◌, length, Some, refl, ap, sym, ◌∙◌, subst, append-nil, append_assoc, arith}
+use Rattle.std.proofs.Common.{◌≡◌, ℕ, ◌+◌, ◌≤◌, ◌<◌, false, List, [], ◌++◌, Some, refl, ap, sym, ◌∙◌, subst, append-nil, append_assoc, arith}
 use Rattle.std.specs.List.{find, flat_map}
-use Rattle.std.proofs.lemmas.List.{length-drop}
+use Rattle.grid_base.specs.declared.names.CallId.{CallId}
 use Rattle.partition_protocol.specs.Arrivals.{asked_by}
 use Rattle.partition_protocol.specs.Events as event
 use Rattle.partition_protocol.specs.Service.{numbers_below}
@@ -15,16 +15,17 @@ use Rattle.script_lang.specs.declared.line.Line.TheVariants.{Grid as Begin, Open
 use Rattle.replay_run.specs.declared.events.Fate.{Fate}
 use Rattle.replay_run.specs.declared.events.Fate.TheVariants as fate
 use Rattle.replay_run.specs.declared.grid.Grid.{Grid}
-use Rattle.replay_run.specs.Runs.{Run, At, partitions, is_connection, world_at, next_line, event_by, meets_full, takes, takes_in}
+use Rattle.replay_run.specs.Runs.{Run, At, partitions, is_connection, next_line, event_by, takes, takes_in}
 use Rattle.replay_run.specs.AfterLines.{after_line}
-use Rattle.replay_run.specs.Printing.{does_nothing, line_close, line_dump, line_links, line_text, printed_by, entry_text, outcome_text, outcome_at, words_line, words_of, done_word, fate_words, flow_text, new_events, line_messages, new_messages}
+use Rattle.replay_run.specs.Printing.{does_nothing, line_close, line_dump, line_links, line_text, printed_by, entry_text, outcome_text, outcome_at, words_line, words_of, done_word, fate_words, flow_text, deliveries, line_messages, new_messages}
 use Rattle.replay_run.specs.Rebalancing.{most_line_events}
+use Rattle.replay_run.specs.Endings.{new_arrivals, AreAmong}
 use Rattle.replay_run.specs.Skips.{AreOfLine}
 use Rattle.replay_run.specs.ScriptRuns.{IsRun, line_counted}
 use Rattle.replay_run.specs.Grids.{FormOf, IsSmall, AreFew, IsBounded, Stands, HasRun, IsGivenUp}
-use Rattle.replay_run.specs.WorldCalls.{texts_of, event_in_all, line_of_fate, HasRoomAt, IsAmid, HasGoneOn}
+use Rattle.replay_run.specs.WorldCalls.{texts_of, event_in_all, line_of_fate, HasRoomAt, IsAmid, HasGoneOn, Onward, GivesUpSo}
 use Rattle.replay_run.proofs.Bounds.{messages_fewer, arrivals_fewer, kept_small}
-use Rattle.replay_run.proofs.EventRuns.{Kept, takes_nothing}
+use Rattle.replay_run.proofs.EventRuns.{Kept}
 use Rattle.replay_run.proofs.GridLines.{counted, next_holds}
 use Rattle.replay_run.proofs.LineBounds.{line_bounded}
 use Rattle.replay_run.proofs.LineTexts.{text_with}
@@ -49,31 +50,35 @@ line_room settings r run small few lines p most size =
 pub stands_room : {V : Type 0} {T : V → Type 0} {form : FormOf V T} {settings : Settings} (grid : Grid V T) (r : Run) → Stands form settings grid r → r.lines + 1 ≤ most_lines → (p most : ℕ) → most ≤ most_line_events → HasRoomAt (next_line r) p most
 stands_room {settings = settings} grid r s = line_room settings r s.run s.small s.few
 
--- A line of events brings no call.
+-- a line of which no call found no memory
 pub no_calls : (settings : Settings) (r : Run) (line : ScriptLine) → AreOfLine (partition_object settings) r line []
 no_calls settings r line id there = absurd (in_contains id [] there)
 
-pub line_given_up : (settings : Settings) (r : Run) (line : ScriptLine) → (after_line (partition_object settings) [] r line).full ≡ true → IsGivenUp settings r line
-line_given_up settings r line full = record { skips = []; of_line = no_calls settings r line; full = full }
+pub line_given_up : (settings : Settings) (r : Run) (line : ScriptLine) (onward : Onward) → ((skips : List CallId) → after_line (partition_object settings) skips r line ≡ onward skips) → GivesUpSo (next_line r) onward → IsGivenUp settings r line
+line_given_up settings r line onward after up = record {
+  skips = up.skips;
+  of_line = subst (λ (x : Run). AreAmong (new_arrivals r x) up.skips) (sym (after up.skips)) up.own;
+  full = ap (λ (x : Run). x.full) (after up.skips) ∙ up.full;
+}
 
 -- It prints its outcome and its messages alone.
-pub record PrintsMessages (settings : Settings) (r next : Run) (line : ScriptLine) : Type 0 where
+pub record PrintsMessages (settings : Settings) (skips : List CallId) (r next : Run) (line : ScriptLine) : Type 0 where
   pub goes : does_nothing (partition_object settings) r line ≡ false
-  pub said : line_messages settings r line next ≡ texts_of (new_messages r next)
+  pub said : line_messages settings skips r line next ≡ texts_of (new_messages r next)
   pub close : line_close next line ≡ []
   pub dump : line_dump (partition_object settings) next line ≡ []
   pub links : line_links settings next line ≡ []
   pub printed : printed_by (partition_object settings) next line ≡ []
 
-module _ {V : Type 0} {T : V → Type 0} {form : FormOf V T} {settings : Settings} (grid new : Grid V T) (r next : Run) (line : ScriptLine) (s : Stands form settings grid r) (limit : r.lines + 1 ≤ most_lines)
-    (after : after_line (partition_object settings) [] r line ≡ next) (kept : Kept (next_line r) next) (few : AreFew next) (prints : PrintsMessages settings r next line)
+module _ {V : Type 0} {T : V → Type 0} {form : FormOf V T} {settings : Settings} (grid new : Grid V T) (r : Run) (skips : List CallId) (next : Run) (line : ScriptLine) (s : Stands form settings grid r) (limit : r.lines + 1 ≤ most_lines)
+    (after : after_line (partition_object settings) skips r line ≡ next) (own : AreAmong (new_arrivals r next) skips) (kept : Kept (next_line r) next) (few : AreFew next) (prints : PrintsMessages settings skips r next line)
     (start said : List ℕ) (on : HasGoneOn form settings new (next_line r) next start said) where
   stands_now : Stands form settings new next
   stands_now = record {
     run = on.amid.run;
     small = kept_small r next kept s.small;
     few = few;
-    bounded = subst IsBounded after (line_bounded (partition_object settings) [] r limit s.bounded line);
+    bounded = subst IsBounded after (line_bounded (partition_object settings) skips r limit s.bounded line);
     holds = on.amid.holds;
     listeners = on.amid.listeners;
     settled = on.amid.settled;
@@ -83,29 +88,29 @@ module _ {V : Type 0} {T : V → Type 0} {form : FormOf V T} {settings : Setting
   abbrev parts : List ℕ
   parts = outcome_text settings r line next ++ texts_of on.messages
 
-  its_text : line_text settings r line next ≡ outcome_text settings r line next ++ texts_of on.messages
+  its_text : line_text settings skips r line next ≡ outcome_text settings r line next ++ texts_of on.messages
   its_text =
-      text_with settings r next line on.messages prints.goes prints.said on.appended
+      text_with settings skips r next line on.messages prints.goes prints.said on.appended
       ∙ (λ i. parts ++ prints.close i ++ prints.dump i ++ prints.links i ++ flat_map (entry_text next.lines) (prints.printed i))
       ∙ append-nil (parts ++ [] ++ [] ++ []) ∙ append-nil (parts ++ [] ++ []) ∙ append-nil (parts ++ []) ∙ append-nil parts
 
   pub events_line : (outcome written mid text : List ℕ) → start ≡ [] → outcome ≡ outcome_text settings r line next → mid ≡ written ++ outcome → text ≡ mid ++ said → HasRun form settings new r line written text
   events_line outcome written mid text none outcome_is began is = record {
-    skips = [];
-    of_line = no_calls settings r line;
+    skips = skips;
+    of_line = subst (λ (x : Run). AreAmong (new_arrivals r x) skips) (sym after) own;
     stands = subst (Stands form settings new) (sym after) stands_now;
     added =
         is ∙ (λ i. (began ∙ ap (λ xs. written ++ xs) outcome_is) i ++ (on.added ∙ ap (λ xs. xs ++ texts_of on.messages) none) i)
         ∙ append_assoc written (outcome_text settings r line next) (texts_of on.messages)
-        ∙ ap (λ xs. written ++ xs) (sym (ap (λ (x : Run). line_text settings r line x) after ∙ its_text));
+        ∙ ap (λ xs. written ++ xs) (sym (ap (λ (x : Run). line_text settings skips r line x) after ∙ its_text));
   }
 
 -- one event of a partition
 
 pub record IsOfEvent (settings : Settings) (r : Run) (line : ScriptLine) (e : At) : Type 0 where
-  pub after : after_line (partition_object settings) [] r line ≡ takes (partition_object settings) (next_line r) e.partition e.event
+  pub after : (skips : List CallId) → after_line (partition_object settings) skips r line ≡ takes (partition_object settings) skips (next_line r) e.partition e.event
   pub outcome : (next : Run) → words_line next.lines (words_of (done_word e.event) (outcome_at (partition_object settings) r e.partition e.event)) ≡ outcome_text settings r line next
-  pub prints : (next : Run) → PrintsMessages settings r next line
+  pub prints : (skips : List CallId) (next : Run) → PrintsMessages settings skips r next line
   pub unasked : asked_by e.event ≡ []
   pub within : (members size : ℕ) → IsWithin members size line → e.partition < partitions
 
@@ -115,23 +120,23 @@ module _ (settings : Settings) (r : Run) where
 
   pub of_event : (line : ScriptLine) (e : At) → event_by line ≡ Some e → IsOfEvent settings r line e
   of_event (Deliver p from to place) e same = same_event (Deliver p from to place) (record { partition = p; event = event.Deliver from to place }) e same
-      (record { after = refl; outcome = λ next. refl; prints = λ next. record { goes = refl; said = refl; close = refl; dump = refl; links = refl; printed = refl }; unasked = refl; within = λ members size h. (let low = h.0 in omega (arith, low)) })
+      (record { after = λ skips. refl; outcome = λ next. refl; prints = λ skips next. record { goes = refl; said = refl; close = refl; dump = refl; links = refl; printed = refl }; unasked = refl; within = λ members size h. (let low = h.0 in omega (arith, low)) })
   of_event (Lose p from to place) e same = same_event (Lose p from to place) (record { partition = p; event = event.Lose from to place }) e same
-      (record { after = refl; outcome = λ next. refl; prints = λ next. record { goes = refl; said = refl; close = refl; dump = refl; links = refl; printed = refl }; unasked = refl; within = λ members size h. (let low = h.0 in omega (arith, low)) })
+      (record { after = λ skips. refl; outcome = λ next. refl; prints = λ skips next. record { goes = refl; said = refl; close = refl; dump = refl; links = refl; printed = refl }; unasked = refl; within = λ members size h. (let low = h.0 in omega (arith, low)) })
   of_event (Repeat p from to place) e same = same_event (Repeat p from to place) (record { partition = p; event = event.Repeat from to place }) e same
-      (record { after = refl; outcome = λ next. refl; prints = λ next. record { goes = refl; said = refl; close = refl; dump = refl; links = refl; printed = refl }; unasked = refl; within = λ members size h. (let low = h.0 in omega (arith, low)) })
+      (record { after = λ skips. refl; outcome = λ next. refl; prints = λ skips next. record { goes = refl; said = refl; close = refl; dump = refl; links = refl; printed = refl }; unasked = refl; within = λ members size h. (let low = h.0 in omega (arith, low)) })
   of_event (Resend p end) e same = same_event (Resend p end) (record { partition = p; event = event.Resend end }) e same
-      (record { after = refl; outcome = λ next. refl; prints = λ next. record { goes = refl; said = refl; close = refl; dump = refl; links = refl; printed = refl }; unasked = refl; within = λ members size h. (let low = h.0 in omega (arith, low)) })
+      (record { after = λ skips. refl; outcome = λ next. refl; prints = λ skips next. record { goes = refl; said = refl; close = refl; dump = refl; links = refl; printed = refl }; unasked = refl; within = λ members size h. (let low = h.0 in omega (arith, low)) })
   of_event (Move p from to) e same = same_event (Move p from to) (record { partition = p; event = event.BeginMove from to }) e same
-      (record { after = refl; outcome = λ next. refl; prints = λ next. record { goes = refl; said = refl; close = refl; dump = refl; links = refl; printed = refl }; unasked = refl; within = λ members size h. (let low = h.0 in omega (arith, low)) })
+      (record { after = λ skips. refl; outcome = λ next. refl; prints = λ skips next. record { goes = refl; said = refl; close = refl; dump = refl; links = refl; printed = refl }; unasked = refl; within = λ members size h. (let low = h.0 in omega (arith, low)) })
   of_event (Join p to) e same = same_event (Join p to) (record { partition = p; event = event.BeginJoin to }) e same
-      (record { after = refl; outcome = λ next. refl; prints = λ next. record { goes = refl; said = refl; close = refl; dump = refl; links = refl; printed = refl }; unasked = refl; within = λ members size h. (let low = h.0 in omega (arith, low)) })
+      (record { after = λ skips. refl; outcome = λ next. refl; prints = λ skips next. record { goes = refl; said = refl; close = refl; dump = refl; links = refl; printed = refl }; unasked = refl; within = λ members size h. (let low = h.0 in omega (arith, low)) })
   of_event (Handover p from to) e same = same_event (Handover p from to) (record { partition = p; event = event.BeginHandover from to }) e same
-      (record { after = refl; outcome = λ next. refl; prints = λ next. record { goes = refl; said = refl; close = refl; dump = refl; links = refl; printed = refl }; unasked = refl; within = λ members size h. (let low = h.0 in omega (arith, low)) })
+      (record { after = λ skips. refl; outcome = λ next. refl; prints = λ skips next. record { goes = refl; said = refl; close = refl; dump = refl; links = refl; printed = refl }; unasked = refl; within = λ members size h. (let low = h.0 in omega (arith, low)) })
   of_event (Advance p) e same = same_event (Advance p) (record { partition = p; event = event.Advance }) e same
-      (record { after = refl; outcome = λ next. refl; prints = λ next. record { goes = refl; said = refl; close = refl; dump = refl; links = refl; printed = refl }; unasked = refl; within = λ members size h. omega (arith, h) })
+      (record { after = λ skips. refl; outcome = λ next. refl; prints = λ skips next. record { goes = refl; said = refl; close = refl; dump = refl; links = refl; printed = refl }; unasked = refl; within = λ members size h. omega (arith, h) })
   of_event (Reopen p) e same = same_event (Reopen p) (record { partition = p; event = event.Reopen }) e same
-      (record { after = refl; outcome = λ next. refl; prints = λ next. record { goes = refl; said = refl; close = refl; dump = refl; links = refl; printed = refl }; unasked = refl; within = λ members size h. omega (arith, h) })
+      (record { after = λ skips. refl; outcome = λ next. refl; prints = λ skips next. record { goes = refl; said = refl; close = refl; dump = refl; links = refl; printed = refl }; unasked = refl; within = λ members size h. omega (arith, h) })
   of_event (Begin members backups capacity) e same = absurd cc
   of_event (OpenConn c member) e same = absurd cc
   of_event (Arrive c bytes) e same = absurd cc
@@ -150,30 +155,28 @@ module _ (settings : Settings) (r : Run) where
   of_event Comment e same = absurd cc
   of_event End e same = absurd cc
 
-  pub event_given_up : (line : ScriptLine) (e : At) → event_by line ≡ Some e → meets_full (world_at (partition_object settings) (next_line r) e.partition) e.event ≡ true → IsGivenUp settings r line
-  event_given_up line e is full = line_given_up settings r line (ap (λ (x : Run). x.full) (of_event line e is).after ∙ takes_nothing (partition_object settings) (next_line r) e.partition e.event full)
+  pub event_given_up : (line : ScriptLine) (e : At) → event_by line ≡ Some e → GivesUpSo (next_line r) (λ skips. takes (partition_object settings) skips (next_line r) e.partition e.event) → IsGivenUp settings r line
+  event_given_up line e is up = line_given_up settings r line (λ skips. takes (partition_object settings) skips (next_line r) e.partition e.event) (of_event line e is).after up
 
   -- flows
 
-  pub flow_prints : (next : Run) (p most : ℕ) → PrintsMessages settings r next (Flow p most)
-  flow_prints next p most = record { goes = refl; said = refl; close = refl; dump = refl; links = refl; printed = refl }
+  pub flow_prints : (skips : List CallId) (next : Run) (p most : ℕ) → PrintsMessages settings skips r next (Flow p most)
+  flow_prints skips next p most = record { goes = refl; said = refl; close = refl; dump = refl; links = refl; printed = refl }
 
-  pub flow_all_prints : (next : Run) (most : ℕ) → PrintsMessages settings r next (FlowAll most)
-  flow_all_prints next most = record { goes = refl; said = refl; close = refl; dump = refl; links = refl; printed = refl }
+  pub flow_all_prints : (skips : List CallId) (next : Run) (most : ℕ) → PrintsMessages settings skips r next (FlowAll most)
+  flow_all_prints skips next most = record { goes = refl; said = refl; close = refl; dump = refl; links = refl; printed = refl }
 
-  -- Each delivery is an event.
-  pub flow_outcome : (next : Run) (number deliveries : ℕ) → number ≡ next.lines → length next.events ≡ length r.events + deliveries → flow_text number deliveries ≡ flow_text next.lines (length (new_events r next))
-  flow_outcome next number deliveries at_line events =
-      let count : deliveries ≡ length (new_events r next) = (let dropped = length-drop (length r.events) next.events in omega (arith, events, dropped)) in
-      λ i. flow_text (at_line i) (count i)
+  -- It tells how many messages were delivered.
+  pub flow_outcome : (next : Run) (number delivered : ℕ) → number ≡ next.lines → deliveries (next_line r) next ≡ delivered → flow_text number delivered ≡ flow_text next.lines (deliveries r next)
+  flow_outcome next number delivered at_line counts = λ i. flow_text (at_line i) (sym counts i)
 
   -- the same event of all partitions
 
   pub record IsOfFate (f : Fate) : Type 0 where
-    pub after : after_line (partition_object settings) [] r (line_of_fate f) ≡ takes_in (partition_object settings) (next_line r) (event_in_all f) (numbers_below partitions)
+    pub after : (skips : List CallId) → after_line (partition_object settings) skips r (line_of_fate f) ≡ takes_in (partition_object settings) skips (next_line r) (event_in_all f) (numbers_below partitions)
     pub outcome : (next : Run) → words_line next.lines (fate_words (outcome_at (partition_object settings) r 0 (event_in_all f))) ≡ outcome_text settings r (line_of_fate f) next
-    pub prints : (next : Run) → PrintsMessages settings r next (line_of_fate f)
+    pub prints : (skips : List CallId) (next : Run) → PrintsMessages settings skips r next (line_of_fate f)
 
   pub of_fate : (f : Fate) → IsOfFate f
-  of_fate (fate.Crash member) = record { after = refl; outcome = λ next. refl; prints = λ next. record { goes = refl; said = refl; close = refl; dump = refl; links = refl; printed = refl } }
-  of_fate (fate.Detect member) = record { after = refl; outcome = λ next. refl; prints = λ next. record { goes = refl; said = refl; close = refl; dump = refl; links = refl; printed = refl } }
+  of_fate (fate.Crash member) = record { after = λ skips. refl; outcome = λ next. refl; prints = λ skips next. record { goes = refl; said = refl; close = refl; dump = refl; links = refl; printed = refl } }
+  of_fate (fate.Detect member) = record { after = λ skips. refl; outcome = λ next. refl; prints = λ skips next. record { goes = refl; said = refl; close = refl; dump = refl; links = refl; printed = refl } }

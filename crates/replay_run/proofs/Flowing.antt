@@ -1,11 +1,16 @@
--- A run that goes on by several events, of one partition or of one after the other, and the grid that follows it.
-use Rattle.std.proofs.Common.{◌≡◌, ℕ, zero, suc, ◌+◌, ◌-◌, ◌≤◌, ◌<◌, true, List, [], ◌∷◌, ◌++◌, length, Some, None, ap, sym, ◌∙◌, subst, ⊎_elim, append-nil, append_assoc, add-one, arith}
-use Rattle.std.proofs.lemmas.Bool.{cases_eq}
-use Rattle.std.proofs.lemmas.List.{length-append}
+-- A run that goes on by several steps, each by skips of its own, and the grid that follows it.
+use Rattle.std.proofs.Common.{◌≡◌, ℕ, zero, suc, ◌+◌, ◌-◌, ◌≤◌, ◌<◌, true≢false, true, false, cond, List, [], ◌∷◌, ◌++◌, length, drop, count_by, Option, Some, None, refl, ap, sym, ◌∙◌, subst, inl, inr, append-nil, append_assoc, add-one, arith}
+use Rattle.std.proofs.lemmas.List.Sums.{sum_by-append, sum_by-cons}
+use Rattle.std.proofs.Math.Seq.{drop-append_seam}
 use Rattle.grid_base.specs.Objects.{Object}
+use Rattle.grid_base.specs.declared.names.CallId.{CallId}
 use Rattle.grid_base.specs.declared.calls.Request.{Request}
+use Rattle.partition_protocol.specs.Arrivals.{asked_by}
 use Rattle.partition_protocol.specs.Events.{Event}
+use Rattle.partition_protocol.specs.Sequences.{IsFrontOf}
 use Rattle.partition_protocol.specs.Service.{numbers_below}
+use Rattle.partition_protocol.proofs.Lists.{in_contains}
+use Rattle.partition_protocol.proofs.RowFacts.{false_or_not}
 use Rattle.partition_world.specs.Events.{happened_of}
 use Rattle.partition_world.specs.declared.event.Happened.{Happened}
 use Rattle.call_engine.specs.Calls.{Settings}
@@ -14,12 +19,20 @@ use Rattle.object_store.specs.Partitions.{Partition}
 use Rattle.replay_run.specs.declared.grid.Grid.{Grid}
 use Rattle.partition_world.specs.declared.Link.{Link}
 use Rattle.partition_world.specs.LinkOrder.{next_link}
-use Rattle.replay_run.specs.Runs.{Run, At, Appended, events_at, world_at, meets_full, delivery_on, occurred, takes, takes_in, flowed, flowed_in}
-use Rattle.replay_run.specs.Printing.{outcome_at}
+use Rattle.replay_run.specs.Runs.{Run, At, Arrival, Appended, world_at, meets_full, ending, stirred_by, delivery_on, occurred, takes, takes_in, flowed, flowed_in}
+use Rattle.replay_run.specs.Endings.{new_arrivals, AreAmong}
+use Rattle.replay_run.specs.Printing.{outcome_at, is_delivery, deliveries}
+use Rattle.replay_run.specs.ScriptRuns.{IsRun}
 use Rattle.replay_run.specs.Grids.{FormOf}
-use Rattle.replay_run.specs.WorldCalls.{texts_of, HasRoomAt, IsAmid, HasGoneOn, HasTaken, HasFlowed}
+use Rattle.replay_run.specs.WorldCalls.{texts_of, HasRoomAt, IsAmid, HasGoneOn, Onward, HasGoneOnSo, GivesUpSo, HasTaken, HasFlowed}
 use Rattle.replay_run.proofs.LineTexts.{texts-append}
-use Rattle.replay_run.proofs.EventRuns.{events_more, takes_here, takes_nothing, takes_full, flowed_full, flowed_none, flowed_some, takes_in_more, flowed_in_more, takes_in_later, flowed_in_later}
+use Rattle.replay_run.proofs.Turns.{KeepsTurns, by_endings, served_at_keeps, IsMade, its_event}
+use Rattle.replay_run.proofs.EventRuns.{takes_here, takes_nothing, takes_in_kept, takes_in_no_fewer, takes_run, flowed_kept, flowed_few, flowed_run, flowed_none, flowed_some, flowed_in_kept, flowed_in_no_fewer, takes_in_more, flowed_in_more, takes_in_later, flowed_in_later}
+use Rattle.replay_run.proofs.Growing.{GoesBy, takes_goes, takes_in_goes, flowed_goes, flowed_in_goes}
+use Rattle.replay_run.proofs.RunFacts.{ArrivalsOk}
+use Rattle.replay_run.proofs.RunsOfLines.{run_ok}
+use Rattle.replay_run.proofs.SkipLaws.{both_go, both_among}
+use Rattle.replay_run.proofs.GivingUp.{stays_on, up_as, gives_up_first, gives_up_then}
 
 module _ {V : Type 0} {T : V → Type 0} {form : FormOf V T} {settings : Settings} where
   pub gone_nowhere : (grid : Grid V T) (r : Run) (text : List ℕ) → IsAmid form settings grid r → HasGoneOn form settings grid r r text text
@@ -39,144 +52,277 @@ module _ {V : Type 0} {T : V → Type 0} {form : FormOf V T} {settings : Setting
   pub taken_by : {new : Grid V T} {r : Run} {p : ℕ} {event other : Event Request} {happened : Happened} {written text : List ℕ} → event ≡ other → HasTaken form settings new r p event happened written text → HasTaken form settings new r p other happened written text
   taken_by {new = new} {r = r} {p = p} {happened = happened} {written = written} {text = text} same = subst (λ e. HasTaken form settings new r p e happened written text) same
 
--- Of a flow of one partition so many messages were delivered: those that are left flow on from here.
-pub record HasDelivered {V : Type 0} {T : V → Type 0} (form : FormOf V T) (settings : Settings) (grid : Grid V T) (r : Run) (p most deliveries : ℕ) (written text : List ℕ) : Type 0 where
-  pub now : Run
-  pub on : HasGoneOn form settings grid r now written text
-  pub events : length now.events ≡ length r.events + deliveries
-  pub few : length (events_at p now.events) ≤ length (events_at p r.events) + deliveries
-  pub left : (rest : ℕ) → deliveries + rest ≡ most → flowed (partition_object settings) r p most ≡ flowed (partition_object settings) now p rest
+  -- by skips
 
-module _ {V : Type 0} {T : V → Type 0} {form : FormOf V T} {settings : Settings} (r : Run) (p most : ℕ) where
-  pub none_delivered : (grid : Grid V T) (text : List ℕ) → IsAmid form settings grid r → HasDelivered form settings grid r p most 0 text text
-  none_delivered grid text amid = record {
-    now = r;
-    on = gone_nowhere grid r text amid;
-    events = omega arith;
-    few = omega arith;
-    left = λ rest e. let all : most ≡ rest = omega (arith, e) in ap (flowed (partition_object settings) r p) all;
-  }
+  pub so_nowhere : (grid : Grid V T) (r : Run) (text : List ℕ) → IsAmid form settings grid r → HasGoneOnSo form settings grid r (λ s. r) text text
+  so_nowhere grid r text amid = record { skips = []; own = λ id c. absurd (in_contains id [] c); on = gone_nowhere grid r text amid }
 
-  module _ (grid : Grid V T) (deliveries : ℕ) (written mid : List ℕ) (did : HasDelivered form settings grid r p most deliveries written mid) where
-    pub delivered_room : HasRoomAt r p most → deliveries < most → HasRoomAt did.now p 1
-    delivered_room room more = let few = did.few in omega (arith, room, more, few)
+  -- the same by another name of where that leads
+  pub so_as : (new : Grid V T) (r : Run) (f g : Onward) (written text : List ℕ) (a : HasGoneOnSo form settings new r f written text) → f a.skips ≡ g a.skips → (c : HasGoneOnSo form settings new r g written text) × (g c.skips ≡ f a.skips)
+  so_as new r f g written text a same = (
+    record { skips = a.skips; own = subst (λ (x : Run). AreAmong (new_arrivals r x) a.skips) same a.own; on = gone_as same a.on },
+    sym same,
+  )
+
+  pub so_all : (new : Grid V T) (r : Run) (f g : Onward) (written text : List ℕ) → ((s : List CallId) → f s ≡ g s) → HasGoneOnSo form settings new r f written text → HasGoneOnSo form settings new r g written text
+  so_all new r f g written text same a = (so_as new r f g written text a (same a.skips)).0
+
+  -- one step, and then another: both with the skips of either
+  module _ (mid new : Grid V T) (r : Run) (first : Onward) (then : Run → Onward) (g : GoesBy r first) (h : (x : Run) → GoesBy x (then x)) (written so_far : List ℕ) (a : HasGoneOnSo form settings mid r first written so_far) where
+    pub so_further : (text : List ℕ) (b : HasGoneOnSo form settings new (first a.skips) (then (first a.skips)) so_far text)
+        → (c : HasGoneOnSo form settings new r (λ s. then (first s) s) written text) × (then (first c.skips) c.skips ≡ then (first a.skips) b.skips)
+    so_further text b =
+        let once : ArrivalsOk (then (first a.skips) b.skips) = (run_ok b.on.amid.run).of_arrivals in
+        let same : then (first (a.skips ++ b.skips)) (a.skips ++ b.skips) ≡ then (first a.skips) b.skips = both_go r first then g h a.skips b.skips once a.own b.own in
+        (
+          record {
+            skips = a.skips ++ b.skips;
+            own = both_among r first then g h a.skips b.skips once a.own b.own;
+            on = gone_as (sym same) (gone_further mid new r (first a.skips) (then (first a.skips) b.skips) written so_far text a.on b.on);
+          },
+          same,
+        )
+
+    -- or the run is given up at the other
+    pub gives_up_after : GivesUpSo (first a.skips) (then (first a.skips)) → ((s : List CallId) → IsRun (partition_object settings) (then (first a.skips) s)) → GivesUpSo r (λ s. then (first s) s)
+    gives_up_after b runs = gives_up_then r first then g h a.skips a.own b runs
+
+-- how many messages were delivered
+
+abbrev pub delivered : Run → ℕ
+delivered r = count_by is_delivery r.events
+
+abbrev one_if_delivery : At → ℕ
+one_if_delivery e = cond (is_delivery e) 1 0
+
+deliveries_are : (r next : Run) (n : ℕ) → IsFrontOf r.events next.events → delivered next ≡ delivered r + n → deliveries r next ≡ n
+deliveries_are r next n (more, e) counts =
+    let whole = ap (count_by is_delivery) (sym e) ∙ sum_by-append one_if_delivery r.events more in
+    let new = ap (count_by is_delivery) (ap (drop (length r.events)) (sym e) ∙ drop-append_seam r.events more) in
+    omega (arith, whole, new, counts)
+
+deliveries_counted : (r next : Run) → IsFrontOf r.events next.events → delivered next ≡ delivered r + deliveries r next
+deliveries_counted r next (more, e) =
+    let whole = ap (count_by is_delivery) (sym e) ∙ sum_by-append one_if_delivery r.events more in
+    let new = ap (count_by is_delivery) (ap (drop (length r.events)) (sym e) ∙ drop-append_seam r.events more) in
+    omega (arith, whole, new)
+
+-- a call that waited delivers none
+made_none : (a : Arrival) (events : List At) → IsMade a events → count_by is_delivery events ≡ 0
+made_none a events (inl e) = ap (count_by is_delivery) e
+made_none a events (inr e) =
+    let same = ap (count_by is_delivery) e in
+    let one = sum_by-cons one_if_delivery (its_event a) [] in
+    omega (arith, same, one)
+
+module _ (o : Object Request Partition) (skips : List CallId) where
+  undelivered_turns : (p n : ℕ) → KeepsTurns o skips p (λ x. delivered x ≡ n)
+  undelivered_turns p n = by_endings o skips p (λ x. delivered x ≡ n) (λ x h. h)
+      (λ x w events appended i made here h. (let more = sum_by-append one_if_delivery x.events events in let none = made_none (ending x w) events made in omega (arith, more, none, h)))
+
+  one_occurred : (r : Run) (p : ℕ) (l : Link) → delivered (occurred o r p (delivery_on l)) ≡ delivered r + 1
+  one_occurred r p l =
+      let its : At = record { partition = p; event = delivery_on l } in
+      let more = sum_by-append one_if_delivery r.events (its ∷ []) in
+      let one = sum_by-cons one_if_delivery its [] in
+      omega (arith, more, one)
+
+  took_one : (r : Run) (p : ℕ) (l : Link) → meets_full (world_at o r p) (delivery_on l) ≡ false → delivered (takes o skips r p (delivery_on l)) ≡ delivered r + 1
+  took_one r p l free =
+      ap delivered (takes_here o skips r p (delivery_on l) free)
+      ∙ served_at_keeps o skips p (λ x. delivered x ≡ delivered r + 1) (undelivered_turns p (delivered r + 1)) (occurred o r p (delivery_on l)) (stirred_by (delivery_on l)) (one_occurred r p l)
+
+  -- a run that isn't given up at an event has room for it
+  pub had_room : (r : Run) (p : ℕ) (event : Event Request) → (takes o skips r p event).full ≡ false → meets_full (world_at o r p) event ≡ false
+  had_room r p event goes_on = false_or_not (meets_full (world_at o r p) event) (λ full. true≢false (sym (takes_nothing o skips r p event full) ∙ goes_on))
+
+  -- a flow in two parts
+  flowed_parts : (r : Run) (p a b all : ℕ) → a + b ≡ all → flowed o skips r p all ≡ flowed o skips (flowed o skips r p a) p b
+  flowed_parts r p zero b all e = let same : all ≡ b = omega (arith, e) in ap (flowed o skips r p) same
+  flowed_parts r p (suc a) b zero e = absurd (omega (arith, e))
+  flowed_parts r p (suc a) b (suc all) e = go (next_link (world_at o r p)) refl (λ x. flowed_parts x p a b all left)
+    where
+      left : a + b ≡ all
+      left = omega (arith, e)
+
+      go : (next : Option Link) → next_link (world_at o r p) ≡ next → ((x : Run) → flowed o skips x p all ≡ flowed o skips (flowed o skips x p a) p b) → flowed o skips r p (suc all) ≡ flowed o skips (flowed o skips r p (suc a)) p b
+      go None none parts =
+          flowed_none o skips r p (suc all) none
+          ∙ sym (ap (λ (x : Run). flowed o skips x p b) (flowed_none o skips r p (suc a) none) ∙ flowed_none o skips r p b none)
+      go (Some l) some parts =
+          flowed_some o skips r p all l some ∙ parts (takes o skips r p (delivery_on l))
+          ∙ sym (ap (λ (x : Run). flowed o skips x p b) (flowed_some o skips r p a l some))
+
+-- Of a flow of one partition so many messages were delivered.
+pub record HasDelivered {V : Type 0} {T : V → Type 0} (form : FormOf V T) (settings : Settings) (grid : Grid V T) (r : Run) (p number : ℕ) (written text : List ℕ) : Type 0 where
+  pub on : HasGoneOnSo form settings grid r (λ skips. flowed (partition_object settings) skips r p number) written text
+  pub counts : delivered (flowed (partition_object settings) on.skips r p number) ≡ delivered r + number
+
+module _ {V : Type 0} {T : V → Type 0} {form : FormOf V T} {settings : Settings} (r : Run) (p : ℕ) where
+  pub none_delivered : (grid : Grid V T) (text : List ℕ) → IsAmid form settings grid r → HasDelivered form settings grid r p 0 text text
+  none_delivered grid text amid = record { on = so_nowhere grid r text amid; counts = omega arith }
+
+  module _ (grid : Grid V T) (number : ℕ) (written mid : List ℕ) (did : HasDelivered form settings grid r p number written mid) where
+    -- the run by then
+    abbrev pub so_far : Run
+    so_far = flowed (partition_object settings) did.on.skips r p number
+
+    pub delivered_room : (most : ℕ) → HasRoomAt r p most → number < most → HasRoomAt so_far p 1
+    delivered_room most room more =
+        let few = flowed_few (partition_object settings) did.on.skips r p number p in
+        let calls = (flowed_kept (partition_object settings) did.on.skips r p number).calls in
+        omega (arith, room, more, few, calls)
 
     -- One more is delivered.
-    module _ (l : Link) (next : next_link (world_at (partition_object settings) did.now p) ≡ Some l) where
-      pub one_left : deliveries < most → (rest : ℕ) → deliveries + suc rest ≡ most → flowed (partition_object settings) r p most ≡ flowed (partition_object settings) (takes (partition_object settings) did.now p (delivery_on l)) p rest
-      one_left more rest e = did.left (suc rest) e ∙ flowed_some (partition_object settings) did.now p rest l next
-
-      pub one_delivered : deliveries < most → (new : Grid V T) (event : Event Request) → event ≡ delivery_on l → (happened : Happened) (text : List ℕ) → HasTaken form settings new did.now p event happened mid text
-          → HasDelivered form settings new r p most (deliveries + 1) written text
-      one_delivered more new event is happened text taken = record {
-        now = occurred (partition_object settings) did.now p event;
-        on = gone_further grid new r did.now (occurred (partition_object settings) did.now p event) written mid text did.on taken.on;
-        events = let one = length-append did.now.events (its ∷ []) in let before = did.events in omega (arith, one, before);
-        few = let one = events_more p did.now.events (its ∷ []) in let before = did.few in omega (arith, one, before);
-        left = λ rest e.
-            one_left more rest (omega (arith, e))
-            ∙ ap (λ v. flowed (partition_object settings) (takes (partition_object settings) did.now p v) p rest) (sym is)
-            ∙ ap (λ n. flowed (partition_object settings) n p rest) (takes_here (partition_object settings) did.now p event taken.goes);
-      }
-        where
-          its : At
-          its = record { partition = p; event = event }
+    module _ (l : Link) (next : next_link (world_at (partition_object settings) so_far p) ≡ Some l) where
+      pub one_delivered : (new : Grid V T) (event : Event Request) → event ≡ delivery_on l → (happened : Happened) (text : List ℕ) → HasTaken form settings new so_far p event happened mid text
+          → HasDelivered form settings new r p (number + 1) written text
+      one_delivered new event is happened text taken =
+          let o = partition_object settings in
+          let took : HasTaken form settings new so_far p (delivery_on l) happened mid text = taken_by is taken in
+          let step = so_as new so_far (λ s. takes o s so_far p (delivery_on l)) (λ s. flowed o s so_far p (suc zero)) mid text took.on (sym (flowed_some o took.on.skips so_far p zero l next)) in
+          let whole = so_further grid new r (λ s. flowed o s r p number) (λ x s. flowed o s x p (suc zero)) (flowed_goes o r p number) (λ x. flowed_goes o x p (suc zero)) written mid did.on text step.0 in
+          let all = so_as new r (λ s. flowed o s (flowed o s r p number) p (suc zero)) (λ s. flowed o s r p (number + 1)) written text whole.0 (sym (flowed_parts o whole.0.skips r p number (suc zero) (number + 1) (omega arith))) in
+          let one = took_one o took.on.skips so_far p l (had_room o took.on.skips so_far p (delivery_on l) took.on.on.amid.holds.goes_on) in
+          let last = ap delivered (all.1 ∙ whole.1 ∙ step.1) in
+          let before = did.counts in
+          record { on = all.0; counts = omega (arith, last, one, before) }
 
       -- or meets the partition full
-      pub meets_one : deliveries < most → (event : Event Request) → event ≡ delivery_on l → meets_full (world_at (partition_object settings) did.now p) event ≡ true → (flowed (partition_object settings) r p most).full ≡ true
-      meets_one more event is full = go (some_rest deliveries most more)
-        where
-          some_rest : (a b : ℕ) → a < b → (rest : ℕ) × (a + suc rest ≡ b)
-          some_rest a b less = (b - suc a, omega arith)
-
-          go : (rest : ℕ) × (deliveries + suc rest ≡ most) → (flowed (partition_object settings) r p most).full ≡ true
-          go (rest, e) =
-              ap (λ (x : Run). x.full) (one_left more rest e ∙ ap (λ v. flowed (partition_object settings) (takes (partition_object settings) did.now p v) p rest) (sym is))
-              ∙ flowed_full (partition_object settings) (takes (partition_object settings) did.now p event) p rest (takes_nothing (partition_object settings) did.now p event full)
+      pub meets_one : (most : ℕ) → number < most → (event : Event Request) → event ≡ delivery_on l → GivesUpSo so_far (λ skips. takes (partition_object settings) skips so_far p event) → GivesUpSo r (λ skips. flowed (partition_object settings) skips r p most)
+      meets_one most more event is full =
+          let o = partition_object settings in
+          let rest = most - suc number in
+          let e : number + suc rest ≡ most = omega (arith, more) in
+          let step = gives_up_first so_far (λ s. takes o s so_far p (delivery_on l)) (λ x s. flowed o s x p rest) (takes_goes o so_far p (delivery_on l) refl) (λ x. flowed_goes o x p rest)
+              (subst (λ v. GivesUpSo so_far (λ s. takes o s so_far p v)) is full) in
+          let its = up_as so_far (λ s. flowed o s (takes o s so_far p (delivery_on l)) p rest) (λ s. flowed o s so_far p (suc rest)) (λ s. sym (flowed_some o s so_far p rest l next)) step in
+          let whole = gives_up_after grid grid r (λ s. flowed o s r p number) (λ x s. flowed o s x p (suc rest)) (flowed_goes o r p number) (λ x. flowed_goes o x p (suc rest)) written mid did.on its (λ s. flowed_run s so_far p (suc rest) did.on.on.amid.run) in
+          up_as r (λ s. flowed o s (flowed o s r p number) p (suc rest)) (λ s. flowed o s r p most) (λ s. sym (flowed_parts o s r p number (suc rest) most e)) whole
 
     -- None is left, in flight or of those that may flow.
 
-    pub delivered_all : flowed (partition_object settings) r p most ≡ did.now → HasFlowed form settings grid r (flowed (partition_object settings) r p most) deliveries written mid
-    delivered_all same = subst (λ x. HasFlowed form settings grid r x deliveries written mid) (sym same) (record { on = did.on; events = did.events })
+    delivered_all : (most : ℕ) → flowed (partition_object settings) did.on.skips r p most ≡ so_far → HasFlowed form settings grid r (λ skips. flowed (partition_object settings) skips r p most) number written mid
+    delivered_all most same =
+        let o = partition_object settings in
+        let all = so_as grid r (λ s. flowed o s r p number) (λ s. flowed o s r p most) written mid did.on (sym same) in
+        record { on = all.0; deliveries = ap (deliveries r) all.1 ∙ deliveries_are r so_far number ((flowed_goes o r p number).grows did.on.skips).events did.counts }
 
-    pub none_next : deliveries ≤ most → next_link (world_at (partition_object settings) did.now p) ≡ None → HasFlowed form settings grid r (flowed (partition_object settings) r p most) deliveries written mid
-    none_next within none = delivered_all (did.left (most - deliveries) (omega (arith, within)) ∙ flowed_none (partition_object settings) did.now p (most - deliveries) none)
+    pub none_next : (most : ℕ) → number ≤ most → next_link (world_at (partition_object settings) so_far p) ≡ None → HasFlowed form settings grid r (λ skips. flowed (partition_object settings) skips r p most) number written mid
+    none_next most within none =
+        let o = partition_object settings in
+        let e : number + (most - number) ≡ most = omega (arith, within) in
+        delivered_all most (flowed_parts o did.on.skips r p number (most - number) most e ∙ flowed_none o did.on.skips so_far p (most - number) none)
 
-    pub all_flowed : deliveries ≤ most → most ≤ deliveries → HasFlowed form settings grid r (flowed (partition_object settings) r p most) deliveries written mid
-    all_flowed within reached = delivered_all (did.left 0 (omega (arith, within, reached)))
+    pub all_flowed : (most : ℕ) → number ≤ most → most ≤ number → HasFlowed form settings grid r (λ skips. flowed (partition_object settings) skips r p most) number written mid
+    all_flowed most within reached = let same : most ≡ number = omega (arith, within, reached) in delivered_all most (ap (flowed (partition_object settings) did.on.skips r p) same)
 
 -- partition after partition
-
--- What stays from one to the next stays to the end.
-stays_on : (P : ℕ → Type 0) → ((k : ℕ) → P k → P (suc k)) → (n m : ℕ) → n ≤ m → P n → P m
-stays_on P on n zero l has = let none : n ≡ 0 = omega (arith, l) in subst P none has
-stays_on P on n (suc m) l has = ⊎_elim (λ e. subst P e has) (λ apart. on m (stays_on P on n m (omega (arith, l, apart)) has)) (cases_eq n (suc m))
 
 module _ (o : Object Request Partition) where
   -- A run that is given up in one partition is so in the end.
 
-  pub flowed_in_ends : (r : Run) (most n m : ℕ) → n ≤ m → (flowed_in o r most (numbers_below n)).full ≡ true → (flowed_in o r most (numbers_below m)).full ≡ true
-  flowed_in_ends r most = stays_on
-      (λ k. (flowed_in o r most (numbers_below k)).full ≡ true)
-      (λ k full. ap (λ (x : Run). x.full) (flowed_in_more o r most k) ∙ flowed_full o (flowed_in o r most (numbers_below k)) k most full)
+  abbrev flows_up_to : Run → ℕ → ℕ → Type 0
+  flows_up_to r most k = GivesUpSo r (λ s. flowed_in o s r most (numbers_below k))
 
-  pub takes_in_ends : (r : Run) (event : Event Request) (n m : ℕ) → n ≤ m → (takes_in o r event (numbers_below n)).full ≡ true → (takes_in o r event (numbers_below m)).full ≡ true
-  takes_in_ends r event = stays_on
-      (λ k. (takes_in o r event (numbers_below k)).full ≡ true)
-      (λ k full. ap (λ (x : Run). x.full) (takes_in_more o r event k) ∙ takes_full o (takes_in o r event (numbers_below k)) k event full)
+  abbrev takes_up_to : Run → Event Request → ℕ → Type 0
+  takes_up_to r event k = GivesUpSo r (λ s. takes_in o s r event (numbers_below k))
 
-  pub flow_ends : (r : Run) (most n m : ℕ) → n < m → (flowed o (flowed_in o r most (numbers_below n)) n most).full ≡ true → (flowed_in o r most (numbers_below m)).full ≡ true
-  flow_ends r most n m l full = flowed_in_ends r most (suc n) m (omega (arith, l)) (ap (λ (x : Run). x.full) (flowed_in_more o r most n) ∙ full)
+  flowed_in_ends : (r : Run) (most n m : ℕ) → n ≤ m → flows_up_to r most n → flows_up_to r most m
+  flowed_in_ends r most = stays_on (flows_up_to r most)
+      (λ k full. up_as r (λ s. flowed o s (flowed_in o s r most (numbers_below k)) k most) (λ s. flowed_in o s r most (numbers_below (suc k))) (λ s. sym (flowed_in_more o s r most k))
+          (gives_up_first r (λ s. flowed_in o s r most (numbers_below k)) (λ x s. flowed o s x k most) (flowed_in_goes o r most (numbers_below k)) (λ x. flowed_goes o x k most) full))
 
-  pub take_ends : (r : Run) (event : Event Request) (n m : ℕ) → n < m → meets_full (world_at o (takes_in o r event (numbers_below n)) n) event ≡ true → (takes_in o r event (numbers_below m)).full ≡ true
-  take_ends r event n m l full =
-      takes_in_ends r event (suc n) m (omega (arith, l))
-      (ap (λ (x : Run). x.full) (takes_in_more o r event n) ∙ takes_nothing o (takes_in o r event (numbers_below n)) n event full)
+  takes_in_ends : (r : Run) (event : Event Request) → asked_by event ≡ [] → (n m : ℕ) → n ≤ m → takes_up_to r event n → takes_up_to r event m
+  takes_in_ends r event quiet = stays_on (takes_up_to r event)
+      (λ k full. up_as r (λ s. takes o s (takes_in o s r event (numbers_below k)) k event) (λ s. takes_in o s r event (numbers_below (suc k))) (λ s. sym (takes_in_more o s r event k))
+          (gives_up_first r (λ s. takes_in o s r event (numbers_below k)) (λ x s. takes o s x k event) (takes_in_goes o r event (numbers_below k) quiet) (λ x. takes_goes o x k event quiet) full))
 
   -- The partition that comes next has the room that it had.
 
-  pub flow_room : (r : Run) (most n room : ℕ) → HasRoomAt r n room → HasRoomAt (flowed_in o r most (numbers_below n)) n room
-  flow_room r most n room h = let same = ap length (flowed_in_later o r most n n (omega arith)) in omega (arith, h, same)
+  pub flow_room : (skips : List CallId) (r : Run) (most n room : ℕ) → HasRoomAt r n room → HasRoomAt (flowed_in o skips r most (numbers_below n)) n room
+  flow_room skips r most n room h =
+      let same = ap length (flowed_in_later o skips r most n n (omega arith)) in
+      let calls = (flowed_in_kept o skips r most (numbers_below n)).calls in
+      let come = flowed_in_no_fewer o skips r most n in
+      omega (arith, h, same, calls, come)
 
-  pub take_room : (r : Run) (event : Event Request) (n room : ℕ) → HasRoomAt r n room → HasRoomAt (takes_in o r event (numbers_below n)) n room
-  take_room r event n room h = let same = ap length (takes_in_later o r event n n (omega arith)) in omega (arith, h, same)
+  pub take_room : (skips : List CallId) (r : Run) (event : Event Request) (n room : ℕ) → HasRoomAt r n room → HasRoomAt (takes_in o skips r event (numbers_below n)) n room
+  take_room skips r event n room h =
+      let same = ap length (takes_in_later o skips r event n n (omega arith)) in
+      let calls = (takes_in_kept o skips r event (numbers_below n)).calls in
+      let come = takes_in_no_fewer o skips r event n in
+      omega (arith, h, same, calls, come)
 
 module _ {V : Type 0} {T : V → Type 0} {form : FormOf V T} {settings : Settings} (r : Run) where
   -- the flows of the partitions so far
 
-  pub none_flowed : (grid : Grid V T) (most : ℕ) (text : List ℕ) → IsAmid form settings grid r → HasFlowed form settings grid r (flowed_in (partition_object settings) r most (numbers_below 0)) 0 text text
-  none_flowed grid most text amid = record { on = gone_nowhere grid r text amid; events = omega arith }
+  pub none_flowed : (grid : Grid V T) (most : ℕ) (text : List ℕ) → IsAmid form settings grid r → HasFlowed form settings grid r (λ skips. flowed_in (partition_object settings) skips r most (numbers_below 0)) 0 text text
+  none_flowed grid most text amid = record { on = so_nowhere grid r text amid; deliveries = deliveries_are r r 0 ([], append-nil r.events) (omega arith) }
 
-  pub one_flowed : (grid new : Grid V T) (most n deliveries more : ℕ) (written mid text : List ℕ) → HasFlowed form settings grid r (flowed_in (partition_object settings) r most (numbers_below n)) deliveries written mid
-      → HasFlowed form settings new (flowed_in (partition_object settings) r most (numbers_below n)) (flowed (partition_object settings) (flowed_in (partition_object settings) r most (numbers_below n)) n most) more mid text
-      → HasFlowed form settings new r (flowed_in (partition_object settings) r most (numbers_below (n + 1))) (deliveries + more) written text
-  one_flowed grid new most n deliveries more written mid text a b =
-      subst (λ k. HasFlowed form settings new r (flowed_in (partition_object settings) r most (numbers_below k)) (deliveries + more) written text) (sym (add-one n))
-      (subst (λ x. HasFlowed form settings new r x (deliveries + more) written text) (sym (flowed_in_more (partition_object settings) r most n))
-      (record {
-        on = gone_further grid new r (flowed_in (partition_object settings) r most (numbers_below n)) (flowed (partition_object settings) (flowed_in (partition_object settings) r most (numbers_below n)) n most) written mid text a.on b.on;
-        events = let first = a.events in let then = b.events in omega (arith, first, then);
-      }))
+  module _ (grid new : Grid V T) (most n number more : ℕ) (written mid : List ℕ) (a : HasFlowed form settings grid r (λ skips. flowed_in (partition_object settings) skips r most (numbers_below n)) number written mid) where
+    -- the run by then
+    abbrev pub flowed_by : Run
+    flowed_by = flowed_in (partition_object settings) a.on.skips r most (numbers_below n)
 
-  pub flowed_at : (grid : Grid V T) (most n m deliveries : ℕ) (written text : List ℕ) → n ≡ m → HasFlowed form settings grid r (flowed_in (partition_object settings) r most (numbers_below n)) deliveries written text
-      → HasFlowed form settings grid r (flowed_in (partition_object settings) r most (numbers_below m)) deliveries written text
-  flowed_at grid most n m deliveries written text same = subst (λ k. HasFlowed form settings grid r (flowed_in (partition_object settings) r most (numbers_below k)) deliveries written text) same
+    pub one_flowed : (text : List ℕ) → HasFlowed form settings new flowed_by (λ skips. flowed (partition_object settings) skips flowed_by n most) more mid text
+        → HasFlowed form settings new r (λ skips. flowed_in (partition_object settings) skips r most (numbers_below (n + 1))) (number + more) written text
+    one_flowed text b =
+        let o = partition_object settings in
+        let last = flowed o b.on.skips flowed_by n most in
+        let whole = so_further grid new r (λ s. flowed_in o s r most (numbers_below n)) (λ x s. flowed o s x n most) (flowed_in_goes o r most (numbers_below n)) (λ x. flowed_goes o x n most) written mid a.on text b.on in
+        let all = so_as new r (λ s. flowed o s (flowed_in o s r most (numbers_below n)) n most) (λ s. flowed_in o s r most (numbers_below (n + 1))) written text whole.0
+            (sym (ap (λ k. flowed_in o whole.0.skips r most (numbers_below k)) (add-one n) ∙ flowed_in_more o whole.0.skips r most n)) in
+        let to_mid = ((flowed_in_goes o r most (numbers_below n)).grows a.on.skips).events in
+        let to_last = ((flowed_goes o flowed_by n most).grows b.on.skips).events in
+        let to_end = ((flowed_in_goes o r most (numbers_below (n + 1))).grows all.0.skips).events in
+        let first = deliveries_counted r flowed_by to_mid in
+        let then = deliveries_counted flowed_by last to_last in
+        let same = ap delivered (all.1 ∙ whole.1) in
+        let so_many = a.deliveries in
+        let so_many_more = b.deliveries in
+        record { on = all.0; deliveries = deliveries_are r (flowed_in o all.0.skips r most (numbers_below (n + 1))) (number + more) to_end (omega (arith, first, then, same, so_many, so_many_more)) }
+
+    -- or one meets its partition full
+    pub flow_ends : (m : ℕ) → n < m → GivesUpSo flowed_by (λ skips. flowed (partition_object settings) skips flowed_by n most) → GivesUpSo r (λ skips. flowed_in (partition_object settings) skips r most (numbers_below m))
+    flow_ends m l full =
+        let o = partition_object settings in
+        let whole = gives_up_after grid grid r (λ s. flowed_in o s r most (numbers_below n)) (λ x s. flowed o s x n most) (flowed_in_goes o r most (numbers_below n)) (λ x. flowed_goes o x n most) written mid a.on full (λ s. flowed_run s flowed_by n most a.on.on.amid.run) in
+        flowed_in_ends o r most (suc n) m (omega (arith, l)) (up_as r (λ s. flowed o s (flowed_in o s r most (numbers_below n)) n most) (λ s. flowed_in o s r most (numbers_below (suc n))) (λ s. sym (flowed_in_more o s r most n)) whole)
+
+  pub flowed_at : (grid : Grid V T) (most n m number : ℕ) (written text : List ℕ) → n ≡ m → HasFlowed form settings grid r (λ skips. flowed_in (partition_object settings) skips r most (numbers_below n)) number written text
+      → HasFlowed form settings grid r (λ skips. flowed_in (partition_object settings) skips r most (numbers_below m)) number written text
+  flowed_at grid most n m number written text same = subst (λ k. HasFlowed form settings grid r (λ skips. flowed_in (partition_object settings) skips r most (numbers_below k)) number written text) same
 
   -- and the same event of each
 
-  module _ (event : Event Request) where
-    pub one_taken : (grid new : Grid V T) (n : ℕ) (happened : Happened) (written mid text : List ℕ) → HasGoneOn form settings grid r (takes_in (partition_object settings) r event (numbers_below n)) written mid
-        → HasTaken form settings new (takes_in (partition_object settings) r event (numbers_below n)) n event happened mid text
-        → HasGoneOn form settings new r (takes_in (partition_object settings) r event (numbers_below (n + 1))) written text
-    one_taken grid new n happened written mid text a b =
-        subst (λ k. HasGoneOn form settings new r (takes_in (partition_object settings) r event (numbers_below k)) written text) (sym (add-one n))
-        (subst (λ x. HasGoneOn form settings new r x written text) (sym (takes_in_more (partition_object settings) r event n ∙ takes_here (partition_object settings) (takes_in (partition_object settings) r event (numbers_below n)) n event b.goes))
-        (gone_further grid new r (takes_in (partition_object settings) r event (numbers_below n)) (occurred (partition_object settings) (takes_in (partition_object settings) r event (numbers_below n)) n event) written mid text a b.on))
+  module _ (event : Event Request) (quiet : asked_by event ≡ []) where
+    pub none_taken : (grid : Grid V T) (text : List ℕ) → IsAmid form settings grid r → HasGoneOnSo form settings grid r (λ skips. takes_in (partition_object settings) skips r event (numbers_below 0)) text text
+    none_taken grid text amid = so_nowhere grid r text amid
 
-    pub taken_at : (grid : Grid V T) (n m : ℕ) (written text : List ℕ) → n ≡ m → HasGoneOn form settings grid r (takes_in (partition_object settings) r event (numbers_below n)) written text
-        → HasGoneOn form settings grid r (takes_in (partition_object settings) r event (numbers_below m)) written text
-    taken_at grid n m written text same = subst (λ k. HasGoneOn form settings grid r (takes_in (partition_object settings) r event (numbers_below k)) written text) same
+    module _ (grid new : Grid V T) (n : ℕ) (written mid : List ℕ) (a : HasGoneOnSo form settings grid r (λ skips. takes_in (partition_object settings) skips r event (numbers_below n)) written mid) where
+      -- the run by then
+      abbrev pub taken_so_far : Run
+      taken_so_far = takes_in (partition_object settings) a.skips r event (numbers_below n)
 
-    pub first_outcome : (new : Grid V T) (n : ℕ) (happened : Happened) (mid text : List ℕ) → n ≡ 0 → HasTaken form settings new (takes_in (partition_object settings) r event (numbers_below n)) n event happened mid text
-        → happened_of happened ≡ outcome_at (partition_object settings) r 0 event
-    first_outcome new n happened mid text e b = b.outcome ∙ ap (λ k. outcome_at (partition_object settings) (takes_in (partition_object settings) r event (numbers_below k)) k event) e
+      pub one_taken : (happened : Happened) (text : List ℕ) → HasTaken form settings new taken_so_far n event happened mid text
+          → HasGoneOnSo form settings new r (λ skips. takes_in (partition_object settings) skips r event (numbers_below (n + 1))) written text
+      one_taken happened text b =
+          let o = partition_object settings in
+          let whole = so_further grid new r (λ s. takes_in o s r event (numbers_below n)) (λ x s. takes o s x n event) (takes_in_goes o r event (numbers_below n) quiet) (λ x. takes_goes o x n event quiet) written mid a text b.on in
+          (so_as new r (λ s. takes o s (takes_in o s r event (numbers_below n)) n event) (λ s. takes_in o s r event (numbers_below (n + 1))) written text whole.0
+            (sym (ap (λ k. takes_in o whole.0.skips r event (numbers_below k)) (add-one n) ∙ takes_in_more o whole.0.skips r event n))).0
+
+      -- or it meets its partition full
+      pub take_ends : (m : ℕ) → n < m → GivesUpSo taken_so_far (λ skips. takes (partition_object settings) skips taken_so_far n event) → GivesUpSo r (λ skips. takes_in (partition_object settings) skips r event (numbers_below m))
+      take_ends m l full =
+          let o = partition_object settings in
+          let whole = gives_up_after grid grid r (λ s. takes_in o s r event (numbers_below n)) (λ x s. takes o s x n event) (takes_in_goes o r event (numbers_below n) quiet) (λ x. takes_goes o x n event quiet) written mid a full (λ s. takes_run s taken_so_far n event a.on.amid.run quiet) in
+          takes_in_ends o r event quiet (suc n) m (omega (arith, l)) (up_as r (λ s. takes o s (takes_in o s r event (numbers_below n)) n event) (λ s. takes_in o s r event (numbers_below (suc n))) (λ s. sym (takes_in_more o s r event n)) whole)
+
+      pub first_outcome : (happened : Happened) (text : List ℕ) → n ≡ 0 → HasTaken form settings new taken_so_far n event happened mid text → happened_of happened ≡ outcome_at (partition_object settings) r 0 event
+      first_outcome happened text e b = b.outcome ∙ ap (λ k. outcome_at (partition_object settings) (takes_in (partition_object settings) a.skips r event (numbers_below k)) k event) e
+
+    pub taken_at : (grid : Grid V T) (n m : ℕ) (written text : List ℕ) → n ≡ m → HasGoneOnSo form settings grid r (λ skips. takes_in (partition_object settings) skips r event (numbers_below n)) written text
+        → HasGoneOnSo form settings grid r (λ skips. takes_in (partition_object settings) skips r event (numbers_below m)) written text
+    taken_at grid n m written text same = subst (λ k. HasGoneOnSo form settings grid r (λ skips. takes_in (partition_object settings) skips r event (numbers_below k)) written text) same

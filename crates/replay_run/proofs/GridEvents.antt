@@ -1,5 +1,5 @@
 -- The grid after an event that is no call: its partition's world ran it and gave out what it released.
-use Rattle.std.proofs.Common.{◌≡◌, ◌≢◌, ℕ, ◌==◌, ◌<◌, true, false, List, [], ◌∷◌, ◌++◌, length, map, Option, Some, None, slice_set, get_or, refl, ap, sym, ◌∙◌, subst, ⊎_elim, append-nil, arith, Vec, Global}
+use Rattle.std.proofs.Common.{◌≡◌, ◌≢◌, ℕ, ◌==◌, ◌<◌, ◌+◌, ◌^◌, true, false, List, [], ◌∷◌, ◌++◌, length, map, Option, Some, None, slice_set, get_or, refl, ap, sym, ◌∙◌, subst, ⊎_elim, append-nil, arith, Vec, Global}
 use Rattle.std.specs.Option.{option_map}
 use Rattle.std.proofs.lemmas.Bool.{cases_eq, eq-eqb, ne_eqb}
 use Rattle.grid_base.specs.Objects.{Object}
@@ -26,11 +26,12 @@ use Rattle.call_engine.specs.Objects.{partition_object}
 use Rattle.object_store.specs.Partitions.{Partition}
 use Rattle.replay_run.specs.declared.grid.Grid.{Grid}
 use Rattle.replay_run.specs.Runs.{Run, Appended, Reopened, partitions, messages_on, events_at, world_at, listening, message_of, version_known, adopted_since, messages_at, taker_of, given_to, given_out, reopening_by, occurred, meets_full}
+use Rattle.replay_run.specs.Printing.{outcome_at}
 use Rattle.replay_run.specs.ScriptRuns.{event_occurred}
 use Rattle.replay_run.specs.Shelves.{grid_meaning}
 use Rattle.replay_run.specs.Tables.{Table}
-use Rattle.replay_run.specs.Grids.{FormOf, GridWorld, StandsForEvents, IsWorld, HasTable, IsSettled, IsTally, AreListening, HasWorld, Holds}
-use Rattle.replay_run.specs.WorldCalls.{texts_of, with_answers, going_out, messages_in, reaching_of, HasRoomAt, IsAmid, HasTaken}
+use Rattle.replay_run.specs.Grids.{FormOf, GridWorld, StandsForEvents, IsWorld, HasTable, HasWaiters, IsSettled, IsTally, AreListening, HasWorld, Holds}
+use Rattle.replay_run.specs.WorldCalls.{texts_of, with_answers, going_out, messages_in, reaching_of, HasRoomAt, IsAmid, HasGoneOn}
 use Rattle.replay_run.proofs.Arriving.{arrivals-append, events_with_one, maybe_one}
 use Rattle.replay_run.proofs.Asking.{world_there, world_is, stands_by}
 use Rattle.replay_run.proofs.GivingOut.{HasGivenOut}
@@ -41,6 +42,7 @@ use Rattle.replay_run.proofs.Tallies.{quiet_tally}
 use Rattle.replay_run.proofs.TableCounts.{counting_answers}
 use Rattle.replay_run.proofs.WorldRuns.{same_events, run_is, ran_to}
 use Rattle.partition_world.specs.Recorders.{KeepsAll}
+use Rattle.replay_run.proofs.WaiterLists.{waiters_alike}
 
 -- what an event releases
 
@@ -89,8 +91,12 @@ unasked_within (BeginHandover from to) quiet = tt
 unasked_within Advance quiet = tt
 unasked_within Reopen quiet = tt
 
+-- The partition may have one event more: four bytes count them.
+abbrev pub HasEventRoom : Run → ℕ → Type 0
+HasEventRoom r p = length (events_at p r.events) + 2 < 2 ^ 32
+
 -- It may come next in its partition's world.
-pub event_comes : (settings : Settings) (world : GridWorld) (r : Run) (p : ℕ) (event : Event Request) → asked_by event ≡ [] → HasRoomAt r p 1 → StandsForEvents settings world (events_at p r.events)
+pub event_comes : (settings : Settings) (world : GridWorld) (r : Run) (p : ℕ) (event : Event Request) → asked_by event ≡ [] → HasEventRoom r p → StandsForEvents settings world (events_at p r.events)
     → Comes (grid_meaning settings) KeepsAll RequestFits world (events_at p r.events) event
 event_comes settings world r p event quiet room stands = record {
   stands = stands;
@@ -142,6 +148,12 @@ abbrev pub said_at : Settings → Run → ℕ → Event Request → GridWorld �
 said_at settings r p event called None = []
 said_at settings r p event called (Some member) = messages_in (grid_meaning settings) called (events_at p r.events ++ event ∷ []) (reaching_of settings r p member) r (listening r None member)
 
+-- The event has happened, and what it appended was printed; those whom it stirs are still to have their turns.
+pub record HasOccurred {V : Type 0} {T : V → Type 0} (form : FormOf V T) (settings : Settings) (new : Grid V T) (r : Run) (p : ℕ) (event : Event Request) (happened : Happened) (written text : List ℕ) : Type 0 where
+  pub goes : meets_full (world_at (partition_object settings) r p) event ≡ false
+  pub on : HasGoneOn form settings new r (occurred (partition_object settings) r p event) written text
+  pub outcome : happened_of happened ≡ outcome_at (partition_object settings) r p event
+
 -- The table, the reopenings and the worlds after an event.
 pub record IsAfterEvent {V : Type 0} {T : V → Type 0} (grid new : Grid V T) (partition : ℕ) (world : GridWorld) (answers : List CallAnswer) (more : List Reopened) : Type 0 where
   pub env : new.env ≡ grid.env
@@ -150,6 +162,7 @@ pub record IsAfterEvent {V : Type 0} {T : V → Type 0} (grid new : Grid V T) (p
   pub links : new.links.items ≡ grid.links.items
   pub moments : new.moments.items ≡ grid.moments.items
   pub table : new.connections ≡ with_answers grid.connections grid.lines answers
+  pub waiters : new.waiters ≡ grid.waiters
   pub tally : new.tally ≡ grid.tally
   pub listeners : new.listeners.items ≡ grid.listeners.items
   pub reopened : new.reopened.items ≡ grid.reopened.items ++ more
@@ -278,7 +291,8 @@ module _ {V : Type 0} {T : V → Type 0} {form : FormOf V T} {settings : Setting
     moments = after.moments ∙ amid.holds.moments;
     clocks = amid.holds.clocks;
     table = table_now;
-    tally = subst (λ t. IsTally t next) (sym after.tally) (quiet_tally grid.tally r next (given_out o r p event) refl refl (given_refuse_none o r p event (taker_of event)) amid.holds.tally);
+    waiters = subst (λ ls. HasWaiters ls next) (sym after.waiters) (waiters_alike grid.waiters r next refl refl amid.holds.waiters);
+    tally = subst (λ t. IsTally t next) (sym after.tally) (quiet_tally grid.tally r next (given_out o r p event) refl refl refl (given_refuse_none o r p event (taker_of event)) amid.holds.tally);
     reopened = after.reopened ∙ (λ i. amid.holds.reopened i ++ reopening_by p (amid.holds.lines i) event (its_outcome i));
     worlds = λ q below. subst (λ ws. HasWorld settings ws next q) (sym after.worlds) (worlds_now q (amid.holds.worlds q below));
   }
@@ -289,7 +303,7 @@ module _ {V : Type 0} {T : V → Type 0} {form : FormOf V T} {settings : Setting
   listening_now : AreListening new.listeners.items next None
   listening_now = subst (λ ls. AreListening ls next None) (sym after.listeners) (record { size = amid.listeners.size; each = amid.listeners.each })
 
-  pub event_taken : meets_full before event ≡ false → (written text : List ℕ) → text ≡ written ++ texts_of (said taker) → HasTaken form settings new r p event happened written text
+  pub event_taken : meets_full before event ≡ false → (written text : List ℕ) → text ≡ written ++ texts_of (said taker) → HasOccurred form settings new r p event happened written text
   event_taken goes written text wrote = record {
     goes = goes;
     on = record {
@@ -307,14 +321,17 @@ module _ {V : Type 0} {T : V → Type 0} {form : FormOf V T} {settings : Setting
   is_its : IsWorld settings world r p
   is_its = world_is grid r h p i low same world read
 
+  pub event_room : HasRoomAt r p 1 → HasEventRoom r p
+  event_room room = omega (arith, room)
+
   -- It has as much room in another run that it stands for.
-  pub room_in : {form2 : FormOf V T} {settings2 : Settings} (r2 : Run) (h2 : Holds form2 settings2 grid r2) (most : ℕ) → HasRoomAt r p most → HasRoomAt r2 p most
-  room_in r2 h2 most room =
+  pub room_in : {form2 : FormOf V T} {settings2 : Settings} (r2 : Run) (h2 : Holds form2 settings2 grid r2) → HasEventRoom r p → HasEventRoom r2 p
+  room_in r2 h2 room =
       let here = is_its.stands.steps in
       let there = (world_is grid r2 h2 p i low same world read).stands.steps in
       omega (arith, room, here, there)
 
-  pub comes_in : (event : Event Request) → asked_by event ≡ [] → HasRoomAt r p 1 → Comes (grid_meaning (settings_of form grid.env)) KeepsAll RequestFits world (events_at p r.events) event
+  pub comes_in : (event : Event Request) → asked_by event ≡ [] → HasEventRoom r p → Comes (grid_meaning (settings_of form grid.env)) KeepsAll RequestFits world (events_at p r.events) event
   comes_in event quiet room = event_comes (settings_of form grid.env) world r p event quiet room (stands_by form grid.env settings h.goes_by world (events_at p r.events) is_its.stands)
 
 -- A step in an environment that makes these settings
@@ -332,6 +349,7 @@ with_table grid p world given table worlds answered placed = record {
   links = refl;
   moments = refl;
   table = answered;
+  waiters = refl;
   tally = refl;
   listeners = refl;
   reopened = sym (append-nil grid.reopened.items);
@@ -394,7 +412,7 @@ module _ {V : Type 0} {T : V → Type 0} {form : FormOf V T} {settings : Setting
       cc
 
   pub has_taken : (more : List Reopened) → new.reopened.items ≡ mid.reopened.items ++ more → record new { reopened = mid.reopened } ≡ mid → more ≡ reopening_by p grid.lines event (happened_of happened)
-      → HasTaken form settings new r p event happened written text
+      → HasOccurred form settings new r p event happened written text
   has_taken more reopened rest is =
       event_taken grid r amid p low event quiet taker its_taker new called gave.world happened
       (subst (λ w. HasStepped settings w called (events_at p r.events) event happened) same_world did) gave.out
@@ -405,6 +423,7 @@ module _ {V : Type 0} {T : V → Type 0} {form : FormOf V T} {settings : Setting
         links = ap (λ (g : Grid V T). g.links.items) rest ∙ gave.after.links;
         moments = ap (λ (g : Grid V T). g.moments.items) rest ∙ gave.after.moments;
         table = ap (λ (g : Grid V T). g.connections) rest ∙ gave.after.table;
+        waiters = ap (λ (g : Grid V T). g.waiters) rest ∙ gave.after.waiters;
         tally = ap (λ (g : Grid V T). g.tally) rest ∙ gave.after.tally;
         listeners = ap (λ (g : Grid V T). g.listeners.items) rest ∙ gave.after.listeners;
         reopened = reopened ∙ (λ j. (gave.after.reopened ∙ append-nil grid.reopened.items) j ++ is j);

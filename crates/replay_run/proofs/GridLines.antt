@@ -1,5 +1,5 @@
 -- The grid after each line: it stands for the run after the line, and the line's text was added.
-use Rattle.std.proofs.Common.{◌≡◌, ℕ, ◌+◌, ◌*◌, ◌<◌, ◌≤◌, Bool, true, false, not, cond, List, [], ◌++◌, length, slice_get, slice_set, Option, Some, None, refl, ap, sym, ◌∙◌, subst, ⊎_elim, append-nil, append_assoc, arith, Vec, Global}
+use Rattle.std.proofs.Common.{◌≡◌, ℕ, ◌+◌, ◌*◌, ◌<◌, ◌≤◌, Bool, true, false, not, cond, List, [], ◌++◌, length, drop, map, slice_get, slice_set, Option, Some, None, refl, ap, sym, ◌∙◌, subst, ⊎_elim, append-nil, append_assoc, arith, Vec, Global}
 use Rattle.std.specs.Option.{is_some, option_and_then}
 use Rattle.std.specs.List.{find}
 use Rattle.std.proofs.lemmas.Bool.{cases_eq}
@@ -16,25 +16,34 @@ use Rattle.listeners.specs.declared.listeners.Listeners.{Listeners}
 use Rattle.call_engine.specs.Calls.{Settings}
 use Rattle.call_engine.specs.Env.{settings_of}
 use Rattle.call_engine.specs.Objects.{partition_object}
-use Rattle.replay_run.specs.Runs.{Run, Connection, is_connection, connection_of, fault_on, messages_on, with_bytes, took_bytes, opened, next_line, clock_set, can_open, takes_bytes}
+use Rattle.replay_run.specs.Runs.{Run, Connection, Appended, partitions, is_open, served_in, forsaken, is_connection, connection_of, fault_on, messages_on, with_bytes, took_bytes, opened, next_line, clock_set, can_open, takes_bytes}
+use Rattle.wait_sets.specs.declared.waiter.Waiter.{Waiter as ListedWaiter}
+use Rattle.partition_protocol.specs.Service.{numbers_below}
+use Rattle.replay_run.specs.WaiterCalls.{IsBetween, HasServed}
 use Rattle.replay_run.specs.AfterLines.{after_line}
 use Rattle.replay_run.specs.Printing.{ok_text, nothing_text, close_text, outcome_text, does_nothing, line_close, line_dump, line_links, line_text, new_messages, line_messages}
 use Rattle.replay_run.specs.Skips.{AreOfLine}
 use Rattle.replay_run.specs.ScriptRuns.{line_counted, clock_was_set, connection_opened}
 use Rattle.replay_run.specs.Tables.{Table, most_connections, opened_at, with_opened, with_session}
-use Rattle.replay_run.specs.Grids.{FormOf, GridWorld, HasTable, IsSettled, IsCounting, IsTally, AreListening, Holds, IsSmall, AreFew, IsBounded, AreReached, Stands, MayRun, HasRun, most_arriving}
-use Rattle.replay_run.specs.WorldCalls.{texts_of, member_if_open, open_member_in, Brings, HasHandledSome}
-use Rattle.replay_run.proofs.Bounds.{stays_small}
+use Rattle.replay_run.specs.Grids.{FormOf, GridWorld, HasTable, HasWaiters, IsSettled, IsCounting, IsTally, AreListening, Holds, IsSmall, AreFew, IsBounded, AreReached, Stands, MayRun, HasRun, IsGivenUp, most_arriving}
+use Rattle.replay_run.specs.WorldCalls.{GivesUpSo, texts_of, member_if_open, open_member_in, Brings, HasHandledSome}
+use Rattle.replay_run.proofs.Bounds.{stays_small, adds_few, clock_few}
 use Rattle.replay_run.proofs.LineBounds.{line_bounded}
 use Rattle.replay_run.proofs.Items.{items_room}
 use Rattle.replay_run.proofs.Listening.{opened_listening, taken_listening}
-use Rattle.replay_run.proofs.LineTexts.{text_nothing, entries_text, text_without, new_with}
+use Rattle.replay_run.proofs.LineTexts.{text_nothing, entries_text, text_with, text_without, new_with}
 use Rattle.replay_run.proofs.Midway.{begun_midway, midway_come, midway_few, unopened_line, unopened_does_nothing, closed_line, closed_does_nothing, open_does_something, ended_line, ended_skips}
 use Rattle.replay_run.proofs.Places.{same_number}
 use Rattle.replay_run.proofs.Reaching.{opened_reached, taken_reached}
 use Rattle.replay_run.proofs.Trails.{find_some}
 use Rattle.replay_run.proofs.TableRuns.{none_opened, opened_table, fed_table}
 use Rattle.replay_run.proofs.TableCounts.{settled_opened, counting_fed}
+use Rattle.replay_run.proofs.WaiterLists.{waiters_alike}
+use Rattle.replay_run.proofs.EventRuns.{Kept, forsaken_kept, forsaken_run, forsaken_few, served_in_kept}
+use Rattle.replay_run.proofs.Growing.{served_in_goes}
+use Rattle.replay_run.proofs.Leaving.{HoldsElse, but_lists, forsaken_else, forsaken_open, forsaken_waiters, forsaken_holds, dropped, dropped_lists}
+use Rattle.replay_run.proofs.Serving.{settled_by}
+use Rattle.replay_run.proofs.Turns.{forsaken_keeps}
 
 -- the grid once the line of that number is counted
 abbrev pub counted : {V : Type 0} {T : V → Type 0} → Grid V T → ℕ → Grid V T
@@ -54,6 +63,7 @@ counted_holds grid r number t ks h at_line table = record {
   moments = h.moments;
   clocks = h.clocks;
   table = table;
+  waiters = waiters_alike grid.waiters r (record r { lines = r.lines + 1; connections = ks }) refl refl h.waiters;
   tally = record { arrived = h.tally.arrived; refused = h.tally.refused; memory = h.tally.memory };
   reopened = h.reopened;
   worlds = λ p low. let w = h.worlds p low in record { world = w.world; there = w.there; is = record { stands = w.is.stands; setup = w.is.setup }; given = w.given };
@@ -115,6 +125,10 @@ no_skips settings r line id there = absurd (in_contains id [] there)
 alone : (xs : List ℕ) → xs ++ [] ++ [] ++ [] ≡ xs
 alone xs = append-nil (xs ++ [] ++ []) ∙ append-nil (xs ++ []) ∙ append-nil xs
 
+-- or its messages alone
+alone_with : (xs ys : List ℕ) → xs ++ ys ++ [] ++ [] ++ [] ++ [] ≡ xs ++ ys
+alone_with xs ys = append-nil (xs ++ ys ++ [] ++ [] ++ []) ∙ append-nil (xs ++ ys ++ [] ++ []) ∙ append-nil (xs ++ ys ++ []) ∙ append-nil (xs ++ ys)
+
 -- a line that is only counted
 module _ {V : Type 0} {T : V → Type 0} {form : FormOf V T} {settings : Settings} (grid new : Grid V T) (r : Run) (number : ℕ) (line : Line) (s : Stands form settings grid r) (at_line : number ≡ r.lines + 1) (limit : number ≤ most_lines) (after : after_line (partition_object settings) [] r line ≡ next_line r)
     (made : new ≡ counted grid number) (written text : List ℕ) where
@@ -128,18 +142,18 @@ module _ {V : Type 0} {T : V → Type 0} {form : FormOf V T} {settings : Setting
     of_line = no_skips settings r line;
     stands = stands_after;
     added = is ∙ ap (λ n. written ++ nothing_text n) at_line
-        ∙ ap (λ xs. written ++ xs) (sym (text_nothing settings r (after_line (partition_object settings) [] r line) line idle ∙ ap (λ (x : Run). nothing_text x.lines) after));
+        ∙ ap (λ xs. written ++ xs) (sym (text_nothing settings [] r (after_line (partition_object settings) [] r line) line idle ∙ ap (λ (x : Run). nothing_text x.lines) after));
   }
 
   -- It prints its outcome, and what it dumps, the messages in flight and the entries.
-  pub counted_line : does_nothing (partition_object settings) r line ≡ false → line_messages settings r line (next_line r) ≡ texts_of (new_messages r (next_line r)) → line_close (next_line r) line ≡ []
+  pub counted_line : does_nothing (partition_object settings) r line ≡ false → line_messages settings [] r line (next_line r) ≡ texts_of (new_messages r (next_line r)) → line_close (next_line r) line ≡ []
       → text ≡ written ++ (outcome_text settings r line (next_line r) ++ line_dump (partition_object settings) (next_line r) line ++ line_links settings (next_line r) line ++ entries_text settings r (next_line r) line)
       → HasRun form settings new r line written text
   counted_line goes said open_still is = record {
     skips = [];
     of_line = no_skips settings r line;
     stands = stands_after;
-    added = is ∙ ap (λ xs. written ++ xs) (sym (ap (λ (x : Run). line_text settings r line x) after ∙ text_without settings r (next_line r) line goes said refl open_still));
+    added = is ∙ ap (λ xs. written ++ xs) (sym (ap (λ (x : Run). line_text settings [] r line x) after ∙ text_without settings [] r (next_line r) line goes said refl open_still));
   }
 
 -- `open`
@@ -178,10 +192,10 @@ opened_line {form = form} {settings = settings} grid new r number c member writt
       reached = opened_reached r c member s.reached there;
     }
 
-    its_text : line_text settings r (OpenConn c member) (after_line (partition_object settings) [] r (OpenConn c member)) ≡ ok_text (r.lines + 1)
+    its_text : line_text settings [] r (OpenConn c member) (after_line (partition_object settings) [] r (OpenConn c member)) ≡ ok_text (r.lines + 1)
     its_text =
-        ap (λ (x : Run). line_text settings r (OpenConn c member) x) after
-        ∙ text_without settings r (opened r c member) (OpenConn c member) (ap not can) refl refl refl
+        ap (λ (x : Run). line_text settings [] r (OpenConn c member) x) after
+        ∙ text_without settings [] r (opened r c member) (OpenConn c member) (ap not can) refl refl refl
         ∙ alone (ok_text (r.lines + 1))
 
 -- `clock`
@@ -194,6 +208,7 @@ pub record HasClock {V : Type 0} {T : V → Type 0} (grid new : Grid V T) (numbe
   pub links : new.links.items ≡ grid.links.items
   pub moments : new.moments.items ≡ slice_set grid.moments.items member moment
   pub connections : new.connections ≡ grid.connections
+  pub waiters : new.waiters ≡ grid.waiters
   pub tally : new.tally ≡ grid.tally
   pub listeners : new.listeners.items ≡ grid.listeners.items
   pub reopened : new.reopened.items ≡ grid.reopened.items
@@ -216,6 +231,7 @@ module _ {V : Type 0} {T : V → Type 0} {form : FormOf V T} {settings : Setting
     moments = set.moments ∙ ap (λ ms. slice_set ms member moment) s.holds.moments;
     clocks = length-set r.moments member moment ∙ s.holds.clocks;
     table = subst (λ t. HasTable t clocked) (sym set.connections) clocked_table;
+    waiters = subst (λ ls. HasWaiters ls clocked) (sym set.waiters) (waiters_alike grid.waiters r clocked refl refl s.holds.waiters);
     tally = subst (λ t. IsTally t clocked) (sym set.tally) (record { arrived = s.holds.tally.arrived; refused = s.holds.tally.refused; memory = s.holds.tally.memory });
     reopened = set.reopened ∙ s.holds.reopened;
     worlds = λ p low.
@@ -223,27 +239,54 @@ module _ {V : Type 0} {T : V → Type 0} {form : FormOf V T} {settings : Setting
         record { world = w.world; there = ap (λ (ws : List GridWorld). slice_get ws p) set.worlds ∙ w.there; is = record { stands = w.is.stands; setup = w.is.setup }; given = w.given };
   }
 
-  pub clock_line : (written text : List ℕ) → text ≡ written ++ ok_text number → HasRun form settings new r (Clock member moment) written text
-  clock_line written text is = record {
-    skips = [];
-    of_line = no_skips settings r (Clock member moment);
-    stands = record {
-      run = clock_was_set r member moment s.run;
-      small = let small : IsSmall r = s.small in omega (arith, small);
-      few = λ p. (let few = s.few p in omega (arith, few));
-      bounded = one_line_more r clocked number s.bounded at_line limit refl refl;
-      holds = clocked_holds;
-      listeners = subst (λ ls. AreListening ls clocked None) (sym set.listeners) (record { size = s.listeners.size; each = s.listeners.each });
-      settled = subst (λ t. IsSettled t clocked) (sym set.connections) s.settled;
-      reached = s.reached;
-    };
-    added = is ∙ ap (λ n. written ++ ok_text n) at_line
-        ∙ ap (λ xs. written ++ xs) (sym (text_without settings r clocked (Clock member moment) refl refl refl refl ∙ alone (ok_text (r.lines + 1))));
+  -- the lists of the member are still to have their turns
+  pub clocked_between : IsBetween form settings new clocked None
+  clocked_between = record {
+    run = clock_was_set r member moment s.run;
+    holds = clocked_holds;
+    listeners = subst (λ ls. AreListening ls clocked None) (sym set.listeners) (record { size = s.listeners.size; each = s.listeners.each });
   }
 
--- Who listens is no matter of what the grid holds else.
-pub holds_with : {V : Type 0} {T : V → Type 0} {form : FormOf V T} {settings : Settings} (grid : Grid V T) (listeners : Vec Listeners Global) (r : Run) → Holds form settings grid r → Holds form settings (record grid { listeners = listeners }) r
-holds_with grid listeners r h = record {
+  pub clock_line : (last : Grid V T) (written start text : List ℕ) → start ≡ written ++ ok_text number → HasServed form settings new last clocked None (λ skips. served_in (partition_object settings) skips clocked member (numbers_below partitions)) start text
+      → HasRun form settings last r (Clock member moment) written text
+  clock_line last written start text began did =
+      let o = partition_object settings in
+      let next = served_in o did.skips clocked member (numbers_below partitions) in
+      let kept = served_in_kept o did.skips clocked member (numbers_below partitions) in
+      let more = ((served_in_goes o clocked member (numbers_below partitions)).grows did.skips).appended in
+      let ms = more.0 in
+      let line = Clock member moment in
+      let its_text : line_text settings did.skips r line next ≡ ok_text (r.lines + 1) ++ texts_of ms =
+          text_with settings did.skips r next line ms refl refl (sym more.1)
+          ∙ ap (λ n. ok_text n ++ texts_of ms ++ [] ++ [] ++ [] ++ []) kept.lines
+          ∙ alone_with (ok_text (r.lines + 1)) (texts_of ms) in
+      record {
+        skips = did.skips;
+        of_line = did.among;
+        stands = record {
+          run = did.between.run;
+          small = stays_small did.skips r s.run line s.small (omega arith);
+          few = clock_few o did.skips r member moment s.few;
+          bounded = line_bounded o did.skips r (omega (arith, at_line, limit)) s.bounded line;
+          holds = did.between.holds;
+          listeners = did.between.listeners;
+          settled = settled_by new.connections last.connections clocked next did.counts kept.connections (subst (λ t. IsSettled t clocked) (sym set.connections) s.settled);
+          reached = λ c k found. subst (λ m. k.member < m) (sym kept.members) (s.reached c k (ap (find (is_connection c)) (sym kept.connections) ∙ found));
+        };
+        added =
+            did.added ∙ (λ i. (began ∙ ap (λ n. written ++ ok_text n) at_line) i ++ texts_of (new_with clocked next ms (sym more.1) i))
+            ∙ append_assoc written (ok_text (r.lines + 1)) (texts_of ms)
+            ∙ ap (λ xs. written ++ xs) (sym its_text);
+      }
+
+-- The run is given up at its turns.
+pub clock_given_up : (settings : Settings) (r : Run) (member moment : ℕ) → GivesUpSo (clock_set r member moment) (λ skips. served_in (partition_object settings) skips (clock_set r member moment) member (numbers_below partitions)) → IsGivenUp settings r (Clock member moment)
+clock_given_up settings r member moment up = record { skips = up.skips; of_line = up.own; full = up.full }
+
+-- Who listens and who waits is no matter of what the grid holds else.
+pub else_with : {V : Type 0} {T : V → Type 0} {form : FormOf V T} {settings : Settings} (grid : Grid V T) (listeners : Vec Listeners Global) (waiters : List (List ListedWaiter)) (r : Run) → HoldsElse form settings grid r → HoldsElse form settings (record grid { listeners = listeners; waiters = waiters }) r
+else_with grid listeners waiters r h = record {
+  run = h.run;
   goes_by = h.goes_by;
   goes_on = h.goes_on;
   lines = h.lines;
@@ -369,40 +412,96 @@ module _ {V : Type 0} {T : V → Type 0} {form : FormOf V T} {settings : Setting
       let came = midway_come r brings.run k brings.there bytes items did.skips did.now did.midway in
       λ d j found. subst (λ n. j.member < n) (sym came.members) (taken_reached r k bytes reached brings.reached d j (ap (λ ks. find (is_connection d) ks) (sym came.connections) ∙ found))
 
+  -- The connection may close: then its calls that wait leave.
+
+  abbrev pub closing : Run
+  closing = forsaken did.now k.conn
+
+  closing_kept : Kept did.now closing
+  closing_kept = forsaken_kept did.now k.conn
+
+  closing_lines : closing.lines ≡ r.lines + 1
+  closing_lines = closing_kept.lines ∙ now_lines
+
+  closing_there : connection_of closing c ≡ Some (with_bytes k bytes)
+  closing_there = ap (find (is_connection c)) closing_kept.connections ∙ now_there
+
+  -- they leave without an answer
+  closing_says : closing.appended ≡ did.now.appended
+  closing_says = forsaken_keeps (λ (x : Run). x.appended ≡ did.now.appended) (λ x w i h. append-nil x.appended ∙ h) k.conn did.now refl
+
+  closing_listening : (all : List Listeners) → AreListening all did.now None → AreListening all closing None
+  closing_listening all are = forsaken_keeps (λ x. AreListening all x None) (λ x w i h. record { size = h.size; each = h.each }) k.conn did.now are
+
+  -- what becomes of the lists of those who wait
+  pub record AreLeft (waiters : List (List ListedWaiter)) : Type 0 where
+    pub if_open : is_open (Some (with_bytes k bytes)) ≡ true → waiters ≡ handled.waiters
+    pub if_closed : is_open (Some (with_bytes k bytes)) ≡ false → waiters ≡ map (dropped k.conn) handled.waiters
+
+  its_open : is_open (connection_of did.now k.conn) ≡ is_open (Some (with_bytes k bytes))
+  its_open = ap is_open did.midway.may.there
+
+  closing_waiters : (waiters : List (List ListedWaiter)) → AreLeft waiters → HasWaiters waiters closing
+  closing_waiters waiters left = go (is_open (Some (with_bytes k bytes))) refl
+    where
+      go : (b : Bool) → is_open (Some (with_bytes k bytes)) ≡ b → HasWaiters waiters closing
+      go true e = subst (HasWaiters waiters) (sym (forsaken_open did.now k.conn (its_open ∙ e))) (subst (λ ls. HasWaiters ls did.now) (sym (left.if_open e)) did.holds.waiters)
+      go false e =
+          subst (λ ls. HasWaiters ls closing) (sym (left.if_closed e))
+          (dropped_lists handled.waiters did.now closing k.conn closing_kept.members (forsaken_waiters did.now k.conn (its_open ∙ e)) did.holds.waiters)
+
+  closing_holds : (listeners : Vec Listeners Global) (waiters : List (List ListedWaiter)) → AreLeft waiters → Holds form settings (record handled { listeners = listeners; waiters = waiters }) closing
+  closing_holds listeners waiters left =
+      let grid = record handled { listeners = listeners; waiters = waiters } in
+      forsaken_holds grid did.now k.conn (forsaken_else grid did.now k.conn (else_with handled listeners waiters did.now (but_lists handled did.now did.midway.run did.holds))) (closing_waiters waiters left)
+
+  closing_reached : AreReached r → AreReached closing
+  closing_reached reached d j found = subst (λ n. j.member < n) (sym closing_kept.members) (still_reached reached d j (ap (find (is_connection d)) (sym closing_kept.connections) ∙ found))
+
+  closing_settled : IsSettled handled.connections closing
+  closing_settled d o j at found = all_settled d o j at (ap (find (is_connection d)) (sym closing_kept.connections) ∙ found)
+
   module _ (takes : takes_bytes (partition_object settings) r k ≡ true) where
-    after : after_line (partition_object settings) did.skips r (Arrive c bytes) ≡ did.now
+    after : after_line (partition_object settings) did.skips r (Arrive c bytes) ≡ closing
     after = ended_line (partition_object settings) r c bytes k there takes items did.skips did.now brings.come did.midway
 
     abbrev its_parts : List ℕ
-    its_parts = (ok_text (r.lines + 1) ++ texts_of (new_messages r did.now)) ++ close_text (r.lines + 1) c (fault_on (with_bytes k bytes))
+    its_parts = (ok_text (r.lines + 1) ++ texts_of (new_messages r closing)) ++ close_text (r.lines + 1) c (fault_on (with_bytes k bytes))
 
-    its_text : line_text settings r (Arrive c bytes) did.now ≡ (ok_text (r.lines + 1) ++ texts_of (new_messages r did.now)) ++ close_text (r.lines + 1) c (fault_on (with_bytes k bytes))
-    its_text = rw (open_does_something (partition_object settings) r c bytes k there takes, now_there, now_lines) (alone its_parts)
+    text_of : (next : Run) → connection_of next c ≡ Some (with_bytes k bytes) → next.lines ≡ r.lines + 1
+        → line_text settings did.skips r (Arrive c bytes) next ≡ (ok_text (r.lines + 1) ++ texts_of (new_messages r next)) ++ close_text (r.lines + 1) c (fault_on (with_bytes k bytes))
+    text_of next found counted =
+        rw (open_does_something (partition_object settings) r c bytes k there takes, found, counted) (alone ((ok_text (r.lines + 1) ++ texts_of (new_messages r next)) ++ close_text (r.lines + 1) c (fault_on (with_bytes k bytes))))
 
-    pub bytes_line : (fault : Option Malformed) (number : ℕ) (written text : List ℕ) (listeners : Vec Listeners Global) (new : Grid V T) → new ≡ record handled { listeners = listeners } → AreListening listeners.items did.now None → IsSmall r → AreFew r → IsBounded r → AreReached r → 2 * length bytes ≤ most_arriving → start ≡ written ++ ok_text number → number ≡ r.lines + 1 → number ≤ most_lines
+    its_text : line_text settings did.skips r (Arrive c bytes) closing ≡ its_parts
+    its_text = text_of closing closing_there closing_lines
+
+    pub bytes_line : (fault : Option Malformed) (number : ℕ) (written text : List ℕ) (listeners : Vec Listeners Global) (waiters : List (List ListedWaiter)) (new : Grid V T) → new ≡ record handled { listeners = listeners; waiters = waiters } → AreListening listeners.items did.now None → AreLeft waiters → IsSmall r → AreFew r → IsBounded r → AreReached r
+        → 2 * length bytes ≤ most_arriving → start ≡ written ++ ok_text number → number ≡ r.lines + 1 → number ≤ most_lines
         → fault ≡ fault_on (with_bytes k bytes) → text ≡ mid ++ close_text number c fault → HasRun form settings new r (Arrive c bytes) written text
-    bytes_line fault number written text listeners new made are small few bounded reached size began at_line limit shown is = record {
+    bytes_line fault number written text listeners waiters new made are left small few bounded reached size began at_line limit shown is = record {
       skips = did.skips;
       of_line = ended_skips (partition_object settings) r c bytes k there takes items did.skips did.now brings.come did.midway;
-      stands = subst (Stands form settings new) (sym after) (subst (λ g. Stands form settings g did.now) (sym made) (record {
-        run = did.midway.run;
+      stands = subst (Stands form settings new) (sym after) (subst (λ g. Stands form settings g closing) (sym made) (record {
+        run = forsaken_run did.skips did.now k.conn did.midway.run;
         small = subst IsSmall after (stays_small did.skips r brings.run (Arrive c bytes) small size);
-        few = midway_few r brings.run k brings.there bytes items did.skips did.now did.midway few;
+        few = adds_few did.now closing closing_kept.lines (forsaken_few did.now k.conn) (midway_few r brings.run k brings.there bytes items did.skips did.now did.midway few);
         bounded = subst IsBounded after (line_bounded (partition_object settings) did.skips r (omega (arith, at_line, limit)) bounded (Arrive c bytes));
-        holds = holds_with handled listeners did.now did.holds;
-        listeners = are;
-        settled = all_settled;
-        reached = still_reached reached;
+        holds = closing_holds listeners waiters left;
+        listeners = closing_listening listeners.items are;
+        settled = closing_settled;
+        reached = closing_reached reached;
       }));
       added = is ∙ (λ i. whole i ++ close_text (at_line i) c (shown i)) ∙ grouped
-          ∙ ap (λ xs. written ++ xs) (sym (ap (λ (x : Run). line_text settings r (Arrive c bytes) x) after ∙ its_text));
+          ∙ ap (λ xs. written ++ xs) (sym (ap (λ (x : Run). line_text settings did.skips r (Arrive c bytes) x) after ∙ its_text));
     }
       where
-        whole : mid ≡ (written ++ ok_text (r.lines + 1)) ++ texts_of (new_messages r did.now)
-        whole = did.added ∙ ap (λ xs. xs ++ texts_of (new_messages r did.now)) (began ∙ ap (λ n. written ++ ok_text n) at_line)
+        whole : mid ≡ (written ++ ok_text (r.lines + 1)) ++ texts_of (new_messages r closing)
+        whole =
+            did.added ∙ ap (λ xs. xs ++ texts_of (new_messages r did.now)) (began ∙ ap (λ n. written ++ ok_text n) at_line)
+            ∙ ap (λ (ms : List Appended). (written ++ ok_text (r.lines + 1)) ++ texts_of (drop (length r.appended) ms)) (sym closing_says)
 
-        grouped : ((written ++ ok_text (r.lines + 1)) ++ texts_of (new_messages r did.now)) ++ close_text (r.lines + 1) c (fault_on (with_bytes k bytes))
-            ≡ written ++ ((ok_text (r.lines + 1) ++ texts_of (new_messages r did.now)) ++ close_text (r.lines + 1) c (fault_on (with_bytes k bytes)))
+        grouped : ((written ++ ok_text (r.lines + 1)) ++ texts_of (new_messages r closing)) ++ close_text (r.lines + 1) c (fault_on (with_bytes k bytes)) ≡ written ++ its_parts
         grouped =
-            ap (λ xs. xs ++ close_text (r.lines + 1) c (fault_on (with_bytes k bytes))) (append_assoc written (ok_text (r.lines + 1)) (texts_of (new_messages r did.now)))
-            ∙ append_assoc written (ok_text (r.lines + 1) ++ texts_of (new_messages r did.now)) (close_text (r.lines + 1) c (fault_on (with_bytes k bytes)))
+            ap (λ xs. xs ++ close_text (r.lines + 1) c (fault_on (with_bytes k bytes))) (append_assoc written (ok_text (r.lines + 1)) (texts_of (new_messages r closing)))
+            ∙ append_assoc written (ok_text (r.lines + 1) ++ texts_of (new_messages r closing)) (close_text (r.lines + 1) c (fault_on (with_bytes k bytes)))

@@ -1,9 +1,10 @@
 -- The text of a recorded history: what the code prints of its entries is what the run has of them.
 use Rattle.std.proofs.Common.{◌≡◌, ℕ, zero, suc, ◌+◌, ◌≤◌, List, [], ◌∷◌, ◌++◌, length, get_or, take, drop, map, Option, Some, None, slice_get, refl, ap, sym, ◌∙◌, subst, append_assoc, append-nil, arith}
-use Rattle.std.specs.Option.{option_map, unwrap_or}
-use Rattle.std.specs.List.{flat_map}
+use Rattle.std.specs.Option.{option_map, option_or, unwrap_or}
+use Rattle.std.specs.List.{find, flat_map}
 use Rattle.std.proofs.lemmas.List.{take_all}
 use Rattle.std.proofs.lemmas.List.Concat.{flat_map-append}
+use Rattle.grid_base.specs.declared.names.CallId.{CallId}
 use Rattle.grid_base.specs.declared.calls.Request.{Request}
 use Rattle.partition_protocol.specs.History.{Entry as ProtocolEntry, Called, Reset}
 use Rattle.partition_protocol.specs.Service.{numbers_below}
@@ -15,8 +16,8 @@ use Rattle.replay_run.specs.declared.connections.CallLines.{CallLines}
 use Rattle.grid_base.specs.Objects.{Object}
 use Rattle.object_store.specs.Partitions.{Partition}
 use Rattle.call_engine.specs.Calls.{Settings}
-use Rattle.replay_run.specs.Runs.{Run, Arrival, Appended, reopened_at}
-use Rattle.replay_run.specs.Printing.{Printed, Call as CallShown, Reset as ResetShown, printed, first_line, printed_from, entry_text, entries_of, arrival_of, answer_of}
+use Rattle.replay_run.specs.Runs.{Run, Arrival, Waiter, Appended, is_waiter, reopened_at}
+use Rattle.replay_run.specs.Printing.{Printed, Call as CallShown, Reset as ResetShown, printed, first_line, printed_from, entry_text, entries_of, arrival_of, came_at, answer_of}
 use Rattle.replay_run.specs.PrintedEntries.{arrived_in, answered_in, printed_as, resets_in}
 use Rattle.replay_run.specs.ScriptRuns.{IsRun}
 use Rattle.replay_run.specs.Grids.{GridWorld, IsWorld, HasWorld, HasTable}
@@ -39,16 +40,24 @@ grouped out a b c d e f g h =
     ∙ ap (λ t. t ++ h) (append_assoc out (((((a ++ b) ++ c) ++ d) ++ e) ++ f) g)
     ∙ append_assoc out ((((((a ++ b) ++ c) ++ d) ++ e) ++ f) ++ g) h
 
-abbrev with_lines : Option Appended → Arrival → CallLines
-with_lines answer a = record { arrived = a.line; answered = option_map (λ (m : Appended). m.line) answer }
+abbrev with_lines : Option Appended → ℕ → CallLines
+with_lines answer line = record { arrived = line; answered = option_map (λ (m : Appended). m.line) answer }
 
-arrived_same : (come : Option Arrival) (answer : Option Appended) → arrived_in (option_map (with_lines answer) come) ≡ unwrap_or (option_map (λ (a : Arrival). a.line) come) 0
+arrived_same : (come : Option ℕ) (answer : Option Appended) → arrived_in (option_map (with_lines answer) come) ≡ unwrap_or come 0
 arrived_same None answer = refl
-arrived_same (Some a) answer = refl
+arrived_same (Some line) answer = refl
 
-answered_same : (come : Option Arrival) (answer : Option Appended) → (come ≡ None → answer ≡ None) → answered_in (option_map (with_lines answer) come) ≡ option_map (λ (m : Appended). m.line) answer
+answered_same : (come : Option ℕ) (answer : Option Appended) → (come ≡ None → answer ≡ None) → answered_in (option_map (with_lines answer) come) ≡ option_map (λ (m : Appended). m.line) answer
 answered_same None answer unheard = sym (ap (option_map (λ (m : Appended). m.line)) (unheard refl))
-answered_same (Some a) answer unheard = refl
+answered_same (Some line) answer unheard = refl
+
+-- a call that came at no line has no answer
+uncome_unanswered : {o : Object Request Partition} (r : Run) → IsRun o r → (id : CallId) → came_at r id ≡ None → answer_of r id ≡ None
+uncome_unanswered r is id none = unheard_unanswered r is id (go (arrival_of r id) refl)
+  where
+    go : (found : Option Arrival) → arrival_of r id ≡ found → arrival_of r id ≡ None
+    go None e = e
+    go (Some a) e = absurd (let clash : Some a.line ≡ None = subst (λ (x : Option Arrival). option_or (option_map (λ (b : Arrival). b.line) x) (option_map (λ (w : Waiter). w.line) (find (is_waiter id) r.waiters)) ≡ None) e none in cc)
 
 -- what the run prints of an entry at that place
 abbrev pub printed_one : Run → ℕ → ℕ → List ℕ → ProtocolEntry Request → List Printed
@@ -58,8 +67,8 @@ printed_is : {o : Object Request Partition} (r : Run) → IsRun o r → (table :
     → printed_as p place (first_line lines) entry table ∷ [] ≡ printed_one r p place lines (entry_of entry)
 printed_is r is table has p place lines (Call id version seen now call reply) =
     let same = has.calls id in
-    let come = ap arrived_in same ∙ arrived_same (arrival_of r id) (answer_of r id) in
-    let answers = ap answered_in same ∙ answered_same (arrival_of r id) (answer_of r id) (unheard_unanswered r is id) in
+    let come = ap arrived_in same ∙ arrived_same (came_at r id) (answer_of r id) in
+    let answers = ap answered_in same ∙ answered_same (came_at r id) (answer_of r id) (uncome_unanswered r is id) in
     λ i. CallShown (record {
       partition = p;
       place = place;

@@ -1,5 +1,5 @@
 -- The items that bytes bring on a connection: there is one for each new message, and each call among them is named by its message's number, is for its object's partition, and fits frames.
-use Rattle.std.proofs.Common.{◌≡◌, ℕ, zero, suc, ◌+◌, List, [], ◌∷◌, ◌++◌, drop, length, Some, refl, ap, sym, inl, inr, subst, arith, length-drop}
+use Rattle.std.proofs.Common.{◌≡◌, ◌∙◌, ℤ, ℕ, zero, suc, ◌+◌, List, [], ◌∷◌, ◌++◌, drop, length, Some, refl, ap, sym, inl, inr, subst, arith, length-drop}
 use Rattle.std.specs.Prelude.{slice_get, option_and_then}
 use Rattle.grid_base.specs.Limits.{CallFits}
 use Rattle.grid_base.specs.declared.calls.GridCall.{GridCall}
@@ -20,12 +20,16 @@ use Rattle.replay_run.specs.ScriptRuns.{IsPlaced, home_of}
 use Rattle.replay_run.proofs.Hearing.{no_fewer}
 use Rattle.replay_run.proofs.Parts.{in_drop}
 
--- A call is named so and is for its object's partition.
+-- A call, waiting or not, is named so and is for its object's partition.
+
+abbrev pub IsNamed : CallId → Request → Type 0
+IsNamed id request = (request.id ≡ id) × IsPlaced request
+
 abbrev pub IsNumbered : CallId → Item → Type 0
 IsNumbered id (Reply bytes) = Unit {0}
-IsNumbered id (Wait request timeout) = Unit {0}
+IsNumbered id (Wait request timeout) = IsNamed id request
 IsNumbered id (Register registration) = Unit {0}
-IsNumbered id (Asks request) = (request.id ≡ id) × IsPlaced request
+IsNumbered id (Asks request) = IsNamed id request
 
 -- items of messages that are numbered on from there
 abbrev pub AreNumbered : ℕ → ℕ → List Item → Type 0
@@ -34,21 +38,24 @@ AreNumbered conn number (item ∷ items) = IsNumbered (record { conn = conn; num
 
 -- each call is numbered by its place
 abbrev NumberedAt : ℕ → ℕ → List Item → Type 0
-NumberedAt conn number items = (place : ℕ) (request : Request) → slice_get items place ≡ Some (Asks request) → IsNumbered (record { conn = conn; number = number + place }) (Asks request)
+NumberedAt conn number items = (place : ℕ) (request : Request) → option_and_then request_in (slice_get items place) ≡ Some request → IsNamed (record { conn = conn; number = number + place }) request
 
 numbered_by : (conn number : ℕ) (items : List Item) → NumberedAt conn number items → AreNumbered conn number items
 numbered_by conn number [] at = tt
 numbered_by conn number (item ∷ items) at = (
-  first item (λ request e. at zero request (ap Some e)),
+  first item (λ request e. at zero request e),
   numbered_by conn (number + 1) items (λ place request e.
-      subst (λ n. IsNumbered (record { conn = conn; number = n }) (Asks request)) (let later : number + suc place ≡ number + 1 + place = omega arith in later) (at (suc place) request e)),
+      subst (λ n. IsNamed (record { conn = conn; number = n }) request) (let later : number + suc place ≡ number + 1 + place = omega arith in later) (at (suc place) request e)),
 )
   where
-    first : (i : Item) → ((request : Request) → i ≡ Asks request → IsNumbered (record { conn = conn; number = number + zero }) (Asks request)) → IsNumbered (record { conn = conn; number = number }) i
+    here : (request : Request) → IsNamed (record { conn = conn; number = number + zero }) request → IsNamed (record { conn = conn; number = number }) request
+    here request h = subst (λ n. IsNamed (record { conn = conn; number = n }) request) (let e : number + 0 ≡ number = omega arith in e) h
+
+    first : (i : Item) → ((request : Request) → request_in i ≡ Some request → IsNamed (record { conn = conn; number = number + zero }) request) → IsNumbered (record { conn = conn; number = number }) i
     first (Reply bytes) h = tt
-    first (Wait request timeout) h = tt
+    first (Wait request timeout) h = here request (h request refl)
     first (Register registration) h = tt
-    first (Asks request) h = subst (λ n. IsNumbered (record { conn = conn; number = n }) (Asks request)) (let here : number + 0 ≡ number = omega arith in here) (h request refl)
+    first (Asks request) h = here request (h request refl)
 
 home_belongs : (c : GridCall) (partition : ℕ) → BelongsTo c partition → home_of c partition ≡ partition
 home_belongs (call.Map c) partition belongs = sym belongs
@@ -60,8 +67,8 @@ placed request is = record { own = home_belongs request.call request.partition i
 items_numbered : (conn member : ℕ) (messages : List Message) → AreNumbered conn 0 (items_of conn member messages)
 items_numbered conn member messages =
     numbered_by conn 0 (items_of conn member messages) (λ place request e.
-    subst (λ n. IsNumbered (record { conn = conn; number = n }) (Asks request)) (let here : place ≡ 0 + place = omega arith in here)
-    (numbered_call conn member messages place request (ap (option_and_then request_in) e), placed request (placed_call conn member messages place request (ap (option_and_then request_in) e))))
+    subst (λ n. IsNamed (record { conn = conn; number = n }) request) (let here : place ≡ 0 + place = omega arith in here)
+    (numbered_call conn member messages place request e, placed request (placed_call conn member messages place request e)))
 
 -- parts of them
 
@@ -102,9 +109,16 @@ in_at [] x i = absurd i
 in_at (y ∷ ys) x (inl e) = (zero, ap Some e)
 in_at (y ∷ ys) x (inr i) = let at = in_at ys x i in (suc at.0, at.1)
 
--- The calls among the items that bytes bring fit frames.
-pub calls_fit : (k : Connection) (bytes : List ℕ) (request : Request) → In (Asks request) (items_by k bytes) → CallFits request.call
-calls_fit k bytes request i =
+-- The calls among the items that bytes bring fit frames, waiting or not.
+
+item_fits : (k : Connection) (bytes : List ℕ) (item : Item) (request : Request) → request_in item ≡ Some request → In item (items_by k bytes) → CallFits request.call
+item_fits k bytes item request its i =
     let new : Connection = with_bytes k bytes in
-    let at = in_at (items_on new) (Asks request) (in_drop (length (items_on k)) (items_on new) (Asks request) i) in
-    fitting_call k.conn k.member new.bytes at.0 request (ap (option_and_then request_in) at.1)
+    let at = in_at (items_on new) item (in_drop (length (items_on k)) (items_on new) item i) in
+    fitting_call k.conn k.member new.bytes at.0 request (ap (option_and_then request_in) at.1 ∙ its)
+
+pub calls_fit : (k : Connection) (bytes : List ℕ) (request : Request) → In (Asks request) (items_by k bytes) → CallFits request.call
+calls_fit k bytes request i = item_fits k bytes (Asks request) request refl i
+
+pub waits_fit : (k : Connection) (bytes : List ℕ) (request : Request) (timeout : ℤ) → In (Wait request timeout) (items_by k bytes) → CallFits request.call
+waits_fit k bytes request timeout i = item_fits k bytes (Wait request timeout) request refl i

@@ -1,4 +1,5 @@
 pub mod Parts
+pub mod Turns
 pub mod EventRuns
 pub mod Rebalanced
 pub mod Counting
@@ -28,9 +29,11 @@ pub mod SkipLaws
 pub mod Growing
 pub mod Skipped
 pub mod Fresh
+pub mod NamedFew
 pub mod Bounds
 pub mod LineBounds
 pub mod Midway
+pub mod Lookups
 pub mod Slots
 pub mod TableChanges
 pub mod TableRuns
@@ -46,6 +49,7 @@ pub mod Telling
 pub mod RegisteringLine
 pub mod Refusing
 pub mod GivingOut
+pub mod WaiterLists
 pub mod GridCalls
 pub mod GridLines
 pub mod LineCalls
@@ -55,7 +59,12 @@ pub mod Feeding
 pub mod DumpTexts
 pub mod LinkTexts
 pub mod GridEvents
+pub mod GivingUp
 pub mod Flowing
+pub mod Serving
+pub mod Leaving
+pub mod LateCalls
+pub mod Taking
 pub mod EventLines
 pub mod RebalanceLine
 pub mod LineCases

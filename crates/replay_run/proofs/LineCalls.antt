@@ -1,30 +1,31 @@
 -- The items of a line of bytes on the grid, one after the other.
-use Rattle.std.proofs.Common.{◌≡◌, ℕ, ◌+◌, ◌<◌, ◌^◌, ◌-◌, ◌*◌, true, List, [], ◌∷◌, ◌++◌, length, get_or, map, take, drop, Option, Some, None, Result, Ok, Err, OnOk, inl, refl, ap, sym, ◌∙◌, subst, append_assoc, arith, length-append}
+use Rattle.std.proofs.Common.{◌≡◌, ℕ, ◌+◌, ◌<◌, ◌-◌, List, [], ◌∷◌, ◌++◌, length, get_or, map, take, drop, Option, Some, None, Result, Ok, Err, OnOk, refl, ap, sym, ◌∙◌, subst, append_assoc, arith, length-append}
 use Rattle.std.proofs.lemmas.List.{take-append-drop, drop_more}
 use Rattle.std.specs.Iterator.{Yields}
 use Rattle.std.proofs.lemmas.Iterator.Adapters.{YieldsList-from_vec}
 use Rattle.std.proofs.lemmas.Iterator.Consumers.{YieldsList-so_far, YieldsList-turn, YieldsList-end}
 use Rattle.std.specs.Vec.Iter.{into_iter_items, into_iter_len, into_iter_steps}
 use Rattle.std.specs.declared.vec.IntoIter.{IntoIter}
-use Rattle.partition_protocol.proofs.Lists.{in_right, contains_in}
 use Rattle.grid_base.specs.declared.names.CallId.{CallId}
 use Rattle.grid_base.specs.declared.calls.Request.{Request}
 use Rattle.replay_run.specs.declared.grid.Grid.{Grid}
 use Rattle.call_engine.specs.Calls.{Settings}
 use Rattle.call_engine.specs.Objects.{partition_object}
 use Rattle.event_codecs.specs.declared.registration.Registration.{Registration}
-use Rattle.replay_run.specs.Runs.{Run, Connection, Arrival, messages_on, with_bytes, arrival_at, asked, is_full, told, registers, world_at, partitions}
+use Rattle.grid_base.specs.Objects.{Object}
+use Rattle.object_store.specs.Partitions.{Partition}
+use Rattle.replay_run.specs.Runs.{Run, Connection, messages_on, with_bytes, told, registers, handled, partitions}
 use Rattle.replay_run.specs.Printing.{new_messages}
-use Rattle.replay_run.specs.ScriptRuns.{IsRun, IsNext}
-use Rattle.grid_base.specs.Limits.{CallFits}
+use Rattle.replay_run.specs.ScriptRuns.{IsRun, IsNext, MayAsk, calls_in}
 use Rattle.session_core.specs.declared.item.Item.{Item}
-use Rattle.session_core.specs.declared.item.Item.TheVariants.{Call as Asks, Register}
-use Rattle.replay_run.specs.Rebalancing.{most_line_events}
-use Rattle.replay_run.specs.Grids.{FormOf, IsCounting, AreListening, Holds, AreFew}
-use Rattle.replay_run.specs.WorldCalls.{texts_of, IsTo, HasAsked, HasRegistered, HasTold, HasRoom, Brings, HasHandledSome, IsGivenUpMidway}
-use Rattle.replay_run.proofs.Lines.{HasCome, asked_come, told_come, registers_come}
+use Rattle.session_core.specs.declared.item.Item.TheVariants.{Register, Reply}
+use Rattle.replay_run.specs.Grids.{FormOf, IsCounting, AreListening, AreFew}
+use Rattle.replay_run.specs.WaiterCalls.{IsBetween, HasHandledCall}
+use Rattle.replay_run.specs.WorldCalls.{Onward, GivesUpSo, texts_of, IsTo, HasRegistered, HasTold, HasCallRoom, HasRoom, Brings, HasHandledSome, IsGivenUpMidway}
+use Rattle.replay_run.proofs.Items.{IsNamed, IsNumbered}
+use Rattle.replay_run.proofs.Lines.{HasCome, told_come, registers_come, handled_come}
 use Rattle.replay_run.proofs.LineTexts.{new_with, texts_more}
-use Rattle.replay_run.proofs.Midway.{midway_come, midway_arrivals, midway_few, its_name, next_midway, asked_midway, full_midway, own_midway, answer_of, told_midway, registered_midway}
+use Rattle.replay_run.proofs.Midway.{midway_come, midway_calls, midway_few, its_name, next_midway, item_midway, full_midway, own_midway, told_midway, registered_midway}
 
 map_same : {X : Type 0} (xs : List X) → map (λ (x : X). x) xs ≡ xs
 map_same [] = refl
@@ -70,7 +71,7 @@ module _ {V : Type 0} {T : V → Type 0} {form : FormOf V T} {settings : Setting
   pub to_now : IsTo so_far.now k.conn k.member
   to_now = record { connection = with_bytes k bytes; there = so_far.midway.may.there; to = refl }
 
-  text_more : (next : Run) (come : List Arrival) (text : List ℕ) → HasCome so_far.now come next → text ≡ mid ++ texts_of (new_messages so_far.now next) → text ≡ written ++ texts_of (new_messages r next)
+  text_more : (next : Run) (come : ℕ) (text : List ℕ) → HasCome so_far.now come next → text ≡ mid ++ texts_of (new_messages so_far.now next) → text ≡ written ++ texts_of (new_messages r next)
   text_more next come text has is =
       let before = midway_come r brings.run k brings.there bytes done so_far.skips so_far.now so_far.midway in
       let grown = sym has.appended.1 in
@@ -100,22 +101,18 @@ pub on_ok_then : {A E : Type 0} (result : Result A E) (P Q : Type 0) → (P → 
 on_ok_then (Ok x) P Q f p = f p
 on_ok_then (Err why) P Q f p = tt
 
-pub asked_at : {V : Type 0} {T : V → Type 0} {form : FormOf V T} {settings : Settings} {new : Grid V T} {r : Run} {member other : ℕ} {q : Request} {written text : List ℕ} → member ≡ other
-    → HasAsked form settings new r other q written text → HasAsked form settings new r member q written text
-asked_at {form = form} {settings = settings} {new = new} {r = r} {q = q} {written = written} {text = text} same = subst (λ m. HasAsked form settings new r m q written text) (sym same)
-
--- an answer for which no member is asked
-pub told_one_more : {V : Type 0} {T : V → Type 0} {form : FormOf V T} {settings : Settings} (grid : Grid V T) (r : Run) (k : Connection) (bytes : List ℕ) (done : List Item) (item : Item) (answer : List ℕ) → answer_of item ≡ Some answer → (rest : List Item) → Brings settings r k bytes (done ++ item ∷ rest)
+-- an answer of its session
+pub told_one_more : {V : Type 0} {T : V → Type 0} {form : FormOf V T} {settings : Settings} (grid : Grid V T) (r : Run) (k : Connection) (bytes : List ℕ) (done : List Item) (answer : List ℕ) (rest : List Item) → Brings settings r k bytes (done ++ Reply answer ∷ rest)
     → (written mid : List ℕ) (so_far : HasHandledSome form settings grid r k bytes done written mid) (new : Grid V T) (text : List ℕ)
-    → HasTold form settings new so_far.now k.conn (length (messages_on k) + length done) answer mid text → HasHandledSome form settings new r k bytes (done ++ item ∷ []) written text
-told_one_more grid r k bytes done item answer its rest brings written mid so_far new text did = record {
+    → HasTold form settings new so_far.now k.conn (length (messages_on k) + length done) answer mid text → HasHandledSome form settings new r k bytes (done ++ Reply answer ∷ []) written text
+told_one_more grid r k bytes done answer rest brings written mid so_far new text did = record {
   skips = so_far.skips;
   now = told so_far.now k.conn answer;
-  midway = told_midway r brings.run k brings.there bytes done item answer its rest brings.come so_far.skips so_far.now so_far.midway;
+  midway = told_midway r brings.run k brings.there bytes done answer rest brings.come so_far.skips so_far.now so_far.midway;
   holds = did.holds;
   listeners = did.listeners;
-  counting = subst (λ n. IsCounting new.connections (told so_far.now k.conn answer) k.conn n) (number_more grid r k bytes done item rest brings written mid so_far) did.counting;
-  added = text_more grid r k bytes done item rest brings written mid so_far (told so_far.now k.conn answer) [] text (told_come so_far.now k.conn answer) did.added;
+  counting = subst (λ n. IsCounting new.connections (told so_far.now k.conn answer) k.conn n) (number_more grid r k bytes done (Reply answer) rest brings written mid so_far) did.counting;
+  added = text_more grid r k bytes done (Reply answer) rest brings written mid so_far (told so_far.now k.conn answer) 0 text (told_come so_far.now k.conn answer) did.added;
 }
 
 -- a registration
@@ -140,88 +137,70 @@ registered_one_more {settings = settings} grid r k bytes done registration rest 
       holds = did.holds;
       listeners = did.listeners;
       counting = subst (λ n. IsCounting new.connections next k.conn n) (number_more grid r k bytes done (Register registration) rest brings written mid so_far) did.counting;
-      added = text_more grid r k bytes done (Register registration) rest brings written mid so_far next [] text (registers_come o so_far.now k.conn k.member registration) did.added;
+      added = text_more grid r k bytes done (Register registration) rest brings written mid so_far next 0 text (registers_come o so_far.now k.conn k.member registration) did.added;
     }
 
--- A call may be asked: its parts fit, its partition and its member are there, and there is room for its event.
-pub record MayAskNext {V : Type 0} {T : V → Type 0} (form : FormOf V T) (settings : Settings) (grid : Grid V T) (member : ℕ) (q : Request) : Type 0 where
-  pub fits : CallFits q.call
-  pub placed : q.partition < partitions
-  pub reached : member < grid.members
-  pub heard : length grid.listeners.items ≡ grid.members
-  pub run : Run
-  pub holds : Holds form settings grid run
-  pub room : length run.arrivals + most_line_events * run.lines + 1 < 2 ^ 32 - 1
-  pub is : IsRun (partition_object settings) run
-  pub next : IsNext run q
-  pub few : AreFew run
+-- a call, waiting or not
 
--- a call
-module _ {V : Type 0} {T : V → Type 0} {form : FormOf V T} {settings : Settings} (grid : Grid V T) (r : Run) (k : Connection) (bytes : List ℕ) (done : List Item) (q : Request) (rest : List Item) (brings : Brings settings r k bytes (done ++ Asks q ∷ rest))
-    (written mid : List ℕ) (so_far : HasHandledSome form settings grid r k bytes done written mid) where
-  next_fits : CallFits q.call
-  next_fits = brings.fit q (contains_in (Asks q) (done ++ Asks q ∷ rest) (in_right (Asks q) done (Asks q ∷ rest) (inl refl)))
+module _ {V : Type 0} {T : V → Type 0} {form : FormOf V T} {settings : Settings} (grid : Grid V T) (r : Run) (k : Connection) (bytes : List ℕ) (done : List Item) (item : Item) (q : Request)
+    (named : IsNumbered (record { conn = k.conn; number = length (messages_on k) + length done }) item ≡ IsNamed (record { conn = k.conn; number = length (messages_on k) + length done }) q)
+    (rest : List Item) (brings : Brings settings r k bytes (done ++ item ∷ rest)) (written mid : List ℕ) (so_far : HasHandledSome form settings grid r k bytes done written mid) where
+  abbrev o : Object Request Partition
+  o = partition_object settings
 
   pub next_call : IsNext so_far.now q
-  next_call = next_midway r brings.run k brings.there bytes done q rest brings.come so_far.skips so_far.now so_far.midway
+  next_call = next_midway r brings.run k brings.there bytes done item q named rest brings.come so_far.skips so_far.now so_far.midway
 
-  next_placed : q.partition < partitions
+  pub next_placed : q.partition < partitions
   next_placed = next_call.placed.within
 
-  next_room : HasRoom r k bytes → length so_far.now.arrivals + most_line_events * so_far.now.lines + 1 < 2 ^ 32 - 1
+  pub next_room : HasRoom r k bytes → HasCallRoom so_far.now
   next_room room =
-      let come = midway_arrivals r brings.run k brings.there bytes done so_far.skips so_far.now so_far.midway in
+      let come = midway_calls r brings.run k brings.there bytes done so_far.skips so_far.now so_far.midway in
       let line = (midway_come r brings.run k brings.there bytes done so_far.skips so_far.now so_far.midway).lines in
       let items = ap length brings.come in
-      let parts = length-append done (Asks q ∷ rest) in
+      let parts = length-append done (item ∷ rest) in
       omega (arith, come, line, items, parts, room)
 
-  next_reached : k.member < grid.members
-  next_reached =
-      let same = (midway_come r brings.run k brings.there bytes done so_far.skips so_far.now so_far.midway).members in
-      subst (λ n. k.member < n) (sym (so_far.holds.members ∙ same)) brings.reached
-
-  -- what the next call wants
-  pub may_ask : HasRoom r k bytes → AreFew r → MayAskNext form settings grid k.member q
-  may_ask room few = record { fits = next_fits; placed = next_placed; reached = next_reached; heard = so_far.listeners.size ∙ sym so_far.holds.members; run = so_far.now; holds = so_far.holds; room = next_room room; is = so_far.midway.run; next = next_call; few = midway_few r brings.run k brings.there bytes done so_far.skips so_far.now so_far.midway few }
+  pub next_few : AreFew r → AreFew so_far.now
+  next_few few = midway_few r brings.run k brings.there bytes done so_far.skips so_far.now so_far.midway few
 
   name : q.id ≡ record { conn = k.conn; number = length (messages_on k) + length done }
-  name = its_name r brings.run k brings.there bytes done q rest brings.come so_far.skips so_far.now so_far.midway
+  name = its_name r brings.run k brings.there bytes done item q named rest brings.come so_far.skips so_far.now so_far.midway
 
-  pub next_heard : AreListening grid.listeners.items so_far.now (Some q.id.conn)
-  next_heard = subst (λ (id : CallId). AreListening grid.listeners.items so_far.now (Some id.conn)) (sym name) so_far.listeners
+  pub next_between : IsBetween form settings grid so_far.now (Some q.id.conn)
+  next_between = record {
+    run = so_far.midway.run;
+    holds = so_far.holds;
+    listeners = subst (λ (id : CallId). AreListening grid.listeners.items so_far.now (Some id.conn)) (sym name) so_far.listeners;
+  }
 
   pub next_count : IsCounting grid.connections so_far.now q.id.conn q.id.number
   next_count = subst (λ (id : CallId). IsCounting grid.connections so_far.now id.conn id.number) (sym name) so_far.counting
 
-  -- Its partition takes none.
-  pub asked_full : is_full (world_at (partition_object settings) so_far.now q.partition) ≡ true → IsGivenUpMidway settings r k bytes (done ++ Asks q ∷ rest)
-  asked_full full = record {
-    skips = so_far.skips;
-    own = own_midway r brings.run k brings.there bytes done q rest brings.come so_far.skips so_far.now so_far.midway;
-    full = full_midway r brings.run k brings.there bytes done q rest brings.come so_far.skips so_far.now so_far.midway full;
-  }
+  -- It was handled.
+  module _ (onward : Onward) (made : (skips : List CallId) → onward skips ≡ handled o skips so_far.now k item) where
+    come_by : (skips : List CallId) → HasCome so_far.now (length (calls_in (item ∷ []))) (onward skips)
+    come_by skips = subst (HasCome so_far.now (length (calls_in (item ∷ [])))) (sym (made skips)) (handled_come o skips so_far.now k item)
 
-  module _ (new : Grid V T) (text : List ℕ) (did : HasAsked form settings new so_far.now k.member q mid text) where
-    abbrev now : Run
-    now = asked (partition_object settings) did.skips so_far.now (arrival_at so_far.now k.member q)
+    pub call_one_more : (new : Grid V T) (text : List ℕ) (did : HasHandledCall form settings new so_far.now q.id.conn (q.id.number + 1) onward mid text)
+        → MayAsk (onward did.skips) (with_bytes k bytes) (length (messages_on k) + length done + 1) → HasHandledSome form settings new r k bytes (done ++ item ∷ []) written text
+    call_one_more new text did may = record {
+      skips = so_far.skips ++ did.skips;
+      now = onward did.skips;
+      midway = item_midway r brings.run k brings.there bytes done item rest brings.come so_far.skips so_far.now so_far.midway did.skips (onward did.skips) (made did.skips) did.between.run did.among may;
+      holds = did.between.holds;
+      listeners = subst (λ (id : CallId). AreListening new.listeners.items (onward did.skips) (Some id.conn)) name did.between.listeners;
+      counting =
+          subst (λ n. IsCounting new.connections (onward did.skips) k.conn n) (number_more grid r k bytes done item rest brings written mid so_far)
+          (subst (λ (id : CallId). IsCounting new.connections (onward did.skips) id.conn (id.number + 1)) name did.counting);
+      added = text_more grid r k bytes done item rest brings written mid so_far (onward did.skips) (length (calls_in (item ∷ []))) text (come_by did.skips) did.added;
+    }
 
-    count_more : IsCounting new.connections now k.conn (length (messages_on k) + length (done ++ Asks q ∷ []))
-    count_more =
-        subst (λ n. IsCounting new.connections now k.conn n) (number_more grid r k bytes done (Asks q) rest brings written mid so_far)
-        (subst (λ (id : CallId). IsCounting new.connections now id.conn (id.number + 1)) name did.counting)
-
-    asked_listening : AreListening new.listeners.items now (Some k.conn)
-    asked_listening = subst (λ (id : CallId). AreListening new.listeners.items now (Some id.conn)) name did.listeners
-
-    pub asked_one_more : HasHandledSome form settings new r k bytes (done ++ Asks q ∷ []) written text
-    asked_one_more = record {
-      skips = did.skips ++ so_far.skips;
-      now = now;
-      midway = asked_midway r brings.run k brings.there bytes done q rest brings.come so_far.skips so_far.now so_far.midway did.skips did.its_own did.goes;
-      holds = did.holds;
-      listeners = asked_listening;
-      counting = count_more;
-      added = text_more grid r k bytes done (Asks q) rest brings written mid so_far now (arrival_at so_far.now k.member q ∷ []) text
-          (asked_come (partition_object settings) did.skips so_far.now (arrival_at so_far.now k.member q)) did.added;
+    -- The run is given up at it.
+    pub call_given_up : (up : GivesUpSo so_far.now onward) → IsRun o (onward up.skips) → IsGivenUpMidway settings r k bytes (done ++ item ∷ rest)
+    call_given_up up run = record {
+      skips = so_far.skips ++ up.skips;
+      own = own_midway r brings.run k brings.there bytes done item rest brings.come so_far.skips so_far.now so_far.midway up.skips (onward up.skips) (made up.skips) run up.own;
+      full = full_midway r brings.run k brings.there bytes done item rest brings.come so_far.skips so_far.now so_far.midway up.skips (onward up.skips) (made up.skips) run up.own up.full;
     }

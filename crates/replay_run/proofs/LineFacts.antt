@@ -8,14 +8,14 @@ use Rattle.object_store.specs.Partitions.{Partition}
 use Rattle.call_engine.specs.Calls.{Settings}
 use Rattle.partition_protocol.proofs.Lists.{In, in_contains}
 use Rattle.session_core.specs.Sessions.{SessionState, session_after, StandsFor}
-use Rattle.session_core.specs.declared.item.Item.TheVariants.{Call as Asks}
+use Rattle.session_core.specs.declared.item.Item.TheVariants.{Call as Asks, Wait}
 use Rattle.session_core.specs.declared.session.FedSession.{FedSession}
 use Rattle.replay_run.specs.declared.grid.Grid.{Grid}
 use Rattle.replay_run.specs.Runs.{Run, Connection, can_open, connection_of, fault_on, items_on, items_by, lives, with_bytes}
 use Rattle.replay_run.specs.Tables.{Table, Opened, opened_at, with_session, FeedGives}
 use Rattle.replay_run.specs.Grids.{FormOf, IsConnection, HasTable, Stands}
 use Rattle.replay_run.specs.WorldCalls.{Brings}
-use Rattle.replay_run.proofs.Items.{calls_fit}
+use Rattle.replay_run.proofs.Items.{calls_fit, waits_fit}
 use Rattle.replay_run.proofs.Lines.{connection_there}
 use Rattle.replay_run.proofs.TableRuns.{found_opened, found_connection, none_opened}
 
@@ -75,6 +75,7 @@ module _ {V : Type 0} {T : V → Type 0} {form : FormOf V T} {settings : Setting
         reached = s.reached c k there;
         come = come;
         fit = λ q i. calls_fit k bytes q (subst (λ xs. In (Asks q) xs) (sym come) (in_contains (Asks q) fed.items.items i));
+        waits_fit = λ q timeout i. waits_fit k bytes q timeout (subst (λ xs. In (Wait q timeout) xs) (sym come) (in_contains (Wait q timeout) fed.items.items i));
       }
 
       pub closed_as : fed.closed ≡ fault_on (with_bytes k bytes)

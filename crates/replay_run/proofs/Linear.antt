@@ -1,7 +1,7 @@
 -- What is printed for an object fits the run: it is the history of that object, used by one thread.
-use Rattle.std.proofs.Common.{◌≡◌, ◌≢◌, ℕ, ◌≤◌, ◌<◌, true, List, [], length, Some, Contains, ap, sym, ◌∙◌, subst, arith}
+use Rattle.std.proofs.Common.{◌≡◌, ◌≢◌, ℕ, ◌≤◌, ◌<◌, true, false, List, [], length, Some, Contains, ap, sym, ◌∙◌, subst, arith}
 use Rattle.std.proofs.lemmas.Bool.Decides.{nat_tests}
-use Rattle.std.specs.Prelude.{nat_lt, option_map}
+use Rattle.std.specs.Prelude.{nat_lt, option_map, unwrap_or}
 use Rattle.grid_base.specs.Objects.{Object}
 use Rattle.grid_base.specs.declared.names.CallId.{CallId}
 use Rattle.grid_base.specs.declared.calls.Request.{Request}
@@ -20,14 +20,14 @@ use Rattle.object_store.specs.Records.{nothing_of}
 use Rattle.object_store.proofs.PartitionLaws.{record_at-nothing}
 use Rattle.replay_run.specs.Runs.{Run, begun, Arrival, Appended, reopened_at, world_at, partitions}
 use Rattle.replay_run.specs.AfterLines.{after_lines}
-use Rattle.replay_run.specs.Printing.{PrintedCall, PrintedReset, Printed, Call, Reset, entries_of, all_entries, printed_from, arrival_of, is_answer_to, answer_of}
+use Rattle.replay_run.specs.Printing.{PrintedCall, PrintedReset, Printed, Call, Reset, entries_of, all_entries, printed_from, arrival_of, came_at, is_answer_to, answer_of}
 use Rattle.replay_run.specs.Linearizability.{GridObject, is_on, is_of, history_of, Before, IsLegal, reset_lines, IsOf, Fits, IsLinearizable, EveryRunIsLinearizable}
 use Rattle.replay_run.proofs.Parts.{subsequence_part, before_first, before_second, part_filter, before_part, named_apart, in_filter, in_filtered}
 use Rattle.replay_run.specs.ScriptRuns.{home, grid_begun}
 use Rattle.replay_run.proofs.Places.{same_number}
 use Rattle.replay_run.proofs.Trails.{executed, asked, executed_name, Prints, printed_in, in_printed, printed_before}
-use Rattle.replay_run.proofs.Stamps.{AreStamped, stamped_part, line_of, NeverFalls, falls_filtered, stands_first, printed_falls, printed_resets, history_resets}
-use Rattle.replay_run.proofs.RunFacts.{RunOk, asked_of, arrival_name, id_name, safe, log_once, origin, origins, arrival_found, IsGivenIn, given_executed, asked_as}
+use Rattle.replay_run.proofs.Stamps.{AreStamped, stamped_part, made_of, stamp, NeverFalls, falls_filtered, stands_first, printed_falls, printed_resets, history_resets}
+use Rattle.replay_run.proofs.RunFacts.{RunOk, asked_of, arrival_name, id_name, safe, log_once, origin, origins, one_arrival, arrival_found, came_of, IsGivenIn, given_executed, asked_as}
 use Rattle.replay_run.proofs.RunsOfLines.{run_ok}
 use Rattle.replay_run.proofs.Lines.{lines_run}
 use Rattle.replay_run.proofs.Locality.{on_partition, legal_on, history_elsewhere, history_at}
@@ -77,8 +77,8 @@ module _ (settings : Settings) (r : Run) (ok : RunOk (partition_object settings)
         stamped_part r.arrivals 0 r.lines lines (trail w) w.recorded.log (subsequence_part (trail w) w.recorded.log safe_at.in_order)
         (count_filter is_reset (trail w) ∙ ap length safe_at.resets ∙ sym (count_filter is_reset w.recorded.log)) (ok.of_reopenings.stamped p)
 
-    pub never_falls : NeverFalls 0 h
-    never_falls = falls_filtered (is_of object) 0 entries (printed_falls r (λ a i. arrival_found r ok.of_arrivals a i) p 0 0 r.lines lines (trail w) trail_stamped)
+    pub never_falls : NeverFalls r 0 h
+    never_falls = falls_filtered r (is_of object) 0 entries (printed_falls r (λ a i. arrival_found r ok.of_arrivals a i) p 0 0 r.lines lines (trail w) trail_stamped)
 
     -- an entry is of the arrival of its call
     pub is_of_arrival : (a : Arrival) (x : Executed Request) (e : PrintedCall) → In a r.arrivals → asked_of a ≡ asked x → Prints r p x e → IsOf a e
@@ -89,7 +89,7 @@ module _ (settings : Settings) (r : Run) (ok : RunOk (partition_object settings)
           id = ap (λ (f : PrintedCall). f.id) entry ∙ named;
           request = ap (λ (f : PrintedCall). f.request) entry ∙ ap (λ (k : Asked Request). k.call) (sym same);
           now = ap (λ (f : PrintedCall). f.now) entry ∙ ap (λ (k : Asked Request). k.now) (sym same);
-          line = ap (λ (f : PrintedCall). f.arrived) entry ∙ ap (λ c. line_of (arrival_of r c)) named ∙ ap line_of (arrival_found r ok.of_arrivals a i);
+          line = ap (λ (f : PrintedCall). f.arrived) entry ∙ ap (λ c. unwrap_or (came_at r c) 0) named ∙ ap (λ line. unwrap_or line 0) (came_of r ok.of_arrivals a i);
         }
 
     -- it has the line of that arrival
@@ -189,40 +189,68 @@ module _ (settings : Settings) (r : Run) (ok : RunOk (partition_object settings)
         let found = printed_answer o r ok p k.second line (before_second log k.first k.second k.before) (ap (λ (f : PrintedCall). f.answered) k.prints_second.is ∙ s) in
         let by_then = arrived_before o r ok p k.first k.second found.message (id_of k.second) found.given found.is k.before in
         let at = line_of_entry k.first a (before_first log k.first k.second k.before) k.prints_first by_then.0 by_then.1 by_then.2 in
-        omega (arith, at, by_then.3, found.at_line)
+        let later = ok.of_arrivals.later by_then.0 by_then.1 in
+        omega (arith, at, by_then.3, found.at_line, later)
 
-    pub same_line : (a b : PrintedCall) → Before h (Call a) (Call b) → a.arrived ≡ b.arrived → a.id.number < b.id.number
-    same_line a b before s =
+    pub same_line : (a b : PrintedCall) (x y : Arrival) → Before h (Call a) (Call b) → a.arrived ≡ b.arrived → Contains r.arrivals x → Contains r.arrivals y → IsOf x a → IsOf y b
+        → x.waits ≡ false → y.waits ≡ false → a.id.number < b.id.number
+    same_line a b x y before s c d of_first of_second quiet quiet_too =
         let k = entries_in_order a b before in
         let from = origins o r ok.members ok.of_arrivals p k.first k.second k.before in
-        let first = is_of_arrival from.0 k.first a (before_first r.arrivals from.0 from.1.0 from.1.1) from.1.2 k.prints_first in
-        let second = is_of_arrival from.1.0 k.second b (before_second r.arrivals from.0 from.1.0 from.1.1) from.1.3 k.prints_second in
+        let i = before_first r.arrivals from.0 from.1.0 from.1.1 in
+        let j = before_second r.arrivals from.0 from.1.0 from.1.1 in
+        let first = is_of_arrival from.0 k.first a i from.1.2 k.prints_first in
+        let second = is_of_arrival from.1.0 k.second b j from.1.3 k.prints_second in
+        let same_first : from.0 ≡ x = one_arrival r ok.of_arrivals from.0 x i (in_contains x r.arrivals c) (ap id_name (sym first.id ∙ of_first.id)) in
+        let same_second : from.1.0 ≡ y = one_arrival r ok.of_arrivals from.1.0 y j (in_contains y r.arrivals d) (ap id_name (sym second.id ∙ of_second.id)) in
         let one_line : from.0.line ≡ from.1.0.line = sym first.line ∙ s ∙ second.line in
-        let one_conn = ok.of_arrivals.of_line from.0 from.1.0 (before_first r.arrivals from.0 from.1.0 from.1.1) (before_second r.arrivals from.0 from.1.0 from.1.1) one_line in
-        let apart = ok.of_arrivals.rising from.0 from.1.0 from.1.1 one_conn in
-        let left = ap (λ (c : CallId). c.number) first.id in
-        let right = ap (λ (c : CallId). c.number) second.id in
+        let one_conn = ok.of_arrivals.of_line from.0 from.1.0 i j one_line in
+        let apart = ok.of_arrivals.rising from.0 from.1.0 from.1.1 (ap (λ (e : Arrival). e.waits) same_first ∙ quiet) (ap (λ (e : Arrival). e.waits) same_second ∙ quiet_too) one_conn in
+        let left = ap (λ (e : CallId). e.number) first.id in
+        let right = ap (λ (e : CallId). e.number) second.id in
         omega (arith, apart, left, right)
 
     pub resets : reset_lines h ≡ lines
     resets = history_resets r object 0 lines (trail w) ∙ printed_resets r r.arrivals p 0 0 r.lines lines (trail w) trail_stamped
 
-    -- a call was answered after it arrived
-    pub arrived_by_answer : (a : PrintedCall) (line : ℕ) → In (Call a) h → a.answered ≡ Some line → a.arrived ≤ line
-    arrived_by_answer a line i s =
+    -- the arrival of an entry's call
+    pub record IsFrom (e : PrintedCall) : Type 0 where
+      pub arrival : Arrival
+      pub there : In arrival r.arrivals
+      pub is : IsOf arrival e
+      pub made : stamp r (Call e) ≡ arrival.made
+
+    pub comes_from : (e : PrintedCall) → In (Call e) h → IsFrom e
+    comes_from e i =
+        let k = entry_call e i in
+        let from = origin o r ok.members ok.of_arrivals p k.1.0 k.1.1 in
+        let is = is_of_arrival from.0 k.1.0 e from.1 from.3 k.1.2 in
+        record { arrival = from.0; there = from.1; is = is; made = ap (λ c. made_of (arrival_of r c)) is.id ∙ ap made_of (arrival_found r ok.of_arrivals from.0 from.1) }
+
+    -- a call was answered no sooner than it was made
+    pub made_by_answer : (a : PrintedCall) (line : ℕ) → In (Call a) h → a.answered ≡ Some line → stamp r (Call a) ≤ line
+    made_by_answer a line i s =
         let k = entry_call a i in
         let found = printed_answer o r ok p k.1.0 line k.1.1 (ap (λ (f : PrintedCall). f.answered) k.1.2.is ∙ s) in
-        let from = found.given.arrived found.given.call found.given.has in
-        let at = line_of_entry k.1.0 a k.1.1 k.1.2 from.0 from.1 (from.2 ∙ ap executed_name found.is) in
-        omega (arith, at, from.3, found.at_line)
+        let by_then = found.given.arrived found.given.call found.given.has in
+        let from = comes_from a i in
+        let named : arrival_name by_then.0 ≡ arrival_name from.arrival = by_then.2 ∙ ap executed_name found.is ∙ ap (λ (f : PrintedCall). id_name f.id) k.1.2.is ∙ ap id_name from.is.id in
+        let one = ap (λ (e : Arrival). e.made) (one_arrival r ok.of_arrivals by_then.0 from.arrival by_then.1 from.there named) in
+        let made = from.made in
+        omega (arith, one, made, by_then.3, found.at_line)
 
     pub before_reset : (a : PrintedCall) (b : PrintedReset) (line : ℕ) → Contains h (Call a) → Contains h (Reset b) → a.answered ≡ Some line → line < b.line → Before h (Call a) (Reset b)
     before_reset a b line c d s l =
-        let by_then = arrived_by_answer a line (in_contains (Call a) h c) s in
-        stands_first 0 h (Call a) (Reset b) never_falls (in_contains (Call a) h c) (in_contains (Reset b) h d) (omega (arith, by_then, l))
+        let by_then = made_by_answer a line (in_contains (Call a) h c) s in
+        stands_first r 0 h (Call a) (Reset b) never_falls (in_contains (Call a) h c) (in_contains (Reset b) h d) (omega (arith, by_then, l))
 
     pub after_reset : (a : PrintedCall) (b : PrintedReset) → Contains h (Call a) → Contains h (Reset b) → b.line < a.arrived → Before h (Reset b) (Call a)
-    after_reset a b c d l = stands_first 0 h (Reset b) (Call a) never_falls (in_contains (Reset b) h d) (in_contains (Call a) h c) l
+    after_reset a b c d l =
+        let from = comes_from a (in_contains (Call a) h c) in
+        let later = ok.of_arrivals.later from.arrival from.there in
+        let arrived_at = from.is.line in
+        let made = from.made in
+        stands_first r 0 h (Reset b) (Call a) never_falls (in_contains (Reset b) h d) (in_contains (Call a) h c) (omega (arith, later, arrived_at, made, l))
 
     -- the history in the object's own partition
     pub fits : Fits (one_object settings object.name) object r h

@@ -1,6 +1,5 @@
 -- Each line of a script makes a run of a run, and so does a list of lines.
-use Rattle.std.proofs.Common.{◌≡◌, ℕ, ◌+◌, ◌≤◌, ◌<◌, Bool, true, false, not, ◌&&◌, cond, List, [], ◌∷◌, ◌++◌, length, Option, Some, None, Contains, pos, refl, ap, sym, ◌∙◌, subst, ⊎_elim, inl, inr, ◌⊎◌, arith, length-append, append_assoc, append-nil, slice_get, unwrap_or}
-use Rattle.std.specs.List.{find, filter_map}
+use Rattle.std.proofs.Common.{◌≡◌, ℤ, ℕ, ◌+◌, ◌≤◌, ◌<◌, not, ◌&&◌, cond, List, [], ◌∷◌, ◌++◌, length, Option, Some, None, Contains, pos, refl, ap, sym, ◌∙◌, subst, ⊎_elim, inl, inr, arith, length-append, append_assoc, append-nil}
 use Rattle.std.specs.Option.{is_some}
 use Rattle.grid_base.specs.Errors.{want_of_memory}
 use Rattle.grid_base.specs.Objects.{Object}
@@ -20,18 +19,18 @@ use Rattle.session_core.specs.declared.item.Item.TheVariants.{Call as Asks, Wait
 use Rattle.script_lang.specs.declared.line.Line.{Line}
 use Rattle.script_lang.specs.declared.line.Line.TheVariants.{OpenConn, Arrive, Clock, Deliver, Lose, Repeat, Flow, FlowAll, Resend, Crash, Detect, Move, Join, Handover, Advance, Reopen, Rebalance}
 use Rattle.object_store.specs.Partitions.{Partition}
-use Rattle.replay_run.specs.Runs.{Run, Connection, Arrival, At, Appended, partitions, is_connection, connection_of, messages_on, world_at, lives, takes_bytes, is_full, with_bytes, took_bytes, moment_of, items_by, own_answer, told, refusal, arrival_at, happening, arrived, is_skipped, given_up, asked, asks, handled_all, opened, next_line, bytes_arrived, event_by, unserved, listener_registered, event_to, events_to, rows_known, registered_reply, sends, registers}
+use Rattle.replay_run.specs.Runs.{Run, Connection, Arrival, Waiter, At, Appended, partitions, is_connection, connection_of, messages_on, world_at, lives, takes_bytes, is_full, with_bytes, took_bytes, items_by, own_answer, told, refusal, arrival_at, happening, arrived, is_skipped, given_up, asked, asks, waiter_at, waits, without, ending, leaves, served, forsaken, calls, begins_to_wait, handled, handled_all, opened, next_line, clock_set, bytes_arrived, event_by, listener_registered, event_to, events_to, rows_known, registered_reply, sends, registers}
 use Rattle.replay_run.specs.AfterLines.{after_event, after_line, after_lines}
-use Rattle.replay_run.specs.ScriptRuns.{IsPlaced, MayAsk, IsNext, IsRun, line_counted, clock_was_set, connection_opened, bytes_taken, listener_was_registered, answer_told, call_arrived, run_given_up, call_asked}
-use Rattle.replay_run.specs.WorldCalls.{arrival_to}
+use Rattle.replay_run.specs.ScriptRuns.{IsPlaced, MayAsk, IsNext, IsRun, line_counted, clock_was_set, connection_opened, bytes_taken, listener_was_registered, answer_told, call_arrived, run_given_up, call_asked, waiter_came, calls_in}
 use Rattle.replay_run.proofs.Items.{AreNumbered, numbered_front, items_room}
 use Rattle.replay_run.proofs.Places.{same_number}
 use Rattle.replay_run.proofs.Trails.{find_some}
 use Rattle.replay_run.proofs.RunFacts.{RunOk}
-use Rattle.replay_run.proofs.Arriving.{same_test, in_place, updated_found, its_event}
+use Rattle.replay_run.proofs.Turns.{KeepsTurns, by_endings, served_keeps, forsaken_keeps}
+use Rattle.replay_run.proofs.Arriving.{same_test, in_place, updated_found, its_event, in_without}
 use Rattle.replay_run.proofs.RunsOfLines.{run_ok}
 use Rattle.replay_run.proofs.Rebalanced.{rebalanced_run}
-use Rattle.replay_run.proofs.EventRuns.{takes_run, takes_in_run, flowed_run, flowed_in_run}
+use Rattle.replay_run.proofs.EventRuns.{ended_kept, takes_run, takes_in_run, flowed_run, flowed_in_run, served_run, served_in_run, forsaken_run}
 
 -- a connection that is found has the number that was looked for
 pub connection_there : (r : Run) (c : ℕ) (k : Connection) → connection_of r c ≡ Some k → connection_of r k.conn ≡ Some k
@@ -39,47 +38,108 @@ connection_there r c k there = ap (connection_of r) (same_number k.conn c (find_
 
 -- items
 
--- what items leave of a run, and that their calls are arrivals more
-pub record HasCome (r : Run) (come : List Arrival) (next : Run) : Type 0 where
+-- What items leave of a run, and how many calls they bring at most: each is an arrival more, or waits.
+pub record HasCome (r : Run) (brought : ℕ) (next : Run) : Type 0 where
   pub members : next.members ≡ r.members
   pub backups : next.backups ≡ r.backups
   pub lines : next.lines ≡ r.lines
   pub moments : next.moments ≡ r.moments
   pub connections : next.connections ≡ r.connections
-  pub arrivals : next.arrivals ≡ r.arrivals ++ come
+  pub arrivals : IsFrontOf r.arrivals next.arrivals
+  pub come : length next.arrivals + length next.waiters ≤ length r.arrivals + length r.waiters + brought
   pub appended : IsFrontOf r.appended next.appended
 
-pub come_both : (r mid next : Run) (first then : List Arrival) → HasCome r first mid → HasCome mid then next → HasCome r (first ++ then) next
-come_both r mid next first then a b = record {
+pub come_both : (r mid next : Run) (first then all : ℕ) → first + then ≤ all → HasCome r first mid → HasCome mid then next → HasCome r all next
+come_both r mid next first then all sum a b = record {
   members = b.members ∙ a.members;
   backups = b.backups ∙ a.backups;
   lines = b.lines ∙ a.lines;
   moments = b.moments ∙ a.moments;
   connections = b.connections ∙ a.connections;
-  arrivals = b.arrivals ∙ ap (λ xs. xs ++ then) a.arrivals ∙ append_assoc r.arrivals first then;
+  arrivals = front_trans r.arrivals mid.arrivals next.arrivals a.arrivals b.arrivals;
+  come = let more = b.come in let before = a.come in omega (arith, more, before, sum);
   appended = front_trans r.appended mid.appended next.appended a.appended b.appended;
 }
 
-pub asked_come : (o : Object Request Partition) (skips : List CallId) (r : Run) (a : Arrival) → HasCome r (a ∷ []) (asked o skips r a)
-asked_come o skips r a = go (is_skipped skips a.request.id)
-  where
-    is : (events : List At) (appended : List Appended) → HasCome r (a ∷ []) (arrived r a events appended)
-    is events appended = record { members = refl; backups = refl; lines = refl; moments = refl; connections = refl; arrivals = refl; appended = (appended, refl) }
+pub none_come : (r : Run) → HasCome r 0 r
+none_come r = record { members = refl; backups = refl; lines = refl; moments = refl; connections = refl; arrivals = same r.arrivals; come = omega arith; appended = same r.appended }
 
-    go : (b : Bool) → HasCome r (a ∷ []) (cond b (arrived r a [] (refusal a.line a.request (pos want_of_memory) 0 ∷ [])) (arrived r a (its_event a ∷ []) (happening o r a)))
-    go true = is [] (refusal a.line a.request (pos want_of_memory) 0 ∷ [])
-    go false = is (its_event a ∷ []) (happening o r a)
+pub arrived_come : (r : Run) (a : Arrival) (events : List At) (appended : List Appended) → HasCome r 1 (arrived r a events appended)
+arrived_come r a events appended = record {
+  members = refl;
+  backups = refl;
+  lines = refl;
+  moments = refl;
+  connections = refl;
+  arrivals = (a ∷ [], refl);
+  come = let one = length-append r.arrivals (a ∷ []) in omega (arith, one);
+  appended = (appended, refl);
+}
 
--- also where the run is given up
-pub asks_come : (o : Object Request Partition) (skips : List CallId) (r : Run) (a : Arrival) → HasCome r (a ∷ []) (asks o skips r a)
-asks_come o skips r a =
-    on_if (HasCome r (a ∷ [])) (is_full (world_at o r a.request.partition)) (given_up (arrived r a [] [])) (asked o skips r a)
-    (record { members = refl; backups = refl; lines = refl; moments = refl; connections = refl; arrivals = refl; appended = ([], refl) }) (asked_come o skips r a)
+pub given_up_come : (r next : Run) (brought : ℕ) → HasCome r brought next → HasCome r brought (given_up next)
+given_up_come r next brought h = record { members = h.members; backups = h.backups; lines = h.lines; moments = h.moments; connections = h.connections; arrivals = h.arrivals; come = h.come; appended = h.appended }
 
-pub told_come : (r : Run) (c : ℕ) (bytes : List ℕ) → HasCome r [] (told r c bytes)
-told_come r c bytes = record { members = refl; backups = refl; lines = refl; moments = refl; connections = refl; arrivals = sym (append-nil r.arrivals); appended = (own_answer r.lines c bytes ∷ [], refl) }
+pub waits_come : (r : Run) (w : Waiter) → HasCome r 1 (waits r w)
+waits_come r w = record {
+  members = refl;
+  backups = refl;
+  lines = refl;
+  moments = refl;
+  connections = refl;
+  arrivals = same r.arrivals;
+  come = let one = length-append r.waiters (w ∷ []) in omega (arith, one);
+  appended = same r.appended;
+}
 
-pub registers_come : {State : Type 0} (o : Object Request State) (r : Run) (c member : ℕ) (registration : Registration) → HasCome r [] (registers o r c member registration)
+-- one that waited is an arrival more
+pub ended_come : (r : Run) (w : Waiter) (events : List At) (appended : List Appended) → In w r.waiters → HasCome r 0 (arrived (without r w) (ending r w) events appended)
+ended_come r w events appended i = record {
+  members = refl;
+  backups = refl;
+  lines = refl;
+  moments = refl;
+  connections = refl;
+  arrivals = (ending r w ∷ [], refl);
+  come = let kept = (ended_kept r w events appended i).calls in omega (arith, kept);
+  appended = (appended, refl);
+}
+
+pub forsaken_come : (r : Run) (c : ℕ) → HasCome r 0 (forsaken r c)
+forsaken_come r c = forsaken_keeps (HasCome r 0) (λ x w i h. come_both r x (leaves x w) 0 0 0 (omega arith) h (ended_come x w [] [] i)) c r (none_come r)
+
+module _ (o : Object Request Partition) (skips : List CallId) where
+  pub asked_come : (r : Run) (own : Option ℕ) (a : Arrival) → HasCome r 1 (asked o skips r own a)
+  asked_come r own a =
+      on_if (HasCome r 1) (is_skipped skips a.request.id) (arrived r a [] (refusal a.made a.request (pos want_of_memory) 0 ∷ [])) (arrived r a (its_event a ∷ []) (happening o r own a))
+      (arrived_come r a [] (refusal a.made a.request (pos want_of_memory) 0 ∷ [])) (arrived_come r a (its_event a ∷ []) (happening o r own a))
+
+  -- also where the run is given up
+  pub asks_come : (r : Run) (own : Option ℕ) (a : Arrival) → HasCome r 1 (asks o skips r own a)
+  asks_come r own a =
+      on_if (HasCome r 1) (is_full (world_at o r a.request.partition)) (given_up (arrived r a [] [])) (asked o skips r own a)
+      (given_up_come r (arrived r a [] []) 1 (arrived_come r a [] [])) (asked_come r own a)
+
+  come_turns : (r : Run) (p : ℕ) → KeepsTurns o skips p (HasCome r 0)
+  come_turns r p = by_endings o skips p (HasCome r 0) (λ x h. given_up_come r x 0 h)
+      (λ x w events appended i made here h. come_both r x (arrived (without x w) (ending x w) events appended) 0 0 0 (omega arith) h (ended_come x w events appended i))
+
+  pub served_come : (r : Run) (own : Option ℕ) (p member : ℕ) → HasCome r 0 (served o skips r own p member)
+  served_come r own p member = served_keeps o skips p (HasCome r 0) (come_turns r p) r own member (none_come r)
+
+  pub calls_come : (r : Run) (member : ℕ) (request : Request) → HasCome r 1 (calls o skips r member request)
+  calls_come r member request =
+      let mid = asks o skips r (Some request.id.conn) (arrival_at r member request) in
+      come_both r mid (calls o skips r member request) 1 0 1 (omega arith) (asks_come r (Some request.id.conn) (arrival_at r member request)) (served_come mid (Some request.id.conn) request.partition member)
+
+  pub begins_come : (r : Run) (member : ℕ) (request : Request) (timeout : ℤ) → HasCome r 1 (begins_to_wait o skips r member request timeout)
+  begins_come r member request timeout =
+      let mid = waits r (waiter_at r member request timeout) in
+      come_both r mid (begins_to_wait o skips r member request timeout) 1 0 1 (omega arith) (waits_come r (waiter_at r member request timeout)) (served_come mid (Some request.id.conn) request.partition member)
+
+pub told_come : (r : Run) (c : ℕ) (bytes : List ℕ) → HasCome r 0 (told r c bytes)
+told_come r c bytes = record { members = refl; backups = refl; lines = refl; moments = refl; connections = refl; arrivals = same r.arrivals; come = omega arith; appended = (own_answer r.lines c bytes ∷ [], refl) }
+
+pub registers_come : {State : Type 0} (o : Object Request State) (r : Run) (c member : ℕ) (registration : Registration) → HasCome r 0 (registers o r c member registration)
 registers_come o r c member registration =
     let listener : Listener = record { conn = c; registration = registration } in
     let reply = own_answer r.lines c (registered_reply registration) in
@@ -90,70 +150,136 @@ registers_come o r c member registration =
       lines = refl;
       moments = refl;
       connections = refl;
-      arrivals = sym (append-nil r.arrivals);
+      arrivals = same r.arrivals;
+      come = omega arith;
       appended = (reply ∷ events, sym (append_assoc r.appended (reply ∷ []) events));
     }
 
--- the arrival of an item that reaches a member at a line and at a moment, if it is a call
-abbrev pub arriving : ℕ → ℕ → ℕ → Item → Option Arrival
-arriving line member now (Asks request) = Some (arrival_to line member now request)
-arriving line member now (Reply bytes) = None
-arriving line member now (Wait request timeout) = None
-arriving line member now (Register registration) = None
+pub handled_come : (o : Object Request Partition) (skips : List CallId) (r : Run) (k : Connection) (item : Item) → HasCome r (length (calls_in (item ∷ []))) (handled o skips r k item)
+handled_come o skips r k (Reply bytes) = told_come r k.conn bytes
+handled_come o skips r k (Wait request timeout) = begins_come o skips r k.member request timeout
+handled_come o skips r k (Register registration) = registers_come o r k.conn k.member registration
+handled_come o skips r k (Asks request) = calls_come o skips r k.member request
 
-abbrev pub all_arriving : ℕ → ℕ → ℕ → List Item → List Arrival
-all_arriving line member now items = filter_map (arriving line member now) items
+-- an item brings one call at most
+one_call : (item : Item) (items : List Item) → length (calls_in (item ∷ [])) + length (calls_in items) ≤ length (calls_in (item ∷ items))
+one_call (Reply bytes) items = omega arith
+one_call (Wait request timeout) items = omega arith
+one_call (Register registration) items = omega arith
+one_call (Asks request) items = omega arith
 
-pub handled_all_come : (o : Object Request Partition) (skips : List CallId) (r : Run) (k : Connection) (items : List Item)
-    → HasCome r (all_arriving r.lines k.member (moment_of r k.member) items) (handled_all o skips r k items)
-handled_all_come o skips r k [] = record { members = refl; backups = refl; lines = refl; moments = refl; connections = refl; arrivals = sym (append-nil r.arrivals); appended = same r.appended }
-handled_all_come o skips r k (Reply bytes ∷ items) =
-    let mid = told r k.conn bytes in
-    come_both r mid (handled_all o skips mid k items) [] (all_arriving r.lines k.member (moment_of r k.member) items) (told_come r k.conn bytes) (handled_all_come o skips mid k items)
-handled_all_come o skips r k (Wait request timeout ∷ items) =
-    let mid = told r k.conn (unserved request.correlation) in
-    come_both r mid (handled_all o skips mid k items) [] (all_arriving r.lines k.member (moment_of r k.member) items) (told_come r k.conn (unserved request.correlation)) (handled_all_come o skips mid k items)
-handled_all_come o skips r k (Register registration ∷ items) =
-    let mid = registers o r k.conn k.member registration in
-    come_both r mid (handled_all o skips mid k items) [] (all_arriving r.lines k.member (moment_of r k.member) items) (registers_come o r k.conn k.member registration) (handled_all_come o skips mid k items)
-handled_all_come o skips r k (Asks request ∷ items) =
-    let a = arrival_at r k.member request in
-    let one = asks_come o skips r a in
-    let mid = asks o skips r a in
-    let more = handled_all_come o skips mid k items in
-    come_both r mid (handled_all o skips mid k items) (a ∷ []) (all_arriving r.lines k.member (moment_of r k.member) items) one
-    (subst (λ line. HasCome mid (all_arriving line k.member (moment_of r k.member) items) (handled_all o skips mid k items)) one.lines
-    (subst (λ moments. HasCome mid (all_arriving mid.lines k.member (unwrap_or (slice_get moments k.member) 0) items) (handled_all o skips mid k items)) one.moments more))
+pub handled_all_come : (o : Object Request Partition) (skips : List CallId) (r : Run) (k : Connection) (items : List Item) → HasCome r (length (calls_in items)) (handled_all o skips r k items)
+handled_all_come o skips r k [] = none_come r
+handled_all_come o skips r k (item ∷ items) =
+    let mid = handled o skips r k item in
+    come_both r mid (handled_all o skips mid k items) (length (calls_in (item ∷ []))) (length (calls_in items)) (length (calls_in (item ∷ items))) (one_call item items)
+    (handled_come o skips r k item) (handled_all_come o skips mid k items)
 
--- after a call the next message's may be asked
-may_ask_come : (r next : Run) (k : Connection) (number member : ℕ) (request : Request)
-    → MayAsk r k number → request.id ≡ record { conn = k.conn; number = number } → HasCome r (arrival_at r member request ∷ []) next → MayAsk next k (number + 1)
-may_ask_come r next k number member request may named come = record {
-  there = ap (λ ks. find (is_connection k.conn) ks) come.connections ∙ may.there;
-  after = λ b c s. ⊎_elim (λ i. let l = may.after b (contains_in b r.arrivals i) s in omega (arith, l)) (last_number b) (earlier b c);
-  of_line = λ b c s. ⊎_elim (λ i. may.of_line b (contains_in b r.arrivals i) (s ∙ come.lines)) (last_conn b) (earlier b c);
-}
-  where
-    a : Arrival
-    a = arrival_at r member request
+-- Which calls may arrive next.
 
-    earlier : (b : Arrival) → Contains next.arrivals b → In b r.arrivals ⊎ In b (a ∷ [])
-    earlier b c = in_cases b r.arrivals (a ∷ []) (subst (λ xs. In b xs) come.arrivals (in_contains b next.arrivals c))
+-- A call that waited may leave meanwhile.
+module _ (k : Connection) (number : ℕ) where
+  abbrev pub May : Run → Type 0
+  May r = MayAsk r k number
 
-    last_number : (b : Arrival) → In b (a ∷ []) → b.request.id.number < number + 1
-    last_number b (inl e) = let n = ap (λ (c : Arrival). c.request.id.number) (sym e) ∙ ap (λ (c : CallId). c.number) named in omega (arith, n)
-    last_number b (inr i) = absurd i
+  may_still : (r : Run) → MayAsk r k number → MayAsk (given_up r) k number
+  may_still r may = record { there = may.there; after = may.after; of_line = may.of_line; after_waiters = may.after_waiters; waiters_of_line = may.waiters_of_line }
 
-    last_conn : (b : Arrival) → In b (a ∷ []) → b.request.id.conn ≡ k.conn
-    last_conn b (inl e) = ap (λ (c : Arrival). c.request.id.conn) (sym e) ∙ ap (λ (c : CallId). c.conn) named
-    last_conn b (inr i) = absurd i
+  may_end : (r : Run) (w : Waiter) (events : List At) (appended : List Appended) → In w r.waiters → MayAsk r k number → MayAsk (arrived (without r w) (ending r w) events appended) k number
+  may_end r w events appended i may = record {
+    there = may.there;
+    after = λ b c s. ⊎_elim (λ j. may.after b (contains_in b r.arrivals j) s) (λ j. its_number b j s) (in_cases b r.arrivals (ending r w ∷ []) (in_contains b (r.arrivals ++ ending r w ∷ []) c));
+    of_line = λ b c s. ⊎_elim (λ j. may.of_line b (contains_in b r.arrivals j) s) (λ j. its_conn b j s) (in_cases b r.arrivals (ending r w ∷ []) (in_contains b (r.arrivals ++ ending r w ∷ []) c));
+    after_waiters = λ v c s. may.after_waiters v (still v c) s;
+    waiters_of_line = λ v c s. may.waiters_of_line v (still v c) s;
+  }
+    where
+      still : (v : Waiter) → Contains (without r w).waiters v → Contains r.waiters v
+      still v c = contains_in v r.waiters (in_without r w v (in_contains v (without r w).waiters c)).0
 
-module _ (o : Object Request Partition) (skips : List CallId) (r : Run) (k : Connection) (number member : ℕ) (request : Request) where
-  pub may_ask_more : MayAsk r k number → request.id ≡ record { conn = k.conn; number = number } → MayAsk (asked o skips r (arrival_at r member request)) k (number + 1)
-  may_ask_more may named = may_ask_come r (asked o skips r (arrival_at r member request)) k number member request may named (asked_come o skips r (arrival_at r member request))
+      its_number : (b : Arrival) → In b (ending r w ∷ []) → b.request.id.conn ≡ k.conn → b.request.id.number < number
+      its_number b (inl e) s = subst (λ (c : Arrival). c.request.id.conn ≡ k.conn → c.request.id.number < number) e (may.after_waiters w (contains_in w r.waiters i)) s
+      its_number b (inr j) s = absurd j
 
-  pub may_ask_then : MayAsk r k number → request.id ≡ record { conn = k.conn; number = number } → MayAsk (asks o skips r (arrival_at r member request)) k (number + 1)
-  may_ask_then may named = may_ask_come r (asks o skips r (arrival_at r member request)) k number member request may named (asks_come o skips r (arrival_at r member request))
+      its_conn : (b : Arrival) → In b (ending r w ∷ []) → b.line ≡ r.lines → b.request.id.conn ≡ k.conn
+      its_conn b (inl e) s = subst (λ (c : Arrival). c.line ≡ r.lines → c.request.id.conn ≡ k.conn) e (may.waiters_of_line w (contains_in w r.waiters i)) s
+      its_conn b (inr j) s = absurd j
+
+  pub may_served : (o : Object Request Partition) (skips : List CallId) (r : Run) (own : Option ℕ) (p member : ℕ) → MayAsk r k number → MayAsk (served o skips r own p member) k number
+  may_served o skips r own p member may =
+      served_keeps o skips p May (by_endings o skips p May may_still (λ x w events appended i made here h. may_end x w events appended i h)) r own member may
+
+-- after a call the next message's may arrive
+module _ (r : Run) (k : Connection) (number : ℕ) (request : Request) (may : MayAsk r k number) (named : request.id ≡ record { conn = k.conn; number = number }) where
+  its_number_next : request.id.number < number + 1
+  its_number_next = let n = ap (λ (c : CallId). c.number) named in omega (arith, n)
+
+  its_conn_next : request.id.conn ≡ k.conn
+  its_conn_next = ap (λ (c : CallId). c.conn) named
+
+  earlier_numbers : (a : Arrival) → Contains r.arrivals a → a.request.id.conn ≡ k.conn → a.request.id.number < number + 1
+  earlier_numbers a c s = let l = may.after a c s in omega (arith, l)
+
+  waiting_numbers : (w : Waiter) → Contains r.waiters w → w.request.id.conn ≡ k.conn → w.request.id.number < number + 1
+  waiting_numbers w c s = let l = may.after_waiters w c s in omega (arith, l)
+
+  may_arrived : (member : ℕ) (events : List At) (appended : List Appended) → MayAsk (arrived r (arrival_at r member request) events appended) k (number + 1)
+  may_arrived member events appended = record {
+    there = may.there;
+    after = λ b c s. ⊎_elim (λ i. earlier_numbers b (contains_in b r.arrivals i) s) (λ i. last_number b i) (in_cases b r.arrivals (a ∷ []) (in_contains b (r.arrivals ++ a ∷ []) c));
+    of_line = λ b c s. ⊎_elim (λ i. may.of_line b (contains_in b r.arrivals i) s) (λ i. last_conn b i) (in_cases b r.arrivals (a ∷ []) (in_contains b (r.arrivals ++ a ∷ []) c));
+    after_waiters = waiting_numbers;
+    waiters_of_line = may.waiters_of_line;
+  }
+    where
+      a : Arrival
+      a = arrival_at r member request
+
+      last_number : (b : Arrival) → In b (a ∷ []) → b.request.id.number < number + 1
+      last_number b (inl e) = subst (λ (c : Arrival). c.request.id.number < number + 1) e its_number_next
+      last_number b (inr i) = absurd i
+
+      last_conn : (b : Arrival) → In b (a ∷ []) → b.request.id.conn ≡ k.conn
+      last_conn b (inl e) = subst (λ (c : Arrival). c.request.id.conn ≡ k.conn) e its_conn_next
+      last_conn b (inr i) = absurd i
+
+  pub may_ask_more : (o : Object Request Partition) (skips : List CallId) (own : Option ℕ) (member : ℕ) → MayAsk (asked o skips r own (arrival_at r member request)) k (number + 1)
+  may_ask_more o skips own member =
+      let a = arrival_at r member request in
+      on_if (λ x. MayAsk x k (number + 1)) (is_skipped skips request.id) (arrived r a [] (refusal a.made request (pos want_of_memory) 0 ∷ [])) (arrived r a (its_event a ∷ []) (happening o r own a))
+      (may_arrived member [] (refusal a.made request (pos want_of_memory) 0 ∷ [])) (may_arrived member (its_event a ∷ []) (happening o r own a))
+
+  may_asks : (o : Object Request Partition) (skips : List CallId) (own : Option ℕ) (member : ℕ) → MayAsk (asks o skips r own (arrival_at r member request)) k (number + 1)
+  may_asks o skips own member =
+      let a = arrival_at r member request in
+      on_if (λ x. MayAsk x k (number + 1)) (is_full (world_at o r request.partition)) (given_up (arrived r a [] [])) (asked o skips r own a)
+      (may_still k (number + 1) (arrived r a [] []) (may_arrived member [] [])) (may_ask_more o skips own member)
+
+  pub may_calls : (o : Object Request Partition) (skips : List CallId) (member : ℕ) → MayAsk (calls o skips r member request) k (number + 1)
+  may_calls o skips member =
+      let own = Some request.id.conn in
+      may_served k (number + 1) o skips (asks o skips r own (arrival_at r member request)) own request.partition member (may_asks o skips own member)
+
+  pub may_wait : (w : Waiter) → w.request ≡ request → MayAsk (waits r w) k (number + 1)
+  may_wait w is = record {
+    there = may.there;
+    after = earlier_numbers;
+    of_line = may.of_line;
+    after_waiters = λ v c s. ⊎_elim (λ i. waiting_numbers v (contains_in v r.waiters i) s) (λ i. last_number v i) (in_cases v r.waiters (w ∷ []) (in_contains v (r.waiters ++ w ∷ []) c));
+    waiters_of_line = λ v c s. ⊎_elim (λ i. may.waiters_of_line v (contains_in v r.waiters i) s) (λ i. last_conn v i) (in_cases v r.waiters (w ∷ []) (in_contains v (r.waiters ++ w ∷ []) c));
+  }
+    where
+      last_number : (v : Waiter) → In v (w ∷ []) → v.request.id.number < number + 1
+      last_number v (inl e) = subst (λ (q : Request). q.id.number < number + 1) (sym is ∙ ap (λ (x : Waiter). x.request) e) its_number_next
+      last_number v (inr i) = absurd i
+
+      last_conn : (v : Waiter) → In v (w ∷ []) → v.request.id.conn ≡ k.conn
+      last_conn v (inl e) = subst (λ (q : Request). q.id.conn ≡ k.conn) (sym is ∙ ap (λ (x : Waiter). x.request) e) its_conn_next
+      last_conn v (inr i) = absurd i
+
+  pub may_begin : (o : Object Request Partition) (skips : List CallId) (member : ℕ) (timeout : ℤ) → MayAsk (begins_to_wait o skips r member request timeout) k (number + 1)
+  may_begin o skips member timeout =
+      may_served k (number + 1) o skips (waits r (waiter_at r member request timeout)) (Some request.id.conn) request.partition member (may_wait (waiter_at r member request timeout) refl)
 
 -- and so after a message that its session answered itself
 pub may_ask_after : (r : Run) (k : Connection) (number c : ℕ) (bytes : List ℕ) → MayAsk r k number → MayAsk (told r c bytes) k (number + 1)
@@ -161,6 +287,8 @@ may_ask_after r k number c bytes may = record {
   there = may.there;
   after = λ a i s. let l = may.after a i s in omega (arith, l);
   of_line = may.of_line;
+  after_waiters = λ w i s. let l = may.after_waiters w i s in omega (arith, l);
+  waiters_of_line = may.waiters_of_line;
 }
 
 -- and after a registration
@@ -169,6 +297,8 @@ may_ask_registered o r k number c member registration may = record {
   there = may.there;
   after = λ a i s. let l = may.after a i s in omega (arith, l);
   of_line = may.of_line;
+  after_waiters = λ w i s. let l = may.after_waiters w i s in omega (arith, l);
+  waiters_of_line = may.waiters_of_line;
 }
 
 -- What is sent answers nothing.
@@ -195,11 +325,22 @@ is_next r k number request may complete named placed = record {
   placed = placed;
 }
 
-pub asks_run : {o : Object Request Partition} (skips : List CallId) (r : Run) (member : ℕ) (request : Request) → IsRun o r → IsNext r request → IsRun o (asks o skips r (arrival_at r member request))
-asks_run {o} skips r member request is next =
+pub asks_run : {o : Object Request Partition} (skips : List CallId) (r : Run) (own : Option ℕ) (member : ℕ) (request : Request) → IsRun o r → IsNext r request → IsRun o (asks o skips r own (arrival_at r member request))
+asks_run {o} skips r own member request is next =
     let a = arrival_at r member request in
-    on_if (IsRun o) (is_full (world_at o r request.partition)) (given_up (arrived r a [] [])) (asked o skips r a)
-    (run_given_up (arrived r a [] []) (call_arrived r member request is next)) (call_asked skips r member request is next)
+    on_if (IsRun o) (is_full (world_at o r request.partition)) (given_up (arrived r a [] [])) (asked o skips r own a)
+    (run_given_up (arrived r a [] []) (call_arrived r member request is next)) (call_asked skips r own member request is next)
+
+-- and those who wait there have their turns
+pub calls_run : {o : Object Request Partition} (skips : List CallId) (r : Run) (member : ℕ) (request : Request) → IsRun o r → IsNext r request → IsRun o (calls o skips r member request)
+calls_run {o} skips r member request is next =
+    let own = Some request.id.conn in
+    served_run skips (asks o skips r own (arrival_at r member request)) own request.partition member (asks_run skips r own member request is next)
+
+pub begins_run : {o : Object Request Partition} (skips : List CallId) (r : Run) (member : ℕ) (request : Request) (timeout : ℤ) → IsRun o r → IsNext r request → IsRun o (begins_to_wait o skips r member request timeout)
+begins_run skips r member request timeout is next =
+    let w = waiter_at r member request timeout in
+    served_run skips (waits r w) (Some request.id.conn) request.partition member (waiter_came r member request w.deadline is next)
 
 -- All items of the messages that are complete may be handled one after the other.
 pub handled_all_run : {o : Object Request Partition} (skips : List CallId) (r : Run) (k : Connection) (bytes : List ℕ) (number : ℕ) (items : List Item) → IsRun o r → MayAsk r (with_bytes k bytes) number → AreNumbered k.conn number items
@@ -210,10 +351,11 @@ handled_all_run skips r k bytes number (Reply answer ∷ items) is may numbered 
     (answer_told r k.conn answer is)
     (may_ask_after r (with_bytes k bytes) number k.conn answer may)
     numbered.1 (omega (arith, room))
-handled_all_run skips r k bytes number (Wait request timeout ∷ items) is may numbered room =
-    handled_all_run skips (told r k.conn (unserved request.correlation)) k bytes (number + 1) items
-    (answer_told r k.conn (unserved request.correlation) is)
-    (may_ask_after r (with_bytes k bytes) number k.conn (unserved request.correlation) may)
+handled_all_run {o} skips r k bytes number (Wait request timeout ∷ items) is may numbered room =
+    let next = is_next r (with_bytes k bytes) number request may (omega (arith, room)) numbered.0.0 numbered.0.1 in
+    handled_all_run skips (begins_to_wait o skips r k.member request timeout) k bytes (number + 1) items
+    (begins_run skips r k.member request timeout is next)
+    (may_begin r (with_bytes k bytes) number request may numbered.0.0 o skips k.member timeout)
     numbered.1 (omega (arith, room))
 handled_all_run {o} skips r k bytes number (Register registration ∷ items) is may numbered room =
     handled_all_run skips (registers o r k.conn k.member registration) k bytes (number + 1) items
@@ -222,9 +364,9 @@ handled_all_run {o} skips r k bytes number (Register registration ∷ items) is 
     numbered.1 (omega (arith, room))
 handled_all_run {o} skips r k bytes number (Asks request ∷ items) is may numbered room =
     let next = is_next r (with_bytes k bytes) number request may (omega (arith, room)) numbered.0.0 numbered.0.1 in
-    handled_all_run skips (asks o skips r (arrival_at r k.member request)) k bytes (number + 1) items
-    (asks_run skips r k.member request is next)
-    (may_ask_then o skips r (with_bytes k bytes) number k.member request may numbered.0.0)
+    handled_all_run skips (calls o skips r k.member request) k bytes (number + 1) items
+    (calls_run skips r k.member request is next)
+    (may_calls r (with_bytes k bytes) number request may numbered.0.0 o skips k.member)
     numbered.1 (omega (arith, room))
 
 -- bytes
@@ -239,8 +381,10 @@ has_taken {o} r k bytes is there = record {
   run = bytes_taken r k bytes is there;
   may = record {
     there = updated_found (with_bytes k bytes) r.connections k.conn k there ∙ ap Some itself;
-    after = λ a c s. counted a (ok.of_arrivals.counted a (in_contains a r.arrivals c)) s;
-    of_line = λ a c s. let l = ok.of_arrivals.by_now a (in_contains a r.arrivals c) in absurd (omega (arith, l, s));
+    after = λ a c s. counted a.request (ok.of_arrivals.counted a (in_contains a r.arrivals c)) s;
+    of_line = λ a c s. let i = in_contains a r.arrivals c in let l = ok.of_arrivals.by_now a i in let later = ok.of_arrivals.later a i in absurd (omega (arith, l, later, s));
+    after_waiters = λ w c s. counted w.request (ok.of_waiters.counted w (in_contains w r.waiters c)) s;
+    waiters_of_line = λ w c s. let l = ok.of_waiters.by_now w (in_contains w r.waiters c) in absurd (omega (arith, l, s));
   };
 }
   where
@@ -250,11 +394,11 @@ has_taken {o} r k bytes is there = record {
     itself : in_place (with_bytes k bytes) k ≡ with_bytes k bytes
     itself = rw (same_test k.conn k.conn refl) refl
 
-    counted : (a : Arrival) → (j : Connection) × (connection_of r a.request.id.conn ≡ Some j) × (a.request.id.number < length (messages_on j)) → a.request.id.conn ≡ k.conn → a.request.id.number < length (messages_on k)
-    counted a (j, found, below) s =
+    counted : (q : Request) → (j : Connection) × (connection_of r q.id.conn ≡ Some j) × (q.id.number < length (messages_on j)) → q.id.conn ≡ k.conn → q.id.number < length (messages_on k)
+    counted q (j, found, below) s =
         let both : Some j ≡ Some k = sym found ∙ ap (connection_of r) s ∙ there in
         let one : j ≡ k = cc in
-        subst (λ (x : Connection). a.request.id.number < length (messages_on x)) one below
+        subst (λ (x : Connection). q.id.number < length (messages_on x)) one below
 
 -- a front of the line's items
 pub part_run : {o : Object Request Partition} (skips : List CallId) (r : Run) (k : Connection) (bytes : List ℕ) (items more : List Item) → IsRun o r → connection_of r k.conn ≡ Some k → items_by k bytes ≡ items ++ more
@@ -269,7 +413,7 @@ part_run skips r k bytes items more is there e =
 -- lines
 
 -- An event that is a line is no call.
-abbrev IsNoCall : Option At → Type 0
+abbrev pub IsNoCall : Option At → Type 0
 IsNoCall None = Unit {0}
 IsNoCall (Some e) = asked_by e.event ≡ []
 
@@ -288,8 +432,9 @@ events_are_no_calls line = tt
 module _ {o : Object Request Partition} (skips : List CallId) (r : Run) (is : IsRun o r) where
   arrived_run : (k : Connection) (bytes : List ℕ) → connection_of r k.conn ≡ Some k → IsRun o (bytes_arrived o skips r k bytes)
   arrived_run k bytes there =
-      on_if (IsRun o) (takes_bytes o r k) (handled_all o skips (took_bytes r k bytes) k (items_by k bytes)) (next_line r)
-      (part_run skips r k bytes (items_by k bytes) [] is there (sym (append-nil (items_by k bytes)))) (line_counted r is)
+      let all = handled_all o skips (took_bytes r k bytes) k (items_by k bytes) in
+      on_if (IsRun o) (takes_bytes o r k) (forsaken all k.conn) (next_line r)
+      (forsaken_run skips all k.conn (part_run skips r k bytes (items_by k bytes) [] is there (sym (append-nil (items_by k bytes))))) (line_counted r is)
 
   bytes_run : (c : ℕ) (bytes : List ℕ) (found : Option Connection) → connection_of r c ≡ found → IsRun o (elim found [ None ↦ next_line r | Some k ↦ bytes_arrived o skips r k bytes ])
   bytes_run c bytes None there = line_counted r is
@@ -299,19 +444,19 @@ module _ {o : Object Request Partition} (skips : List CallId) (r : Run) (is : Is
   opened_run c member (Some k) there = line_counted r is
   opened_run c member None there = on_if (IsRun o) (lives o r member) (opened r c member) (next_line r) (connection_opened r c member is there) (line_counted r is)
 
-  event_run : (e : Option At) → IsNoCall e → IsRun o (after_event o (next_line r) e)
+  event_run : (e : Option At) → IsNoCall e → IsRun o (after_event o skips (next_line r) e)
   event_run None quiet = line_counted r is
-  event_run (Some e) quiet = takes_run (next_line r) e.partition e.event (line_counted r is) quiet
+  event_run (Some e) quiet = takes_run skips (next_line r) e.partition e.event (line_counted r is) quiet
 
   pub line_run : (line : Line) → IsRun o (after_line o skips r line)
   line_run (OpenConn c member) = opened_run c member (connection_of r c) refl
   line_run (Arrive c bytes) = bytes_run c bytes (connection_of r c) refl
-  line_run (Clock member moment) = clock_was_set r member moment is
-  line_run (Flow partition most) = flowed_run (next_line r) partition most (line_counted r is)
-  line_run (FlowAll most) = flowed_in_run (next_line r) most (numbers_below partitions) (line_counted r is)
-  line_run (Crash member) = takes_in_run (next_line r) (event.Crash member) (numbers_below partitions) (line_counted r is) refl
-  line_run (Detect member) = takes_in_run (next_line r) (event.Detect member) (numbers_below partitions) (line_counted r is) refl
-  line_run (Rebalance most) = rebalanced_run (next_line r) most (line_counted r is)
+  line_run (Clock member moment) = served_in_run skips (clock_set r member moment) member (numbers_below partitions) (clock_was_set r member moment is)
+  line_run (Flow partition most) = flowed_run skips (next_line r) partition most (line_counted r is)
+  line_run (FlowAll most) = flowed_in_run skips (next_line r) most (numbers_below partitions) (line_counted r is)
+  line_run (Crash member) = takes_in_run skips (next_line r) (event.Crash member) (numbers_below partitions) (line_counted r is) refl
+  line_run (Detect member) = takes_in_run skips (next_line r) (event.Detect member) (numbers_below partitions) (line_counted r is) refl
+  line_run (Rebalance most) = rebalanced_run skips (next_line r) most (line_counted r is)
   line_run line = event_run (event_by line) (events_are_no_calls line)
 
 pub lines_run : {o : Object Request Partition} (skips : List CallId) (r : Run) (lines : List Line) → IsRun o r → IsRun o (after_lines o skips r lines)

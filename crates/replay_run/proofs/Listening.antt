@@ -17,7 +17,7 @@ use Rattle.listeners.specs.declared.listeners.Listeners.{Listeners}
 use Rattle.listeners.specs.declared.listener.Listener.{Listener}
 use Rattle.listeners.proofs.Placing.{order-placed, filter-placed, filter-placed_other}
 use Rattle.replay_run.specs.Runs.{Run, Connection, begun, is_connection, connection_of, fault_on, is_open, hears, is_to, listens_at, placed_in, listening, listener_registered, opened, with_bytes, took_bytes, is_skipped}
-use Rattle.replay_run.specs.ScriptRuns.{IsRun, grid_begun, line_counted, clock_was_set, connection_opened, bytes_taken, listener_was_registered, answer_told, event_occurred, call_arrived, run_given_up, call_asked}
+use Rattle.replay_run.specs.ScriptRuns.{IsRun, grid_begun, line_counted, clock_was_set, connection_opened, bytes_taken, listener_was_registered, answer_told, event_occurred, call_arrived, run_given_up, call_asked, waiter_came, waiter_asked, waiter_refused, waiter_left}
 use Rattle.replay_run.specs.Tables.{Table, most_connections, opened_at}
 use Rattle.replay_run.specs.Grids.{HasTable, AreListening}
 use Rattle.replay_run.proofs.Arriving.{find_front, updated_found, in_place}
@@ -106,8 +106,13 @@ registered_opened (answer_told r c bytes is) listener i = registered_opened is l
 registered_opened (event_occurred r p event is quiet) listener i = registered_opened is listener i
 registered_opened (call_arrived r member request is next) listener i = registered_opened is listener i
 registered_opened (run_given_up r is) listener i = registered_opened is listener i
-registered_opened {o} (call_asked skips r member request is next) listener i =
+registered_opened {o} (call_asked skips r own member request is next) listener i =
     on_if AllOpened (is_skipped skips request.id) _ _ (λ l j. registered_opened is l j) (λ l j. registered_opened is l j) listener i
+registered_opened (waiter_came r member request deadline is next) listener i = registered_opened is listener i
+registered_opened {o} (waiter_asked skips r own w is there) listener i =
+    on_if AllOpened (is_skipped skips w.request.id) _ _ (λ l j. registered_opened is l j) (λ l j. registered_opened is l j) listener i
+registered_opened (waiter_refused r w why is there) listener i = registered_opened is listener i
+registered_opened (waiter_left r w is there) listener i = registered_opened is listener i
 
 -- a connection is opened, and nothing was registered on it
 module _ {o : Object Request Partition} (t : Table) (r : Run) (is : IsRun o r) (h : HasTable t r) (c member : ℕ) (within : c < most_connections) (closed : opened_at t c ≡ None) where

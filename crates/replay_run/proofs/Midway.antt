@@ -1,64 +1,40 @@
 -- A line of bytes, item by item: how it begins, how each item is handled, and that it ends in the run after the line.
-use Rattle.std.proofs.Common.{◌≡◌, ◌≢◌, ℕ, ◌+◌, ◌≤◌, ◌<◌, Bool, true, false, not, cond, ◌||◌, List, [], ◌∷◌, ◌++◌, length, Option, Some, None, Contains, refl, ap, sym, ◌∙◌, subst, ⊎_elim, inl, inr, arith, length-append, append-nil}
+use Rattle.std.proofs.Common.{◌≡◌, ℕ, ◌+◌, ◌≤◌, ◌<◌, Bool, true, false, not, cond, List, [], ◌∷◌, ◌++◌, length, Option, Some, None, refl, ap, sym, ◌∙◌, subst, arith, length-append}
 use Rattle.grid_base.specs.Objects.{Object}
 use Rattle.grid_base.specs.declared.names.CallId.{CallId}
 use Rattle.grid_base.specs.declared.calls.Request.{Request}
-use Rattle.partition_protocol.proofs.Lists.{In, in_cases, in_left, in_right, in_contains, contains_in}
+use Rattle.partition_protocol.proofs.Lists.{In, in_left, in_contains, contains_in}
 use Rattle.event_codecs.specs.declared.registration.Registration.{Registration}
 use Rattle.session_core.specs.declared.item.Item.{Item}
-use Rattle.session_core.specs.declared.item.Item.TheVariants.{Call as Asks, Wait, Register, Reply}
+use Rattle.session_core.specs.declared.item.Item.TheVariants.{Register, Reply}
 use Rattle.script_lang.specs.declared.line.Line.TheVariants.{Arrive}
 use Rattle.object_store.specs.Partitions.{Partition}
-use Rattle.replay_run.specs.Runs.{Run, Connection, connection_of, world_at, takes_bytes, is_full, messages_on, bytes_of, moment_of, with_bytes, took_bytes, items_by, arrival_at, is_skipped, told, asked, asks, handled_all, next_line, unserved, handled, registers}
+use Rattle.replay_run.specs.Runs.{Run, Connection, connection_of, takes_bytes, messages_on, bytes_of, with_bytes, took_bytes, items_by, told, handled, handled_all, forsaken, next_line, bytes_arrived, registers}
 use Rattle.replay_run.specs.AfterLines.{after_line}
+use Rattle.replay_run.specs.Endings.{AreAmong, new_arrivals}
 use Rattle.replay_run.specs.Printing.{does_nothing}
-use Rattle.replay_run.specs.Skips.{AreOfLine, items_at, calls_at}
-use Rattle.replay_run.specs.ScriptRuns.{MayAsk, IsNext, IsRun, IsMidway, answer_told, call_asked, calls_in}
+use Rattle.replay_run.specs.Skips.{AreOfLine}
+use Rattle.replay_run.specs.ScriptRuns.{MayAsk, IsNext, IsRun, IsMidway, answer_told, calls_in}
 use Rattle.call_engine.specs.Calls.{Settings}
 use Rattle.call_engine.specs.Objects.{partition_object}
-use Rattle.replay_run.proofs.EventRuns.{handled_all_full, asks_here, asks_nothing}
-use Rattle.replay_run.proofs.Items.{IsNumbered, AreNumbered, numbered_at, items_room}
-use Rattle.replay_run.proofs.Lines.{HasCome, all_arriving, handled_all_come, may_ask_more, may_ask_after, may_ask_registered, registers_run, is_next, has_taken}
-use Rattle.replay_run.proofs.SkipLaws.{Alike, skipped_by_either, not_skipped, unless_same, asks_alike, handled_all_alike, handled_all-append, on_bytes}
+use Rattle.replay_run.proofs.EventRuns.{handled_all_full, forsaken_full}
+use Rattle.replay_run.proofs.Growing.{Grows, grows_trans, handled_goes, handled_all_goes, forsaken_goes}
+use Rattle.replay_run.proofs.Items.{IsNamed, IsNumbered, AreNumbered, numbered_at, items_room}
+use Rattle.replay_run.proofs.Lines.{HasCome, handled_all_come, may_ask_after, may_ask_registered, registers_run, is_next, has_taken}
+use Rattle.replay_run.proofs.RunFacts.{ArrivalsOk}
+use Rattle.replay_run.proofs.RunsOfLines.{run_ok}
+use Rattle.replay_run.proofs.SkipLaws.{new_of, both_go, both_among, handled_all-append}
 use Rattle.replay_run.specs.Grids.{AreFew, IsGivenUp}
 use Rattle.replay_run.specs.WorldCalls.{IsGivenUpMidway}
-use Rattle.replay_run.proofs.Bounds.{bytes_taken_more, handled_no_more, handled_arrivals, handled_few, took_few}
+use Rattle.replay_run.proofs.Bounds.{bytes_taken_more, handled_no_more, handled_calls, handled_few, took_few}
 
--- numbers
-
-numbered_below : (conn number : ℕ) (done rest : List Item) (id : CallId) → AreNumbered conn number (done ++ rest) → In id (calls_in done) → id.number < number + length done
-numbered_below conn number [] rest id h i = absurd i
-numbered_below conn number (Reply bytes ∷ done) rest id h i = let l = numbered_below conn (number + 1) done rest id h.1 i in omega (arith, l)
-numbered_below conn number (Wait request timeout ∷ done) rest id h i = let l = numbered_below conn (number + 1) done rest id h.1 i in omega (arith, l)
-numbered_below conn number (Register registration ∷ done) rest id h i = let l = numbered_below conn (number + 1) done rest id h.1 i in omega (arith, l)
-numbered_below conn number (Asks p ∷ done) rest id h (inl e) = let n = ap (λ (c : CallId). c.number) (sym e ∙ h.0.0) in omega (arith, n)
-numbered_below conn number (Asks p ∷ done) rest id h (inr i) = let l = numbered_below conn (number + 1) done rest id h.1 i in omega (arith, l)
-
-pub calls_in-append : (first then : List Item) → calls_in (first ++ then) ≡ calls_in first ++ calls_in then
-calls_in-append [] then = refl
-calls_in-append (Reply bytes ∷ first) then = calls_in-append first then
-calls_in-append (Wait request timeout ∷ first) then = calls_in-append first then
-calls_in-append (Register registration ∷ first) then = calls_in-append first then
-calls_in-append (Asks request ∷ first) then = ap (λ ids. request.id ∷ ids) (calls_in-append first then)
-
--- the answer to an item for which no member is asked
-abbrev pub answer_of : Item → Option (List ℕ)
-answer_of (Reply bytes) = Some bytes
-answer_of (Wait request timeout) = Some (unserved request.correlation)
-answer_of (Register registration) = None
-answer_of (Asks request) = None
-
-handled_told : (o : Object Request Partition) (skips : List CallId) (r : Run) (k : Connection) (item : Item) (answer : List ℕ) → answer_of item ≡ Some answer → handled o skips r k item ≡ told r k.conn answer
-handled_told o skips r k (Reply bytes) answer its = let same : bytes ≡ answer = cc in ap (told r k.conn) same
-handled_told o skips r k (Wait request timeout) answer its = let same : unserved request.correlation ≡ answer = cc in ap (told r k.conn) same
-handled_told o skips r k (Register registration) answer its = absurd cc
-handled_told o skips r k (Asks request) answer its = absurd cc
-
-no_calls : (item : Item) (answer : List ℕ) → answer_of item ≡ Some answer → calls_in (item ∷ []) ≡ []
-no_calls (Reply bytes) answer its = refl
-no_calls (Wait request timeout) answer its = refl
-no_calls (Register registration) answer its = absurd cc
-no_calls (Asks request) answer its = absurd cc
+-- the skips of a part of a line are among those of more of it
+pub among_more : (r mid next : Run) (skips : List CallId) → Grows r mid → Grows mid next → AreAmong (new_arrivals r mid) skips → AreAmong (new_arrivals r next) skips
+among_more r mid next skips first then among id c =
+    let from = among id c in
+    let whole = grows_trans r mid next first then in
+    let there : In from.0 first.arrivals.0 = subst (In from.0) (new_of r mid first.arrivals) (in_contains from.0 (new_arrivals r mid) from.1) in
+    (from.0, contains_in from.0 (new_arrivals r next) (subst (In from.0) (sym (new_of r next whole.arrivals)) (in_left from.0 first.arrivals.0 then.arrivals.0 there)), from.2)
 
 module _ {o : Object Request Partition} (r : Run) (is : IsRun o r) (k : Connection) (there : connection_of r k.conn ≡ Some k) (bytes : List ℕ) where
   abbrev pub first_number : ℕ
@@ -75,18 +51,19 @@ module _ {o : Object Request Partition} (r : Run) (is : IsRun o r) (k : Connecti
       }
 
   -- what the run has by then
-  pub midway_come : (done : List Item) (skips : List CallId) (now : Run) → IsMidway o r k bytes done skips now → HasCome (took_bytes r k bytes) (all_arriving (r.lines + 1) k.member (moment_of r k.member) done) now
-  midway_come done skips now m = subst (λ n. HasCome (took_bytes r k bytes) (all_arriving (r.lines + 1) k.member (moment_of r k.member) done) n) (sym m.is) (handled_all_come o skips (took_bytes r k bytes) k done)
+  pub midway_come : (done : List Item) (skips : List CallId) (now : Run) → IsMidway o r k bytes done skips now → HasCome (took_bytes r k bytes) (length (calls_in done)) now
+  midway_come done skips now m = subst (λ n. HasCome (took_bytes r k bytes) (length (calls_in done)) n) (sym m.is) (handled_all_come o skips (took_bytes r k bytes) k done)
 
   pub midway_bytes : (done : List Item) (skips : List CallId) (now : Run) → IsMidway o r k bytes done skips now → bytes_of now ≡ bytes_of r + length bytes
   midway_bytes done skips now m = ap bytes_of m.is ∙ handled_no_more o skips (took_bytes r k bytes) k done ∙ bytes_taken_more r k bytes is there
 
-  -- Each item makes one call at most.
-  pub midway_arrivals : (done : List Item) (skips : List CallId) (now : Run) → IsMidway o r k bytes done skips now → length now.arrivals ≤ length r.arrivals + length done
-  midway_arrivals done skips now m =
-      let more = handled_arrivals o skips (took_bytes r k bytes) k done in
-      let same = ap (λ (n : Run). length n.arrivals) m.is in
-      omega (arith, more, same)
+  -- Each item brings one call at most.
+  pub midway_calls : (done : List Item) (skips : List CallId) (now : Run) → IsMidway o r k bytes done skips now → length now.arrivals + length now.waiters ≤ length r.arrivals + length r.waiters + length done
+  midway_calls done skips now m =
+      let more = handled_calls o skips (took_bytes r k bytes) k done in
+      let arrivals = ap (λ (n : Run). length n.arrivals) m.is in
+      let waiters = ap (λ (n : Run). length n.waiters) m.is in
+      omega (arith, more, arrivals, waiters)
 
   pub midway_few : (done : List Item) (skips : List CallId) (now : Run) → IsMidway o r k bytes done skips now → AreFew r → AreFew now
   midway_few done skips now m few = subst AreFew (sym m.is) (handled_few o skips (took_bytes r k bytes) k done (took_few o skips r k bytes few))
@@ -104,17 +81,14 @@ module _ {o : Object Request Partition} (r : Run) (is : IsRun o r) (k : Connecti
     one_more : first_number + length done + 1 ≡ first_number + length (done ++ item ∷ [])
     one_more = let more = length-append done (item ∷ []) in omega (arith, more)
 
-  -- One item more, which is answered without a member.
-  module _ (done : List Item) (item : Item) (answer : List ℕ) (its : answer_of item ≡ Some answer) (rest : List Item) (come : items_by k bytes ≡ done ++ item ∷ rest) (skips : List CallId) (now : Run) (m : IsMidway o r k bytes done skips now) where
-    pub told_midway : IsMidway o r k bytes (done ++ item ∷ []) skips (told now k.conn answer)
+  -- One item more, which its session answered itself.
+  module _ (done : List Item) (answer : List ℕ) (rest : List Item) (come : items_by k bytes ≡ done ++ Reply answer ∷ rest) (skips : List CallId) (now : Run) (m : IsMidway o r k bytes done skips now) where
+    pub told_midway : IsMidway o r k bytes (done ++ Reply answer ∷ []) skips (told now k.conn answer)
     told_midway = record {
       run = answer_told now k.conn answer m.run;
-      is =
-          ap (λ (x : Run). told x k.conn answer) m.is
-          ∙ sym (handled_told o skips (handled_all o skips (took_bytes r k bytes) k done) k item answer its)
-          ∙ sym (handled_all-append o skips (took_bytes r k bytes) k done (item ∷ []));
-      own = λ id c. subst (λ ids. Contains ids id) (sym (calls_in-append done (item ∷ []) ∙ ap (λ ids. calls_in done ++ ids) (no_calls item answer its) ∙ append-nil (calls_in done))) (m.own id c);
-      may = subst (λ n. MayAsk (told now k.conn answer) (with_bytes k bytes) n) (one_more done item rest come skips now m)
+      is = ap (λ (x : Run). told x k.conn answer) m.is ∙ sym (handled_all-append o skips (took_bytes r k bytes) k done (Reply answer ∷ []));
+      own = m.own;
+      may = subst (λ n. MayAsk (told now k.conn answer) (with_bytes k bytes) n) (one_more done (Reply answer) rest come skips now m)
           (may_ask_after now (with_bytes k bytes) (first_number + length done) k.conn answer m.may);
     }
 
@@ -126,81 +100,92 @@ module _ {o : Object Request Partition} (r : Run) (is : IsRun o r) (k : Connecti
       is =
           ap (λ (x : Run). registers o x k.conn k.member registration) m.is
           ∙ sym (handled_all-append o skips (took_bytes r k bytes) k done (Register registration ∷ []));
-      own = λ id c. subst (λ ids. Contains ids id) (sym (calls_in-append done (Register registration ∷ []) ∙ append-nil (calls_in done))) (m.own id c);
+      own = m.own;
       may = subst (λ n. MayAsk (registers o now k.conn k.member registration) (with_bytes k bytes) n) (one_more done (Register registration) rest come skips now m)
           (may_ask_registered o now (with_bytes k bytes) (first_number + length done) k.conn k.member registration m.may);
     }
 
-  -- One item more, which is a call.
-  module _ (done : List Item) (q : Request) (rest : List Item) (come : items_by k bytes ≡ done ++ Asks q ∷ rest) (skips : List CallId) (now : Run) (m : IsMidway o r k bytes done skips now) where
-    as_numbered : IsNumbered (record { conn = k.conn; number = first_number + length done }) (Asks q)
-    as_numbered = numbered_at k.conn first_number done (Asks q) rest (numbered done (Asks q) rest come skips now m)
+  -- Two parts of the line, each with its skips, are one with the skips of both.
+  module _ (done : List Item) (item : Item) (skips : List CallId) (own : List CallId) (once : ArrivalsOk (handled o own (handled_all o skips (took_bytes r k bytes) k done) k item))
+      (of_done : AreAmong (new_arrivals r (handled_all o skips (took_bytes r k bytes) k done)) skips)
+      (of_item : AreAmong (new_arrivals (handled_all o skips (took_bytes r k bytes) k done) (handled o own (handled_all o skips (took_bytes r k bytes) k done) k item)) own) where
+    abbrev taken : Run
+    taken = took_bytes r k bytes
+
+    item_more : handled o (skips ++ own) (handled_all o (skips ++ own) taken k done) k item ≡ handled o own (handled_all o skips taken k done) k item
+    item_more = both_go taken (λ s. handled_all o s taken k done) (λ x s. handled o s x k item) (handled_all_goes o taken k done) (λ x. handled_goes o x k item) skips own once of_done of_item
+
+    items_more : handled_all o (skips ++ own) taken k (done ++ item ∷ []) ≡ handled o own (handled_all o skips taken k done) k item
+    items_more = handled_all-append o (skips ++ own) taken k done (item ∷ []) ∙ item_more
+
+    among_both : AreAmong (new_arrivals r (handled_all o (skips ++ own) taken k (done ++ item ∷ []))) (skips ++ own)
+    among_both =
+        subst (λ x. AreAmong (new_arrivals r x) (skips ++ own)) (sym (handled_all-append o (skips ++ own) taken k done (item ∷ [])))
+        (both_among taken (λ s. handled_all o s taken k done) (λ x s. handled o s x k item) (handled_all_goes o taken k done) (λ x. handled_goes o x k item) skips own once of_done of_item)
+
+  -- One item more, of any kind, by skips of its own.
+  module _ (done : List Item) (item : Item) (rest : List Item) (come : items_by k bytes ≡ done ++ item ∷ rest) (skips : List CallId) (now : Run) (m : IsMidway o r k bytes done skips now)
+      (own : List CallId) (next : Run) (made : next ≡ handled o own now k item) (run : IsRun o next) (among : AreAmong (new_arrivals now next) own) where
+    so_made : next ≡ handled o own (handled_all o skips (took_bytes r k bytes) k done) k item
+    so_made = made ∙ ap (λ (x : Run). handled o own x k item) m.is
+
+    once_made : ArrivalsOk (handled o own (handled_all o skips (took_bytes r k bytes) k done) k item)
+    once_made = subst ArrivalsOk so_made (run_ok run).of_arrivals
+
+    of_done : AreAmong (new_arrivals r (handled_all o skips (took_bytes r k bytes) k done)) skips
+    of_done = subst (λ (x : Run). AreAmong (new_arrivals r x) skips) m.is m.own
+
+    of_item : AreAmong (new_arrivals (handled_all o skips (took_bytes r k bytes) k done) (handled o own (handled_all o skips (took_bytes r k bytes) k done) k item)) own
+    of_item = subst (λ (x : Run). AreAmong (new_arrivals x (handled o own (handled_all o skips (took_bytes r k bytes) k done) k item)) own) m.is (subst (λ (x : Run). AreAmong (new_arrivals now x) own) so_made among)
+
+    pub item_midway : MayAsk next (with_bytes k bytes) (first_number + length done + 1) → IsMidway o r k bytes (done ++ item ∷ []) (skips ++ own) next
+    item_midway may = record {
+      run = run;
+      is = so_made ∙ sym (items_more done item skips own once_made of_done of_item);
+      own = subst (λ (x : Run). AreAmong (new_arrivals r x) (skips ++ own)) (items_more done item skips own once_made of_done of_item ∙ sym so_made) (among_both done item skips own once_made of_done of_item);
+      may = subst (λ n. MayAsk next (with_bytes k bytes) n) (one_more done item rest come skips now m) may;
+    }
+
+    -- The run is given up at it, whatever comes after it.
+    pub full_midway : next.full ≡ true → (handled_all o (skips ++ own) (took_bytes r k bytes) k (done ++ item ∷ rest)).full ≡ true
+    full_midway full =
+        ap (λ (x : Run). x.full) (handled_all-append o (skips ++ own) (took_bytes r k bytes) k done (item ∷ rest))
+        ∙ handled_all_full o (skips ++ own) (handled o (skips ++ own) (handled_all o (skips ++ own) (took_bytes r k bytes) k done) k item) k rest
+        (ap (λ (x : Run). x.full) (item_more done item skips own once_made of_done of_item ∙ sym so_made) ∙ full)
+
+    pub own_midway : AreAmong (new_arrivals r (handled_all o (skips ++ own) (took_bytes r k bytes) k (done ++ item ∷ rest))) (skips ++ own)
+    own_midway =
+        let both = skips ++ own in
+        let taken = took_bytes r k bytes in
+        let mid = handled_all o both taken k (done ++ item ∷ []) in
+        let last = handled_all o both mid k rest in
+        let whole : handled_all o both taken k (done ++ item ∷ rest) ≡ last =
+            handled_all-append o both taken k done (item ∷ rest) ∙ ap (λ (x : Run). handled_all o both x k rest) (sym (handled_all-append o both taken k done (item ∷ []))) in
+        subst (λ (x : Run). AreAmong (new_arrivals r x) both) (sym whole)
+        (among_more taken mid last both ((handled_all_goes o taken k (done ++ item ∷ [])).grows both) ((handled_all_goes o mid k rest).grows both) (among_both done item skips own once_made of_done of_item))
+
+  -- A call may come next.
+  module _ (done : List Item) (item : Item) (q : Request) (named : IsNumbered (record { conn = k.conn; number = first_number + length done }) item ≡ IsNamed (record { conn = k.conn; number = first_number + length done }) q) (rest : List Item)
+      (come : items_by k bytes ≡ done ++ item ∷ rest) (skips : List CallId) (now : Run) (m : IsMidway o r k bytes done skips now) where
+    as_named : IsNamed (record { conn = k.conn; number = first_number + length done }) q
+    as_named = subst (λ (X : Type 0). X) named (numbered_at k.conn first_number done item rest (numbered done item rest come skips now m))
 
     pub its_name : q.id ≡ record { conn = k.conn; number = first_number + length done }
-    its_name = as_numbered.0
+    its_name = as_named.0
 
     pub next_midway : IsNext now q
-    next_midway = is_next now (with_bytes k bytes) (first_number + length done) q m.may (its_number done (Asks q) rest come skips now m) its_name as_numbered.1
-
-    apart : (id : CallId) → In id (calls_in done) → id ≢ q.id
-    apart id i e =
-        let below = numbered_below k.conn first_number done (Asks q ∷ rest) id (numbered done (Asks q) rest come skips now m) i in
-        let at = ap (λ (c : CallId). c.number) (e ∙ its_name) in
-        omega (arith, below, at)
-
-    -- Its partition is full, so the run is given up, whatever comes after it.
-
-    pub full_midway : is_full (world_at o now q.partition) ≡ true → (handled_all o skips (took_bytes r k bytes) k (done ++ Asks q ∷ rest)).full ≡ true
-    full_midway full =
-        ap (λ (x : Run). x.full) (handled_all-append o skips (took_bytes r k bytes) k done (Asks q ∷ rest))
-        ∙ subst (λ (x : Run). (handled_all o skips x k (Asks q ∷ rest)).full ≡ true) m.is
-        (handled_all_full o skips (asks o skips now (arrival_at now k.member q)) k rest (asks_nothing o skips now (arrival_at now k.member q) full))
-
-    pub own_midway : (id : CallId) → Contains skips id → Contains (calls_in (done ++ Asks q ∷ rest)) id
-    own_midway id c =
-        subst (λ ids. Contains ids id) (sym (calls_in-append done (Asks q ∷ rest)))
-        (contains_in id (calls_in done ++ calls_in (Asks q ∷ rest)) (in_left id (calls_in done) (calls_in (Asks q ∷ rest)) (in_contains id (calls_in done) (m.own id c))))
-
-    module _ (own : List CallId) (its : (id : CallId) → Contains own id → q.id ≡ id) (free : is_full (world_at o now q.partition) ≡ false) where
-      before_alike : Alike (own ++ skips) skips (calls_in done)
-      before_alike id i =
-          skipped_by_either own skips id
-          ∙ ap (λ b. b || is_skipped skips id) (not_skipped own id (λ x j. unless_same id x (λ e. apart id i (e ∙ sym (its x (contains_in x own j))))))
-
-      its_alike : is_skipped own q.id ≡ is_skipped (own ++ skips) q.id
-      its_alike =
-          let none = not_skipped skips q.id (λ x j. unless_same q.id x (λ e. apart x (in_contains x (calls_in done) (m.own x (contains_in x skips j))) (sym e))) in
-          let either = skipped_by_either own skips q.id in
-          let itself : is_skipped own q.id || false ≡ is_skipped own q.id = grind (arith) in
-          sym (either ∙ ap (λ b. is_skipped own q.id || b) none ∙ itself)
-
-      own_more : (id : CallId) → Contains (own ++ skips) id → Contains (calls_in (done ++ Asks q ∷ [])) id
-      own_more id c =
-          subst (λ ids. Contains ids id) (sym (calls_in-append done (Asks q ∷ [])))
-          (contains_in id (calls_in done ++ q.id ∷ [])
-          (⊎_elim (λ i. in_right id (calls_in done) (q.id ∷ []) (inl (its id (contains_in id own i))))
-          (λ i. in_left id (calls_in done) (q.id ∷ []) (in_contains id (calls_in done) (m.own id (contains_in id skips i))))
-          (in_cases id own skips (in_contains id (own ++ skips) c))))
-
-      run_more : asked o own now (arrival_at now k.member q) ≡ handled_all o (own ++ skips) (took_bytes r k bytes) k (done ++ Asks q ∷ [])
-      run_more =
-          let taken = took_bytes r k bytes in
-          sym (asks_here o own now (arrival_at now k.member q) free)
-          ∙ asks_alike o own (own ++ skips) now (arrival_at now k.member q) its_alike
-          ∙ ap (λ x. asks o (own ++ skips) x (arrival_at x k.member q)) (m.is ∙ sym (handled_all_alike o (own ++ skips) skips taken k done before_alike))
-          ∙ sym (handled_all-append o (own ++ skips) taken k done (Asks q ∷ []))
-
-      -- It found no memory, or has its event.
-      pub asked_midway : IsMidway o r k bytes (done ++ Asks q ∷ []) (own ++ skips) (asked o own now (arrival_at now k.member q))
-      asked_midway = record {
-        run = call_asked own now k.member q m.run next_midway;
-        is = run_more;
-        own = own_more;
-        may = subst (λ n. MayAsk (asked o own now (arrival_at now k.member q)) (with_bytes k bytes) n) (one_more done (Asks q) rest come skips now m)
-            (may_ask_more o own now (with_bytes k bytes) (first_number + length done) k.member q m.may its_name);
-      }
+    next_midway = is_next now (with_bytes k bytes) (first_number + length done) q m.may (its_number done item rest come skips now m) its_name as_named.1
 
 -- lines of bytes
+
+-- the run after bytes on a connection, which may not have been opened
+abbrev pub on_bytes : Object Request Partition → List CallId → Run → List ℕ → Option Connection → Run
+on_bytes o skips r bytes found = elim found [ None ↦ next_line r | Some c ↦ bytes_arrived o skips r c bytes ]
+
+-- The close of a connection adds to those that came to their end.
+closes_among : (o : Object Request Partition) (r now after : Run) (c : ℕ) (skips : List CallId) → Grows r now → after ≡ forsaken now c → AreAmong (new_arrivals r now) skips → AreAmong (new_arrivals r after) skips
+closes_among o r now after c skips grows is among =
+    subst (λ (x : Run). AreAmong (new_arrivals r x) skips) (sym is) (among_more r now (forsaken now c) skips grows ((forsaken_goes o now c).grows skips) among)
 
 module _ (o : Object Request Partition) (r : Run) (c : ℕ) (bytes : List ℕ) where
   does_nothing_on : Option Connection → Bool
@@ -223,38 +208,37 @@ module _ (o : Object Request Partition) (r : Run) (c : ℕ) (bytes : List ℕ) w
     open_does_something takes = ap does_nothing_on there ∙ ap not takes
 
     on_takes : (skips : List CallId) (takes : Bool) → takes_bytes o r k ≡ takes
-        → after_line o skips r (Arrive c bytes) ≡ cond takes (handled_all o skips (took_bytes r k bytes) k (items_by k bytes)) (next_line r)
+        → after_line o skips r (Arrive c bytes) ≡ cond takes (forsaken (handled_all o skips (took_bytes r k bytes) k (items_by k bytes)) k.conn) (next_line r)
     on_takes skips takes same =
         ap (on_bytes o skips r bytes) there
-        ∙ ap (λ b. cond b (handled_all o skips (took_bytes r k bytes) k (items_by k bytes)) (next_line r)) same
+        ∙ ap (λ b. cond b (forsaken (handled_all o skips (took_bytes r k bytes) k (items_by k bytes)) k.conn) (next_line r)) same
 
     pub closed_line : (skips : List CallId) → takes_bytes o r k ≡ false → after_line o skips r (Arrive c bytes) ≡ next_line r
     closed_line skips closed = on_takes skips false closed
 
     module _ (takes : takes_bytes o r k ≡ true) where
-      pub taken_line : (skips : List CallId) → after_line o skips r (Arrive c bytes) ≡ handled_all o skips (took_bytes r k bytes) k (items_by k bytes)
+      pub taken_line : (skips : List CallId) → after_line o skips r (Arrive c bytes) ≡ forsaken (handled_all o skips (took_bytes r k bytes) k (items_by k bytes)) k.conn
       taken_line skips = on_takes skips true takes
-
-      pub taken_calls : calls_at o r (Arrive c bytes) ≡ calls_in (items_by k bytes)
-      taken_calls =
-          ap (λ found. calls_in (items_at o r found bytes)) there
-          ∙ ap (λ b. calls_in (cond b (items_by k bytes) [])) takes
 
       -- All items were handled.
       module _ (done : List Item) (skips : List CallId) (now : Run) (come : items_by k bytes ≡ done) (m : IsMidway o r k bytes done skips now) where
-        pub ended_line : after_line o skips r (Arrive c bytes) ≡ now
-        ended_line = taken_line skips ∙ ap (handled_all o skips (took_bytes r k bytes) k) come ∙ sym m.is
+        pub ended_line : after_line o skips r (Arrive c bytes) ≡ forsaken now k.conn
+        ended_line = taken_line skips ∙ ap (λ items. forsaken (handled_all o skips (took_bytes r k bytes) k items) k.conn) come ∙ ap (λ (x : Run). forsaken x k.conn) (sym m.is)
 
         pub ended_skips : AreOfLine o r (Arrive c bytes) skips
-        ended_skips id i = subst (λ ids. Contains ids id) (sym (taken_calls ∙ ap calls_in come)) (m.own id i)
+        ended_skips = closes_among o (took_bytes r k bytes) now (after_line o skips r (Arrive c bytes)) k.conn skips
+            (subst (λ (x : Run). Grows (took_bytes r k bytes) x) (sym m.is) ((handled_all_goes o (took_bytes r k bytes) k done).grows skips)) ended_line m.own
 
 -- The run is given up.
 pub given_up_line : (settings : Settings) (r : Run) (c : ℕ) (bytes : List ℕ) (k : Connection) → connection_of r c ≡ Some k → takes_bytes (partition_object settings) r k ≡ true
     → IsGivenUpMidway settings r k bytes (items_by k bytes) → IsGivenUp settings r (Arrive c bytes)
 given_up_line settings r c bytes k there takes up =
     let o = partition_object settings in
+    let taken = took_bytes r k bytes in
+    let all = handled_all o up.skips taken k (items_by k bytes) in
+    let line = taken_line o r c bytes k there takes up.skips in
     record {
       skips = up.skips;
-      of_line = λ id i. subst (λ ids. Contains ids id) (sym (taken_calls o r c bytes k there takes)) (up.own id i);
-      full = ap (λ (x : Run). x.full) (taken_line o r c bytes k there takes up.skips) ∙ up.full;
+      of_line = closes_among o taken all (after_line o up.skips r (Arrive c bytes)) k.conn up.skips ((handled_all_goes o taken k (items_by k bytes)).grows up.skips) line up.own;
+      full = ap (λ (x : Run). x.full) line ∙ forsaken_full all k.conn up.full;
     }

@@ -4,6 +4,7 @@ use Rattle.std.specs.List.{list_all}
 use Rattle.std.proofs.lemmas.List.{length-map}
 use Rattle.grid_base.specs.Objects.{Object}
 use Rattle.grid_base.specs.declared.calls.Request.{Request}
+use Rattle.grid_base.specs.declared.names.CallId.{CallId}
 use Rattle.object_store.specs.Partitions.{Partition}
 use Rattle.partition_table.specs.declared.Row.{Row}
 use Rattle.partition_table.specs.declared.RowMember.{RowMember}
@@ -27,6 +28,7 @@ use Rattle.replay_run.specs.Runs.{Run, partitions, events_at, world_at}
 use Rattle.replay_run.specs.Rebalancing.{service_at, is_moving_at, rows_in, marks_in, is_detected_in, detected_in, first_steps, steps_in, rebalanced, most_line_events}
 use Rattle.replay_run.specs.ScriptRuns.{IsRun}
 use Rattle.replay_run.specs.WorldCalls.{HasRoomAt, MayStep}
+use Rattle.replay_run.proofs.EventRuns.{Adds}
 use Rattle.replay_run.proofs.Rebalanced.{AreRising, steps_few}
 use Rattle.replay_run.proofs.RunsOfLines.{run_ok}
 use Rattle.replay_run.proofs.UndetectedRows.{rows_untold}
@@ -81,8 +83,8 @@ module _ (o : Object Request Partition) (r : Run) where
   pub steps_are_rising : (most : ℕ) → AreRising partitions 0 (steps_in o r most)
   steps_are_rising most = subst (λ n. AreRising n 0 (steps_in o r most)) all_rows (planned_rise (rows_in o r) (marks_in o r) (detected_in o r) r.members most)
 
-  pub rebalanced_few : (most q : ℕ) → length (events_at q (rebalanced o r most).events) ≤ length (events_at q r.events) + most_line_events
-  rebalanced_few most q = steps_few o partitions r 0 (steps_in o r most) q (steps_are_rising most)
+  pub rebalanced_few : (skips : List CallId) (most q : ℕ) → Adds q most_line_events r (rebalanced o skips r most)
+  rebalanced_few skips most q = steps_few o skips partitions r 0 (steps_in o r most) q (steps_are_rising most)
 
 -- Where each partition has room for the events of a step, rising steps may be run.
 pub may_step : (r : Run) (next : ℕ) (steps : List Step) → ((p : ℕ) → HasRoomAt r p most_line_events) → AreRising partitions next steps → MayStep r next steps

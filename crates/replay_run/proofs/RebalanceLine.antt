@@ -1,8 +1,9 @@
 -- The line that runs the steps of a plan: the run goes on from part to part, and the line prints the plan and each step's end.
-use Rattle.std.proofs.Common.{◌≡◌, ℕ, zero, suc, ◌+◌, ◌-◌, ◌*◌, ◌≤◌, ◌<◌, Bool, true, false, ◌&&◌, cond, List, [], ◌∷◌, ◌++◌, map, filter, take, drop, length, get_or, Option, Some, None, Result, Ok, refl, ap, sym, ◌∙◌, subst, append-nil, append_assoc, add-one, arith}
-use Rattle.std.specs.List.{list_all, find}
+use Rattle.std.proofs.Common.{◌≡◌, ℕ, zero, suc, ◌+◌, ◌-◌, ◌≤◌, ◌<◌, Bool, true, false, ◌&&◌, cond, List, [], ◌∷◌, ◌++◌, map, filter, take, drop, length, get_or, Option, Some, None, Result, Ok, refl, ap, sym, ◌∙◌, subst, append-nil, append_assoc, add-one, arith}
+use Rattle.std.specs.List.{list_all, find, flat_map}
 use Rattle.std.proofs.lemmas.List.{map-append, take-append-drop, take_more, drop_more}
-use Rattle.partition_protocol.proofs.Lists.{In}
+use Rattle.partition_protocol.proofs.Lists.{In, in_contains}
+use Rattle.grid_base.specs.declared.names.CallId.{CallId}
 use Rattle.partition_protocol.proofs.RowFacts.{false_or_not, not_both}
 use Rattle.partition_protocol.proofs.Events.{get_in}
 use Rattle.partition_protocol.proofs.Theorem.{get-numbers_below}
@@ -13,9 +14,8 @@ use Rattle.grid_base.specs.Objects.{Object}
 use Rattle.grid_base.specs.declared.calls.Request.{Request}
 use Rattle.object_store.specs.Partitions.{Partition}
 use Rattle.partition_table.specs.Rows.{first_of}
-use Rattle.partition_protocol.specs.Events.{Event, Resend}
+use Rattle.partition_protocol.specs.Events.{Resend, Advance}
 use Rattle.partition_protocol.specs.Service.{numbers_below}
-use Rattle.partition_world.specs.declared.event.Happened.{Happened}
 use Rattle.rebalance.specs.declared.Step.{Step}
 use Rattle.rebalance.specs.declared.StepKind.TheVariants.{Handover}
 use Rattle.rebalance.specs.declared.Plan.{Plan}
@@ -26,108 +26,129 @@ use Rattle.call_engine.specs.Objects.{partition_object}
 use Rattle.script_lang.specs.Limits.{most_lines}
 use Rattle.script_lang.specs.declared.line.Line.TheVariants.{Rebalance}
 use Rattle.replay_run.specs.declared.grid.Grid.{Grid}
-use Rattle.replay_run.specs.Runs.{Run, is_connection, events_at, meets_full, world_at, next_line, takes, flowed}
-use Rattle.replay_run.specs.Printing.{new_messages}
-use Rattle.replay_run.specs.Rebalancing.{service_at, is_moving_at, most_deliveries, most_turns, most_line_events, first_resends, turned, turned_on, joined, rejoined, stepped, stepped_all, plan_in, first_steps, steps_in, rebalanced}
+use Rattle.replay_run.specs.Runs.{Run, is_connection, events_at, next_line, takes, flowed}
+use Rattle.replay_run.specs.Appending.{appended_text, new_messages}
+use Rattle.replay_run.specs.Endings.{new_arrivals, AreAmong}
+use Rattle.replay_run.specs.Rebalancing.{service_at, is_moving_at, most_deliveries, most_turns, most_line_events, event_begun, first_resends, turned, turned_on, joined, rejoined, stepped, stepped_all, plan_in, first_steps, steps_in, rebalanced}
 use Rattle.replay_run.specs.RebalancingTexts.{plan_text, end_text, ran_text, ran_texts}
 use Rattle.replay_run.specs.Grids.{FormOf, Stands, HasRun, IsGivenUp}
-use Rattle.replay_run.specs.WorldCalls.{texts_of, HasRoomAt, IsAmid, HasGoneOn, HasTaken, MayStep, HasStepped, HasNoSteps}
+use Rattle.replay_run.specs.WorldCalls.{texts_of, Onward, GivesUpSo, HasGoneOnSo, HasRoomAt, IsAmid, MayStep, HasStepped, HasNoSteps}
 use Rattle.replay_run.proofs.Bounds.{kept_small, rebalance_few}
 use Rattle.replay_run.proofs.LineBounds.{line_bounded}
-use Rattle.replay_run.proofs.EventRuns.{Kept, takes_here, takes_nothing, takes_few, flowed_few}
-use Rattle.replay_run.proofs.EventLines.{no_calls, line_given_up}
-use Rattle.replay_run.proofs.Flowing.{gone_nowhere, gone_further, gone_as}
+use Rattle.replay_run.proofs.EventRuns.{Kept, kept_refl, kept_trans, takes_few, takes_kept, flowed_few, flowed_kept}
+use Rattle.replay_run.proofs.EventLines.{line_given_up}
+use Rattle.replay_run.proofs.Flowing.{so_nowhere, so_as, so_further, gives_up_after}
+use Rattle.replay_run.proofs.GivingUp.{up_as, gives_up_first, gives_up_then}
+use Rattle.replay_run.proofs.Growing.{GoesBy, goes_then, takes_goes, first_goes, flowed_goes, turned_goes, turned_on_goes, rejoined_goes, stepped_goes, stepped_all_goes, ran_alike}
+use Rattle.replay_run.proofs.RunFacts.{ArrivalsOk}
+use Rattle.replay_run.proofs.RunsOfLines.{run_ok}
+use Rattle.replay_run.proofs.SkipLaws.{alike_first, both_go, both_among}
 use Rattle.replay_run.proofs.LineTexts.{new_with}
-use Rattle.replay_run.proofs.Rebalanced.{turned_few, turned_on_full, first_few, stepped_all_full, rebalanced_kept, stepped_elsewhere}
+use Rattle.replay_run.proofs.Rebalanced.{begun_unasked, first_few, first_kept, turned_on_few, turned_on_kept, turned_on_run, stepped_kept, stepped_run, steps_run, rebalanced_kept, stepped_elsewhere, stepped_come, steps_come}
 
-module _ {V : Type 0} {T : V → Type 0} {form : FormOf V T} {settings : Settings} where
-  -- an event that was taken
-  pub took : {new : Grid V T} {r : Run} {p : ℕ} {event : Event Request} {happened : Happened} {written text : List ℕ} → HasTaken form settings new r p event happened written text
-      → HasGoneOn form settings new r (takes (partition_object settings) r p event) written text
-  took {r = r} {p = p} {event = event} taken = gone_as (sym (takes_here (partition_object settings) r p event taken.goes)) taken.on
-
--- Where the run is given up at a part of the line, it is so at the end.
-module _ (o : Object Request Partition) (r : Run) (p : ℕ) where
-  pub take_ends : (event : Event Request) → meets_full (world_at o r p) event ≡ true → (takes o r p event).full ≡ true
-  take_ends event full = takes_nothing o r p event full
-
+-- parts of the line
+module _ (o : Object Request Partition) (skips : List CallId) (r : Run) (p : ℕ) where
   -- the first member sends again, if there is one
 
   abbrev resends : Option ℕ → Run
-  resends first = elim first [ None ↦ r | Some first ↦ takes o r p (Resend first) ]
+  resends first = elim first [ None ↦ r | Some first ↦ takes o skips r p (Resend first) ]
 
-  pub none_resends : (first : Option ℕ) → first ≡ first_of (service_at o r p).row.members → first ≡ None → first_resends o r p ≡ r
+  pub none_resends : (first : Option ℕ) → first ≡ first_of (service_at o r p).row.members → first ≡ None → first_resends o skips r p ≡ r
   none_resends first is none = ap resends (sym is ∙ none)
 
-  pub one_resends : (first : Option ℕ) (m : ℕ) → first ≡ first_of (service_at o r p).row.members → first ≡ Some m → first_resends o r p ≡ takes o r p (Resend m)
+  pub one_resends : (first : Option ℕ) (m : ℕ) → first ≡ first_of (service_at o r p).row.members → first ≡ Some m → first_resends o skips r p ≡ takes o skips r p (Resend m)
   one_resends first m is some = ap resends (sym is ∙ some)
 
   -- turns
 
-  pub turn_more : (turns : ℕ) → is_moving_at o r p ≡ true → turned_on o r p (suc turns) ≡ turned_on o (turned o r p) p turns
-  turn_more turns moving = ap (λ b. cond b (turned_on o (turned o r p) p turns) r) moving
+  pub turn_more : (turns : ℕ) → is_moving_at o r p ≡ true → turned_on o skips r p (suc turns) ≡ turned_on o skips (turned o skips r p) p turns
+  turn_more turns moving = ap (λ b. cond b (turned_on o skips (turned o skips r p) p turns) r) moving
 
-  pub turns_end : (turns : ℕ) → is_moving_at o r p ≡ false → turned_on o r p turns ≡ r
+  pub turns_end : (turns : ℕ) → is_moving_at o r p ≡ false → turned_on o skips r p turns ≡ r
   turns_end zero still = refl
-  turns_end (suc turns) still = ap (λ b. cond b (turned_on o (turned o r p) p turns) r) still
+  turns_end (suc turns) still = ap (λ b. cond b (turned_on o skips (turned o skips r p) p turns) r) still
 
-  pub rejoined_open : (from : ℕ) → is_moving_at o r p ≡ true → rejoined o r p from Handover ≡ r
-  rejoined_open from moving = ap (λ b. cond b r (joined o r p from)) moving
+  pub rejoined_open : (from : ℕ) → is_moving_at o r p ≡ true → rejoined o skips r p from Handover ≡ r
+  rejoined_open from moving = ap (λ b. cond b r (joined o skips r p from)) moving
 
-  pub rejoined_done : (from : ℕ) → is_moving_at o r p ≡ false → rejoined o r p from Handover ≡ joined o r p from
-  rejoined_done from still = ap (λ b. cond b r (joined o r p from)) still
+  pub rejoined_done : (from : ℕ) → is_moving_at o r p ≡ false → rejoined o skips r p from Handover ≡ joined o skips r p from
+  rejoined_done from still = ap (λ b. cond b r (joined o skips r p from)) still
 
--- So many of four turns were taken: those that are left go on from here.
+-- turns in two parts
+turned_parts : (o : Object Request Partition) (skips : List CallId) (r : Run) (p a b all : ℕ) → a + b ≡ all → turned_on o skips r p all ≡ turned_on o skips (turned_on o skips r p a) p b
+turned_parts o skips r p zero b all e = let same : all ≡ b = omega (arith, e) in ap (turned_on o skips r p) same
+turned_parts o skips r p (suc a) b zero e = absurd (omega (arith, e))
+turned_parts o skips r p (suc a) b (suc all) e = go (is_moving_at o r p) refl (λ x. turned_parts o skips x p a b all left)
+  where
+    left : a + b ≡ all
+    left = omega (arith, e)
+
+    go : (m : Bool) → is_moving_at o r p ≡ m → ((x : Run) → turned_on o skips x p all ≡ turned_on o skips (turned_on o skips x p a) p b) → turned_on o skips r p (suc all) ≡ turned_on o skips (turned_on o skips r p (suc a)) p b
+    go true moving parts =
+        turn_more o skips r p all moving ∙ parts (turned o skips r p)
+        ∙ sym (ap (λ (x : Run). turned_on o skips x p b) (turn_more o skips r p a moving))
+    go false still parts =
+        turns_end o skips r p (suc all) still
+        ∙ sym (ap (λ (x : Run). turned_on o skips x p b) (turns_end o skips r p (suc a) still) ∙ turns_end o skips r p b still)
+
+-- So many turns were taken.
 pub record HasTurned {V : Type 0} {T : V → Type 0} (form : FormOf V T) (settings : Settings) (grid : Grid V T) (r : Run) (p turns : ℕ) (written text : List ℕ) : Type 0 where
-  pub now : Run
-  pub on : HasGoneOn form settings grid r now written text
-  pub few : length (events_at p now.events) ≤ length (events_at p r.events) + 1003 * turns
-  pub left : (rest : ℕ) → turns + rest ≡ most_turns → turned_on (partition_object settings) r p most_turns ≡ turned_on (partition_object settings) now p rest
+  pub on : HasGoneOnSo form settings grid r (λ skips. turned_on (partition_object settings) skips r p turns) written text
 
 module _ {V : Type 0} {T : V → Type 0} {form : FormOf V T} {settings : Settings} (r : Run) (p : ℕ) where
+  abbrev turns_on : ℕ → Run → Onward
+  turns_on turns x skips = turned_on (partition_object settings) skips x p turns
+
+  abbrev one_turn : Run → Onward
+  one_turn x skips = turned (partition_object settings) skips x p
+
   pub none_turned : (grid : Grid V T) (text : List ℕ) → IsAmid form settings grid r → HasTurned form settings grid r p 0 text text
-  none_turned grid text amid = record {
-    now = r;
-    on = gone_nowhere grid r text amid;
-    few = omega arith;
-    left = λ rest e. (let all : most_turns ≡ rest = omega (arith, e) in ap (turned_on (partition_object settings) r p) all);
-  }
+  none_turned grid text amid = record { on = so_nowhere grid r text amid }
 
   module _ (grid : Grid V T) (turns : ℕ) (written mid : List ℕ) (did : HasTurned form settings grid r p turns written mid) where
-    pub turn_room : HasRoomAt r p 4012 → turns < 4 → HasRoomAt did.now p 1003
-    turn_room room more = let few = did.few in omega (arith, room, more, few)
+    -- the run by then
+    abbrev pub turned_so_far : Run
+    turned_so_far = turned_on (partition_object settings) did.on.skips r p turns
+
+    pub turn_room : HasRoomAt r p 4012 → turns < 4 → HasRoomAt turned_so_far p 1003
+    turn_room room more =
+        let few = turned_on_few (partition_object settings) did.on.skips p p r turns in
+        let calls = (turned_on_kept (partition_object settings) did.on.skips r p turns).calls in
+        omega (arith, room, more, few, calls)
 
     -- One more is taken.
-    module _ (more : turns < 4) (moving : is_moving_at (partition_object settings) did.now p ≡ true) where
-      one_left : (rest : ℕ) → turns + suc rest ≡ most_turns → turned_on (partition_object settings) r p most_turns ≡ turned_on (partition_object settings) (turned (partition_object settings) did.now p) p rest
-      one_left rest e = did.left (suc rest) e ∙ turn_more (partition_object settings) did.now p rest moving
+    module _ (moving : is_moving_at (partition_object settings) turned_so_far p ≡ true) where
+      pub one_turned : (new : Grid V T) (text : List ℕ) → HasGoneOnSo form settings new turned_so_far (λ skips. turned (partition_object settings) skips turned_so_far p) mid text → HasTurned form settings new r p (turns + 1) written text
+      one_turned new text taken =
+          let o = partition_object settings in
+          let now = turned_so_far in
+          let step = so_as new now (one_turn now) (turns_on (suc zero) now) mid text taken (sym (turn_more o taken.skips now p zero moving)) in
+          let whole = so_further grid new r (turns_on turns r) (turns_on (suc zero)) (turned_on_goes o r p turns) (λ x. turned_on_goes o x p (suc zero)) written mid did.on text step.0 in
+          record { on = (so_as new r (λ s. turns_on (suc zero) (turns_on turns r s) s) (turns_on (turns + 1) r) written text whole.0 (sym (turned_parts o whole.0.skips r p turns (suc zero) (turns + 1) (omega arith)))).0 }
 
-      pub one_turned : (new : Grid V T) (text : List ℕ) → HasGoneOn form settings new did.now (turned (partition_object settings) did.now p) mid text → HasTurned form settings new r p (turns + 1) written text
-      one_turned new text taken = record {
-        now = turned (partition_object settings) did.now p;
-        on = gone_further grid new r did.now (turned (partition_object settings) did.now p) written mid text did.on taken;
-        few = let one = turned_few (partition_object settings) p p did.now in let before = did.few in omega (arith, one, before);
-        left = λ rest e. one_left rest (omega (arith, e));
-      }
-
-      -- or is given up
-      pub turn_ends : (turned (partition_object settings) did.now p).full ≡ true → (turned_on (partition_object settings) r p most_turns).full ≡ true
-      turn_ends full =
+      -- or the run is given up
+      pub turn_ends : turns < 4 → GivesUpSo turned_so_far (λ skips. turned (partition_object settings) skips turned_so_far p) → GivesUpSo r (λ skips. turned_on (partition_object settings) skips r p most_turns)
+      turn_ends more full =
+          let o = partition_object settings in
+          let now = turned_so_far in
           let rest : ℕ = 3 - turns in
           let all : turns + suc rest ≡ most_turns = omega (arith, more) in
-          ap (λ (x : Run). x.full) (one_left rest all) ∙ turned_on_full (partition_object settings) (turned (partition_object settings) did.now p) p rest full
+          let step = gives_up_first now (one_turn now) (turns_on rest) (turned_goes o now p) (λ x. turned_on_goes o x p rest) full in
+          let its = up_as now (λ s. turns_on rest (one_turn now s) s) (turns_on (suc rest) now) (λ s. sym (turn_more o s now p rest moving)) step in
+          let whole = gives_up_after grid grid r (turns_on turns r) (turns_on (suc rest)) (turned_on_goes o r p turns) (λ x. turned_on_goes o x p (suc rest)) written mid did.on its (λ s. turned_on_run s now p (suc rest) did.on.on.amid.run) in
+          up_as r (λ s. turns_on (suc rest) (turns_on turns r s) s) (turns_on most_turns r) (λ s. sym (turned_parts o s r p turns (suc rest) most_turns all)) whole
 
-    all_turned : turned_on (partition_object settings) r p most_turns ≡ did.now → HasGoneOn form settings grid r (turned_on (partition_object settings) r p most_turns) written mid
-    all_turned same = gone_as (sym same) did.on
+    all_turned : turned_on (partition_object settings) did.on.skips r p most_turns ≡ turned_so_far → HasGoneOnSo form settings grid r (λ skips. turned_on (partition_object settings) skips r p most_turns) written mid
+    all_turned same = (so_as grid r (turns_on turns r) (turns_on most_turns r) written mid did.on (sym same)).0
 
-    pub none_moving : turns ≤ 4 → is_moving_at (partition_object settings) did.now p ≡ false → HasGoneOn form settings grid r (turned_on (partition_object settings) r p most_turns) written mid
+    pub none_moving : turns ≤ 4 → is_moving_at (partition_object settings) turned_so_far p ≡ false → HasGoneOnSo form settings grid r (λ skips. turned_on (partition_object settings) skips r p most_turns) written mid
     none_moving within still =
         let rest : ℕ = 4 - turns in
         let all : turns + rest ≡ most_turns = omega (arith, within) in
-        all_turned (did.left rest all ∙ turns_end (partition_object settings) did.now p rest still)
+        all_turned (turned_parts (partition_object settings) did.on.skips r p turns rest most_turns all ∙ turns_end (partition_object settings) did.on.skips turned_so_far p rest still)
 
-    pub four_turned : turns ≤ 4 → 4 ≤ turns → HasGoneOn form settings grid r (turned_on (partition_object settings) r p most_turns) written mid
-    four_turned within reached = all_turned (did.left 0 (omega (arith, within, reached)))
+    pub four_turned : turns ≤ 4 → 4 ≤ turns → HasGoneOnSo form settings grid r (λ skips. turned_on (partition_object settings) skips r p most_turns) written mid
+    four_turned within reached = let same : most_turns ≡ turns = omega (arith, within, reached) in all_turned (ap (turned_on (partition_object settings) did.on.skips r p) same)
 
 -- lists over the numbers below a bound, one more
 
@@ -172,61 +193,136 @@ read_any (x ∷ xs) (suc i) d e l = read_any xs i d e (omega (arith, l))
 pub take_one : {X : Type 0} (xs : List X) (i : ℕ) (x : X) → i < length xs → x ≡ get_or xs i x → take (i + 1) xs ≡ take i xs ++ x ∷ []
 take_one xs i x within at = take_more xs i x within ∙ ap (λ y. take i xs ++ y ∷ []) (sym at)
 
+-- the parts of a turn
+
+abbrev pub resent : Object Request Partition → Run → ℕ → Onward
+resent o r p skips = takes o skips r p (Resend r.members)
+
+abbrev pub again : Object Request Partition → ℕ → Run → Onward
+again o p r skips = first_resends o skips r p
+
+abbrev pub flows : Object Request Partition → ℕ → Run → Onward
+flows o p r skips = flowed o skips r p most_deliveries
+
+abbrev pub advances : Object Request Partition → ℕ → Run → Onward
+advances o p r skips = takes o skips r p Advance
+
+abbrev pub sent_again : Object Request Partition → Run → ℕ → Onward
+sent_again o r p skips = again o p (resent o r p skips) skips
+
+abbrev pub late_flows : Object Request Partition → Run → ℕ → Onward
+late_flows o r p skips = flows o p (sent_again o r p skips) skips
+
+module _ (o : Object Request Partition) (r : Run) (p : ℕ) where
+  pub sent_goes : GoesBy r (sent_again o r p)
+  sent_goes = goes_then r (resent o r p) (again o p) (takes_goes o r p (Resend r.members) refl) (λ x. first_goes o x p)
+
+  pub late_goes : GoesBy r (late_flows o r p)
+  late_goes = goes_then r (sent_again o r p) (flows o p) sent_goes (λ x. flowed_goes o x p most_deliveries)
+
+  -- A run that is given up at a part of it is so at its end.
+
+  pub ends_again : GivesUpSo r (sent_again o r p) → GivesUpSo r (late_flows o r p)
+  ends_again = gives_up_first r (sent_again o r p) (flows o p) sent_goes (λ x. flowed_goes o x p most_deliveries)
+
+  pub ends_later : GivesUpSo r (late_flows o r p) → GivesUpSo r (λ skips. turned o skips r p)
+  ends_later = gives_up_first r (late_flows o r p) (advances o p) late_goes (λ x. takes_goes o x p Advance refl)
+
+-- the parts of a step
+
+abbrev pub begins : Object Request Partition → Run → Step → Onward
+begins o r step skips = takes o skips r step.partition (event_begun step.kind step.from step.to)
+
+abbrev pub turns_of : Object Request Partition → Step → Run → Onward
+turns_of o step r skips = turned_on o skips r step.partition most_turns
+
+abbrev pub joins_of : Object Request Partition → Step → Run → Onward
+joins_of o step r skips = rejoined o skips r step.partition step.from step.kind
+
+abbrev pub turned_after : Object Request Partition → Run → Step → Onward
+turned_after o r step skips = turns_of o step (begins o r step skips) skips
+
+module _ (o : Object Request Partition) (r : Run) (step : Step) where
+  pub begins_goes : GoesBy r (begins o r step)
+  begins_goes = takes_goes o r step.partition (event_begun step.kind step.from step.to) (begun_unasked step.kind step.from step.to)
+
+  pub after_goes : GoesBy r (turned_after o r step)
+  after_goes = goes_then r (begins o r step) (turns_of o step) begins_goes (λ x. turned_on_goes o x step.partition most_turns)
+
+  pub ends_after : GivesUpSo r (turned_after o r step) → GivesUpSo r (λ skips. stepped o skips r step)
+  ends_after = gives_up_first r (turned_after o r step) (joins_of o step) after_goes (λ x. rejoined_goes o x step.partition step.from step.kind)
+
 -- the room for a turn's last event
-pub late_room : (o : Object Request Partition) (r : Run) (p : ℕ) → HasRoomAt r p 1003 → HasRoomAt (flowed o (first_resends o (takes o r p (Resend r.members)) p) p most_deliveries) p 1
-late_room o r p room =
-    let told = takes o r p (Resend r.members) in
-    let few = takes_few o r p (Resend r.members) p in
-    let more = first_few o p p told in
-    let most = flowed_few o (first_resends o told p) p most_deliveries p in
-    omega (arith, room, few, more, most)
+pub late_room : (o : Object Request Partition) (s t u : List CallId) (r : Run) (p : ℕ) → HasRoomAt r p 1003 → HasRoomAt (flowed o u (first_resends o t (takes o s r p (Resend r.members)) p) p most_deliveries) p 1
+late_room o s t u r p room =
+    let told = takes o s r p (Resend r.members) in
+    let again = first_resends o t told p in
+    let few = takes_few o s r p (Resend r.members) p in
+    let more = first_few o t p p told in
+    let most = flowed_few o u again p most_deliveries p in
+    let first = (takes_kept o s r p (Resend r.members)).calls in
+    let second = (first_kept o t told p).calls in
+    let third = (flowed_kept o u again p most_deliveries).calls in
+    omega (arith, room, few, more, most, first, second, third)
 
 -- steps
 
-module _ (o : Object Request Partition) where
-  pub ran_more : (r : Run) (steps : List Step) (step : Step) → ran_texts o r (steps ++ step ∷ []) ≡ ran_texts o r steps ++ ran_text o (stepped_all o r steps) step
-  ran_more r [] step = append-nil (ran_text o r step)
-  ran_more r (s ∷ steps) step = ap (λ xs. ran_text o r s ++ xs) (ran_more (stepped o r s) steps step) ∙ sym (append_assoc (ran_text o r s) (ran_texts o (stepped o r s) steps) (ran_text o (stepped_all o (stepped o r s) steps) step))
+module _ (o : Object Request Partition) (skips : List CallId) where
+  pub ran_more : (r : Run) (steps : List Step) (step : Step) → ran_texts o skips r (steps ++ step ∷ []) ≡ ran_texts o skips r steps ++ ran_text o skips (stepped_all o skips r steps) step
+  ran_more r [] step = append-nil (ran_text o skips r step)
+  ran_more r (s ∷ steps) step =
+      ap (λ xs. ran_text o skips r s ++ xs) (ran_more (stepped o skips r s) steps step)
+      ∙ sym (append_assoc (ran_text o skips r s) (ran_texts o skips (stepped o skips r s) steps) (ran_text o skips (stepped_all o skips (stepped o skips r s) steps) step))
 
-  pub stepped_more : (r : Run) (steps : List Step) (step : Step) → stepped_all o r (steps ++ step ∷ []) ≡ stepped o (stepped_all o r steps) step
-  stepped_more r steps step = fold_push (stepped o) r steps step
+  pub stepped_more : (r : Run) (steps : List Step) (step : Step) → stepped_all o skips r (steps ++ step ∷ []) ≡ stepped o skips (stepped_all o skips r steps) step
+  stepped_more r steps step = fold_push (stepped o skips) r steps step
 
-  -- a run that is given up at a step is so after those behind it
-  pub steps_end : (r : Run) (front : List Step) (step : Step) (rest : List Step) → (stepped o (stepped_all o r front) step).full ≡ true → (stepped_all o r (front ++ step ∷ rest)).full ≡ true
-  steps_end r [] step rest full = stepped_all_full o (stepped o r step) rest full
-  steps_end r (s ∷ front) step rest full = steps_end (stepped o r s) front step rest full
+  stepped_parts : (r : Run) (front : List Step) (step : Step) (rest : List Step) → stepped_all o skips r (front ++ step ∷ rest) ≡ stepped_all o skips (stepped o skips (stepped_all o skips r front) step) rest
+  stepped_parts r [] step rest = refl
+  stepped_parts r (s ∷ front) step rest = stepped_parts (stepped o skips r s) front step rest
 
 -- the step that comes next may be run, where those before it were
-pub next_may : (o : Object Request Partition) (r : Run) (next : ℕ) (front : List Step) (step : Step) (rest : List Step) → MayStep r next (front ++ step ∷ rest) → HasRoomAt (stepped_all o r front) step.partition most_line_events
-next_may o r next front step rest may = subst (λ n. n + most_line_events + 1 < 4294967296) (sym (ap length (untouched r next front may))) (its_room r next front may)
+pub next_may : (o : Object Request Partition) (skips : List CallId) (r : Run) (next : ℕ) (front : List Step) (step : Step) (rest : List Step) → MayStep r next (front ++ step ∷ rest) → HasRoomAt (stepped_all o skips r front) step.partition most_line_events
+next_may o skips r next front step rest may =
+    let same = ap length (untouched r next front may) in
+    let room = its_room r next front may in
+    let calls = (steps_kept r front).calls in
+    let come = steps_come o skips 0 r front in
+    omega (arith, same, room, calls, come)
   where
     within : (now : Run) (low : ℕ) (steps : List Step) → MayStep now low (steps ++ step ∷ rest) → low ≤ step.partition
     within now low [] m = m.0
     within now low (s ∷ steps) m = let first = m.0 in let others = within now (s.partition + 1) steps m.3 in omega (arith, first, others)
 
-    its_room : (now : Run) (low : ℕ) (steps : List Step) → MayStep now low (steps ++ step ∷ rest) → length (events_at step.partition now.events) + most_line_events + 1 < 4294967296
+    its_room : (now : Run) (low : ℕ) (steps : List Step) → MayStep now low (steps ++ step ∷ rest) → HasRoomAt now step.partition most_line_events
     its_room now low [] m = m.2
     its_room now low (s ∷ steps) m = its_room now (s.partition + 1) steps m.3
 
-    -- The room that later steps have doesn't change.
-    others_may : (now : Run) (s : Step) (low : ℕ) (steps : List Step) → s.partition < low → MayStep now low steps → MayStep (stepped o now s) low steps
+    steps_kept : (now : Run) (steps : List Step) → Kept now (stepped_all o skips now steps)
+    steps_kept now [] = kept_refl now
+    steps_kept now (s ∷ steps) = kept_trans (stepped_kept o skips now s) (steps_kept (stepped o skips now s) steps)
+
+    -- The room that later steps have doesn't get less.
+    others_may : (now : Run) (s : Step) (low : ℕ) (steps : List Step) → s.partition < low → MayStep now low steps → MayStep (stepped o skips now s) low steps
     others_may now s low [] l m = tt
     others_may now s low (t ∷ steps) l m =
         let first = m.0 in
-        let same = ap length (stepped_elsewhere o now s t.partition (λ e. (omega (arith, e, first, l)))) in
-        let room = m.2 in (
+        let same = ap length (stepped_elsewhere o skips now s t.partition (λ e. (omega (arith, e, first, l)))) in
+        let room = m.2 in
+        let calls = (stepped_kept o skips now s).calls in
+        let come = stepped_come o skips now s in (
           m.0,
           m.1,
-          omega (arith, same, room),
+          omega (arith, same, room, calls, come),
           others_may now s (t.partition + 1) steps (omega (arith, first, l)) m.3,
         )
 
-    untouched : (now : Run) (low : ℕ) (steps : List Step) → MayStep now low (steps ++ step ∷ rest) → events_at step.partition (stepped_all o now steps).events ≡ events_at step.partition now.events
+    untouched : (now : Run) (low : ℕ) (steps : List Step) → MayStep now low (steps ++ step ∷ rest) → events_at step.partition (stepped_all o skips now steps).events ≡ events_at step.partition now.events
     untouched now low [] m = refl
     untouched now low (s ∷ steps) m =
         let later = within now (s.partition + 1) steps m.3 in
-        untouched (stepped o now s) (s.partition + 1) steps (others_may now s (s.partition + 1) (steps ++ step ∷ rest) (omega arith) m.3)
-        ∙ stepped_elsewhere o now s step.partition (λ e. (omega (arith, e, later)))
+        untouched (stepped o skips now s) (s.partition + 1) steps (others_may now s (s.partition + 1) (steps ++ step ∷ rest) (omega arith) m.3)
+        ∙ stepped_elsewhere o skips now s step.partition (λ e. (omega (arith, e, later)))
 
 pub next_placed : (r : Run) (next : ℕ) (front : List Step) (step : Step) (rest : List Step) → MayStep r next (front ++ step ∷ rest) → step.partition < 271
 next_placed r next [] step rest may = may.1
@@ -234,40 +330,70 @@ next_placed r next (s ∷ front) step rest may = next_placed r (s.partition + 1)
 
 module _ {V : Type 0} {T : V → Type 0} {form : FormOf V T} {settings : Settings} (r : Run) where
   pub none_stepped : (grid : Grid V T) (text : List ℕ) → IsAmid form settings grid r → HasStepped form settings grid r [] text text
-  none_stepped grid text amid = record { amid = amid; added = sym (append-nil text) }
+  none_stepped grid text amid = record { skips = []; own = λ id c. absurd (in_contains id [] c); amid = amid; added = sym (append-nil text) }
 
-  pub one_stepped : (grid new : Grid V T) (steps : List Step) (step : Step) (written mid said text : List ℕ) (line : ℕ) (moving : Bool) → HasStepped form settings grid r steps written mid
-      → HasGoneOn form settings new (stepped_all (partition_object settings) r steps) (stepped (partition_object settings) (stepped_all (partition_object settings) r steps) step) mid said
-      → line ≡ (stepped_all (partition_object settings) r steps).lines → moving ≡ is_moving_at (partition_object settings) (stepped (partition_object settings) (stepped_all (partition_object settings) r steps) step) step.partition
-      → text ≡ said ++ end_text line step.partition moving
-      → HasStepped form settings new r (steps ++ step ∷ []) written text
-  one_stepped grid new steps step written mid said text line moving did on at_line is_moving is = record {
-    amid = subst (λ n. IsAmid form settings new n) (sym (stepped_more o r steps step)) on.amid;
-    added =
-        is ∙ (λ i. (on.added ∙ (λ j. did.added j ++ texts_of (sym (new_with now next on.messages on.appended) j))) i ++ end_text (at_line i) step.partition (is_moving i))
-        ∙ append_assoc (written ++ ran_texts o r steps) (texts_of (new_messages now next)) (end_text now.lines step.partition (is_moving_at o next step.partition))
-        ∙ append_assoc written (ran_texts o r steps) (ran_text o now step)
-        ∙ ap (λ xs. written ++ xs) (sym (ran_more o r steps step));
-  }
-    where
-      o : Object Request Partition
-      o = partition_object settings
+  -- one step, and its end
+  pub one_stepped : (new : Grid V T) (step : Step) (written said text : List ℕ) (line : ℕ) (moving : Bool) (on : HasGoneOnSo form settings new r (λ skips. stepped (partition_object settings) skips r step) written said)
+      → line ≡ r.lines → moving ≡ is_moving_at (partition_object settings) (stepped (partition_object settings) on.skips r step) step.partition → text ≡ said ++ end_text line step.partition moving → HasStepped form settings new r (step ∷ []) written text
+  one_stepped new step written said text line moving on at_line is_moving is =
+      let o = partition_object settings in
+      let next = stepped o on.skips r step in
+      record {
+        skips = on.skips;
+        own = on.own;
+        amid = on.on.amid;
+        added =
+            is ∙ (λ i. (on.on.added ∙ (λ j. written ++ texts_of (sym (new_with r next on.on.messages on.on.appended) j))) i ++ end_text (at_line i) step.partition (is_moving i))
+            ∙ append_assoc written (texts_of (new_messages r next)) (end_text r.lines step.partition (is_moving_at o next step.partition))
+            ∙ ap (λ xs. written ++ xs) (sym (append-nil (ran_text o on.skips r step)));
+      }
 
-      now : Run
-      now = stepped_all (partition_object settings) r steps
+  module _ (grid new : Grid V T) (steps : List Step) (step : Step) (written mid : List ℕ) (did : HasStepped form settings grid r steps written mid) where
+    -- the run by then
+    abbrev pub stepped_so_far : Run
+    stepped_so_far = stepped_all (partition_object settings) did.skips r steps
 
-      next : Run
-      next = stepped (partition_object settings) (stepped_all (partition_object settings) r steps) step
+    abbrev steps_on : Onward
+    steps_on skips = stepped_all (partition_object settings) skips r steps
 
-  pub more_stepped : (grid new : Grid V T) (steps : List Step) (step : Step) (written mid text : List ℕ) → HasStepped form settings grid r steps written mid
-      → HasStepped form settings new (stepped_all (partition_object settings) r steps) (step ∷ []) mid text → HasStepped form settings new r (steps ++ step ∷ []) written text
-  more_stepped grid new steps step written mid text did one = record {
-    amid = subst (λ n. IsAmid form settings new n) (sym (stepped_more (partition_object settings) r steps step)) one.amid;
-    added =
-        one.added ∙ (λ i. did.added i ++ append-nil (ran_text (partition_object settings) (stepped_all (partition_object settings) r steps) step) i)
-        ∙ append_assoc written (ran_texts (partition_object settings) r steps) (ran_text (partition_object settings) (stepped_all (partition_object settings) r steps) step)
-        ∙ ap (λ xs. written ++ xs) (sym (ran_more (partition_object settings) r steps step));
-  }
+    abbrev its_step : Run → Onward
+    its_step x skips = stepped (partition_object settings) skips x step
+
+    pub more_stepped : (text : List ℕ) → HasStepped form settings new stepped_so_far (step ∷ []) mid text → HasStepped form settings new r (steps ++ step ∷ []) written text
+    more_stepped text one =
+        let o = partition_object settings in
+        let now = stepped_so_far in
+        let both = did.skips ++ one.skips in
+        let last = stepped o one.skips now step in
+        let g = stepped_all_goes o r steps in
+        let h = λ x. stepped_goes o x step in
+        let once : ArrivalsOk last = (run_ok one.amid.run).of_arrivals in
+        let same : stepped o both (stepped_all o both r steps) step ≡ last = both_go r steps_on its_step g h did.skips one.skips once did.own one.own in
+        let whole : stepped_all o both r (steps ++ step ∷ []) ≡ last = stepped_more o both r steps step ∙ same in
+        let to_now : stepped_all o both r steps ≡ now = sym (g.alike did.skips both (λ a i. sym (alike_first r steps_on its_step g h did.skips one.skips once did.own one.own a i))) in
+        let front : ran_texts o both r steps ≡ ran_texts o did.skips r steps = sym (ran_alike o r steps did.skips both (λ a i. sym (alike_first r steps_on its_step g h did.skips one.skips once did.own one.own a i))) in
+        let its : ran_text o both (stepped_all o both r steps) step ≡ ran_text o one.skips now step =
+            (λ i. flat_map appended_text (new_messages (to_now i) (same i)) ++ end_text (to_now i).lines step.partition (is_moving_at o (same i) step.partition)) in
+        record {
+          skips = both;
+          own = subst (λ (x : Run). AreAmong (new_arrivals r x) both) (sym (stepped_more o both r steps step)) (both_among r steps_on its_step g h did.skips one.skips once did.own one.own);
+          amid = subst (λ n. IsAmid form settings new n) (sym whole) one.amid;
+          added =
+              one.added ∙ (λ i. did.added i ++ append-nil (ran_text o one.skips now step) i)
+              ∙ append_assoc written (ran_texts o did.skips r steps) (ran_text o one.skips now step)
+              ∙ ap (λ xs. written ++ xs) (sym (ran_more o both r steps step ∙ (λ i. front i ++ its i)));
+        }
+
+    -- or the run is given up at it
+    pub steps_end : (rest : List Step) → GivesUpSo stepped_so_far (λ skips. stepped (partition_object settings) skips stepped_so_far step) → GivesUpSo r (λ skips. stepped_all (partition_object settings) skips r (steps ++ step ∷ rest))
+    steps_end rest full =
+        let o = partition_object settings in
+        let now = stepped_so_far in
+        let onward = λ (x : Run) (s : List CallId). stepped_all o s (stepped o s x step) rest in
+        let goes = λ (x : Run). goes_then x (its_step x) (λ y s. stepped_all o s y rest) (stepped_goes o x step) (λ y. stepped_all_goes o y rest) in
+        let its = gives_up_first now (its_step now) (λ y s. stepped_all o s y rest) (stepped_goes o now step) (λ y. stepped_all_goes o y rest) full in
+        let whole = gives_up_then r steps_on onward (stepped_all_goes o r steps) goes did.skips did.own its (λ s. steps_run s (stepped o s now step) rest (stepped_run s now step did.amid.run)) in
+        up_as r (λ s. onward (steps_on s) s) (λ s. stepped_all o s r (steps ++ step ∷ rest)) (λ s. sym (stepped_parts o s r steps step rest)) whole
 
 pub stepped_as : {V : Type 0} {T : V → Type 0} {form : FormOf V T} {settings : Settings} {r : Run} {new : Grid V T} {steps others : List Step} {written text : List ℕ} → steps ≡ others
     → HasStepped form settings new r steps written text → HasStepped form settings new r others written text
@@ -284,15 +410,15 @@ refuses line written text planned none empty is shown = (subst HasNoSteps (sym i
 -- the line
 
 module _ {V : Type 0} {T : V → Type 0} {form : FormOf V T} {settings : Settings} (grid new : Grid V T) (r : Run) (most : ℕ) (s : Stands form settings grid r) (limit : r.lines + 1 ≤ most_lines)
-    (on : IsAmid form settings new (rebalanced (partition_object settings) (next_line r) most)) where
-  next_stands : Stands form settings new (rebalanced (partition_object settings) (next_line r) most)
+    (skips : List CallId) (own : AreAmong (new_arrivals r (rebalanced (partition_object settings) skips (next_line r) most)) skips) (on : IsAmid form settings new (rebalanced (partition_object settings) skips (next_line r) most)) where
+  next_stands : Stands form settings new (rebalanced (partition_object settings) skips (next_line r) most)
   next_stands =
-      let kept = rebalanced_kept (partition_object settings) (next_line r) most in
+      let kept = rebalanced_kept (partition_object settings) skips (next_line r) most in
       record {
         run = on.run;
-        small = kept_small r (rebalanced (partition_object settings) (next_line r) most) kept s.small;
-        few = rebalance_few (partition_object settings) r s.few most;
-        bounded = line_bounded (partition_object settings) [] r limit s.bounded (Rebalance most);
+        small = kept_small r (rebalanced (partition_object settings) skips (next_line r) most) kept s.small;
+        few = rebalance_few (partition_object settings) skips r s.few most;
+        bounded = line_bounded (partition_object settings) skips r limit s.bounded (Rebalance most);
         holds = on.holds;
         listeners = on.listeners;
         settled = on.settled;
@@ -300,11 +426,11 @@ module _ {V : Type 0} {T : V → Type 0} {form : FormOf V T} {settings : Setting
       }
 
   pub rebalance_line : (number : ℕ) (written text : List ℕ) → number ≡ r.lines + 1
-      → text ≡ (written ++ plan_text number (plan_in (partition_object settings) (next_line r))) ++ ran_texts (partition_object settings) (next_line r) (steps_in (partition_object settings) (next_line r) most)
+      → text ≡ (written ++ plan_text number (plan_in (partition_object settings) (next_line r))) ++ ran_texts (partition_object settings) skips (next_line r) (steps_in (partition_object settings) (next_line r) most)
       → HasRun form settings new r (Rebalance most) written text
   rebalance_line number written text at_line is = record {
-    skips = [];
-    of_line = no_calls settings r (Rebalance most);
+    skips = skips;
+    of_line = own;
     stands = next_stands;
     added =
         is ∙ ap (λ n. (written ++ plan_text n (plan_in o (next_line r))) ++ ran) (at_line ∙ sym kept.lines) ∙ append_assoc written plan ran
@@ -314,32 +440,34 @@ module _ {V : Type 0} {T : V → Type 0} {form : FormOf V T} {settings : Setting
       o : Object Request Partition
       o = partition_object settings
 
-      kept : Kept (next_line r) (rebalanced (partition_object settings) (next_line r) most)
-      kept = rebalanced_kept (partition_object settings) (next_line r) most
+      kept : Kept (next_line r) (rebalanced (partition_object settings) skips (next_line r) most)
+      kept = rebalanced_kept (partition_object settings) skips (next_line r) most
 
       plan : List ℕ
-      plan = plan_text (rebalanced (partition_object settings) (next_line r) most).lines (plan_in (partition_object settings) (next_line r))
+      plan = plan_text (rebalanced (partition_object settings) skips (next_line r) most).lines (plan_in (partition_object settings) (next_line r))
 
       ran : List ℕ
-      ran = ran_texts (partition_object settings) (next_line r) (steps_in (partition_object settings) (next_line r) most)
+      ran = ran_texts (partition_object settings) skips (next_line r) (steps_in (partition_object settings) (next_line r) most)
 
 -- where this is what is planned
 module _ {V : Type 0} {T : V → Type 0} {form : FormOf V T} {settings : Settings} (grid new : Grid V T) (r : Run) (most : ℕ) (s : Stands form settings grid r) (planned : Planned) (is : plan_in (partition_object settings) (next_line r) ≡ planned) where
   steps_are : steps_in (partition_object settings) (next_line r) most ≡ first_steps most planned
   steps_are = ap (first_steps most) is
 
-  pub planned_full : (stepped_all (partition_object settings) (next_line r) (first_steps most planned)).full ≡ true → IsGivenUp settings r (Rebalance most)
-  planned_full full = line_given_up settings r (Rebalance most) (ap (λ ss. (stepped_all (partition_object settings) (next_line r) ss).full) steps_are ∙ full)
+  pub planned_full : GivesUpSo (next_line r) (λ skips. stepped_all (partition_object settings) skips (next_line r) (first_steps most planned)) → IsGivenUp settings r (Rebalance most)
+  planned_full up =
+      line_given_up settings r (Rebalance most) (λ skips. stepped_all (partition_object settings) skips (next_line r) (first_steps most planned))
+      (λ skips. ap (stepped_all (partition_object settings) skips (next_line r)) steps_are) up
 
-  pub planned_line : IsAmid form settings new (stepped_all (partition_object settings) (next_line r) (first_steps most planned)) → (number : ℕ) (written text : List ℕ) → number ≡ r.lines + 1 → r.lines + 1 ≤ most_lines
-      → text ≡ (written ++ plan_text number planned) ++ ran_texts (partition_object settings) (next_line r) (first_steps most planned) → HasRun form settings new r (Rebalance most) written text
-  planned_line amid number written text at_line limit shown =
-      rebalance_line grid new r most s limit (subst (λ ss. IsAmid form settings new (stepped_all (partition_object settings) (next_line r) ss)) (sym steps_are) amid) number written text at_line
-      (shown ∙ (λ i. (written ++ plan_text number (sym is i)) ++ ran_texts (partition_object settings) (next_line r) (sym steps_are i)))
+  pub planned_line : (number : ℕ) (written start text : List ℕ) → HasStepped form settings new (next_line r) (first_steps most planned) start text → number ≡ r.lines + 1 → r.lines + 1 ≤ most_lines → start ≡ written ++ plan_text number planned → HasRun form settings new r (Rebalance most) written text
+  planned_line number written start text did at_line limit began =
+      let o = partition_object settings in
+      let all = stepped_as (sym steps_are) did in
+      rebalance_line grid new r most s limit all.skips all.own all.amid number written text at_line
+      (all.added ∙ ap (λ xs. xs ++ ran_texts o all.skips (next_line r) (steps_in o (next_line r) most)) (began ∙ ap (λ x. written ++ plan_text number x) (sym is)))
 
 -- where nothing is run
 pub refused_line : {V : Type 0} {T : V → Type 0} {form : FormOf V T} {settings : Settings} (grid : Grid V T) (r : Run) (most : ℕ) (s : Stands form settings grid r) (planned : Planned) → plan_in (partition_object settings) (next_line r) ≡ planned
     → first_steps most planned ≡ [] → {new : Grid V T} → IsAmid form settings new (next_line r) → (number : ℕ) (written text : List ℕ) → number ≡ r.lines + 1 → r.lines + 1 ≤ most_lines → text ≡ written ++ plan_text number planned → HasRun form settings new r (Rebalance most) written text
 refused_line {form = form} {settings = settings} grid r most s planned is none {new = new} amid number written text at_line limit shown =
-    planned_line grid new r most s planned is (subst (λ ss. IsAmid form settings new (stepped_all (partition_object settings) (next_line r) ss)) (sym none) amid) number written text at_line limit
-    (shown ∙ sym (append-nil (written ++ plan_text number planned)) ∙ ap (λ ss. (written ++ plan_text number planned) ++ ran_texts (partition_object settings) (next_line r) ss) (sym none))
+    planned_line grid new r most s planned is number written text text (stepped_as (sym none) (none_stepped (next_line r) new text amid)) at_line limit shown

@@ -8,17 +8,16 @@ use Rattle.partition_protocol.specs.Node.{Node, settled}
 use Rattle.partition_protocol.specs.History.{Executed, Entry, Called}
 use Rattle.partition_protocol.specs.Execution.{Reached, Executes, PartitionLost, WrongTarget, Migrating, reached, executing}
 use Rattle.partition_protocol.specs.World.{World, start, is_live, map_or, pair_state}
-use Rattle.partition_protocol.specs.Events.{Happened, entry_of, Outcome, HeldAt, ReleasedAt, nothing, if_executes, calling, executes, happens, run}
+use Rattle.partition_protocol.specs.Events.{Happened, entry_of, Outcome, Refused, HeldAt, ReleasedAt, nothing, if_executes, calling, executes, happens, run}
 use Rattle.partition_protocol.specs.Arrivals.{name}
 use Rattle.partition_protocol.proofs.Lists.{In, in_left, in_right, in_cases, cases, on_if}
-use Rattle.replay_run.specs.Runs.{Run, Arrival, Appended, At, world_at, events_at, arrival_at, refusal, refused_by, call_of, arrived}
+use Rattle.replay_run.specs.Runs.{Run, Arrival, Appended, At, world_at, events_at, refusal, refused_at, refused_by, call_of, arrived}
 use Rattle.grid_base.specs.Errors.{want_of_memory}
 use Rattle.replay_run.proofs.Parts.{in_mapped}
-use Rattle.replay_run.specs.ScriptRuns.{IsNext}
 use Rattle.replay_run.proofs.Places.{same_number}
 use Rattle.replay_run.proofs.Trails.{executed, executed-append, executed_name}
 use Rattle.replay_run.proofs.RunFacts.{id_name, arrival_name, is_of, RefusalsOk, RunOk, origin}
-use Rattle.replay_run.proofs.Arriving.{its_event, fresh}
+use Rattle.replay_run.proofs.Arriving.{MayCome, its_event}
 use Rattle.replay_run.proofs.Answering.{refused_with, world_here, world_elsewhere}
 use Rattle.replay_run.proofs.Bare.{answer_to, executed_by, is_heard_by, bare_happening}
 
@@ -31,7 +30,7 @@ pub record IsLogged (a : Arrival) (log : List (Entry Request)) (h : Happened Req
   pub call : Executed Request
   pub named : executed_name call ≡ arrival_name a
   pub is_last : h.world.recorded.log ≡ log ++ Called call ∷ []
-  pub unrefused : refused_by a.line a.request h.outcome ≡ []
+  pub unrefused : refused_by a.made a.request h.outcome ≡ []
 
 -- a call leaves the log, or is logged
 pub call_log : {State : Type 0} (o : Object Request State) (w : World Request) (a : Arrival)
@@ -52,7 +51,7 @@ call_log o w a =
           call = entry_of o s a.request.id.conn a.request.id.number a.request a.now after.pair;
           named = refl;
           is_last = refl;
-          unrefused = on_if (λ (out : Outcome). refused_by a.line a.request out ≡ []) (is_empty (settled after).held) (ReleasedAt after.pair.count) (HeldAt after.pair.count) refl refl;
+          unrefused = on_if (λ (out : Outcome). refused_by a.made a.request out ≡ []) (is_empty (settled after).held) (ReleasedAt after.pair.count) (HeldAt after.pair.count) refl refl;
         })
     by node (PartitionLost version) = inl refl
     by node (WrongTarget version) = inl refl
@@ -63,15 +62,12 @@ call_log o w a =
     at None = inl refl
     at (Some node) = by node (reached a.member node)
 
-module _ {State : Type 0} (o : Object Request State) (r : Run) (ok : RunOk o r) (member : ℕ) (request : Request) (is_next : IsNext r request) where
-  abbrev a : Arrival
-  a = arrival_at r member request
-
+module _ {State : Type 0} (o : Object Request State) (r : Run) (ok : RunOk o r) (a : Arrival) (may : MayCome r a) where
   -- a call that is new was executed nowhere
   not_yet : (p : ℕ) (x : Executed Request) → In x (executed (world_at o r p).recorded.log) → executed_name x ≢ arrival_name a
   not_yet p x i e =
       let from = origin o r ok.members ok.of_arrivals p x i in
-      fresh r ok.of_arrivals member request is_next from.0 from.1 (ap name from.3 ∙ e)
+      may.fresh from.0 from.1 (ap name from.3 ∙ e)
 
   -- Where nothing is executed but the new call, and that only if it isn't refused, what was refused stays so.
   refused_more : (events : List At) (appended : List Appended)
@@ -92,7 +88,7 @@ module _ {State : Type 0} (o : Object Request State) (r : Run) (ok : RunOk o r) 
       still m id i e p x (inl j) = ok.of_refusals.unexecuted m id i e p x j
       still m id i e p x (inr s) =
           let from = ok.of_refusals.arrived m id i e in
-          λ t. fresh r ok.of_arrivals member request is_next from.0 from.1 (ap id_name from.2 ∙ sym t ∙ s)
+          λ t. may.fresh from.0 from.1 (ap id_name from.2 ∙ sym t ∙ s)
 
   -- The call makes no event.
 
@@ -105,77 +101,90 @@ module _ {State : Type 0} (o : Object Request State) (r : Run) (ok : RunOk o r) 
   -- It found no memory.
 
   abbrev skipped : Run
-  skipped = arrived r a [] (refusal a.line request (pos want_of_memory) 0 ∷ [])
+  skipped = arrived r a [] (refusal a.made a.request (pos want_of_memory) 0 ∷ [])
 
   pub skipped_refusals : RefusalsOk o skipped
-  skipped_refusals = refused_more [] (refusal a.line request (pos want_of_memory) 0 ∷ []) (λ p x i. inl (as_before (refusal a.line request (pos want_of_memory) 0 ∷ []) p x i)) refused
+  skipped_refusals = refused_more [] (refusal a.made a.request (pos want_of_memory) 0 ∷ []) (λ p x i. inl (as_before (refusal a.made a.request (pos want_of_memory) 0 ∷ []) p x i)) refused
     where
-      refused : (m : Appended) (id : CallId) → In m (refusal a.line request (pos want_of_memory) 0 ∷ []) → m.refuses ≡ Some id
+      refused : (m : Appended) (id : CallId) → In m (refusal a.made a.request (pos want_of_memory) 0 ∷ []) → m.refuses ≡ Some id
           → (id ≡ a.request.id) × ((p : ℕ) (x : Executed Request) → In x (executed (world_at o skipped p).recorded.log) → executed_name x ≢ arrival_name a)
       refused m id (inl s) e =
-          let whose : Some request.id ≡ Some id = ap (λ (n : Appended). n.refuses) s ∙ e in
-          let its : id ≡ request.id = cc in
-          (its, λ p x i. not_yet p x (as_before (refusal a.line request (pos want_of_memory) 0 ∷ []) p x i))
+          let whose : Some a.request.id ≡ Some id = ap (λ (n : Appended). n.refuses) s ∙ e in
+          let its : id ≡ a.request.id = cc in
+          (its, λ p x i. not_yet p x (as_before (refusal a.made a.request (pos want_of_memory) 0 ∷ []) p x i))
       refused m id (inr i) e = absurd i
+
+  -- it is refused as it waited
+
+  pub turned_away : (why : Reached) → RefusalsOk o (arrived r a [] (refused_at a.made a.request why))
+  turned_away why = refused_more [] (refused_at a.made a.request why) (λ p x i. inl (as_before (refused_at a.made a.request why) p x i)) refused
+    where
+      refused : (m : Appended) (id : CallId) → In m (refused_at a.made a.request why) → m.refuses ≡ Some id
+          → (id ≡ a.request.id) × ((p : ℕ) (x : Executed Request) → In x (executed (world_at o (arrived r a [] (refused_at a.made a.request why)) p).recorded.log) → executed_name x ≢ arrival_name a)
+      refused m id i e =
+          let whose : Some a.request.id ≡ Some id = sym (refusals_name_the_call a.made a.request (Refused why) m i) ∙ e in
+          let its : id ≡ a.request.id = cc in
+          (its, λ p x j. not_yet p x (as_before (refused_at a.made a.request why) p x j))
 
   -- the call has its event
 
   abbrev p : ℕ
-  p = request.partition
+  p = a.request.partition
 
-  abbrev after : Run
-  after = arrived r a (its_event a ∷ []) (bare_happening o r a)
+  module _ (own : Option ℕ) where
+    abbrev after : Run
+    after = arrived r a (its_event a ∷ []) (bare_happening o r own a)
 
-  executed_in : ℕ → List (Executed Request)
-  executed_in q = executed (world_at o after q).recorded.log
+    executed_in : ℕ → List (Executed Request)
+    executed_in q = executed (world_at o after q).recorded.log
 
-  -- what it executes
-  executed_now : (x : Executed Request) → In x (executed (happens o (world_at o r p) (call_of a)).world.recorded.log)
-      → In x (executed (world_at o r p).recorded.log) ⊎ ((executed_name x ≡ arrival_name a) × (refused_by a.line request (happens o (world_at o r p) (call_of a)).outcome ≡ []))
-  executed_now x i = ⊎_elim (λ e. inl (subst (λ es. In x (executed es)) e i)) logged (call_log o (world_at o r p) a)
-    where
-      logged : IsLogged a (world_at o r p).recorded.log (happens o (world_at o r p) (call_of a))
-          → In x (executed (world_at o r p).recorded.log) ⊎ ((executed_name x ≡ arrival_name a) × (refused_by a.line request (happens o (world_at o r p) (call_of a)).outcome ≡ []))
-      logged l =
-          ⊎_elim (λ j. inl j) (λ j. inr (last j, l.unrefused))
-          (in_cases x (executed (world_at o r p).recorded.log) (l.call ∷ [])
-          (subst (λ xs. In x xs) (ap executed l.is_last ∙ executed-append (world_at o r p).recorded.log (Called l.call ∷ [])) i))
-        where
-          last : In x (l.call ∷ []) → executed_name x ≡ arrival_name a
-          last (inl e) = ap executed_name (sym e) ∙ l.named
-          last (inr j) = absurd j
+    -- what it executes
+    executed_now : (x : Executed Request) → In x (executed (happens o (world_at o r p) (call_of a)).world.recorded.log)
+        → In x (executed (world_at o r p).recorded.log) ⊎ ((executed_name x ≡ arrival_name a) × (refused_by a.made a.request (happens o (world_at o r p) (call_of a)).outcome ≡ []))
+    executed_now x i = ⊎_elim (λ e. inl (subst (λ es. In x (executed es)) e i)) logged (call_log o (world_at o r p) a)
+      where
+        logged : IsLogged a (world_at o r p).recorded.log (happens o (world_at o r p) (call_of a))
+            → In x (executed (world_at o r p).recorded.log) ⊎ ((executed_name x ≡ arrival_name a) × (refused_by a.made a.request (happens o (world_at o r p) (call_of a)).outcome ≡ []))
+        logged l =
+            ⊎_elim (λ j. inl j) (λ j. inr (last j, l.unrefused))
+            (in_cases x (executed (world_at o r p).recorded.log) (l.call ∷ [])
+            (subst (λ xs. In x xs) (ap executed l.is_last ∙ executed-append (world_at o r p).recorded.log (Called l.call ∷ [])) i))
+          where
+            last : In x (l.call ∷ []) → executed_name x ≡ arrival_name a
+            last (inl e) = ap executed_name (sym e) ∙ l.named
+            last (inr j) = absurd j
 
-  executed_after : (q : ℕ) (x : Executed Request) → In x (executed (world_at o after q).recorded.log)
-      → In x (executed (world_at o r q).recorded.log) ⊎ ((executed_name x ≡ arrival_name a) × (refused_by a.line request (happens o (world_at o r p) (call_of a)).outcome ≡ []))
-  executed_after q x i = ⊎_elim here (λ e. inl (subst (λ (w : World Request). In x (executed w.recorded.log)) (world_elsewhere o r p (call_of a) q e) i)) (cases (is_of q a))
-    where
-      here : is_of q a ≡ true → In x (executed (world_at o r q).recorded.log) ⊎ ((executed_name x ≡ arrival_name a) × (refused_by a.line request (happens o (world_at o r p) (call_of a)).outcome ≡ []))
-      here e =
-          let same : p ≡ q = same_number request.partition q e in
-          let now = subst (λ v. In x (executed (world_at o after v).recorded.log)) (sym same) i in
-          subst (λ v. In x (executed (world_at o r v).recorded.log) ⊎ ((executed_name x ≡ arrival_name a) × (refused_by a.line request (happens o (world_at o r p) (call_of a)).outcome ≡ []))) same
-          (executed_now x (subst (λ (w : World Request). In x (executed w.recorded.log)) (world_here o r p (call_of a)) now))
+    executed_after : (q : ℕ) (x : Executed Request) → In x (executed (world_at o after q).recorded.log)
+        → In x (executed (world_at o r q).recorded.log) ⊎ ((executed_name x ≡ arrival_name a) × (refused_by a.made a.request (happens o (world_at o r p) (call_of a)).outcome ≡ []))
+    executed_after q x i = ⊎_elim here (λ e. inl (subst (λ (w : World Request). In x (executed w.recorded.log)) (world_elsewhere o r p (call_of a) q e) i)) (cases (is_of q a))
+      where
+        here : is_of q a ≡ true → In x (executed (world_at o r q).recorded.log) ⊎ ((executed_name x ≡ arrival_name a) × (refused_by a.made a.request (happens o (world_at o r p) (call_of a)).outcome ≡ []))
+        here e =
+            let same : p ≡ q = same_number a.request.partition q e in
+            let now = subst (λ v. In x (executed (world_at o after v).recorded.log)) (sym same) i in
+            subst (λ v. In x (executed (world_at o r v).recorded.log) ⊎ ((executed_name x ≡ arrival_name a) × (refused_by a.made a.request (happens o (world_at o r p) (call_of a)).outcome ≡ []))) same
+            (executed_now x (subst (λ (w : World Request). In x (executed w.recorded.log)) (world_here o r p (call_of a)) now))
 
-  pub refusals_after : RefusalsOk o after
-  refusals_after = refused_more (its_event a ∷ []) (bare_happening o r a) (λ q x i. ⊎_elim (λ j. inl j) (λ j. inr j.0) (executed_after q x i)) refused
-    where
-      heard : List (Executed Request)
-      heard = filter (is_heard_by r a.request.id.conn) (executed_by (world_at o r p) (happens o (world_at o r p) (call_of a)).world)
+    pub refusals_after : RefusalsOk o after
+    refusals_after = refused_more (its_event a ∷ []) (bare_happening o r own a) (λ q x i. ⊎_elim (λ j. inl j) (λ j. inr j.0) (executed_after q x i)) refused
+      where
+        heard : List (Executed Request)
+        heard = filter (is_heard_by r own) (executed_by (world_at o r p) (happens o (world_at o r p) (call_of a)).world)
 
-      given : (m : Appended) (id : CallId) → In m (map (answer_to a.line) heard) → m.refuses ≡ Some id → ⊥
-      given m id i e =
-          let made = in_mapped (answer_to a.line) heard m i in
-          let clash : None ≡ Some id = ap (λ (n : Appended). n.refuses) made.2 ∙ e in cc
+        given : (m : Appended) (id : CallId) → In m (map (answer_to r.lines) heard) → m.refuses ≡ Some id → ⊥
+        given m id i e =
+            let made = in_mapped (answer_to r.lines) heard m i in
+            let clash : None ≡ Some id = ap (λ (n : Appended). n.refuses) made.2 ∙ e in cc
 
-      refused_here : (m : Appended) (id : CallId) → m.refuses ≡ Some id → In m (refused_by a.line request (happens o (world_at o r p) (call_of a)).outcome)
-          → (id ≡ a.request.id) × ((q : ℕ) (x : Executed Request) → In x (executed (world_at o after q).recorded.log) → executed_name x ≢ arrival_name a)
-      refused_here m id e i =
-          let whose : Some request.id ≡ Some id = sym (refusals_name_the_call a.line request (happens o (world_at o r p) (call_of a)).outcome m i) ∙ e in
-          let its : id ≡ request.id = cc in
-          (its, λ q x j. ⊎_elim (not_yet q x) (λ l. absurd (subst (λ ms. In m ms) l.1 i)) (executed_after q x j))
+        refused_here : (m : Appended) (id : CallId) → m.refuses ≡ Some id → In m (refused_by a.made a.request (happens o (world_at o r p) (call_of a)).outcome)
+            → (id ≡ a.request.id) × ((q : ℕ) (x : Executed Request) → In x (executed (world_at o after q).recorded.log) → executed_name x ≢ arrival_name a)
+        refused_here m id e i =
+            let whose : Some a.request.id ≡ Some id = sym (refusals_name_the_call a.made a.request (happens o (world_at o r p) (call_of a)).outcome m i) ∙ e in
+            let its : id ≡ a.request.id = cc in
+            (its, λ q x j. ⊎_elim (not_yet q x) (λ l. absurd (subst (λ ms. In m ms) l.1 i)) (executed_after q x j))
 
-      refused : (m : Appended) (id : CallId) → In m (bare_happening o r a) → m.refuses ≡ Some id
-          → (id ≡ a.request.id) × ((q : ℕ) (x : Executed Request) → In x (executed (world_at o after q).recorded.log) → executed_name x ≢ arrival_name a)
-      refused m id i e =
-          ⊎_elim (refused_here m id e) (λ j. absurd (given m id j e))
-          (in_cases m (refused_by a.line request (happens o (world_at o r p) (call_of a)).outcome) (map (answer_to a.line) heard) i)
+        refused : (m : Appended) (id : CallId) → In m (bare_happening o r own a) → m.refuses ≡ Some id
+            → (id ≡ a.request.id) × ((q : ℕ) (x : Executed Request) → In x (executed (world_at o after q).recorded.log) → executed_name x ≢ arrival_name a)
+        refused m id i e =
+            ⊎_elim (refused_here m id e) (λ j. absurd (given m id j e))
+            (in_cases m (refused_by a.made a.request (happens o (world_at o r p) (call_of a)).outcome) (map (answer_to r.lines) heard) i)

@@ -29,6 +29,7 @@ use Rattle.replay_run.proofs.Listening.{more_listening}
 use Rattle.replay_run.proofs.TableRuns.{unanswered_table}
 use Rattle.replay_run.proofs.Releasing.{events_refuse_none}
 use Rattle.replay_run.proofs.Tallies.{quiet_tally}
+use Rattle.replay_run.proofs.WaiterLists.{waiters_alike}
 
 -- one more of what is known of each number
 
@@ -84,9 +85,10 @@ module _ (settings : Settings) (r : Run) (conn member number : ℕ) (registratio
       moments = did.holds.moments;
       clocks = did.holds.clocks;
       table = next_table;
+      waiters = waiters_alike mid.waiters answered next refl refl did.holds.waiters;
       tally =
           let sent = rows_of (rows_known o r member) (listener_on conn registration ∷ []) in
-          quiet_tally mid.tally answered next (events_to r.lines sent) refl refl (events_refuse_none r.lines sent) did.holds.tally;
+          quiet_tally mid.tally answered next (events_to r.lines sent) refl refl refl (events_refuse_none r.lines sent) did.holds.tally;
       reopened = did.holds.reopened;
       worlds = λ p low. let w = did.holds.worlds p low in record { world = w.world; there = w.there; is = record { stands = w.is.stands; setup = w.is.setup }; given = w.given };
     }

@@ -1,12 +1,12 @@
--- A call is logged at the line of its arrival, and reopens nothing.
-use Rattle.std.proofs.Common.{◌≡◌, ℕ, true, List, [], ◌∷◌, ◌++◌, refl, ap, sym, subst, ⊎_elim, inl, arith, append-nil}
+-- A call is logged at the line at which it is made, and reopens nothing.
+use Rattle.std.proofs.Common.{◌≡◌, ℕ, true, List, [], ◌∷◌, ◌++◌, Option, refl, ap, sym, subst, ⊎_elim, inl, arith, append-nil}
 use Rattle.grid_base.specs.Objects.{Object}
 use Rattle.grid_base.specs.declared.calls.Request.{Request}
-use Rattle.partition_protocol.specs.History.{Entry}
+use Rattle.partition_protocol.specs.History.{Entry, Called}
 use Rattle.partition_protocol.specs.World.{World, start}
 use Rattle.partition_protocol.specs.Events.{run}
 use Rattle.partition_protocol.proofs.Lists.{in_left, in_right, cases}
-use Rattle.replay_run.specs.Runs.{Run, Arrival, Appended, reopened_at, world_at, events_at, arrival_at, call_of, arrived}
+use Rattle.replay_run.specs.Runs.{Run, Arrival, Appended, reopened_at, world_at, events_at, call_of, arrived}
 use Rattle.replay_run.proofs.Places.{same_number}
 use Rattle.replay_run.proofs.Stamps.{AreStamped, stamped_later, stamped_call}
 use Rattle.replay_run.proofs.RunFacts.{is_of, ReopeningsOk, RunOk}
@@ -31,12 +31,9 @@ module _ {State : Type 0} (o : Object Request State) (r : Run) (ok : RunOk o r) 
   }
 
 -- a call with its event
-module _ {State : Type 0} (o : Object Request State) (r : Run) (ok : RunOk o r) (member : ℕ) (request : Request) where
-  abbrev a : Arrival
-  a = arrival_at r member request
-
+module _ {State : Type 0} (o : Object Request State) (r : Run) (ok : RunOk o r) (a : Arrival) (now : a.made ≡ r.lines) (own : Option ℕ) where
   abbrev p : ℕ
-  p = request.partition
+  p = a.request.partition
 
   abbrev IsStampedIn : ℕ → List (Entry Request) → Type 0
   IsStampedIn q es = AreStamped (r.arrivals ++ a ∷ []) 0 r.lines (reopened_at q r.reopened) es
@@ -47,8 +44,9 @@ module _ {State : Type 0} (o : Object Request State) (r : Run) (ok : RunOk o r) 
       logged : IsLogged a (world_at o r p).recorded.log (happened o r p (call_of a)) → IsStampedIn p (happened o r p (call_of a)).world.recorded.log
       logged l =
           subst (IsStampedIn p) (sym l.is_last)
-          (stamped_call (r.arrivals ++ a ∷ []) 0 r.lines (reopened_at p r.reopened) (world_at o r p).recorded.log l.call a (in_right a r.arrivals (a ∷ []) (inl refl)) (ap id_of_name (sym l.named)) (omega arith)
-          (stamped_still o r ok a p))
+          (subst (λ n. AreStamped (r.arrivals ++ a ∷ []) 0 n (reopened_at p r.reopened) ((world_at o r p).recorded.log ++ Called l.call ∷ [])) now
+          (stamped_call (r.arrivals ++ a ∷ []) 0 r.lines (reopened_at p r.reopened) (world_at o r p).recorded.log l.call a (in_right a r.arrivals (a ∷ []) (inl refl)) (ap id_of_name (sym l.named)) (omega (arith, now))
+          (stamped_still o r ok a p)))
 
   stamped_after : (q : ℕ) → IsStampedIn q (world_with o r p (call_of a) q).recorded.log
   stamped_after q =
@@ -60,5 +58,5 @@ module _ {State : Type 0} (o : Object Request State) (r : Run) (ok : RunOk o r) 
           subst (λ v. IsStampedIn v (world_with o r p (call_of a) v).recorded.log) (same_number p q e)
           (subst (λ (w : World Request). IsStampedIn p w.recorded.log) (sym (world_here o r p (call_of a))) stamped_here)
 
-  pub called_reopenings : ReopeningsOk o (arrived r a (its_event a ∷ []) (bare_happening o r a))
+  pub called_reopenings : ReopeningsOk o (arrived r a (its_event a ∷ []) (bare_happening o r own a))
   called_reopenings = record { stamped = stamped_after }

@@ -1,5 +1,6 @@
 -- What holds of a run after every line: what its arrivals, its events and its answers have to do with one another.
 use Rattle.std.proofs.Common.{◌≡◌, ◌≢◌, ℕ, ◌≤◌, ◌<◌, Bool, true, false, ◌==◌, List, [], ◌∷◌, ◌++◌, length, map, filter, Some, refl, ap, sym, ◌∙◌, subst, inl, inr}
+use Rattle.std.specs.Option.{option_map, option_or}
 use Rattle.std.specs.List.{find}
 use Rattle.grid_base.specs.Objects.{Object}
 use Rattle.grid_base.specs.Names.{is_same_call}
@@ -16,9 +17,9 @@ use Rattle.partition_protocol.proofs.RowFacts.{false_or_not}
 use Rattle.partition_protocol.proofs.Faithful.{part_in, part_map, part_once}
 use Rattle.partition_protocol.proofs.Theorem.{every_run_is_safe}
 use Rattle.partition_world.specs.Answers.{id_of}
-use Rattle.replay_run.specs.Runs.{Run, Arrival, Appended, Connection, reopened_at, world_at, events_at, connection_of, messages_on}
+use Rattle.replay_run.specs.Runs.{Run, Arrival, Waiter, Appended, Connection, is_waiter, reopened_at, world_at, events_at, connection_of, messages_on}
 use Rattle.replay_run.specs.ScriptRuns.{IsPlaced}
-use Rattle.replay_run.specs.Printing.{arrival_of, is_answer_to}
+use Rattle.replay_run.specs.Printing.{arrival_of, came_at, is_answer_to}
 use Rattle.replay_run.specs.Linearizability.{Before}
 use Rattle.replay_run.proofs.Parts.{in_map, before_map, subsequence_part, part_filter, part_trans, before_part, before_mapped, in_mapped, in_filtered, named_same}
 use Rattle.replay_run.proofs.Counting.{count}
@@ -47,18 +48,34 @@ pub record ArrivalsOk (r : Run) : Type 0 where
   pub once : NamedOnce (map arrival_name r.arrivals)
   -- it is one of the messages of its connection
   pub counted : (a : Arrival) → In a r.arrivals → (k : Connection) × (connection_of r a.request.id.conn ≡ Some k) × (a.request.id.number < length (messages_on k))
-  -- they stand by line, and those of one connection by number
-  pub in_order : (a b : Arrival) → Before r.arrivals a b → a.line ≤ b.line
-  pub rising : (a b : Arrival) → Before r.arrivals a b → a.request.id.conn ≡ b.request.id.conn → a.request.id.number < b.request.id.number
+  -- those of one connection that don't wait stand by number
+  pub rising : (a b : Arrival) → Before r.arrivals a b → a.waits ≡ false → b.waits ≡ false → a.request.id.conn ≡ b.request.id.conn → a.request.id.number < b.request.id.number
   -- those of one line are of one connection
   pub of_line : (a b : Arrival) → In a r.arrivals → In b r.arrivals → a.line ≡ b.line → a.request.id.conn ≡ b.request.id.conn
-  pub by_now : (a : Arrival) → In a r.arrivals → a.line ≤ r.lines
+  -- it was made no sooner than it arrived
+  pub later : (a : Arrival) → In a r.arrivals → a.line ≤ a.made
+  pub by_now : (a : Arrival) → In a r.arrivals → a.made ≤ r.lines
   -- the calls that reach a partition's members are arrivals of that partition, in order
   pub calls : (p : ℕ) → IsPart (arrivals (events_at p r.events)) (map asked_of (filter (is_of p) r.arrivals))
 
+-- calls that wait
+
+abbrev pub waiter_name : Waiter → CallName
+waiter_name w = record { conn = w.request.id.conn; number = w.request.id.number }
+
+pub record WaitersOk (r : Run) : Type 0 where
+  pub placed : (w : Waiter) → In w r.waiters → IsPlaced w.request
+  -- no two have one name, nor has one that of an arrival
+  pub once : NamedOnce (map waiter_name r.waiters)
+  pub apart : (a : Arrival) (w : Waiter) → In a r.arrivals → In w r.waiters → arrival_name a ≢ waiter_name w
+  pub counted : (w : Waiter) → In w r.waiters → (k : Connection) × (connection_of r w.request.id.conn ≡ Some k) × (w.request.id.number < length (messages_on k))
+  pub of_line : (a : Arrival) (w : Waiter) → In a r.arrivals → In w r.waiters → a.line ≡ w.line → a.request.id.conn ≡ w.request.id.conn
+  pub of_one_line : (v w : Waiter) → In v r.waiters → In w r.waiters → v.line ≡ w.line → v.request.id.conn ≡ w.request.id.conn
+  pub by_now : (w : Waiter) → In w r.waiters → w.line ≤ r.lines
+
 -- answers
 
--- a message answers the call of that name: the call was executed, and its answer was released, by which time all that was executed had arrived
+-- a message answers the call of that name: the call was executed, and its answer was released, by which time all that was executed had been made
 pub record IsGiven (log : List (Entry Request)) (released : List Held) (come : List Arrival) (m : Appended) (id : CallId) : Type 0 where
   pub call : Executed Request
   pub call_is : id_of call ≡ id
@@ -70,7 +87,7 @@ pub record IsGiven (log : List (Entry Request)) (released : List Held) (come : L
   pub log_then : List (Entry Request)
   pub front : IsFrontOf log_then log
   pub has : In call (executed log_then)
-  pub arrived : (x : Executed Request) → In x (executed log_then) → (a : Arrival) × In a come × (arrival_name a ≡ executed_name x) × (a.line ≤ m.line)
+  pub arrived : (x : Executed Request) → In x (executed log_then) → (a : Arrival) × In a come × (arrival_name a ≡ executed_name x) × (a.made ≤ m.line)
 
 abbrev pub IsGivenIn : {State : Type 0} → Object Request State → Run → ℕ → Appended → CallId → Type 0
 IsGivenIn o r p m id = IsGiven (world_at o r p).recorded.log (world_at o r p).released r.arrivals m id
@@ -103,6 +120,7 @@ pub record RunOk {State : Type 0} (o : Object Request State) (r : Run) : Type 0 
   pub members : 1 ≤ r.members
   pub connections : AreApart r.connections
   pub of_arrivals : ArrivalsOk r
+  pub of_waiters : WaitersOk r
   pub of_answers : AnswersOk o r
   pub of_refusals : RefusalsOk o r
   pub of_reopenings : ReopeningsOk o r
@@ -171,6 +189,9 @@ one_arrival r ok a b i j e = named_same arrival_name r.arrivals a b ok.once i j 
 
 pub arrival_found : (r : Run) → ArrivalsOk r → (a : Arrival) → In a r.arrivals → arrival_of r a.request.id ≡ Some a
 arrival_found r ok a i = find_named r.arrivals a ok.once i
+
+pub came_of : (r : Run) → ArrivalsOk r → (a : Arrival) → In a r.arrivals → came_at r a.request.id ≡ Some a.line
+came_of r ok a i = ap (λ x. option_or (option_map (λ (b : Arrival). b.line) x) (option_map (λ (w : Waiter). w.line) (find (is_waiter a.request.id) r.waiters))) (arrival_found r ok a i)
 
 -- a call was executed as it arrived, in the partition in which it arrived
 module _ {State : Type 0} (o : Object Request State) (r : Run) (members : 1 ≤ r.members) (ok : ArrivalsOk r) (a : Arrival) (p : ℕ) (x : Executed Request) (i : In a r.arrivals)

@@ -7,25 +7,26 @@ use Rattle.grid_base.specs.declared.names.CallId.{CallId}
 use Rattle.grid_base.specs.declared.calls.Request.{Request}
 use Rattle.object_store.specs.Partitions.{Partition}
 use Rattle.partition_protocol.specs.Arrivals.{asked_by}
-use Rattle.partition_protocol.specs.Events.{Event, happens}
+use Rattle.partition_protocol.specs.Execution.{Reached}
+use Rattle.partition_protocol.specs.Events.{Event, Refused, happens}
 use Rattle.partition_protocol.specs.Node.{Held}
 use Rattle.partition_protocol.specs.World.{World}
 use Rattle.partition_world.specs.Answers.{released_by}
 use Rattle.listeners.specs.declared.listener.Listener.{Listener}
 use Rattle.replay_run.specs.Changes.{change_by}
-use Rattle.partition_protocol.proofs.Lists.{In, in_left, in_cases}
+use Rattle.partition_protocol.proofs.Lists.{In, in_left, in_cases, in_contains}
 use Rattle.grid_base.specs.Errors.{want_of_memory}
-use Rattle.replay_run.specs.Runs.{Run, Connection, Arrival, Appended, begun, updated, with_bytes, listener_registered, own_answer, told, refusal, refused_by, call_of, arrival_at, happening, arrived, is_skipped, given_up, listening, version_known, adopted_since, messages_by, taker_of, given_to, given_out, occurred, asked, world_at}
+use Rattle.replay_run.specs.Runs.{Run, Connection, Arrival, Waiter, Appended, waits, without, ending, refused_at, begun, updated, with_bytes, listener_registered, own_answer, told, refusal, refused_by, call_of, arrival_at, happening, arrived, is_skipped, given_up, listening, version_known, adopted_since, messages_by, taker_of, given_to, given_out, occurred, asked, world_at}
 use Rattle.replay_run.specs.Printing.{arrival_of, answer_of, is_answer_to}
-use Rattle.replay_run.specs.ScriptRuns.{IsNext, IsRun, grid_begun, line_counted, clock_was_set, connection_opened, bytes_taken, listener_was_registered, answer_told, event_occurred, call_arrived, run_given_up, call_asked}
+use Rattle.replay_run.specs.ScriptRuns.{IsNext, IsRun, grid_begun, line_counted, clock_was_set, connection_opened, bytes_taken, listener_was_registered, answer_told, event_occurred, call_arrived, run_given_up, call_asked, waiter_came, waiter_asked, waiter_refused, waiter_left}
 use Rattle.replay_run.proofs.Hearing.{no_fewer}
 use Rattle.replay_run.proofs.Parts.{part_filter}
 use Rattle.replay_run.proofs.Counting.{count-append}
 use Rattle.replay_run.proofs.Trails.{find_some}
 use Rattle.replay_run.proofs.RunFacts.{RefusalsOk, RunOk, arrival_found}
-use Rattle.replay_run.proofs.Arriving.{apart_opened, apart_updated, opened_grows, updated_grows, quiet, arrivals_stay, arrivals_with, its_event}
+use Rattle.replay_run.proofs.Arriving.{MayCome, apart_opened, apart_updated, opened_grows, updated_grows, quiet, arrivals_stay, waiters_stay, arrives_now, arrivals_with, waiters_with, waiter_more, without_ok, comes_later, its_event}
 use Rattle.replay_run.proofs.Answering.{before, happened, refusals_answer_none, answers_still, answers_after}
-use Rattle.replay_run.proofs.Refusals.{unasked_refusals, skipped_refusals, refusals_after}
+use Rattle.replay_run.proofs.Refusals.{unasked_refusals, skipped_refusals, turned_away, refusals_after}
 use Rattle.replay_run.proofs.Reopenings.{skipped_reopenings, called_reopenings}
 use Rattle.replay_run.proofs.Occurring.{keeps_released, occurred_arrivals, occurred_refusals, occurred_reopenings}
 use Rattle.replay_run.proofs.Answers.{id_of_name, named_answer}
@@ -42,12 +43,13 @@ begun_ok o members backups grid = record {
     placed = λ a i. absurd i;
     once = tt;
     counted = λ a i. absurd i;
-    in_order = λ a b h. absurd h;
     rising = λ a b h. absurd h;
     of_line = λ a b i. absurd i;
+    later = λ a i. absurd i;
     by_now = λ a i. absurd i;
     calls = λ p. refl;
   };
+  of_waiters = record { placed = λ w i. absurd i; once = tt; apart = λ a w i. absurd i; counted = λ w i. absurd i; of_line = λ a w i. absurd i; of_one_line = λ v w i. absurd i; by_now = λ w i. absurd i };
   of_answers = record { given = λ m id i e. absurd i; once = λ id. omega arith };
   of_refusals = record { arrived = λ m id i e. absurd i; unexecuted = λ m id i e. absurd i };
   of_reopenings = record { stamped = λ p. (refl, omega arith) };
@@ -59,6 +61,7 @@ told_ok o r c bytes ok = record {
   members = ok.members;
   connections = ok.connections;
   of_arrivals = arrivals_stay r r.events (told r c bytes).appended r.reopened r.full ok.of_arrivals ok.of_arrivals.calls;
+  of_waiters = waiters_stay r r.events (told r c bytes).appended r.reopened r.full ok.of_waiters;
   of_answers = record {
     given = λ m id i e. ⊎_elim (λ j. ok.of_answers.given m id j e) (λ j. absurd (answers_none m id j e)) (in_cases m r.appended (own_answer r.lines c bytes ∷ []) i);
     once = λ id. let old = ok.of_answers.once id in let more = count-append (is_answer_to id) r.appended (own_answer r.lines c bytes ∷ []) in omega (arith, old, more);
@@ -84,28 +87,32 @@ given_up_ok o r ok = record {
   members = ok.members;
   connections = ok.connections;
   of_arrivals = arrivals_stay r r.events r.appended r.reopened true ok.of_arrivals ok.of_arrivals.calls;
+  of_waiters = waiters_stay r r.events r.appended r.reopened true ok.of_waiters;
   of_answers = record { given = ok.of_answers.given; once = ok.of_answers.once };
   of_refusals = record { arrived = ok.of_refusals.arrived; unexecuted = ok.of_refusals.unexecuted };
   of_reopenings = record { stamped = ok.of_reopenings.stamped };
 }
 
 -- a call that makes no event, and these messages, which answer nothing
-eventless_ok : {State : Type 0} (o : Object Request State) (r : Run) (member : ℕ) (request : Request) (appended : List Appended) → RunOk o r → IsNext r request
-    → ((m : Appended) → In m appended → m.answers ≡ None) → RefusalsOk o (arrived r (arrival_at r member request) [] appended) → RunOk o (arrived r (arrival_at r member request) [] appended)
-eventless_ok o r member request appended ok next silent refusals =
-    let a = arrival_at r member request in
-    record {
-      members = ok.members;
-      connections = ok.connections;
-      of_arrivals = arrivals_with r ok.of_arrivals member request next [] appended (inl refl);
-      of_answers = answers_still o r ok (r.arrivals ++ a ∷ []) r.reopened (λ b i. in_left b r.arrivals (a ∷ []) i) [] appended silent;
-      of_refusals = refusals;
-      of_reopenings = skipped_reopenings o r ok a appended;
-    }
+eventless_ok : {State : Type 0} (o : Object Request State) (r : Run) (a : Arrival) (appended : List Appended) → RunOk o r → MayCome r a
+    → ((m : Appended) → In m appended → m.answers ≡ None) → RefusalsOk o (arrived r a [] appended) → RunOk o (arrived r a [] appended)
+eventless_ok o r a appended ok may silent refusals = record {
+  members = ok.members;
+  connections = ok.connections;
+  of_arrivals = arrivals_with r ok.of_arrivals a may [] appended (inl refl);
+  of_waiters = waiters_with r ok.of_waiters a may [] appended;
+  of_answers = answers_still o r ok (r.arrivals ++ a ∷ []) r.reopened (λ b i. in_left b r.arrivals (a ∷ []) i) [] appended silent;
+  of_refusals = refusals;
+  of_reopenings = skipped_reopenings o r ok a appended;
+}
 
--- a call of a run that is given up
-pub unasked_ok : {State : Type 0} (o : Object Request State) (r : Run) (member : ℕ) (request : Request) → RunOk o r → IsNext r request → RunOk o (arrived r (arrival_at r member request) [] [])
-unasked_ok o r member request ok next = eventless_ok o r member request [] ok next (λ m i. absurd i) (unasked_refusals o r ok member request next)
+-- a call of a run that is given up, and one that leaves without an answer
+pub unasked_ok : {State : Type 0} (o : Object Request State) (r : Run) (a : Arrival) → RunOk o r → MayCome r a → RunOk o (arrived r a [] [])
+unasked_ok o r a ok may = eventless_ok o r a [] ok may (λ m i. absurd i) (unasked_refusals o r ok a may)
+
+-- one that is refused as it waited
+pub turned_away_ok : {State : Type 0} (o : Object Request State) (r : Run) (a : Arrival) (why : Reached) → RunOk o r → MayCome r a → RunOk o (arrived r a [] (refused_at a.made a.request why))
+turned_away_ok o r a why ok may = eventless_ok o r a (refused_at a.made a.request why) ok may (refusals_answer_none a.made a.request (Refused why)) (turned_away o r ok a may why)
 
 -- what those who listen are told answers nothing and refuses nothing
 
@@ -117,13 +124,13 @@ module _ (o : Object Request Partition) (r : Run) where
       spoken_at r own p (listening r own member) (adopted_since (version_known before member) after member) (released_by o (change_by o) before after)
       ∙ ap spoken (answers_given o (change_by o) r own r.lines after (drop (length before.released) after.released))
 
-  pub happening_speaks : (a : Arrival) → spoken (happening o r a) ≡ spoken (bare_happening o r a)
-  happening_speaks a =
+  pub happening_speaks : (own : Option ℕ) (a : Arrival) → spoken (happening o r own a) ≡ spoken (bare_happening o r own a)
+  happening_speaks own a =
       let p = a.request.partition in
       let before = world_at o r p in
       let after = (happens o before (call_of a)).world in
-      spoken_more (refused_by a.line a.request (happens o before (call_of a)).outcome) (messages_by o r (Some a.request.id.conn) p a.member before after)
-      (map (answer_to r.lines) (filter (is_heard_by r a.request.id.conn) (executed_by before after))) (spoken_by (Some a.request.id.conn) p a.member before after)
+      spoken_more (refused_by a.made a.request (happens o before (call_of a)).outcome) (messages_by o r own p a.member before after)
+      (map (answer_to r.lines) (filter (is_heard_by r own) (executed_by before after))) (spoken_by own p a.member before after)
 
   pub given_speaks : (p : ℕ) (event : Event Request) → asked_by event ≡ [] → spoken (given_out o r p event) ≡ spoken (bare_given_out o r p event)
   given_speaks p event quiet = go (taker_of event) refl
@@ -139,39 +146,59 @@ module _ (o : Object Request Partition) (r : Run) where
       go (Some member) e = spoken_by None p member (world_at o r p) (happens o (world_at o r p) event).world
 
 -- a call, with an event or none
-pub asked_ok : (o : Object Request Partition) (skips : List CallId) (r : Run) (member : ℕ) (request : Request) → RunOk o r → IsNext r request → RunOk o (asked o skips r (arrival_at r member request))
-asked_ok o skips r member request ok next = go (is_skipped skips request.id)
+pub asked_ok : (o : Object Request Partition) (skips : List CallId) (r : Run) (own : Option ℕ) (a : Arrival) → RunOk o r → MayCome r a → RunOk o (asked o skips r own a)
+asked_ok o skips r own a ok may = go (is_skipped skips a.request.id)
   where
-    a : Arrival
-    a = arrival_at r member request
-
     still : (b : Arrival) → In b r.arrivals → In b (r.arrivals ++ a ∷ [])
     still b i = in_left b r.arrivals (a ∷ []) i
 
-    refusal_silent : (m : Appended) → In m (refusal r.lines request (pos want_of_memory) 0 ∷ []) → m.answers ≡ None
+    refusal_silent : (m : Appended) → In m (refusal a.made a.request (pos want_of_memory) 0 ∷ []) → m.answers ≡ None
     refusal_silent m (inl e) = ap (λ (n : Appended). n.answers) (sym e)
     refusal_silent m (inr i) = absurd i
 
-    bare_ok : RunOk o (arrived r a (its_event a ∷ []) (bare_happening o r a))
+    bare_ok : RunOk o (arrived r a (its_event a ∷ []) (bare_happening o r own a))
     bare_ok =
-        let come = arrivals_with r ok.of_arrivals member request next (its_event a ∷ []) (bare_happening o r a) (inr refl) in
-        let released = executed_by (before o r request.partition (call_of a)) (happened o r request.partition (call_of a)).world in
+        let come = arrivals_with r ok.of_arrivals a may (its_event a ∷ []) (bare_happening o r own a) (inr refl) in
+        let p = a.request.partition in
+        let released = executed_by (before o r p (call_of a)) (happened o r p (call_of a)).world in
         record {
           members = ok.members;
           connections = ok.connections;
           of_arrivals = come;
+          of_waiters = waiters_with r ok.of_waiters a may (its_event a ∷ []) (bare_happening o r own a);
           of_answers =
-              answers_after o r ok (r.arrivals ++ a ∷ []) r.reopened still request.partition (call_of a) (refused_by r.lines request (happened o r request.partition (call_of a)).outcome)
-              (refusals_answer_none r.lines request (happened o r request.partition (call_of a)).outcome) (filter (is_heard_by r request.id.conn) released) (part_filter (is_heard_by r request.id.conn) released) come;
-          of_refusals = refusals_after o r ok member request next;
-          of_reopenings = called_reopenings o r ok member request;
+              answers_after o r ok (r.arrivals ++ a ∷ []) r.reopened still p (call_of a) (refused_by a.made a.request (happened o r p (call_of a)).outcome)
+              (refusals_answer_none a.made a.request (happened o r p (call_of a)).outcome) (filter (is_heard_by r own) released) (part_filter (is_heard_by r own) released) come;
+          of_refusals = refusals_after o r ok a may own;
+          of_reopenings = called_reopenings o r ok a may.now own;
         }
 
-    go : (b : Bool) → RunOk o (cond b (arrived r a [] (refusal r.lines request (pos want_of_memory) 0 ∷ [])) (arrived r a (its_event a ∷ []) (happening o r a)))
-    go true = eventless_ok o r member request (refusal r.lines request (pos want_of_memory) 0 ∷ []) ok next refusal_silent (skipped_refusals o r ok member request next)
+    go : (b : Bool) → RunOk o (cond b (arrived r a [] (refusal a.made a.request (pos want_of_memory) 0 ∷ [])) (arrived r a (its_event a ∷ []) (happening o r own a)))
+    go true = eventless_ok o r a (refusal a.made a.request (pos want_of_memory) 0 ∷ []) ok may refusal_silent (skipped_refusals o r ok a may)
     go false =
-        alike_ok o (arrived r a (its_event a ∷ []) (bare_happening o r a)) (r.appended ++ happening o r a)
-        (spoken_more r.appended (happening o r a) (bare_happening o r a) (happening_speaks o r a)) bare_ok
+        alike_ok o (arrived r a (its_event a ∷ []) (bare_happening o r own a)) (r.appended ++ happening o r own a)
+        (spoken_more r.appended (happening o r own a) (bare_happening o r own a) (happening_speaks o r own a)) bare_ok
+
+-- a call that waits
+waits_ok : {State : Type 0} (o : Object Request State) (r : Run) (w : Waiter) → RunOk o r → IsNext r w.request → w.line ≡ r.lines → RunOk o (waits r w)
+waits_ok o r w ok next at = record {
+  members = ok.members;
+  connections = ok.connections;
+  of_arrivals = record {
+    placed = ok.of_arrivals.placed;
+    once = ok.of_arrivals.once;
+    counted = ok.of_arrivals.counted;
+    rising = ok.of_arrivals.rising;
+    of_line = ok.of_arrivals.of_line;
+    later = ok.of_arrivals.later;
+    by_now = ok.of_arrivals.by_now;
+    calls = ok.of_arrivals.calls;
+  };
+  of_waiters = waiter_more r ok.of_waiters w next at;
+  of_answers = record { given = ok.of_answers.given; once = ok.of_answers.once };
+  of_refusals = record { arrived = ok.of_refusals.arrived; unexecuted = ok.of_refusals.unexecuted };
+  of_reopenings = record { stamped = ok.of_reopenings.stamped };
+}
 
 -- something else than a call
 pub occurred_ok : (o : Object Request Partition) (r : Run) (p : ℕ) (event : Event Request) → RunOk o r → asked_by event ≡ [] → RunOk o (occurred o r p event)
@@ -182,6 +209,7 @@ occurred_ok o r p event ok quiet =
       members = ok.members;
       connections = ok.connections;
       of_arrivals = come;
+      of_waiters = let next = bare_occurred o r p event in waiters_stay r next.events next.appended next.reopened next.full ok.of_waiters;
       of_answers =
           answers_after o r ok r.arrivals (bare_occurred o r p event).reopened (λ b i. i) p event [] (λ m i. absurd i) (filter (is_heard r) released) (part_filter (is_heard r) released) come;
       of_refusals = occurred_refusals o r ok p event quiet;
@@ -198,11 +226,20 @@ registered_ok o r listener ok = record {
     placed = ok.of_arrivals.placed;
     once = ok.of_arrivals.once;
     counted = ok.of_arrivals.counted;
-    in_order = ok.of_arrivals.in_order;
     rising = ok.of_arrivals.rising;
     of_line = ok.of_arrivals.of_line;
+    later = ok.of_arrivals.later;
     by_now = ok.of_arrivals.by_now;
     calls = ok.of_arrivals.calls;
+  };
+  of_waiters = record {
+    placed = ok.of_waiters.placed;
+    once = ok.of_waiters.once;
+    apart = ok.of_waiters.apart;
+    counted = ok.of_waiters.counted;
+    of_line = ok.of_waiters.of_line;
+    of_one_line = ok.of_waiters.of_one_line;
+    by_now = ok.of_waiters.by_now;
   };
   of_answers = record { given = ok.of_answers.given; once = ok.of_answers.once };
   of_refusals = record { arrived = ok.of_refusals.arrived; unexecuted = ok.of_refusals.unexecuted };
@@ -224,9 +261,13 @@ run_ok {o} (bytes_taken r connection bytes is there) =
 run_ok {o} (listener_was_registered r listener connection is there) = registered_ok o r listener (run_ok is)
 run_ok {o} (answer_told r c bytes is) = told_ok o r c bytes (run_ok is)
 run_ok {o} (event_occurred r p event is quiet) = occurred_ok o r p event (run_ok is) quiet
-run_ok {o} (call_arrived r member request is next) = unasked_ok o r member request (run_ok is) next
+run_ok {o} (call_arrived r member request is next) = unasked_ok o r (arrival_at r member request) (run_ok is) (arrives_now r member request next)
 run_ok {o} (run_given_up r is) = given_up_ok o r (run_ok is)
-run_ok {o} (call_asked skips r member request is next) = asked_ok o skips r member request (run_ok is) next
+run_ok {o} (call_asked skips r own member request is next) = asked_ok o skips r own (arrival_at r member request) (run_ok is) (arrives_now r member request next)
+run_ok {o} (waiter_came r member request deadline is next) = waits_ok o r (record { line = r.lines; member = member; request = request; deadline = deadline }) (run_ok is) next refl
+run_ok {o} (waiter_asked skips r own w is there) = let ok = run_ok is in asked_ok o skips (without r w) own (ending r w) (without_ok o r w ok) (comes_later o r w ok (in_contains w r.waiters there))
+run_ok {o} (waiter_refused r w why is there) = let ok = run_ok is in turned_away_ok o (without r w) (ending r w) why (without_ok o r w ok) (comes_later o r w ok (in_contains w r.waiters there))
+run_ok {o} (waiter_left r w is there) = let ok = run_ok is in unasked_ok o (without r w) (ending r w) (without_ok o r w ok) (comes_later o r w ok (in_contains w r.waiters there))
 
 -- A call that did not arrive was not answered.
 pub unheard_unanswered : {o : Object Request Partition} (r : Run) → IsRun o r → (id : CallId) → arrival_of r id ≡ None → answer_of r id ≡ None

@@ -7,14 +7,15 @@ use Rattle.grid_base.specs.Objects.{Object}
 use Rattle.grid_base.specs.declared.names.CallId.{CallId}
 use Rattle.grid_base.specs.declared.calls.Request.{Request}
 use Rattle.partition_protocol.proofs.Lists.{In}
-use Rattle.replay_run.specs.Runs.{Run, Arrival, Appended}
-use Rattle.replay_run.specs.Printing.{arrival_of, is_named, is_answer_to}
+use Rattle.replay_run.specs.Runs.{Run, Appended}
+use Rattle.replay_run.specs.Printing.{is_named, is_answer_to}
 use Rattle.replay_run.specs.Tables.{Table}
+use Rattle.replay_run.specs.Printing.{came_at}
 use Rattle.replay_run.specs.Grids.{HasTable}
 use Rattle.replay_run.proofs.Parts.{in_filter, in_filtered}
 use Rattle.replay_run.proofs.Counting.{count}
 use Rattle.replay_run.proofs.RunFacts.{RunOk}
-use Rattle.replay_run.proofs.Arriving.{arrivals_stay}
+use Rattle.replay_run.proofs.Arriving.{arrivals_stay, waiters_stay}
 
 abbrev pub speaks : Appended → Bool
 speaks m = is_some m.answers || is_some m.refuses
@@ -75,7 +76,7 @@ alike_table t r ms same h = record {
   size = h.size;
   connections = h.connections;
   calls = λ id. h.calls id
-      ∙ ap (λ (x : Option Appended). option_map (λ (a : Arrival). record { arrived = a.line; answered = option_map (λ (m : Appended). m.line) x }) (arrival_of r id)) (find_alike id r.appended ms same);
+      ∙ ap (λ (x : Option Appended). option_map (λ line. record { arrived = line; answered = option_map (λ (m : Appended). m.line) x }) (came_at r id)) (find_alike id r.appended ms same);
 }
 
 pub alike_ok : {State : Type 0} (o : Object Request State) (r : Run) (ms : List Appended) → spoken ms ≡ spoken r.appended → RunOk o r → RunOk o (record r { appended = ms })
@@ -83,6 +84,7 @@ alike_ok o r ms same ok = record {
   members = ok.members;
   connections = ok.connections;
   of_arrivals = arrivals_stay r r.events ms r.reopened r.full ok.of_arrivals ok.of_arrivals.calls;
+  of_waiters = waiters_stay r r.events ms r.reopened r.full ok.of_waiters;
   of_answers = record {
     given = λ m id i e. ok.of_answers.given m id (in_alike ms r.appended m same i (answering m.answers m.refuses id e)) e;
     once = λ id. let few = ok.of_answers.once id in let counts = sym (count_spoken id ms) ∙ ap (count (is_answer_to id)) same ∙ count_spoken id r.appended in omega (arith, few, counts);

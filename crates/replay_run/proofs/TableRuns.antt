@@ -1,5 +1,5 @@
 -- The table has what the run has, after each thing that a line does.
-use Rattle.std.proofs.Common.{◌≡◌, ◌≢◌, ℕ, ◌<◌, ◌==◌, true, false, cond, List, [], ◌∷◌, ◌++◌, length, map, Option, Some, None, refl, ap, sym, ◌∙◌, subst, ⊎_elim, inl, inr, append_assoc, append-nil, arith}
+use Rattle.std.proofs.Common.{◌≡◌, ◌≢◌, ℕ, ◌<◌, ◌==◌, Bool, true, false, not, cond, List, [], ◌∷◌, ◌++◌, length, map, filter, Option, Some, None, refl, ap, sym, ◌∙◌, subst, ⊎_elim, inl, inr, append_assoc, append-nil, arith}
 use Rattle.std.specs.Option.{option_map, option_and_then, option_or}
 use Rattle.std.specs.List.{find}
 use Rattle.std.proofs.lemmas.Bool.{cases_eq, cases_Bool, eq-eqb, ne_eqb, false≢true}
@@ -9,14 +9,20 @@ use Rattle.std.proofs.lemmas.Option.{slice_get_past}
 use Rattle.grid_base.specs.Names.{is_same_call}
 use Rattle.grid_base.specs.declared.names.CallId.{CallId}
 use Rattle.session_core.specs.Sessions.{session_after}
-use Rattle.partition_protocol.proofs.Lists.{In}
+use Rattle.partition_protocol.specs.Arrivals.{NamedOnce}
+use Rattle.partition_protocol.proofs.Lists.{In, contains_in}
+use Rattle.partition_protocol.proofs.RowFacts.{false_or_not}
 use Rattle.primary_hold.specs.declared.answer.CallAnswer.{CallAnswer}
 use Rattle.replay_run.specs.declared.connections.CallLines.{CallLines}
-use Rattle.replay_run.specs.Runs.{Run, Connection, Arrival, Appended, is_connection, connection_of, with_bytes, took_bytes, own_answer, told, opened, message_of}
-use Rattle.replay_run.specs.Printing.{arrival_of, answer_of, is_answer_to, is_named}
+use Rattle.replay_run.specs.Runs.{Run, At, Connection, Arrival, Waiter, Appended, is_waiter, waits, without, ending, is_connection, connection_of, with_bytes, took_bytes, own_answer, told, opened, message_of}
+use Rattle.replay_run.specs.Printing.{arrival_of, answer_of, came_at, is_answer_to, is_named}
 use Rattle.replay_run.specs.Tables.{Table, Opened, most_connections, opened_at, lines_of, silent, present, with_opened, with_change, heard, with_session, replied, with_reply, called, with_arrival, or_line, lines_answered, answered, with_answer}
 use Rattle.replay_run.specs.Grids.{IsConnection, Matches, HasConnections, HasTable, lines_in}
 use Rattle.replay_run.specs.WorldCalls.{with_answers}
+use Rattle.replay_run.proofs.Parts.{in_map}
+use Rattle.replay_run.proofs.RunFacts.{WaitersOk, waiter_name, id_name}
+use Rattle.replay_run.proofs.EventRuns.{is_other}
+use Rattle.replay_run.proofs.Lookups.{find_none}
 use Rattle.replay_run.proofs.Arriving.{find_map, same_test, in_place, in_place_number}
 use Rattle.replay_run.proofs.Places.{same_call, same_call_refl, same_number}
 use Rattle.replay_run.proofs.Trails.{find_some}
@@ -61,8 +67,8 @@ pub none_opened : (t : Table) (r : Run) → HasTable t r → (c : ℕ) → opene
 none_opened t r h c e = unmatched (opened_at t c) (connection_of r c) (h.connections c) e
 
 -- what is printed of a call with its answer
-abbrev with_lines : Option Appended → Arrival → CallLines
-with_lines answer a = record { arrived = a.line; answered = option_map (λ (m : Appended). m.line) answer }
+abbrev with_lines : Option Appended → ℕ → CallLines
+with_lines answer line = record { arrived = line; answered = option_map (λ (m : Appended). m.line) answer }
 
 -- a change that keeps each connection
 changed_connections : (t : Table) (r : Run) → HasConnections t r → (c : ℕ) (change : Opened → Opened) → ((o : Opened) (k : Connection) → IsConnection o k → IsConnection (change o) k) → HasConnections (with_change t c change) r
@@ -170,52 +176,186 @@ module _ (t : Table) (r : Run) (h : HasTable t r) (c : ℕ) (k : Connection) (is
     calls = λ id. lines_elsewhere t c (heard (session_after k.conn k.member (k.bytes ++ bytes))) id (λ e x s. refl) ∙ h.calls id;
   }
 
--- a call arrives
+-- at which lines calls came
 
-module _ (t : Table) (r : Run) (h : HasTable t r) (c : ℕ) (o : Opened) (there : opened_at t c ≡ Some o) (a : Arrival) (number : a.request.id ≡ record { conn = c; number = length o.calls }) (fresh : arrival_of r a.request.id ≡ None → answer_of r a.request.id ≡ None) where
-  -- the call did not arrive before
-  unheard : arrival_of r a.request.id ≡ None
-  unheard =
-      map_none (with_lines (answer_of r a.request.id)) (arrival_of r a.request.id)
-      (sym (h.calls a.request.id) ∙ ap (lines_of t) number ∙ ap (option_and_then (line_at (length o.calls))) there ∙ ap present (slice_get_past o.calls (length o.calls) (omega arith)))
+-- a choice is made last or first
+or_later : {X : Type 0} (x y z : Option X) → option_or (option_or x y) z ≡ option_or x (option_or y z)
+or_later None y z = refl
+or_later (Some v) y z = refl
 
-  in_table_now : lines_of (with_arrival t c a.line) a.request.id ≡ Some (record { arrived = a.line; answered = None })
-  in_table_now =
-      ap (lines_of (with_arrival t c a.line)) number
-      ∙ ap (option_and_then (line_at (length o.calls))) (opened_changed t c (called a.line) ∙ ap (option_map (called a.line)) there)
-      ∙ ap present (got_last o.calls (Some (record { arrived = a.line; answered = None })))
+map_or_one : {X Y : Type 0} (f : X → Y) (x : Option X) (b : Bool) (y : X) → option_map f (option_or x (cond b (Some y) None)) ≡ option_or (option_map f x) (cond b (Some (f y)) None)
+map_or_one f (Some v) b y = refl
+map_or_one f None true y = refl
+map_or_one f None false y = refl
 
-  arrival_calls : (id : CallId) → lines_of (with_arrival t c a.line) id ≡ lines_in (record r { arrivals = r.arrivals ++ a ∷ [] }) id
-  arrival_calls id = ⊎_elim here elsewhere (cases_Bool (is_same_call a.request.id id)) ∙ sym (ap (option_map (with_lines (answer_of r id))) (find-append (λ (x : Arrival). is_same_call x.request.id id) r.arrivals (a ∷ [])))
+abbrev line_of_arrival : Arrival → ℕ
+line_of_arrival a = a.line
+
+abbrev line_of_waiter : Waiter → ℕ
+line_of_waiter w = w.line
+
+-- one that waits comes last
+pub came_waiting : (r : Run) (w : Waiter) (j : CallId) → came_at (waits r w) j ≡ option_or (came_at r j) (cond (is_same_call w.request.id j) (Some w.line) None)
+came_waiting r w j =
+    let arrivals = option_map line_of_arrival (arrival_of r j) in
+    let waiting = find (is_waiter j) r.waiters in
+    ap (λ x. option_or arrivals (option_map line_of_waiter x)) (find-append (is_waiter j) r.waiters (w ∷ []))
+    ∙ ap (option_or arrivals) (map_or_one line_of_waiter waiting (is_waiter j w) w)
+    ∙ sym (or_later arrivals (option_map line_of_waiter waiting) (cond (is_same_call w.request.id j) (Some w.line) None))
+
+-- and so does one that doesn't wait, and didn't come before
+module _ (r : Run) (a : Arrival) (events : List At) (unheard : came_at r a.request.id ≡ None) where
+  abbrev with_it : Run
+  with_it = record r { events = events; arrivals = r.arrivals ++ a ∷ [] }
+
+  abbrev its_own : CallId → Option ℕ
+  its_own j = cond (is_same_call a.request.id j) (Some a.line) None
+
+  none_first : (x y : Option ℕ) → option_or x y ≡ None → x ≡ None
+  none_first None y e = refl
+  none_first (Some v) y e = absurd cc
+
+  none_then : (x y : Option ℕ) → option_or x y ≡ None → y ≡ None
+  none_then None y e = e
+  none_then (Some v) y e = absurd cc
+
+  found_with : (j : CallId) → option_map line_of_arrival (arrival_of with_it j) ≡ option_or (option_map line_of_arrival (arrival_of r j)) (its_own j)
+  found_with j =
+      ap (option_map line_of_arrival) (find-append (λ (x : Arrival). is_same_call x.request.id j) r.arrivals (a ∷ []))
+      ∙ map_or_one line_of_arrival (arrival_of r j) (is_same_call a.request.id j) a
+
+  abbrev waiting_of : CallId → Option ℕ
+  waiting_of j = option_map line_of_waiter (find (is_waiter j) r.waiters)
+
+  none_waits : waiting_of a.request.id ≡ None
+  none_waits = none_then (option_map line_of_arrival (arrival_of r a.request.id)) (waiting_of a.request.id) unheard
+
+  swapped : (j : CallId) (b : Bool) → is_same_call a.request.id j ≡ b → option_or (cond b (Some a.line) None) (waiting_of j) ≡ option_or (waiting_of j) (cond b (Some a.line) None)
+  swapped j false e = sym (or_none (waiting_of j))
+  swapped j true e =
+      let none : waiting_of j ≡ None = subst (λ i. waiting_of i ≡ None) (same_call a.request.id j e) none_waits in
+      sym (ap (λ x. option_or x (Some a.line)) none)
+
+  pub came_arriving : (j : CallId) → came_at with_it j ≡ option_or (came_at r j) (its_own j)
+  came_arriving j =
+      let arrivals = option_map line_of_arrival (arrival_of r j) in
+      ap (λ x. option_or x (waiting_of j)) (found_with j)
+      ∙ or_later arrivals (its_own j) (waiting_of j)
+      ∙ ap (option_or arrivals) (swapped j (is_same_call a.request.id j) refl)
+      ∙ sym (or_later arrivals (waiting_of j) (its_own j))
+
+-- who leaves came at the line at which it did
+module _ (r : Run) (w : Waiter) (ok : WaitersOk r) (there : In w r.waiters) (events : List At) where
+  abbrev without_it : Run
+  without_it = record r { events = events; arrivals = r.arrivals ++ ending r w ∷ []; waiters = (without r w).waiters }
+
+  -- of the others
+  found_other : (ws : List Waiter) (j : CallId) → is_same_call w.request.id j ≡ false → find (is_waiter j) (filter (is_other w) ws) ≡ find (is_waiter j) ws
+  found_other [] j apart = refl
+  found_other (v ∷ vs) j apart = go (is_waiter w.request.id v) refl (found_other vs j apart)
     where
-      itself : is_same_call a.request.id a.request.id ≡ true
-      itself = same_call_refl a.request.id
+      go : (b : Bool) → is_waiter w.request.id v ≡ b → find (is_waiter j) (filter (is_other w) vs) ≡ find (is_waiter j) vs
+          → find (is_waiter j) (cond (not b) (v ∷ filter (is_other w) vs) (filter (is_other w) vs)) ≡ cond (is_waiter j v) (Some v) (find (is_waiter j) vs)
+      go true e rest =
+          let named = same_call v.request.id w.request.id e in
+          let other : is_waiter j v ≡ false = subst (λ (c : CallId). is_same_call c j ≡ false) (sym named) apart in
+          rest ∙ sym (ap (λ b. cond b (Some v) (find (is_waiter j) vs)) other)
+      go false e rest = ap (λ x. cond (is_waiter j v) (Some v) x) rest
 
-      at_it : lines_of (with_arrival t c a.line) a.request.id ≡ option_map (with_lines (answer_of r a.request.id)) (option_or (arrival_of r a.request.id) (cond (is_same_call a.request.id a.request.id) (Some a) None))
+  found_itself : (ws : List Waiter) → NamedOnce (map waiter_name ws) → In w ws → find (is_waiter w.request.id) ws ≡ Some w
+  found_itself [] once i = absurd i
+  found_itself (v ∷ vs) once (inl e) = let here : is_waiter w.request.id v ≡ true = subst (λ (x : Waiter). is_waiter w.request.id x ≡ true) (sym e) (same_call_refl w.request.id) in rw here (ap Some e)
+  found_itself (v ∷ vs) once (inr i) =
+      let apart : is_waiter w.request.id v ≡ false = false_or_not (is_waiter w.request.id v) (λ s.
+          once.0 (waiter_name w) (contains_in (waiter_name w) (map waiter_name vs) (in_map waiter_name vs w i)) (ap id_name (sym (same_call v.request.id w.request.id s)))) in
+      rw apart (found_itself vs once.1 i)
+
+  none_arrived : arrival_of r w.request.id ≡ None
+  none_arrived = find_none (λ (b : Arrival). is_same_call b.request.id w.request.id) r.arrivals (λ b i e. ok.apart b w i there (ap id_name (same_call b.request.id w.request.id e)))
+
+  pub came_ending : (j : CallId) → came_at without_it j ≡ came_at r j
+  came_ending j = go (is_same_call w.request.id j) refl
+    where
+      arrivals : Option ℕ
+      arrivals = option_map line_of_arrival (arrival_of r j)
+
+      whole : option_map line_of_arrival (arrival_of without_it j) ≡ option_or arrivals (cond (is_same_call w.request.id j) (Some w.line) None)
+      whole =
+          ap (option_map line_of_arrival) (find-append (λ (x : Arrival). is_same_call x.request.id j) r.arrivals (ending r w ∷ []))
+          ∙ map_or_one line_of_arrival (arrival_of r j) (is_same_call w.request.id j) (ending r w)
+
+      at_it : came_at without_it w.request.id ≡ came_at r w.request.id
       at_it =
-          in_table_now ∙ ap (λ (m : Option Appended). Some (record { arrived = a.line; answered = option_map (λ (x : Appended). x.line) m })) (sym (fresh unheard))
-          ∙ sym (ap (λ b. option_map (with_lines (answer_of r a.request.id)) (option_or (arrival_of r a.request.id) (cond b (Some a) None))) itself ∙ ap (λ x. option_map (with_lines (answer_of r a.request.id)) (option_or x (Some a))) unheard)
+          ap (λ x. option_or (option_map line_of_arrival x) (option_map line_of_waiter (find (is_waiter w.request.id) (filter (is_other w) r.waiters))))
+          (find-append (λ (x : Arrival). is_same_call x.request.id w.request.id) r.arrivals (ending r w ∷ []) ∙ ap (λ x. option_or x (cond (is_same_call w.request.id w.request.id) (Some (ending r w)) None)) none_arrived
+          ∙ ap (λ b. cond b (Some (ending r w)) None) (same_call_refl w.request.id))
+          ∙ sym (ap (λ x. option_or (option_map line_of_arrival x) (option_map line_of_waiter (find (is_waiter w.request.id) r.waiters))) none_arrived ∙ ap (option_map line_of_waiter) (found_itself r.waiters ok.once there))
 
-      here : is_same_call a.request.id id ≡ true → lines_of (with_arrival t c a.line) id ≡ option_map (with_lines (answer_of r id)) (option_or (arrival_of r id) (cond (is_same_call a.request.id id) (Some a) None))
-      here e = subst (λ j. lines_of (with_arrival t c a.line) j ≡ option_map (with_lines (answer_of r j)) (option_or (arrival_of r j) (cond (is_same_call a.request.id j) (Some a) None))) (same_call a.request.id id e) at_it
+      go : (b : Bool) → is_same_call w.request.id j ≡ b → came_at without_it j ≡ came_at r j
+      go false e =
+          ap (λ x. option_or x (option_map line_of_waiter (find (is_waiter j) (filter (is_other w) r.waiters)))) (whole ∙ ap (λ b. option_or arrivals (cond b (Some w.line) None)) e ∙ or_none arrivals)
+          ∙ ap (λ x. option_or arrivals (option_map line_of_waiter x)) (found_other r.waiters j e)
+      go true e = subst (λ i. came_at without_it i ≡ came_at r i) (same_call w.request.id j e) at_it
 
-      -- another number of the same connection
-      apart : is_same_call a.request.id id ≡ false → id.conn ≡ c → (x : Opened) → opened_at t c ≡ Some x → line_at id.number (called a.line x) ≡ line_at id.number x
-      apart e at_conn x same =
-          let both : Some o ≡ Some x = sym there ∙ same in
-          let one : o ≡ x = cc in
-          subst (λ (y : Opened). line_at id.number (called a.line y) ≡ line_at id.number y) one
-          (ap present (got_before o.calls (Some (record { arrived = a.line; answered = None })) id.number (λ s. false≢true (sym e ∙ ap (is_same_call a.request.id) (sym (number ∙ (λ i. record { conn = sym at_conn i; number = sym s i }))) ∙ same_call_refl a.request.id))))
+-- The same calls came at the same lines, on the same connections, and were answered so.
+pub table_alike : (t : Table) (r next : Run) → next.connections ≡ r.connections → next.appended ≡ r.appended → ((j : CallId) → came_at next j ≡ came_at r j) → HasTable t r → HasTable t next
+table_alike t r next connections appended come h = record {
+  size = h.size;
+  connections = λ c. subst (λ ks. Matches (opened_at t c) (find (is_connection c) ks)) (sym connections) (h.connections c);
+  calls = λ id. h.calls id ∙ (λ i. option_map (with_lines (find (is_answer_to id) (sym appended i))) (sym (come id) i));
+}
 
-      elsewhere : is_same_call a.request.id id ≡ false → lines_of (with_arrival t c a.line) id ≡ option_map (with_lines (answer_of r id)) (option_or (arrival_of r id) (cond (is_same_call a.request.id id) (Some a) None))
-      elsewhere e = lines_elsewhere t c (called a.line) id (apart e) ∙ h.calls id ∙ sym (ap (option_map (with_lines (answer_of r id))) (ap (λ b. option_or (arrival_of r id) (cond b (Some a) None)) e ∙ or_none (arrival_of r id)))
+-- a call arrives, be it that it waits
 
-  pub arrived_table : HasTable (with_arrival t c a.line) (record r { arrivals = r.arrivals ++ a ∷ [] })
-  arrived_table = record {
-    size = length-changed_at (option_map (called a.line)) t c ∙ h.size;
-    connections = changed_connections t r h.connections c (called a.line) (λ x k m. m);
-    calls = arrival_calls;
-  }
+module _ (t : Table) (r : Run) (h : HasTable t r) (c : ℕ) (o : Opened) (there : opened_at t c ≡ Some o) (its : CallId) (line : ℕ) (number : its ≡ record { conn = c; number = length o.calls }) where
+  -- the call did not arrive before
+  pub unheard : came_at r its ≡ None
+  unheard =
+      map_none (with_lines (answer_of r its)) (came_at r its)
+      (sym (h.calls its) ∙ ap (lines_of t) number ∙ ap (option_and_then (line_at (length o.calls))) there ∙ ap present (slice_get_past o.calls (length o.calls) (omega arith)))
+
+  in_table_now : lines_of (with_arrival t c line) its ≡ Some (record { arrived = line; answered = None })
+  in_table_now =
+      ap (lines_of (with_arrival t c line)) number
+      ∙ ap (option_and_then (line_at (length o.calls))) (opened_changed t c (called line) ∙ ap (option_map (called line)) there)
+      ∙ ap present (got_last o.calls (Some (record { arrived = line; answered = None })))
+
+  module _ (fresh : answer_of r its ≡ None) (next : Run) (connections : next.connections ≡ r.connections) (appended : next.appended ≡ r.appended)
+      (come : (j : CallId) → came_at next j ≡ option_or (came_at r j) (cond (is_same_call its j) (Some line) None)) where
+    abbrev after : CallId → Option CallLines
+    after j = option_map (with_lines (answer_of r j)) (option_or (came_at r j) (cond (is_same_call its j) (Some line) None))
+
+    itself : is_same_call its its ≡ true
+    itself = same_call_refl its
+
+    at_it : lines_of (with_arrival t c line) its ≡ after its
+    at_it =
+        in_table_now ∙ ap (λ (m : Option Appended). Some (record { arrived = line; answered = option_map (λ (x : Appended). x.line) m })) (sym fresh)
+        ∙ sym (ap (λ b. option_map (with_lines (answer_of r its)) (option_or (came_at r its) (cond b (Some line) None))) itself ∙ ap (λ x. option_map (with_lines (answer_of r its)) (option_or x (Some line))) unheard)
+
+    here : (j : CallId) → is_same_call its j ≡ true → lines_of (with_arrival t c line) j ≡ after j
+    here j e = subst (λ i. lines_of (with_arrival t c line) i ≡ after i) (same_call its j e) at_it
+
+    -- another number of the same connection
+    apart : (j : CallId) → is_same_call its j ≡ false → j.conn ≡ c → (x : Opened) → opened_at t c ≡ Some x → line_at j.number (called line x) ≡ line_at j.number x
+    apart j e at_conn x same =
+        let both : Some o ≡ Some x = sym there ∙ same in
+        let one : o ≡ x = cc in
+        subst (λ (y : Opened). line_at j.number (called line y) ≡ line_at j.number y) one
+        (ap present (got_before o.calls (Some (record { arrived = line; answered = None })) j.number (λ s. false≢true (sym e ∙ ap (is_same_call its) (sym (number ∙ (λ i. record { conn = sym at_conn i; number = sym s i }))) ∙ same_call_refl its))))
+
+    elsewhere : (j : CallId) → is_same_call its j ≡ false → lines_of (with_arrival t c line) j ≡ after j
+    elsewhere j e = lines_elsewhere t c (called line) j (apart j e) ∙ h.calls j ∙ sym (ap (option_map (with_lines (answer_of r j))) (ap (λ b. option_or (came_at r j) (cond b (Some line) None)) e ∙ or_none (came_at r j)))
+
+    arrival_calls : (j : CallId) → lines_of (with_arrival t c line) j ≡ lines_in next j
+    arrival_calls j = ⊎_elim (here j) (elsewhere j) (cases_Bool (is_same_call its j)) ∙ (λ i. option_map (with_lines (find (is_answer_to j) (sym appended i))) (sym (come j) i))
+
+    pub arrived_table : HasTable (with_arrival t c line) next
+    arrived_table = record {
+      size = length-changed_at (option_map (called line)) t c ∙ h.size;
+      connections = λ d. subst (λ ks. Matches (opened_at (with_arrival t c line) d) (find (is_connection d) ks)) (sym connections) (changed_connections t r h.connections c (called line) (λ x k m. m) d);
+      calls = arrival_calls;
+    }
 
 -- a message is appended
 
@@ -224,7 +364,7 @@ pub unanswered_table : (t : Table) (r : Run) (m : Appended) → HasTable t r →
 unanswered_table t r m h none = record {
   size = h.size;
   connections = h.connections;
-  calls = λ id. h.calls id ∙ ap (λ x. option_map (with_lines x) (arrival_of r id)) (same id);
+  calls = λ id. h.calls id ∙ ap (λ x. option_map (with_lines x) (came_at r id)) (same id);
 }
   where
     same : (id : CallId) → answer_of r id ≡ find (is_answer_to id) (r.appended ++ m ∷ [])
@@ -239,28 +379,28 @@ module _ (t : Table) (r : Run) (m : Appended) (h : HasTable t r) (id : CallId) (
   first_counts None = refl
   first_counts (Some y) = refl
 
-  marked : (x : Option Appended) (a : Option Arrival) → option_map (lines_answered m.line) (option_map (with_lines x) a) ≡ option_map (with_lines (option_or x (Some m))) a
+  marked : (x : Option Appended) (a : Option ℕ) → option_map (lines_answered m.line) (option_map (with_lines x) a) ≡ option_map (with_lines (option_or x (Some m))) a
   marked x None = refl
-  marked x (Some b) = ap (λ (n : Option ℕ). Some (record { arrived = b.line; answered = n })) (first_counts x)
+  marked x (Some b) = ap (λ (n : Option ℕ). Some (record { arrived = b; answered = n })) (first_counts x)
 
   answer_calls : (j : CallId) → lines_of (with_answer t id m.line) j ≡ lines_in (record r { appended = r.appended ++ m ∷ [] }) j
-  answer_calls j = ⊎_elim here elsewhere (cases_Bool (is_same_call id j)) ∙ sym (ap (λ x. option_map (with_lines x) (arrival_of r j)) (answers_after j))
+  answer_calls j = ⊎_elim here elsewhere (cases_Bool (is_same_call id j)) ∙ sym (ap (λ x. option_map (with_lines x) (came_at r j)) (answers_after j))
     where
       itself : is_same_call id id ≡ true
       itself = same_call_refl id
 
-      at_it : lines_of (with_answer t id m.line) id ≡ option_map (with_lines (option_or (answer_of r id) (cond (is_same_call id id) (Some m) None))) (arrival_of r id)
-      at_it = lines_marked t id m.line ∙ ap (option_map (lines_answered m.line)) (h.calls id) ∙ marked (answer_of r id) (arrival_of r id)
-          ∙ sym (ap (λ b. option_map (with_lines (option_or (answer_of r id) (cond b (Some m) None))) (arrival_of r id)) itself)
+      at_it : lines_of (with_answer t id m.line) id ≡ option_map (with_lines (option_or (answer_of r id) (cond (is_same_call id id) (Some m) None))) (came_at r id)
+      at_it = lines_marked t id m.line ∙ ap (option_map (lines_answered m.line)) (h.calls id) ∙ marked (answer_of r id) (came_at r id)
+          ∙ sym (ap (λ b. option_map (with_lines (option_or (answer_of r id) (cond b (Some m) None))) (came_at r id)) itself)
 
-      here : is_same_call id j ≡ true → lines_of (with_answer t id m.line) j ≡ option_map (with_lines (option_or (answer_of r j) (cond (is_same_call id j) (Some m) None))) (arrival_of r j)
-      here e = subst (λ i. lines_of (with_answer t id m.line) i ≡ option_map (with_lines (option_or (answer_of r i) (cond (is_same_call id i) (Some m) None))) (arrival_of r i)) (same_call id j e) at_it
+      here : is_same_call id j ≡ true → lines_of (with_answer t id m.line) j ≡ option_map (with_lines (option_or (answer_of r j) (cond (is_same_call id j) (Some m) None))) (came_at r j)
+      here e = subst (λ i. lines_of (with_answer t id m.line) i ≡ option_map (with_lines (option_or (answer_of r i) (cond (is_same_call id i) (Some m) None))) (came_at r i)) (same_call id j e) at_it
 
       apart : is_same_call id j ≡ false → j.conn ≡ id.conn → (o : Opened) → opened_at t id.conn ≡ Some o → line_at j.number (answered id.number m.line o) ≡ line_at j.number o
       apart e at_conn o there = answered_elsewhere o id.number m.line j.number (λ s. false≢true (sym e ∙ ap (is_same_call id) (λ i. record { conn = at_conn i; number = s i }) ∙ same_call_refl id))
 
-      elsewhere : is_same_call id j ≡ false → lines_of (with_answer t id m.line) j ≡ option_map (with_lines (option_or (answer_of r j) (cond (is_same_call id j) (Some m) None))) (arrival_of r j)
-      elsewhere e = lines_elsewhere t id.conn (answered id.number m.line) j (apart e) ∙ h.calls j ∙ sym (ap (λ x. option_map (with_lines x) (arrival_of r j)) (ap (λ b. option_or (answer_of r j) (cond b (Some m) None)) e ∙ or_none (answer_of r j)))
+      elsewhere : is_same_call id j ≡ false → lines_of (with_answer t id m.line) j ≡ option_map (with_lines (option_or (answer_of r j) (cond (is_same_call id j) (Some m) None))) (came_at r j)
+      elsewhere e = lines_elsewhere t id.conn (answered id.number m.line) j (apart e) ∙ h.calls j ∙ sym (ap (λ x. option_map (with_lines x) (came_at r j)) (ap (λ b. option_or (answer_of r j) (cond b (Some m) None)) e ∙ or_none (answer_of r j)))
 
   pub answered_table : HasTable (with_answer t id m.line) (record r { appended = r.appended ++ m ∷ [] })
   answered_table = record {

@@ -13,32 +13,23 @@ use Rattle.grid_base.specs.Objects.{Object}
 use Rattle.partition_protocol.specs.Execution.{Executes, PartitionLost, WrongTarget, Migrating}
 use Rattle.partition_protocol.specs.Events.{Outcome, NothingDone, Done, HeldAt, ReleasedAt, Refused, TookMessage, RowMadeAt, MoveIsRefused, ReopenIsRefused}
 use Rattle.partition_protocol.proofs.Lists.{In, in_cases}
-use Rattle.partition_protocol.proofs.RowFacts.{false_or_not}
 use Rattle.replay_run.specs.declared.tally.Reception.{Reception}
 use Rattle.replay_run.specs.declared.tally.Reception.TheVariants.{Taken, Refused as WasRefused, OutOfMemory}
 use Rattle.replay_run.specs.declared.tally.Tally.{Tally}
-use Rattle.replay_run.specs.Tallies.{tallied, received}
-use Rattle.replay_run.specs.Runs.{Run, Arrival, Appended, At, arrival_at, arrived, refusal, refused_by}
+use Rattle.replay_run.specs.Tallies.{tallied, tallied_later, received}
+use Rattle.replay_run.specs.Runs.{Run, Arrival, Waiter, Appended, At, waits, without, ending, arrived, refusal, refused_by}
 use Rattle.replay_run.specs.Printing.{is_named}
 use Rattle.replay_run.specs.Counts.{is_refusal_of, refusal_among, has_number, is_refused_with, is_of_row, is_of_memory, is_refused, is_out_of_memory}
 use Rattle.replay_run.specs.Grids.{IsTally}
-use Rattle.replay_run.specs.ScriptRuns.{IsRun, IsNext}
 use Rattle.replay_run.proofs.Places.{same_call, same_call_refl}
 use Rattle.replay_run.proofs.Trails.{find_some}
+use Rattle.replay_run.proofs.Lookups.{find_none}
 use Rattle.replay_run.proofs.TableChanges.{or_none}
-use Rattle.replay_run.proofs.RunFacts.{RunOk, id_name}
-use Rattle.replay_run.proofs.Arriving.{fresh}
+use Rattle.replay_run.proofs.RunFacts.{RunOk, WaitersOk, id_name}
+use Rattle.replay_run.proofs.Arriving.{MayCome, one_less}
 use Rattle.replay_run.proofs.Refusals.{refusals_name_the_call}
-use Rattle.replay_run.proofs.RunsOfLines.{run_ok}
 
 -- lists
-
-pub find_none : {X : Type 0} (t : X → Bool) (xs : List X) → ((x : X) → In x xs → t x ≡ true → ⊥) → find t xs ≡ None
-find_none t [] f = refl
-find_none t (x ∷ xs) f =
-    let e : t x ≡ false = false_or_not (t x) (f x (inl refl)) in
-    let rest = find_none t xs (λ y i. f y (inr i)) in
-    rw (e, rest) refl
 
 pub count_same : {X : Type 0} (p q : X → Bool) (xs : List X) → ((x : X) → In x xs → p x ≡ q x) → count_by p xs ≡ count_by q xs
 count_same p q [] h = refl
@@ -174,14 +165,33 @@ tallied_memory Taken t = omega arith
 tallied_memory WasRefused t = omega arith
 tallied_memory OutOfMemory t = refl
 
+later_refused : (reception : Reception) (t : Tally) → (tallied_later reception t).refused ≡ t.refused + cond (is_refusal reception) 1 0
+later_refused Taken t = omega arith
+later_refused WasRefused t = refl
+later_refused OutOfMemory t = omega arith
+
+later_memory : (reception : Reception) (t : Tally) → (tallied_later reception t).memory ≡ t.memory + cond (is_shortage reception) 1 0
+later_memory Taken t = omega arith
+later_memory WasRefused t = omega arith
+later_memory OutOfMemory t = refl
+
+later_arrived : (reception : Reception) (t : Tally) → (tallied_later reception t).arrived ≡ t.arrived
+later_arrived Taken t = refl
+later_arrived WasRefused t = refl
+later_arrived OutOfMemory t = refl
+
 -- Nothing arrives, and no message refuses a call.
-pub quiet_tally : (t : Tally) (r next : Run) (more : List Appended) → next.arrivals ≡ r.arrivals → next.appended ≡ r.appended ++ more → ((m : Appended) → In m more → m.refuses ≡ None) → IsTally t r → IsTally t next
-quiet_tally t r next more come said none h =
+pub quiet_tally : (t : Tally) (r next : Run) (more : List Appended) → next.arrivals ≡ r.arrivals → next.waiters ≡ r.waiters → next.appended ≡ r.appended ++ more → ((m : Appended) → In m more → m.refuses ≡ None) → IsTally t r → IsTally t next
+quiet_tally t r next more come waiting said none h =
     record {
-      arrived = h.arrived ∙ ap length (sym come);
+      arrived = h.arrived ∙ (λ i. length (sym come i) + length (sym waiting i));
       refused = h.refused ∙ sym (quiet_among is_of_row r.appended more r.arrivals none) ∙ (λ i. count_by (is_refused_with is_of_row (sym said i)) (sym come i));
       memory = h.memory ∙ sym (quiet_among is_of_memory r.appended more r.arrivals none) ∙ (λ i. count_by (is_refused_with is_of_memory (sym said i)) (sym come i));
     }
+
+-- A call arrives and waits.
+pub waiting_tally : (t : Tally) (r : Run) (w : Waiter) → IsTally t r → IsTally (tallied Taken t) (waits r w)
+waiting_tally t r w h = record { arrived = let one = length-append r.waiters (w ∷ []) in let all = h.arrived in omega (arith, one, all); refused = h.refused; memory = h.memory }
 
 -- no more calls are refused than arrived
 pub tally_room : (t : Tally) (r : Run) → IsTally t r → (t.refused ≤ t.arrived) × (t.memory ≤ t.arrived)
@@ -193,61 +203,80 @@ tally_room t r h =
     let its_memory = h.memory in
     (omega (arith, refused, all, its_refused), omega (arith, memory, all, its_memory))
 
-module _ {o : Object Request Partition} (r : Run) (run : IsRun o r) (member : ℕ) (request : Request) (next : IsNext r request) (t : Tally) (h : IsTally t r) where
-  abbrev a : Arrival
-  a = arrival_at r member request
+-- The tally but for how many arrived: that of a run with one call more, of which the messages more are.
+pub record HasTallied (reception : Reception) (t : Tally) (next : Run) : Type 0 where
+  pub refused : count_by (is_refused next) next.arrivals ≡ t.refused + cond (is_refusal reception) 1 0
+  pub memory : count_by (is_out_of_memory next) next.arrivals ≡ t.memory + cond (is_shortage reception) 1 0
 
-  abbrev ok : RunOk o r
-  ok = run_ok run
+module _ {o : Object Request Partition} (r : Run) (ok : RunOk o r) (a : Arrival) (may : MayCome r a) (t : Tally) (rows : t.refused ≡ count_by (is_refused r) r.arrivals) (shortages : t.memory ≡ count_by (is_out_of_memory r) r.arrivals) where
+  apart : (b : Arrival) → In b r.arrivals → b.request.id ≢ a.request.id
+  apart b i same = may.fresh b i (ap id_name same)
 
-  apart : (b : Arrival) → In b r.arrivals → b.request.id ≢ request.id
-  apart b i same = fresh r ok.of_arrivals member request next b i (ap id_name same)
-
-  unrefused : refusal_among r.appended request.id ≡ None
-  unrefused = go (refusal_among r.appended request.id) (λ m e. find_some (is_refusal_of request.id) r.appended m e)
+  unrefused : refusal_among r.appended a.request.id ≡ None
+  unrefused = go (refusal_among r.appended a.request.id) (λ m e. find_some (is_refusal_of a.request.id) r.appended m e)
     where
-      go : (o : Option Appended) → ((m : Appended) → o ≡ Some m → In m r.appended × (is_refusal_of request.id m ≡ true)) → o ≡ None
+      go : (o : Option Appended) → ((m : Appended) → o ≡ Some m → In m r.appended × (is_refusal_of a.request.id m ≡ true)) → o ≡ None
       go None f = refl
       go (Some m) f =
           let there = f m refl in
-          let from = ok.of_refusals.arrived m request.id there.0 (named_refusal request.id m there.1) in
+          let from = ok.of_refusals.arrived m a.request.id there.0 (named_refusal a.request.id m there.1) in
           absurd (apart from.0 from.1 from.2)
 
   -- it is received so, where these messages more are of it
-  received_tally : (reception : Reception) (events : List At) (more : List Appended) → ((m : Appended) → In m more → (m.refuses ≡ None) ⊎ (m.refuses ≡ Some request.id))
-      → has_number is_of_row (refusal_among more request.id) ≡ is_refusal reception → has_number is_of_memory (refusal_among more request.id) ≡ is_shortage reception
-      → IsTally (tallied reception t) (arrived r a events more)
-  received_tally reception events more only row memory =
-      let come = length-append r.arrivals (a ∷ []) in
-      let rows = called_among is_of_row r.appended more r.arrivals a apart unrefused only in
-      let shortages = called_among is_of_memory r.appended more r.arrivals a apart unrefused only in
+  received_so : (reception : Reception) (events : List At) (more : List Appended) → ((m : Appended) → In m more → (m.refuses ≡ None) ⊎ (m.refuses ≡ Some a.request.id))
+      → has_number is_of_row (refusal_among more a.request.id) ≡ is_refusal reception → has_number is_of_memory (refusal_among more a.request.id) ≡ is_shortage reception
+      → HasTallied reception t (arrived r a events more)
+  received_so reception events more only row memory =
+      let refused = called_among is_of_row r.appended more r.arrivals a apart unrefused only in
+      let short = called_among is_of_memory r.appended more r.arrivals a apart unrefused only in
       let its_row = ap {B = ℕ} (λ b. cond b 1 0) row in
       let its_memory = ap {B = ℕ} (λ b. cond b 1 0) memory in
-      let one = tallied_arrived reception t in
-      let two = tallied_refused reception t in
-      let three = tallied_memory reception t in
-      let all = h.arrived in
-      let refused = h.refused in
-      let shortage = h.memory in
-      record {
-        arrived = omega (arith, come, one, all);
-        refused = omega (arith, rows, its_row, two, refused);
-        memory = omega (arith, shortages, its_memory, three, shortage);
-      }
+      record { refused = omega (arith, refused, its_row, rows); memory = omega (arith, short, its_memory, shortages) }
 
-  pub called_tally : (reception : Reception) (events : List At) (outcome : Outcome) (given : List Appended) → ((m : Appended) → In m given → m.refuses ≡ None)
-      → reception ≡ received (refused_by r.lines request outcome) → IsTally (tallied reception t) (arrived r a events (refused_by r.lines request outcome ++ given))
-  called_tally reception events outcome given none so =
-      received_tally reception events (refused_by r.lines request outcome ++ given)
-      (λ m i. ⊎_elim (λ j. inr (refusals_name_the_call r.lines request outcome m j)) (λ j. inl (none m j)) (in_cases m (refused_by r.lines request outcome) given i))
-      (row_number r.lines request given none outcome ∙ ap is_refusal (sym so))
-      (memory_number r.lines request given none outcome ∙ sym (ap is_shortage so ∙ none_short (refused_by r.lines request outcome)))
+  pub called_so : (reception : Reception) (events : List At) (outcome : Outcome) (given : List Appended) → ((m : Appended) → In m given → m.refuses ≡ None)
+      → reception ≡ received (refused_by a.made a.request outcome) → HasTallied reception t (arrived r a events (refused_by a.made a.request outcome ++ given))
+  called_so reception events outcome given none so =
+      received_so reception events (refused_by a.made a.request outcome ++ given)
+      (λ m i. ⊎_elim (λ j. inr (refusals_name_the_call a.made a.request outcome m j)) (λ j. inl (none m j)) (in_cases m (refused_by a.made a.request outcome) given i))
+      (row_number a.made a.request given none outcome ∙ ap is_refusal (sym so))
+      (memory_number a.made a.request given none outcome ∙ sym (ap is_shortage so ∙ none_short (refused_by a.made a.request outcome)))
 
-  pub skipped_tally : (reception : Reception) → reception ≡ OutOfMemory → IsTally (tallied reception t) (arrived r a [] (refusal r.lines request (pos want_of_memory) 0 ∷ []))
-  skipped_tally reception so =
-      received_tally reception [] (refusal r.lines request (pos want_of_memory) 0 ∷ []) its
-      (excused_row r.lines request ∙ ap is_refusal (sym so)) (excused_memory r.lines request ∙ ap is_shortage (sym so))
+  pub skipped_so : (reception : Reception) → reception ≡ OutOfMemory → HasTallied reception t (arrived r a [] (refusal a.made a.request (pos want_of_memory) 0 ∷ []))
+  skipped_so reception so =
+      received_so reception [] (refusal a.made a.request (pos want_of_memory) 0 ∷ []) its
+      (excused_row a.made a.request ∙ ap is_refusal (sym so)) (excused_memory a.made a.request ∙ ap is_shortage (sym so))
     where
-      its : (m : Appended) → In m (refusal r.lines request (pos want_of_memory) 0 ∷ []) → (m.refuses ≡ None) ⊎ (m.refuses ≡ Some request.id)
+      its : (m : Appended) → In m (refusal a.made a.request (pos want_of_memory) 0 ∷ []) → (m.refuses ≡ None) ⊎ (m.refuses ≡ Some a.request.id)
       its m (inl e) = inr (ap (λ (n : Appended). n.refuses) (sym e))
       its m (inr i) = absurd i
+
+  pub left_so : HasTallied Taken t (arrived r a [] [])
+  left_so = received_so Taken [] [] (λ m i. absurd i) refl refl
+
+-- of a call that arrives
+pub arrived_tally : (t : Tally) (r next : Run) (a : Arrival) (reception : Reception) → IsTally t r → next.arrivals ≡ r.arrivals ++ a ∷ [] → next.waiters ≡ r.waiters → HasTallied reception t next → IsTally (tallied reception t) next
+arrived_tally t r next a reception h come waiting has =
+    let all = h.arrived in
+    let one = ap length come ∙ length-append r.arrivals (a ∷ []) in
+    let same = ap length waiting in
+    let its_refused = has.refused in
+    let its_memory = has.memory in
+    let first = tallied_arrived reception t in
+    let second = tallied_refused reception t in
+    let third = tallied_memory reception t in
+    record { arrived = omega (arith, all, one, same, first); refused = omega (arith, its_refused, second); memory = omega (arith, its_memory, third) }
+
+-- and of one that waited
+pub ended_tally : (t : Tally) (r next : Run) (w : Waiter) (reception : Reception) → WaitersOk r → In w r.waiters → IsTally t r → next.arrivals ≡ r.arrivals ++ ending r w ∷ [] → next.waiters ≡ (without r w).waiters
+    → HasTallied reception t next → IsTally (tallied_later reception t) next
+ended_tally t r next w reception ok i h come waiting has =
+    let all = h.arrived in
+    let one = ap length come ∙ length-append r.arrivals (ending r w ∷ []) in
+    let less = ap length waiting in
+    let exactly = one_less r w ok i in
+    let its_refused = has.refused in
+    let its_memory = has.memory in
+    let first = later_arrived reception t in
+    let second = later_refused reception t in
+    let third = later_memory reception t in
+    record { arrived = omega (arith, all, one, less, exactly, first); refused = omega (arith, its_refused, second); memory = omega (arith, its_memory, third) }

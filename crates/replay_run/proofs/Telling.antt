@@ -12,6 +12,7 @@ use Rattle.replay_run.proofs.LineTexts.{new_with}
 use Rattle.replay_run.proofs.TableRuns.{told_table}
 use Rattle.replay_run.proofs.TableCounts.{counting_told}
 use Rattle.replay_run.proofs.Tallies.{quiet_tally}
+use Rattle.replay_run.proofs.WaiterLists.{waiters_alike}
 
 module _ {V : Type 0} {T : V → Type 0} {form : FormOf V T} {settings : Settings} (grid : Grid V T) (r : Run) (conn number : ℕ) (answer : List ℕ) (h : Holds form settings grid r) (are : AreListening grid.listeners.items r (Some conn)) (count : IsCounting grid.connections r conn number) where
   abbrev replied_grid : Grid V T
@@ -32,7 +33,8 @@ module _ {V : Type 0} {T : V → Type 0} {form : FormOf V T} {settings : Setting
     moments = h.moments;
     clocks = h.clocks;
     table = told_table grid.connections r conn answer h.table;
-    tally = quiet_tally grid.tally r (told r conn answer) (own_answer r.lines conn answer ∷ []) refl refl refuses_none h.tally;
+    waiters = waiters_alike grid.waiters r (told r conn answer) refl refl h.waiters;
+    tally = quiet_tally grid.tally r (told r conn answer) (own_answer r.lines conn answer ∷ []) refl refl refl refuses_none h.tally;
     reopened = h.reopened;
     worlds = λ p low. let w = h.worlds p low in record { world = w.world; there = w.there; is = record { stands = w.is.stands; setup = w.is.setup }; given = w.given };
   }

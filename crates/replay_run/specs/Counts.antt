@@ -63,11 +63,11 @@ is_lost_at o r p = (service_at o r p).row.lost
 
 abbrev pub counts_of : Settings → Run → Counts
 counts_of settings r = record {
-  arrived = length r.arrivals;
+  arrived = length r.arrivals + length r.waiters;
   answered = count_by (is_answered r) r.arrivals;
   refused = count_by (is_refused r) r.arrivals;
   memory = count_by (is_out_of_memory r) r.arrivals;
-  waiting = count_by (is_waiting r) r.arrivals;
+  waiting = count_by (is_waiting r) r.arrivals + length r.waiters;
   -- those that `end` prints
   entries = length (all_entries (partition_object settings) r);
   lost = count_by (is_lost_at (partition_object settings) r) (numbers_below partitions);

@@ -1,5 +1,5 @@
 -- The grid of the code stands for a run: its worlds for the events of their partitions, its table for the connections and the calls.
-use Rattle.std.specs.Prelude.{◌≡◌, ◌≢◌, ℕ, ◌+◌, ◌*◌, ◌<◌, ◌≤◌, true, false, List, [], ◌++◌, length, count_by, Option, Some, None, option_map, slice_get}
+use Rattle.std.specs.Prelude.{◌≡◌, ◌≢◌, ℕ, ◌+◌, ◌*◌, ◌<◌, ◌≤◌, ◌==◌, ◌&&◌, Bool, true, false, List, [], ◌++◌, length, map, filter, count_by, Option, Some, None, option_map, slice_get, Contains}
 use Rattle.std.specs.declared.alloc.Global.{Global}
 use Rattle.std.specs.declared.dyn_box.DynBox.{DynBox}
 use Rattle.entry_processors.specs.Processors.{ProcessorForm}
@@ -23,12 +23,14 @@ use Rattle.call_engine.specs.Env.{settings_of}
 use Rattle.call_engine.specs.Limits.{RequestFits}
 use Rattle.call_engine.specs.Objects.{partition_object}
 use Rattle.partition_world.specs.LinkOrder.{links_of}
-use Rattle.replay_run.specs.Runs.{Run, Connection, Arrival, Appended, partitions, connection_of, messages_on, bytes_of, events_at, listening}
+use Rattle.wait_sets.specs.declared.waiter.Waiter.{Waiter as ListedWaiter}
+use Rattle.wait_lists.specs.Lists.{list_at}
+use Rattle.replay_run.specs.Runs.{Run, Connection, Waiter, Appended, partitions, connection_of, messages_on, bytes_of, events_at, listening}
 use Rattle.replay_run.specs.AfterLines.{after_line}
 use Rattle.replay_run.specs.Counts.{is_refused, is_out_of_memory}
 use Rattle.replay_run.specs.Rebalancing.{most_line_events}
 use Rattle.replay_run.specs.Shelves.{grid_meaning}
-use Rattle.replay_run.specs.Printing.{arrival_of, answer_of, line_text}
+use Rattle.replay_run.specs.Printing.{answer_of, came_at, line_text}
 use Rattle.replay_run.specs.ScriptRuns.{IsRun}
 use Rattle.replay_run.specs.Skips.{AreOfLine}
 use Rattle.replay_run.specs.Tables.{Table, Opened, most_connections, opened_at, lines_of}
@@ -52,7 +54,7 @@ HasConnections table r = (c : ℕ) → Matches (opened_at table c) (connection_o
 
 -- the lines of a call, where it arrived
 abbrev pub lines_in : Run → CallId → Option CallLines
-lines_in r id = option_map (λ (a : Arrival). record { arrived = a.line; answered = option_map (λ (m : Appended). m.line) (answer_of r id) }) (arrival_of r id)
+lines_in r id = option_map (λ line. record { arrived = line; answered = option_map (λ (m : Appended). m.line) (answer_of r id) }) (came_at r id)
 
 pub record HasTable (table : Table) (r : Run) : Type 0 where
   pub size : length table ≡ most_connections
@@ -96,9 +98,24 @@ FormOf V T = DynBox V Global T → ProcessorForm
 abbrev pub boxed : {V : Type 0} {T : V → Type 0} → ((v : V) × T v → ProcessorForm) → FormOf V T
 boxed form b = form (b.vtable, b.value)
 
+-- who waits
+
+abbrev pub waits_at : ℕ → ℕ → Waiter → Bool
+waits_at member p w = (w.member == member) && (w.request.partition == p)
+
+-- as a list of the code has it
+abbrev pub as_listed : Waiter → ListedWaiter
+as_listed w = record { request = w.request; deadline = w.deadline }
+
+-- Each member's list of a partition has those who wait there, in order of arrival, and whoever waits is in one.
+pub record HasWaiters (lists : List (List ListedWaiter)) (r : Run) : Type 0 where
+  pub size : length lists ≡ r.members * partitions
+  pub listed : (member p : ℕ) → member < r.members → p < partitions → list_at lists member p ≡ map as_listed (filter (waits_at member p) r.waiters)
+  pub there : (w : Waiter) → Contains r.waiters w → (w.member < r.members) × (w.request.partition < partitions)
+
 -- The calls that arrived were counted, and those that were refused.
 pub record IsTally (tally : Tally) (r : Run) : Type 0 where
-  pub arrived : tally.arrived ≡ length r.arrivals
+  pub arrived : tally.arrived ≡ length r.arrivals + length r.waiters
   pub refused : tally.refused ≡ count_by (is_refused r) r.arrivals
   pub memory : tally.memory ≡ count_by (is_out_of_memory r) r.arrivals
 
@@ -113,6 +130,7 @@ pub record Holds {V : Type 0} {T : V → Type 0} (form : FormOf V T) (settings :
   pub moments : grid.moments.items ≡ r.moments
   pub clocks : length r.moments ≡ r.members
   pub table : HasTable grid.connections r
+  pub waiters : HasWaiters grid.waiters r
   pub tally : IsTally grid.tally r
   pub reopened : grid.reopened.items ≡ r.reopened
   pub worlds : (p : ℕ) → p < partitions → HasWorld settings grid.worlds.items r p
@@ -170,7 +188,7 @@ pub record HasRun {V : Type 0} {T : V → Type 0} (form : FormOf V T) (settings 
   pub skips : List CallId
   pub of_line : AreOfLine (partition_object settings) r line skips
   pub stands : Stands form settings new (after_line (partition_object settings) skips r line)
-  pub added : text ≡ written ++ line_text settings r line (after_line (partition_object settings) skips r line)
+  pub added : text ≡ written ++ line_text settings skips r line (after_line (partition_object settings) skips r line)
 
 -- The run is given up at the line, of whose calls these found no memory: an event met a full partition.
 pub record IsGivenUp (settings : Settings) (r : Run) (line : Line) : Type 0 where

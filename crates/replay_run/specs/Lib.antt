@@ -3,6 +3,7 @@ pub mod Appending
 pub mod Changes
 pub mod Counts
 pub mod Dumps
+pub mod Endings
 pub mod Grids
 pub mod Linearizability
 pub mod PrintedEntries
@@ -16,4 +17,5 @@ pub mod SkippedCalls
 pub mod Skips
 pub mod Tables
 pub mod Tallies
+pub mod WaiterCalls
 pub mod WorldCalls

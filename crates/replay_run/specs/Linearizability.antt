@@ -48,7 +48,7 @@ reset_lines [] = []
 reset_lines (Call e ∷ es) = reset_lines es
 reset_lines (Reset e ∷ es) = e.line ∷ reset_lines es
 
--- The entry is the call of this arrival, as it arrived.
+-- The entry is the call of this arrival: at the line at which it arrived, and the moment at which it was made.
 pub record IsOf (a : Arrival) (e : PrintedCall) : Type 0 where
   pub id : e.id ≡ a.request.id
   pub request : e.request ≡ a.request
@@ -73,8 +73,9 @@ pub record Fits {State : Type 0} (o : Object Request State) (object : GridObject
   pub given : (e : PrintedCall) (line : ℕ) → Contains h (Call e) → e.answered ≡ Some line → (m : Appended) × Contains r.appended m × (m.answers ≡ Some e.id) × (m.line ≡ line) × (m.bytes ≡ e.reply)
   -- no call stands before one that was answered before it arrived
   pub ordered : (a b : PrintedCall) (line : ℕ) → Before h (Call a) (Call b) → b.answered ≡ Some line → a.arrived ≤ line
-  -- calls of one line stand in the order of their numbers
-  pub same_line : (a b : PrintedCall) → Before h (Call a) (Call b) → a.arrived ≡ b.arrived → a.id.number < b.id.number
+  -- calls of one line that don't wait stand in the order of their numbers
+  pub same_line : (a b : PrintedCall) (x y : Arrival) → Before h (Call a) (Call b) → a.arrived ≡ b.arrived → Contains r.arrivals x → Contains r.arrivals y → IsOf x a → IsOf y b
+      → x.waits ≡ false → y.waits ≡ false → a.id.number < b.id.number
   -- the resets are the reopenings of the object's partition, in their order
   pub resets : reset_lines h ≡ reopened_at object.partition r.reopened
   -- a call that was answered before a reopening stands before its reset

@@ -1,5 +1,6 @@
 -- The text of a line's outcome and of what happened at it.
-use Rattle.std.specs.Prelude.{ℕ, ◌+◌, Bool, true, false, not, List, [], ◌∷◌, ◌++◌, length, drop, sum_by, Option, Some, None, option_map, unwrap_or, if◌then◌else◌, codes, decimal}
+use Rattle.std.specs.Prelude.{ℕ, ◌+◌, Bool, true, false, not, List, [], ◌∷◌, ◌++◌, length, drop, sum_by, count_by, Option, Some, None, is_some, option_map, unwrap_or, if◌then◌else◌, codes, decimal}
+use Rattle.std.specs.Option.{option_or}
 use Rattle.std.specs.List.{find, flat_map}
 use Rattle.hex.specs.Hex.{encode_lower}
 use Rattle.grid_base.specs.Objects.{Object}
@@ -31,7 +32,7 @@ use Rattle.replay_run.specs.Rebalancing.{plan_in, steps_in}
 use Rattle.replay_run.specs.RebalancingTexts.{plan_text, ran_texts}
 use Rattle.partition_world.specs.Answers.{id_of}
 use Rattle.partition_world.specs.LinkOrder.{links_of}
-use Rattle.replay_run.specs.Runs.{Run, Connection, Arrival, Appended, At, partitions, reopened_at, world_at, connection_of, fault_on, can_open, takes_bytes, next_line, event_by}
+use Rattle.replay_run.specs.Runs.{Run, Connection, Arrival, Waiter, Appended, At, is_waiter, partitions, reopened_at, world_at, connection_of, fault_on, can_open, takes_bytes, next_line, taker_of, event_by}
 use Rattle.replay_run.specs.Shelves.{grid_meaning}
 use Rattle.partition_world.specs.declared.Link.{Link}
 use Rattle.script_lang.specs.declared.line.Line.{Line}
@@ -65,6 +66,10 @@ pub data Printed : Type 0 where
 abbrev pub arrival_of : Run → CallId → Option Arrival
 arrival_of r id = find (λ (a : Arrival). is_same_call a.request.id id) r.arrivals
 
+-- the line at which a call arrived, be it that it waits
+abbrev pub came_at : Run → CallId → Option ℕ
+came_at r id = option_or (option_map (λ (a : Arrival). a.line) (arrival_of r id)) (option_map (λ (w : Waiter). w.line) (find (is_waiter id) r.waiters))
+
 abbrev pub is_named : CallId → Option CallId → Bool
 is_named id None = false
 is_named id (Some other) = is_same_call other id
@@ -80,7 +85,7 @@ printed r p place x = record {
   partition = p;
   place = place;
   id = id_of x;
-  arrived = unwrap_or (option_map (λ (a : Arrival). a.line) (arrival_of r (id_of x))) 0;
+  arrived = unwrap_or (came_at r (id_of x)) 0;
   answered = option_map (λ (m : Appended). m.line) (answer_of r (id_of x));
   now = x.now;
   request = x.call;
@@ -256,12 +261,19 @@ trail_text line entries = number line ++ codes "trail " ++ decimal entries ++ li
 abbrev pub dump_text : ℕ → Pair → List ℕ
 dump_text line pair = number line ++ codes "dump " ++ number pair.version ++ decimal pair.count ++ line_end
 
--- `I flow N`: how many messages were delivered, each by an event
+-- `I flow N`: how many messages were delivered, each by an event of its own
 abbrev pub flow_text : ℕ → ℕ → List ℕ
 flow_text line deliveries = number line ++ codes "flow " ++ decimal deliveries ++ line_end
 
 abbrev pub new_events : Run → Run → List At
 new_events before after = drop (length before.events) after.events
+
+abbrev pub is_delivery : At → Bool
+is_delivery e = is_some (taker_of e.event)
+
+-- how many messages were delivered; other events of a flow are of calls that waited
+abbrev pub deliveries : Run → Run → ℕ
+deliveries before after = count_by is_delivery (new_events before after)
 
 -- the messages in flight on a link of a partition, as their bytes
 abbrev pub bytes_on : Settings → Run → ℕ → Link → List (List ℕ)
@@ -303,17 +315,17 @@ abbrev pub outcome_text : Settings → Run → Line → Run → List ℕ
 outcome_text settings before (Dump p member) after = dump_text after.lines (pair_at (world_at (partition_object settings) after p) member)
 outcome_text settings before (Trail p) after = trail_text after.lines (length (trail (world_at (partition_object settings) after p)))
 outcome_text settings before (Links p) after = links_text after.lines (in_flight settings after p)
-outcome_text settings before (Flow p most) after = flow_text after.lines (length (new_events before after))
-outcome_text settings before (FlowAll most) after = flow_text after.lines (length (new_events before after))
+outcome_text settings before (Flow p most) after = flow_text after.lines (deliveries before after)
+outcome_text settings before (FlowAll most) after = flow_text after.lines (deliveries before after)
 outcome_text settings before (Crash member) after = fate_text settings before after.lines (event.Crash member)
 outcome_text settings before (Detect member) after = fate_text settings before after.lines (event.Detect member)
 outcome_text settings before (Rebalance most) after = plan_text after.lines (plan_in (partition_object settings) (next_line before))
 outcome_text settings before line after = event_text settings before after.lines (event_by line)
 
 -- Each message that a line appended follows its outcome; where the line runs steps, each step ends with a line of its own.
-abbrev pub line_messages : Settings → Run → Line → Run → List ℕ
-line_messages settings before (Rebalance most) after = ran_texts (partition_object settings) (next_line before) (steps_in (partition_object settings) (next_line before) most)
-line_messages settings before line after = flat_map appended_text (new_messages before after)
+abbrev pub line_messages : Settings → List CallId → Run → Line → Run → List ℕ
+line_messages settings skips before (Rebalance most) after = ran_texts (partition_object settings) skips (next_line before) (steps_in (partition_object settings) (next_line before) most)
+line_messages settings skips before line after = flat_map appended_text (new_messages before after)
 
 -- the fault of a connection, which closes it
 abbrev pub closing_text : ℕ → ℕ → Option Connection → List ℕ
@@ -330,10 +342,10 @@ abbrev pub line_dump : Object Request Partition → Run → Line → List ℕ
 line_dump o after (Dump p member) = dumped_text after.lines (contents_at o (world_at o after p) member)
 line_dump o after line = []
 
--- The text of a line: its outcome, then its messages, the connection that it closed, the objects that it dumps, the messages in flight and the entries that it prints.
-abbrev pub line_text : Settings → Run → Line → Run → List ℕ
-line_text settings before line after =
+-- The text of a line at which these calls found no memory: its outcome, then its messages, the connection that it closed, the objects that it dumps, the messages in flight and the entries that it prints.
+abbrev pub line_text : Settings → List CallId → Run → Line → Run → List ℕ
+line_text settings skips before line after =
     let o = partition_object settings in
     if does_nothing o before line then nothing_text after.lines
-    else outcome_text settings before line after ++ line_messages settings before line after ++ line_close after line ++ line_dump o after line
+    else outcome_text settings before line after ++ line_messages settings skips before line after ++ line_close after line ++ line_dump o after line
     ++ line_links settings after line ++ flat_map (entry_text after.lines) (printed_by o after line)

@@ -3,6 +3,7 @@ use Rattle.std.specs.Prelude.{ℕ, zero, suc, Bool, not, if◌then◌else◌, Li
 use Rattle.std.specs.List.{list_all}
 use Rattle.grid_base.specs.Objects.{Object}
 use Rattle.grid_base.specs.declared.calls.Request.{Request}
+use Rattle.grid_base.specs.declared.names.CallId.{CallId}
 use Rattle.object_store.specs.Partitions.{Partition}
 use Rattle.partition_table.specs.declared.Row.{Row}
 use Rattle.partition_table.specs.Rows.{first_of, is_among}
@@ -56,34 +57,34 @@ event_begun Move from to = BeginMove from to
 event_begun Handover from to = BeginHandover from to
 
 -- the first member of the newest row sends again, if the row has one
-abbrev pub first_resends : Object Request Partition → Run → ℕ → Run
-first_resends o r p = elim (first_of (service_at o r p).row.members) [ None ↦ r | Some first ↦ takes o r p (Resend first) ]
+abbrev pub first_resends : Object Request Partition → List CallId → Run → ℕ → Run
+first_resends o skips r p = elim (first_of (service_at o r p).row.members) [ None ↦ r | Some first ↦ takes o skips r p (Resend first) ]
 
 -- a turn: the table service sends again, and then the first member; messages are delivered, and the move takes its next step
-abbrev pub turned : Object Request Partition → Run → ℕ → Run
-turned o r p = takes o (flowed o (first_resends o (takes o r p (Resend r.members)) p) p most_deliveries) p Advance
+abbrev pub turned : Object Request Partition → List CallId → Run → ℕ → Run
+turned o skips r p = takes o skips (flowed o skips (first_resends o skips (takes o skips r p (Resend r.members)) p) p most_deliveries) p Advance
 
 -- up to so many turns, while the move is under way
-abbrev pub turned_on : Object Request Partition → Run → ℕ → ℕ → Run
-turned_on o r p zero = r
-turned_on o r p (suc turns) = if is_moving_at o r p then turned_on o (turned o r p) p turns else r
+abbrev pub turned_on : Object Request Partition → List CallId → Run → ℕ → ℕ → Run
+turned_on o skips r p zero = r
+turned_on o skips r p (suc turns) = if is_moving_at o r p then turned_on o skips (turned o skips r p) p turns else r
 
 -- a member joins the row, and messages are delivered
-abbrev pub joined : Object Request Partition → Run → ℕ → ℕ → Run
-joined o r p member = flowed o (takes o r p (BeginJoin member)) p most_deliveries
+abbrev pub joined : Object Request Partition → List CallId → Run → ℕ → ℕ → Run
+joined o skips r p member = flowed o skips (takes o skips r p (BeginJoin member)) p most_deliveries
 
 -- After a handover that has ended the member that led joins the row again, from which it was taken.
-abbrev pub rejoined : Object Request Partition → Run → ℕ → ℕ → StepKind → Run
-rejoined o r p from Move = r
-rejoined o r p from Handover = if is_moving_at o r p then r else joined o r p from
+abbrev pub rejoined : Object Request Partition → List CallId → Run → ℕ → ℕ → StepKind → Run
+rejoined o skips r p from Move = r
+rejoined o skips r p from Handover = if is_moving_at o r p then r else joined o skips r p from
 
-abbrev pub stepped : Object Request Partition → Run → Step → Run
-stepped o r step =
+abbrev pub stepped : Object Request Partition → List CallId → Run → Step → Run
+stepped o skips r step =
     let p = step.partition in
-    rejoined o (turned_on o (takes o r p (event_begun step.kind step.from step.to)) p most_turns) p step.from step.kind
+    rejoined o skips (turned_on o skips (takes o skips r p (event_begun step.kind step.from step.to)) p most_turns) p step.from step.kind
 
-abbrev pub stepped_all : Object Request Partition → Run → List Step → Run
-stepped_all o r steps = fold (stepped o) r steps
+abbrev pub stepped_all : Object Request Partition → List CallId → Run → List Step → Run
+stepped_all o skips r steps = fold (stepped o skips) r steps
 
 -- the line
 
@@ -100,5 +101,5 @@ first_steps most (Balanced plan) = take most plan.steps
 abbrev pub steps_in : {State : Type 0} → Object Request State → Run → ℕ → List Step
 steps_in o r most = first_steps most (plan_in o r)
 
-abbrev pub rebalanced : Object Request Partition → Run → ℕ → Run
-rebalanced o r most = stepped_all o r (steps_in o r most)
+abbrev pub rebalanced : Object Request Partition → List CallId → Run → ℕ → Run
+rebalanced o skips r most = stepped_all o skips r (steps_in o r most)

@@ -3,6 +3,7 @@ use Rattle.std.specs.Prelude.{ℕ, Bool, true, false, List, [], ◌∷◌, ◌++
 use Rattle.std.specs.List.{flat_map}
 use Rattle.grid_base.specs.Objects.{Object}
 use Rattle.grid_base.specs.declared.calls.Request.{Request}
+use Rattle.grid_base.specs.declared.names.CallId.{CallId}
 use Rattle.object_store.specs.Partitions.{Partition}
 use Rattle.rebalance.specs.declared.Step.{Step}
 use Rattle.rebalance.specs.declared.StepKind.{StepKind}
@@ -44,9 +45,11 @@ abbrev pub end_text : ℕ → ℕ → Bool → List ℕ
 end_text line partition moving = number line ++ end_word moving ++ decimal partition ++ line_end
 
 -- each step's messages stand before its end
-abbrev pub ran_text : Object Request Partition → Run → Step → List ℕ
-ran_text o r step = flat_map appended_text (new_messages r (stepped o r step)) ++ end_text r.lines step.partition (is_moving_at o (stepped o r step) step.partition)
+abbrev pub ran_text : Object Request Partition → List CallId → Run → Step → List ℕ
+ran_text o skips r step =
+    let next = stepped o skips r step in
+    flat_map appended_text (new_messages r next) ++ end_text r.lines step.partition (is_moving_at o next step.partition)
 
-abbrev pub ran_texts : Object Request Partition → Run → List Step → List ℕ
-ran_texts o r [] = []
-ran_texts o r (step ∷ steps) = ran_text o r step ++ ran_texts o (stepped o r step) steps
+abbrev pub ran_texts : Object Request Partition → List CallId → Run → List Step → List ℕ
+ran_texts o skips r [] = []
+ran_texts o skips r (step ∷ steps) = ran_text o skips r step ++ ran_texts o skips (stepped o skips r step) steps

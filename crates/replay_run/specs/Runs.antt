@@ -23,7 +23,7 @@ use Rattle.object_store.specs.Partitions.{Partition}
 use Rattle.listeners.specs.Standing.{placed}
 use Rattle.listeners.specs.Telling.{Sent, events_of, rows_of}
 use Rattle.listeners.specs.declared.listener.Listener.{Listener}
-use Rattle.grid_base.specs.Errors.{unknown_type, partition_lost, wrong_target, migrating, want_of_memory}
+use Rattle.grid_base.specs.Errors.{partition_lost, wrong_target, migrating, want_of_memory}
 use Rattle.fixed_fields.specs.Responses.{error_bytes, void_bytes}
 use Rattle.event_codecs.specs.SpelledRegistrations.{kind_of_registration, correlation_of}
 use Rattle.event_codecs.specs.declared.registration.Registration.{Registration}
@@ -33,6 +33,10 @@ use Rattle.session_core.specs.declared.item.Item.TheVariants.{Call as Asks, Wait
 use Rattle.script_lang.specs.declared.line.Line.{Line}
 use Rattle.script_lang.specs.declared.line.Line.TheVariants.{Deliver, Lose, Repeat, Resend, Move, Join, Handover, Advance, Reopen}
 use Rattle.partition_world.specs.declared.Link.{Link}
+use Rattle.waiting_protocol.specs.Machine.{Fate, Stays, Runs, Starves, IsRefused, Leaves, fate_in, is_over}
+use Rattle.waiting_protocol.specs.Machine as machine
+use Rattle.wait_sets.specs.Laws.{grid_terms}
+use Rattle.wait_sets.specs.WaitSets.{deadline_of}
 use Rattle.replay_run.specs.Changes.{change_by}
 
 -- a connection: its number, the member that it is to, and all the bytes that arrived on it, however they were cut
@@ -46,12 +50,21 @@ pub record At : Type 0 where
   pub partition : ℕ
   pub event : Event Request
 
--- a call as it arrived: at which line, at which member, at which moment of that member
+-- A call that arrived at a line, at a member, and waits no more: at which line it was made, or refused, or left without an answer, and at which moment of its member. Those are the line and the moment of its arrival, but for a call that waited
 pub record Arrival : Type 0 where
   pub line : ℕ
+  pub made : ℕ
   pub member : ℕ
   pub now : ℕ
   pub request : Request
+  pub waits : Bool  -- it is one of the calls that wait, if only until its turn at its own line
+
+-- a call that arrived at a line, at a member, and waits there, until its deadline if it has one; its request is its plain call's
+pub record Waiter : Type 0 where
+  pub line : ℕ
+  pub member : ℕ
+  pub request : Request
+  pub deadline : Option ℕ
 
 -- a message appended to a connection's output at a line: the call that it answers, if it answers one, and the call that it refuses, if it refuses one
 pub record Appended : Type 0 where
@@ -74,7 +87,8 @@ pub record Run : Type 0 where
   pub connections : List Connection
   pub registered : List Listener  -- who listens to what, in the order in which that was asked for
   pub events : List At  -- of all partitions, in order
-  pub arrivals : List Arrival
+  pub arrivals : List Arrival  -- of the calls that wait no more, in the order in which they were made, refused or left
+  pub waiters : List Waiter  -- in order of arrival
   pub appended : List Appended
   pub reopened : List Reopened
   pub full : Bool  -- an event met a partition with too many messages in flight: the run is given up
@@ -85,7 +99,7 @@ partitions = 271
 
 -- after the first line
 abbrev pub begun : ℕ → ℕ → Run
-begun members backups = record { members = members; backups = backups; lines = 1; moments = replicate members 0; connections = []; registered = []; events = []; arrivals = []; appended = []; reopened = []; full = false }
+begun members backups = record { members = members; backups = backups; lines = 1; moments = replicate members 0; connections = []; registered = []; events = []; arrivals = []; waiters = []; appended = []; reopened = []; full = false }
 
 abbrev pub is_at : ℕ → At → Bool
 is_at p e = e.partition == p
@@ -212,7 +226,7 @@ moment_of r member = unwrap_or (slice_get r.moments member) 0
 -- A message is complete and is a call: it arrives at the connection's member, at that member's moment.
 
 abbrev pub arrival_at : Run → ℕ → Request → Arrival
-arrival_at r member request = record { line = r.lines; member = member; now = moment_of r member; request = request }
+arrival_at r member request = record { line = r.lines; made = r.lines; member = member; now = moment_of r member; request = request; waits = false }
 
 abbrev pub call_of : Arrival → Event Request
 call_of a = Call a.member a.request.id.conn a.request.id.number a.request a.now
@@ -255,12 +269,12 @@ abbrev pub messages_by : Object Request Partition → Run → Option ℕ → ℕ
 messages_by o r own p member before after =
     messages_at r own p (listening r own member) (adopted_since (version_known before member) after member) (released_by o (change_by o) before after)
 
--- the call with an event, which may be refused, or release answers
-abbrev pub happening : Object Request Partition → Run → Arrival → List Appended
-happening o r a =
+-- the call with an event, which may be refused, or release answers; and whose bytes are at hand, if any are
+abbrev pub happening : Object Request Partition → Run → Option ℕ → Arrival → List Appended
+happening o r own a =
     let before = world_at o r a.request.partition in
     let next = happens o before (call_of a) in
-    refused_by a.line a.request next.outcome ++ messages_by o r (Some a.request.id.conn) a.request.partition a.member before next.world
+    refused_by a.made a.request next.outcome ++ messages_by o r own a.request.partition a.member before next.world
 
 abbrev pub arrived : Run → Arrival → List At → List Appended → Run
 arrived r a events appended = record r {
@@ -273,19 +287,100 @@ arrived r a events appended = record r {
 abbrev pub is_skipped : List CallId → CallId → Bool
 is_skipped skips id = list_any (is_same_call id) skips
 
-abbrev pub asked : Object Request Partition → List CallId → Run → Arrival → Run
-asked o skips r a =
-    if is_skipped skips a.request.id then arrived r a [] (refusal a.line a.request (pos want_of_memory) 0 ∷ [])
-    else arrived r a (record { partition = a.request.partition; event = call_of a } ∷ []) (happening o r a)
+abbrev pub asked : Object Request Partition → List CallId → Run → Option ℕ → Arrival → Run
+asked o skips r own a =
+    if is_skipped skips a.request.id then arrived r a [] (refusal a.made a.request (pos want_of_memory) 0 ∷ [])
+    else arrived r a (record { partition = a.request.partition; event = call_of a } ∷ []) (happening o r own a)
 
 -- A full partition takes no event but a loss. The run is then given up: nothing is printed of that line, and no other line runs.
 abbrev pub given_up : Run → Run
 given_up r = record r { full = true }
 
-abbrev pub asks : Object Request Partition → List CallId → Run → Arrival → Run
-asks o skips r a = if is_full (world_at o r a.request.partition) then given_up (arrived r a [] []) else asked o skips r a
+abbrev pub asks : Object Request Partition → List CallId → Run → Option ℕ → Arrival → Run
+asks o skips r own a = if is_full (world_at o r a.request.partition) then given_up (arrived r a [] []) else asked o skips r own a
 
--- Something else than a call happens to a partition: a member may adopt a row and release answers, and the partition may be reopened.
+-- calls that wait
+
+abbrev pub waiter_at : Run → ℕ → Request → ℤ → Waiter
+waiter_at r member request timeout = record { line = r.lines; member = member; request = request; deadline = deadline_of (moment_of r member) timeout }
+
+-- it comes last
+abbrev pub waits : Run → Waiter → Run
+waits r w = record r { waiters = r.waiters ++ w ∷ [] }
+
+abbrev pub is_waiter : CallId → Waiter → Bool
+is_waiter id w = is_same_call w.request.id id
+
+-- it waits no more
+abbrev pub without : Run → Waiter → Run
+without r w = record r { waiters = filter (λ (x : Waiter). not (is_waiter w.request.id x)) r.waiters }
+
+-- as it leaves
+abbrev pub ending : Run → Waiter → Arrival
+ending r w = record { line = w.line; made = r.lines; member = w.member; now = moment_of r w.member; request = w.request; waits = true }
+
+-- in the words of the machine of calls that wait
+abbrev pub as_machine : Waiter → machine.Waiter Request
+as_machine w = record { member = w.member; conn = w.request.id.conn; number = w.request.id.number; call = w.request; deadline = w.deadline }
+
+-- What is to be done with it now, by that machine; whether its call finds memory shows as that is made.
+abbrev pub fate_now : Object Request Partition → Run → Waiter → Fate
+fate_now o r w = fate_in o (grid_terms (λ x. false)) (world_at o r w.request.partition) (moment_of r w.member) (as_machine w)
+
+-- it waits at that member, in that partition, and something is to be done with it
+abbrev pub is_its_turn : Object Request Partition → Run → ℕ → ℕ → Waiter → Bool
+is_its_turn o r p member w = (w.request.partition == p) && (w.member == member) && is_over (fate_now o r w)
+
+abbrev pub next_in_turn : Object Request Partition → Run → ℕ → ℕ → Option Waiter
+next_in_turn o r p member = find (is_its_turn o r p member) r.waiters
+
+-- it leaves without an answer
+abbrev pub leaves : Run → Waiter → Run
+leaves r w = arrived (without r w) (ending r w) [] []
+
+-- Its plain call is made, or it is refused as that would be, or it leaves without an answer.
+abbrev pub leaves_so : Object Request Partition → List CallId → Run → Option ℕ → Waiter → Fate → Run
+leaves_so o skips r own w Stays = r
+leaves_so o skips r own w Runs = asks o skips (without r w) own (ending r w)
+leaves_so o skips r own w Starves = asks o skips (without r w) own (ending r w)
+leaves_so o skips r own w (IsRefused why) = arrived (without r w) (ending r w) [] (refused_at r.lines w.request why)
+leaves_so o skips r own w Leaves = leaves r w
+
+abbrev pub turn_of : Object Request Partition → List CallId → Run → Option ℕ → Option Waiter → Run
+turn_of o skips r own None = r
+turn_of o skips r own (Some w) = leaves_so o skips r own w (fate_now o r w)
+
+-- so many turns, each of the first that waits there and has one
+abbrev pub served_so_often : Object Request Partition → List CallId → Option ℕ → ℕ → ℕ → ℕ → Run → Run
+served_so_often o skips own p member zero r = r
+served_so_often o skips own p member (suc turns) r = served_so_often o skips own p member turns (turn_of o skips r own (next_in_turn o r p member))
+
+-- as many as wait, after which nobody there has one
+abbrev pub served : Object Request Partition → List CallId → Run → Option ℕ → ℕ → ℕ → Run
+served o skips r own p member = served_so_often o skips own p member (length r.waiters) r
+
+-- in each of these partitions, in order
+abbrev pub served_in : Object Request Partition → List CallId → Run → ℕ → List ℕ → Run
+served_in o skips r member [] = r
+served_in o skips r member (p ∷ ps) = served_in o skips (served o skips r None p member) member ps
+
+-- The calls of a connection that wait leave without an answer, where it has closed.
+
+abbrev pub is_waiting_on : ℕ → Waiter → Bool
+is_waiting_on c w = w.request.id.conn == c
+
+abbrev pub left_by : Run → Option Waiter → Run
+left_by r None = r
+left_by r (Some w) = leaves r w
+
+abbrev pub left_so_often : ℕ → ℕ → Run → Run
+left_so_often c zero r = r
+left_so_often c (suc more) r = left_so_often c more (left_by r (find (is_waiting_on c) r.waiters))
+
+abbrev pub forsaken : Run → ℕ → Run
+forsaken r c = if is_open (connection_of r c) then r else left_so_often c (length r.waiters) r
+
+-- Something else than a call happens to a partition: a member may adopt a row and release answers, the partition may be reopened, and then calls that wait may have their turns.
 
 abbrev pub reopening_by : ℕ → ℕ → Event Request → Outcome → List Reopened
 reopening_by p line event.Reopen (RowMadeAt version) = record { partition = p; line = line } ∷ []
@@ -318,26 +413,36 @@ is_loss event = false
 abbrev pub meets_full : {C : Type 0} → World C → Event C → Bool
 meets_full w event = not (is_loss event) && is_full w
 
-abbrev pub takes : Object Request Partition → Run → ℕ → Event Request → Run
-takes o r p event = if meets_full (world_at o r p) event then given_up r else occurred o r p event
+-- the member whose waiters may have turns after an event: it took a message, or crashed
+abbrev pub stirred_by : {C : Type 0} → Event C → Option ℕ
+stirred_by (event.Deliver from to place) = Some to
+stirred_by (event.Crash member) = Some member
+stirred_by event = None
+
+abbrev pub served_at : Object Request Partition → List CallId → Run → ℕ → Option ℕ → Run
+served_at o skips r p None = r
+served_at o skips r p (Some member) = served o skips r None p member
+
+abbrev pub takes : Object Request Partition → List CallId → Run → ℕ → Event Request → Run
+takes o skips r p event = if meets_full (world_at o r p) event then given_up r else served_at o skips (occurred o r p event) p (stirred_by event)
 
 -- the same in each of these partitions, in order
-abbrev pub takes_in : Object Request Partition → Run → Event Request → List ℕ → Run
-takes_in o r event [] = r
-takes_in o r event (p ∷ ps) = takes_in o (takes o r p event) event ps
+abbrev pub takes_in : Object Request Partition → List CallId → Run → Event Request → List ℕ → Run
+takes_in o skips r event [] = r
+takes_in o skips r event (p ∷ ps) = takes_in o skips (takes o skips r p event) event ps
 
 -- The first message of a partition's first link that has one is delivered, up to so many times.
 
 abbrev pub delivery_on : Link → Event Request
 delivery_on l = event.Deliver l.from l.to 0
 
-abbrev pub flowed : Object Request Partition → Run → ℕ → ℕ → Run
-flowed o r p zero = r
-flowed o r p (suc most) = elim (next_link (world_at o r p)) [ None ↦ r | Some l ↦ flowed o (takes o r p (delivery_on l)) p most ]
+abbrev pub flowed : Object Request Partition → List CallId → Run → ℕ → ℕ → Run
+flowed o skips r p zero = r
+flowed o skips r p (suc most) = elim (next_link (world_at o r p)) [ None ↦ r | Some l ↦ flowed o skips (takes o skips r p (delivery_on l)) p most ]
 
-abbrev pub flowed_in : Object Request Partition → Run → ℕ → List ℕ → Run
-flowed_in o r most [] = r
-flowed_in o r most (p ∷ ps) = flowed_in o (flowed o r p most) most ps
+abbrev pub flowed_in : Object Request Partition → List CallId → Run → ℕ → List ℕ → Run
+flowed_in o skips r most [] = r
+flowed_in o skips r most (p ∷ ps) = flowed_in o skips (flowed o skips r p most) most ps
 
 -- the lines at which a partition was reopened, in order
 abbrev pub reopened_at : ℕ → List Reopened → List ℕ
@@ -366,16 +471,18 @@ registers o r c member registration =
     let listener : Listener = record { conn = c; registration = registration } in
     sends (listener_registered (told r c (registered_reply registration)) listener) (rows_of (rows_known o r member) (listener ∷ []))
 
--- Calls that wait aren't served yet: they are refused as messages of an unknown type.
-abbrev pub unserved : ℤ → List ℕ
-unserved correlation = error_bytes correlation (pos unknown_type) (pos 0) (pos 0)
+-- an item of a connection, and several in a row; a call, also one that waits, may give others their turns
 
--- an item of a connection, and several in a row
+abbrev pub calls : Object Request Partition → List CallId → Run → ℕ → Request → Run
+calls o skips r member request = served o skips (asks o skips r (Some request.id.conn) (arrival_at r member request)) (Some request.id.conn) request.partition member
+
+abbrev pub begins_to_wait : Object Request Partition → List CallId → Run → ℕ → Request → ℤ → Run
+begins_to_wait o skips r member request timeout = served o skips (waits r (waiter_at r member request timeout)) (Some request.id.conn) request.partition member
 
 abbrev pub handled : Object Request Partition → List CallId → Run → Connection → Item → Run
 handled o skips r connection (Reply bytes) = told r connection.conn bytes
-handled o skips r connection (Asks request) = asks o skips r (arrival_at r connection.member request)
-handled o skips r connection (Wait request timeout) = told r connection.conn (unserved request.correlation)
+handled o skips r connection (Asks request) = calls o skips r connection.member request
+handled o skips r connection (Wait request timeout) = begins_to_wait o skips r connection.member request timeout
 handled o skips r connection (Register registration) = registers o r connection.conn connection.member registration
 
 abbrev pub handled_all : Object Request Partition → List CallId → Run → Connection → List Item → Run
@@ -391,6 +498,10 @@ next_line r = record r { lines = r.lines + 1 }
 abbrev pub clock_set : Run → ℕ → ℕ → Run
 clock_set r member moment = record r { lines = r.lines + 1; moments = slice_set r.moments member moment }
 
+-- Then who waits there may have turns, in order of partition.
+abbrev pub clock_turned : Object Request Partition → List CallId → Run → ℕ → ℕ → Run
+clock_turned o skips r member moment = served_in o skips (clock_set r member moment) member (numbers_below partitions)
+
 abbrev pub opened : Run → ℕ → ℕ → Run
 opened r c member = record r { lines = r.lines + 1; connections = r.connections ++ record { conn = c; member = member; bytes = [] } ∷ [] }
 
@@ -404,10 +515,10 @@ items_by connection bytes = drop (length (items_on connection)) (items_on (with_
 abbrev pub took_bytes : Run → Connection → List ℕ → Run
 took_bytes r connection bytes = record r { lines = r.lines + 1; connections = updated (with_bytes connection bytes) r.connections }
 
--- Bytes on a closed connection, or to a member that crashed, do nothing. Others may complete messages, whose items are handled in order.
+-- Bytes on a closed connection, or to a member that crashed, do nothing. Others may complete messages, whose items are handled in order, and may then close their connection.
 abbrev pub bytes_arrived : Object Request Partition → List CallId → Run → Connection → List ℕ → Run
 bytes_arrived o skips r connection bytes =
-    if takes_bytes o r connection then handled_all o skips (took_bytes r connection bytes) connection (items_by connection bytes)
+    if takes_bytes o r connection then forsaken (handled_all o skips (took_bytes r connection bytes) connection (items_by connection bytes)) connection.conn
     else next_line r
 
 -- A connection is opened once, to a member that lives.

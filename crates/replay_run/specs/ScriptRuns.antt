@@ -15,7 +15,9 @@ use Rattle.listeners.specs.declared.listener.Listener.{Listener}
 use Rattle.session_core.specs.Places.{partition_of_key}
 use Rattle.session_core.specs.declared.item.Item.{Item}
 use Rattle.session_core.specs.declared.item.Item.TheVariants.{Call as Asks, Wait, Register, Reply}
-use Rattle.replay_run.specs.Runs.{Run, Connection, Arrival, begun, connection_of, messages_on, next_line, clock_set, opened, with_bytes, took_bytes, listener_registered, told, arrived, occurred, given_up, asked, handled_all, arrival_at}
+use Rattle.partition_protocol.specs.Execution.{Reached}
+use Rattle.replay_run.specs.Endings.{AreAmong, new_arrivals}
+use Rattle.replay_run.specs.Runs.{Run, Connection, Arrival, Waiter, begun, connection_of, messages_on, next_line, clock_set, opened, with_bytes, took_bytes, listener_registered, told, arrived, occurred, given_up, asked, handled_all, arrival_at, waits, without, ending, leaves, refused_at}
 
 -- the partition that has a call's object: a map's entry is where its key is, and a queue where it was asked for
 abbrev pub home_of : GridCall → ℕ → ℕ
@@ -30,13 +32,15 @@ pub record IsPlaced (request : Request) : Type 0 where
   pub own : home request ≡ request.partition
   pub within : request.partition < PARTITIONS
 
--- A call on this connection may be asked now and have this number: the calls so far of the connection have smaller ones, and those of the line are on it.
+-- A call on this connection may arrive now and have this number: the calls so far of the connection, waiting or not, have smaller ones, and those of the line are on it.
 pub record MayAsk (r : Run) (connection : Connection) (number : ℕ) : Type 0 where
   pub there : connection_of r connection.conn ≡ Some connection
   pub after : (a : Arrival) → Contains r.arrivals a → a.request.id.conn ≡ connection.conn → a.request.id.number < number
   pub of_line : (a : Arrival) → Contains r.arrivals a → a.line ≡ r.lines → a.request.id.conn ≡ connection.conn
+  pub after_waiters : (w : Waiter) → Contains r.waiters w → w.request.id.conn ≡ connection.conn → w.request.id.number < number
+  pub waiters_of_line : (w : Waiter) → Contains r.waiters w → w.line ≡ r.lines → w.request.id.conn ≡ connection.conn
 
--- The call is one of the messages of its connection, and may be asked now.
+-- The call is one of the messages of its connection, and may arrive now.
 pub record IsNext (r : Run) (request : Request) : Type 0 where
   pub connection : Connection
   pub on : request.id.conn ≡ connection.conn
@@ -59,12 +63,18 @@ pub data IsRun (o : Object Request Partition) : Run → Type 0 where
   -- a call that makes no event and isn't answered
   call_arrived : (r : Run) (member : ℕ) (request : Request) → IsRun o r → IsNext r request → IsRun o (arrived r (arrival_at r member request) [] [])
   run_given_up : (r : Run) → IsRun o r → IsRun o (given_up r)
-  call_asked : (skips : List CallId) (r : Run) (member : ℕ) (request : Request) → IsRun o r → IsNext r request → IsRun o (asked o skips r (arrival_at r member request))
+  call_asked : (skips : List CallId) (r : Run) (own : Option ℕ) (member : ℕ) (request : Request) → IsRun o r → IsNext r request → IsRun o (asked o skips r own (arrival_at r member request))
+  -- a waiting call arrives
+  waiter_came : (r : Run) (member : ℕ) (request : Request) (deadline : Option ℕ) → IsRun o r → IsNext r request → IsRun o (waits r (record { line = r.lines; member = member; request = request; deadline = deadline }))
+  -- its plain call is made, or it is refused, or it leaves without an answer
+  waiter_asked : (skips : List CallId) (r : Run) (own : Option ℕ) (w : Waiter) → IsRun o r → Contains r.waiters w → IsRun o (asked o skips (without r w) own (ending r w))
+  waiter_refused : (r : Run) (w : Waiter) (why : Reached) → IsRun o r → Contains r.waiters w → IsRun o (arrived (without r w) (ending r w) [] (refused_at r.lines w.request why))
+  waiter_left : (r : Run) (w : Waiter) → IsRun o r → Contains r.waiters w → IsRun o (leaves r w)
 
--- the names of the calls among items, but for those that wait, which make no call yet
+-- the names of the calls among items, waiting or not
 abbrev pub call_in : Item → Option CallId
 call_in (Asks request) = Some request.id
-call_in (Wait request timeout) = None
+call_in (Wait request timeout) = Some request.id
 call_in (Register registration) = None
 call_in (Reply bytes) = None
 
@@ -75,5 +85,5 @@ calls_in items = filter_map call_in items
 pub record IsMidway (o : Object Request Partition) (r : Run) (connection : Connection) (bytes : List ℕ) (done : List Item) (skips : List CallId) (now : Run) : Type 0 where
   pub run : IsRun o now
   pub is : now ≡ handled_all o skips (took_bytes r connection bytes) connection done
-  pub own : (id : CallId) → Contains skips id → Contains (calls_in done) id
+  pub own : AreAmong (new_arrivals r now) skips
   pub may : MayAsk now (with_bytes connection bytes) (length (messages_on connection) + length done)

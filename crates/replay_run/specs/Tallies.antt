@@ -14,6 +14,12 @@ tallied Taken t = record { arrived = t.arrived + 1; refused = t.refused; memory 
 tallied Refused t = record { arrived = t.arrived + 1; refused = t.refused + 1; memory = t.memory }
 tallied OutOfMemory t = record { arrived = t.arrived + 1; refused = t.refused; memory = t.memory + 1 }
 
+-- of a call that arrived earlier, and waited
+abbrev pub tallied_later : Reception → Tally → Tally
+tallied_later Taken t = t
+tallied_later Refused t = record { arrived = t.arrived; refused = t.refused + 1; memory = t.memory }
+tallied_later OutOfMemory t = record { arrived = t.arrived; refused = t.refused; memory = t.memory + 1 }
+
 -- of a call whose event appended these refusals
 abbrev pub received : List Appended → Reception
 received [] = Taken

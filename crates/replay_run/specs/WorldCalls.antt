@@ -1,5 +1,5 @@
 -- What a call does to its partition's world, and the messages that it makes.
-use Rattle.std.specs.Prelude.{◌≡◌, ◌≢◌, ℕ, ◌+◌, ◌-◌, ◌*◌, ◌<◌, ◌≤◌, ◌^◌, Bool, true, false, if◌then◌else◌, is_none, option_and_then, pos, List, length, filter, [], ◌∷◌, ◌++◌, Option, Some, None, slice_get, Contains}
+use Rattle.std.specs.Prelude.{◌≡◌, ◌≢◌, ℤ, ℕ, ◌+◌, ◌-◌, ◌*◌, ◌<◌, ◌≤◌, ◌^◌, Bool, true, false, if◌then◌else◌, is_none, option_and_then, pos, List, length, filter, [], ◌∷◌, ◌++◌, Option, Some, None, slice_get, Contains}
 use Rattle.std.specs.List.{flat_map}
 use Rattle.grid_base.specs.declared.names.CallId.{CallId}
 use Rattle.grid_base.specs.declared.calls.Request.{Request}
@@ -35,10 +35,11 @@ use Rattle.call_engine.specs.Objects.{partition_object}
 use Rattle.grid_base.specs.Errors.{want_of_memory}
 use Rattle.grid_base.specs.Limits.{CallFits}
 use Rattle.session_core.specs.declared.item.Item.{Item}
-use Rattle.session_core.specs.declared.item.Item.TheVariants.{Call as Asks}
-use Rattle.replay_run.specs.Runs.{Run, Connection, Arrival, Appended, partitions, connection_of, messages_on, takes_bytes, took_bytes, told, refusal, refused_by, call_of, arrival_at, items_by, asked, handled_all, event_by, events_at, world_at, is_full, meets_full, occurred, takes_in, goes_out, version_known, adopted_since, messages_at, events_to, rows_known, registers}
-use Rattle.replay_run.specs.Printing.{appended_text, new_messages, outcome_at}
-use Rattle.replay_run.specs.ScriptRuns.{IsRun, IsMidway, calls_in}
+use Rattle.session_core.specs.declared.item.Item.TheVariants.{Call as Asks, Wait}
+use Rattle.replay_run.specs.Runs.{Run, Connection, Arrival, Appended, partitions, connection_of, messages_on, takes_bytes, took_bytes, told, refusal, refused_by, call_of, arrival_at, items_by, asked, handled_all, event_by, events_at, world_at, is_full, served, takes, takes_in, goes_out, version_known, adopted_since, messages_at, events_to, rows_known, registers}
+use Rattle.replay_run.specs.Printing.{appended_text, new_messages, outcome_at, deliveries}
+use Rattle.replay_run.specs.Endings.{AreAmong, new_arrivals}
+use Rattle.replay_run.specs.ScriptRuns.{IsRun, IsMidway}
 use Rattle.replay_run.specs.Tables.{Table, with_answer}
 use Rattle.replay_run.specs.Tallies.{received}
 use Rattle.rebalance.specs.declared.Step.{Step}
@@ -49,9 +50,9 @@ use Rattle.replay_run.specs.Shelves.{grid_meaning}
 use Rattle.replay_run.specs.Grids.{FormOf, GridWorld, StandsForEvents, HasConnections, IsSettled, IsCounting, AreListening, Holds}
 use Rattle.partition_protocol.specs.Recorded.{Recorded}
 
--- the call of a request that reaches a member at a line, at the member's moment
+-- the call of a request that arrives and reaches a member at a line, at the member's moment
 abbrev pub arrival_to : ℕ → ℕ → ℕ → Request → Arrival
-arrival_to line member now request = record { line = line; member = member; now = now; request = request }
+arrival_to line member now request = record { line = line; made = line; member = member; now = now; request = request; waits = false }
 
 -- the message that refuses a call, if it is refused
 abbrev pub refusals : ℕ → Request → Option Refusal → List Appended
@@ -66,20 +67,20 @@ pub record IsCalled (settings : Settings) (old new : GridWorld) (events : List (
   pub stands : StandsForEvents settings new (events ++ call_of a ∷ [])
   pub setup : setup_of new ≡ setup_of old
   pub waiting : (member : ℕ) → waiting new member ≡ waiting old member ++ released_at (partition_object settings) (change_of settings) (run_of (grid_meaning settings) old events) (call_of a) member
-  pub text : added ≡ texts_of (refused_by a.line a.request (happens (partition_object settings) (run_of (grid_meaning settings) old events) (call_of a)).outcome)
+  pub text : added ≡ texts_of (refused_by a.made a.request (happens (partition_object settings) (run_of (grid_meaning settings) old events) (call_of a)).outcome)
 
 -- The call found no memory, is no event and was answered so.
 pub record IsSkipped (settings : Settings) (old new : GridWorld) (events : List (Event Request)) (a : Arrival) (added : List ℕ) : Type 0 where
   pub stands : StandsForEvents settings new events
   pub setup : setup_of new ≡ setup_of old
   pub waiting : (member : ℕ) → waiting new member ≡ waiting old member
-  pub text : added ≡ texts_of (refusal a.line a.request (pos want_of_memory) 0 ∷ [])
+  pub text : added ≡ texts_of (refusal a.made a.request (pos want_of_memory) 0 ∷ [])
 
 -- and so it was told
 
 pub record IsCalledSo (settings : Settings) (old new : GridWorld) (events : List (Event Request)) (a : Arrival) (added : List ℕ) (reception : Reception) : Type 0 where
   pub called : IsCalled settings old new events a added
-  pub so : reception ≡ received (refused_by a.line a.request (happens (partition_object settings) (run_of (grid_meaning settings) old events) (call_of a)).outcome)
+  pub so : reception ≡ received (refused_by a.made a.request (happens (partition_object settings) (run_of (grid_meaning settings) old events) (call_of a)).outcome)
 
 pub record IsSkippedSo (settings : Settings) (old new : GridWorld) (events : List (Event Request)) (a : Arrival) (added : List ℕ) (reception : Reception) : Type 0 where
   pub skipped : IsSkipped settings old new events a added
@@ -132,10 +133,10 @@ reaching_of settings r p member = record { line = r.lines; partition = p; member
 pub record HasAsked {V : Type 0} {T : V → Type 0} (form : FormOf V T) (settings : Settings) (new : Grid V T) (r : Run) (member : ℕ) (request : Request) (written text : List ℕ) : Type 0 where
   pub skips : List CallId
   pub its_own : (id : CallId) → Contains skips id → request.id ≡ id
-  pub holds : Holds form settings new (asked (partition_object settings) skips r (arrival_at r member request))
-  pub listeners : AreListening new.listeners.items (asked (partition_object settings) skips r (arrival_at r member request)) (Some request.id.conn)
-  pub counting : IsCounting new.connections (asked (partition_object settings) skips r (arrival_at r member request)) request.id.conn (request.id.number + 1)
-  pub added : text ≡ written ++ texts_of (new_messages r (asked (partition_object settings) skips r (arrival_at r member request)))
+  pub holds : Holds form settings new (asked (partition_object settings) skips r (Some request.id.conn) (arrival_at r member request))
+  pub listeners : AreListening new.listeners.items (asked (partition_object settings) skips r (Some request.id.conn) (arrival_at r member request)) (Some request.id.conn)
+  pub counting : IsCounting new.connections (asked (partition_object settings) skips r (Some request.id.conn) (arrival_at r member request)) request.id.conn (request.id.number + 1)
+  pub added : text ≡ written ++ texts_of (new_messages r (asked (partition_object settings) skips r (Some request.id.conn) (arrival_at r member request)))
   -- its partition wasn't full
   pub goes : is_full (world_at (partition_object settings) r request.partition) ≡ false
 
@@ -148,7 +149,7 @@ pub record HasTold {V : Type 0} {T : V → Type 0} (form : FormOf V T) (settings
 
 -- Each partition may have one event more: four bytes count them.
 abbrev pub HasCallRoom : Run → Type 0
-HasCallRoom r = length r.arrivals + most_line_events * r.lines + 1 < 2 ^ 32 - 1
+HasCallRoom r = length r.arrivals + length r.waiters + most_line_events * r.lines + 1 < 2 ^ 32 - 1
 
 -- A registration came on a connection of this number and to this member: it was answered and listens, and what was appended was printed.
 pub record HasRegistered {V : Type 0} {T : V → Type 0} (form : FormOf V T) (settings : Settings) (new : Grid V T) (r : Run) (conn member number : ℕ) (registration : Registration) (written text : List ℕ) : Type 0 where
@@ -167,9 +168,9 @@ pub record IsTo (r : Run) (conn member : ℕ) : Type 0 where
   pub there : connection_of r conn ≡ Some connection
   pub to : connection.member ≡ member
 
--- However many of the bytes' items are calls, no partition has more events than four bytes can count.
+-- However many of the bytes' items are calls, and of the calls that wait are made, no partition has more events than four bytes can count.
 abbrev pub HasRoom : Run → Connection → List ℕ → Type 0
-HasRoom r k bytes = length r.arrivals + length (items_by k bytes) + most_line_events * (r.lines + 1) + 1 < 2 ^ 32 - 1
+HasRoom r k bytes = length r.arrivals + length r.waiters + length (items_by k bytes) + most_line_events * (r.lines + 1) + 1 < 2 ^ 32 - 1
 
 -- the member of a connection, where bytes can arrive on it
 abbrev pub member_if_open : Settings → Run → Connection → Option ℕ
@@ -185,6 +186,7 @@ pub record Brings (settings : Settings) (r : Run) (k : Connection) (bytes : List
   pub reached : k.member < r.members
   pub come : items_by k bytes ≡ items
   pub fit : (q : Request) → Contains items (Asks q) → CallFits q.call
+  pub waits_fit : (q : Request) (timeout : ℤ) → Contains items (Wait q timeout) → CallFits q.call
 
 -- In the midst of a line of bytes: these of its items were handled, and the messages that they appended were printed.
 pub record HasHandledSome {V : Type 0} {T : V → Type 0} (form : FormOf V T) (settings : Settings) (grid : Grid V T) (r : Run) (k : Connection) (bytes : List ℕ) (done : List Item) (written text : List ℕ) : Type 0 where
@@ -199,7 +201,7 @@ pub record HasHandledSome {V : Type 0} {T : V → Type 0} (form : FormOf V T) (s
 -- The run is given up in the midst of a line of bytes: with these of its calls skipped, one of them met a full partition.
 pub record IsGivenUpMidway (settings : Settings) (r : Run) (k : Connection) (bytes : List ℕ) (items : List Item) : Type 0 where
   pub skips : List CallId
-  pub own : (id : CallId) → Contains skips id → Contains (calls_in items) id
+  pub own : AreAmong (new_arrivals r (handled_all (partition_object settings) skips (took_bytes r k bytes) k items)) skips
   pub full : (handled_all (partition_object settings) skips (took_bytes r k bytes) k items).full ≡ true
 
 -- events
@@ -217,6 +219,7 @@ line_of_fate (Detect member) = line.Detect member
 -- a line at which nothing happens in a partition
 abbrev pub is_quiet : Line → Bool
 is_quiet (line.Arrive c bytes) = false
+is_quiet (line.Clock member moment) = false
 is_quiet (line.Flow partition most) = false
 is_quiet (line.FlowAll most) = false
 is_quiet (line.Crash member) = false
@@ -224,9 +227,9 @@ is_quiet (line.Detect member) = false
 is_quiet (line.Rebalance most) = false
 is_quiet line = is_none (event_by line)
 
--- A partition may have so many events more: four bytes count them.
+-- A partition may have so many events more, and those of all calls that wait: four bytes count them.
 abbrev pub HasRoomAt : Run → ℕ → ℕ → Type 0
-HasRoomAt r p most = length (events_at p r.events) + most + 1 < 2 ^ 32
+HasRoomAt r p most = length (events_at p r.events) + length r.waiters + most + 1 < 2 ^ 32
 
 -- In the midst of a line of events: the grid has what the run has by then, and every message was handled.
 pub record IsAmid {V : Type 0} {T : V → Type 0} (form : FormOf V T) (settings : Settings) (grid : Grid V T) (r : Run) : Type 0 where
@@ -242,20 +245,39 @@ pub record HasGoneOn {V : Type 0} {T : V → Type 0} (form : FormOf V T) (settin
   pub appended : next.appended ≡ r.appended ++ messages
   pub added : text ≡ written ++ texts_of messages
 
--- The event has happened.
+-- what a run goes on to, by the calls that find no memory
+abbrev pub Onward : Type 0
+Onward = List CallId → Run
+
+-- The run has gone on so, where calls that came to their end found no memory.
+pub record HasGoneOnSo {V : Type 0} {T : V → Type 0} (form : FormOf V T) (settings : Settings) (new : Grid V T) (r : Run) (onward : Onward) (written text : List ℕ) : Type 0 where
+  pub skips : List CallId
+  pub own : AreAmong (new_arrivals r (onward skips)) skips
+  pub on : HasGoneOn form settings new r (onward skips) written text
+
+-- So it is given up.
+pub record GivesUpSo (r : Run) (onward : Onward) : Type 0 where
+  pub skips : List CallId
+  pub own : AreAmong (new_arrivals r (onward skips)) skips
+  pub full : (onward skips).full ≡ true
+
+-- Those who wait at a member, in a partition, had their turns.
+abbrev pub serving : Settings → Run → Option ℕ → ℕ → ℕ → Onward
+serving settings r own p member skips = served (partition_object settings) skips r own p member
+
+-- The event has happened, and those whom it stirred had their turns.
 pub record HasTaken {V : Type 0} {T : V → Type 0} (form : FormOf V T) (settings : Settings) (new : Grid V T) (r : Run) (p : ℕ) (event : Event Request) (happened : Happened) (written text : List ℕ) : Type 0 where
-  pub goes : meets_full (world_at (partition_object settings) r p) event ≡ false
-  pub on : HasGoneOn form settings new r (occurred (partition_object settings) r p event) written text
+  pub on : HasGoneOnSo form settings new r (λ skips. takes (partition_object settings) skips r p event) written text
   pub outcome : happened_of happened ≡ outcome_at (partition_object settings) r p event
 
 -- Messages were delivered, each by an event.
-pub record HasFlowed {V : Type 0} {T : V → Type 0} (form : FormOf V T) (settings : Settings) (new : Grid V T) (r next : Run) (deliveries : ℕ) (written text : List ℕ) : Type 0 where
-  pub on : HasGoneOn form settings new r next written text
-  pub events : length next.events ≡ length r.events + deliveries
+pub record HasFlowed {V : Type 0} {T : V → Type 0} (form : FormOf V T) (settings : Settings) (new : Grid V T) (r : Run) (onward : Onward) (number : ℕ) (written text : List ℕ) : Type 0 where
+  pub on : HasGoneOnSo form settings new r onward written text
+  pub deliveries : deliveries r (onward on.skips) ≡ number
 
 -- It happened in the first partition and in all others.
 pub record HasTakenInAll {V : Type 0} {T : V → Type 0} (form : FormOf V T) (settings : Settings) (new : Grid V T) (r : Run) (event : Event Request) (first : Happened) (written text : List ℕ) : Type 0 where
-  pub on : HasGoneOn form settings new r (takes_in (partition_object settings) r event (numbers_below partitions)) written text
+  pub on : HasGoneOnSo form settings new r (λ skips. takes_in (partition_object settings) skips r event (numbers_below partitions)) written text
   pub outcome : happened_of first ≡ outcome_at (partition_object settings) r 0 event
 
 -- steps of a plan
@@ -271,5 +293,7 @@ HasNoSteps planned = (most : ℕ) → first_steps most planned ≡ []
 
 -- The steps were run, and what each appended was printed, and how it ended.
 pub record HasStepped {V : Type 0} {T : V → Type 0} (form : FormOf V T) (settings : Settings) (new : Grid V T) (r : Run) (steps : List Step) (written text : List ℕ) : Type 0 where
-  pub amid : IsAmid form settings new (stepped_all (partition_object settings) r steps)
-  pub added : text ≡ written ++ ran_texts (partition_object settings) r steps
+  pub skips : List CallId
+  pub own : AreAmong (new_arrivals r (stepped_all (partition_object settings) skips r steps)) skips
+  pub amid : IsAmid form settings new (stepped_all (partition_object settings) skips r steps)
+  pub added : text ≡ written ++ ran_texts (partition_object settings) skips r steps

@@ -11,14 +11,15 @@ ghost use Rattle.call_engine.specs.Objects.{partition_object};
 ghost use Rattle.partition_world.specs.Events.{happened_of};
 ghost use Rattle.grid_base.specs.Shelves.{meaning};
 ghost use Rattle.partition_world.specs.Worlds.{steps_of, waiting};
-ghost use Rattle.replay_run.specs.Runs.{Run, Connection as RunConnection, partitions, call_of, refused_by, connection_of, fault_on, is_full, world_at, unserved};
+ghost use Rattle.replay_run.specs.Runs.{Run, Connection as RunConnection, partitions, call_of, refused_by, connection_of, fault_on, is_full, world_at};
 ghost use Rattle.replay_run.specs.Printing.{appended_text};
 ghost use Rattle.replay_run.specs.Rebalancing.{most_line_events};
 ghost use Rattle.replay_run.specs.Tables.{with_answer};
 ghost use Rattle.replay_run.specs.Tallies.{received, tallied};
 ghost use Rattle.replay_run.specs.ScriptRuns.{IsRun, IsNext};
 ghost use Rattle.replay_run.specs.Grids.{boxed, AreFew, AreListening, Stands, StandsForEvents, Holds, IsCounting, MayRun, HasRun, IsGivenUp};
-ghost use Rattle.replay_run.specs.WorldCalls.{arrival_to, refusals, texts_of, IsCalledSo, IsSkippedSo, HasAsked, HasTold, HasCallRoom, HasRoom, open_member_in, Brings, HasHandledSome, IsGivenUpMidway};
+ghost use Rattle.replay_run.specs.WaiterCalls.{IsBetween, HasHandledCall, by_call};
+ghost use Rattle.replay_run.specs.WorldCalls.{GivesUpSo, arrival_to, refusals, texts_of, IsCalledSo, IsSkippedSo, HasAsked, HasTold, HasCallRoom, HasRoom, open_member_in, Brings, HasHandledSome, IsGivenUpMidway};
 ghost use Rattle.replay_run.specs.declared.run_end.RunEnd.TheVariants as RunEnds;
 
 use crate::grid::Grid;
@@ -30,20 +31,21 @@ use crate::tally::Reception;
 use call_engine::{GridEnv, GridShelf};
 use client_codecs::write_error;
 use frame_codec::Malformed;
-use grid_base::errors::{UNKNOWN_TYPE, WANT_OF_MEMORY};
+use grid_base::errors::WANT_OF_MEMORY;
 use grid_base::{Bytes, MemberId, Memory, Moment, Request};
 use listeners::Listeners;
 use partition_world::{CallOutcome, Event, Happened, Recorder, World};
 use script_lang::Line;
 use session_core::Item;
 use std::alloc::Global;
+use wait_lists::Spot;
 
 /// The error that answers a call which was not run: its number, and the version of the row that its
 /// member knows.
 #[derive(Clone, Copy, Debug, PartialEq, Eq)]
-struct Refusal {
-    code: i32,
-    version: u32,
+pub(crate) struct Refusal {
+    pub(crate) code: i32,
+    pub(crate) version: u32,
 }
 
 /// A call found no memory.
@@ -77,14 +79,14 @@ fn reception_of(refusal: Option<Refusal>) -> Reception
 
 /// What an error that answers a call carries of it.
 #[derive(Clone, Copy)]
-struct Caller {
-    line: u32,
-    conn: u32,
-    correlation: i64,
+pub(crate) struct Caller {
+    pub(crate) line: u32,
+    pub(crate) conn: u32,
+    pub(crate) correlation: i64,
 }
 
 /// Appends the error that refuses a call, if it is refused.
-fn push_refusal(
+pub(crate) fn push_refusal(
     alloc: Global,
     out: &mut Vec<u8>,
     to: Caller,
@@ -102,15 +104,15 @@ fn push_refusal(
 
 /// What a call of a request meets at a member: its moment there, and the line at which it arrives.
 #[derive(Clone, Copy)]
-struct Arriving {
-    line: u32,
-    member: MemberId,
-    now: Moment,
+pub(crate) struct Arriving {
+    pub(crate) line: u32,
+    pub(crate) member: MemberId,
+    pub(crate) now: Moment,
 }
 
 /// A call reaches a member at a line. It is answered at once where it is refused or finds no memory, and what became of
 /// it is told.
-fn call(
+pub(crate) fn call(
     alloc: Global,
     world: &mut World<GridShelf, Recorder<Request>>,
     env: &GridEnv,
@@ -193,6 +195,9 @@ impl Grid {
         self.count(number, out)?;
         self.handle_all(alloc, conn, member, fed.items, out)?;
         forget_closed(&mut self.listeners, conn, member, fed.closed);
+        if fed.closed.is_some() {
+            self.waiters.drop_conn(conn);
+        }
         Ok(push_close(out, number, conn, fed.closed)?)
     }
 
@@ -230,10 +235,8 @@ impl Grid {
         for item in items {
             match item {
                 Item::Reply(answer) => self.tell(alloc, conn, answer, out)?,
-                Item::Wait { request, .. } => {
-                    let correlation = request.correlation;
-                    drop(request);
-                    self.refuse(alloc, conn, correlation, out)?
+                Item::Wait { request, timeout } => {
+                    self.wait(alloc, member, request, timeout, out)?
                 }
                 Item::Register(registration) => {
                     self.register(alloc, conn, member, registration, out)?
@@ -260,24 +263,35 @@ impl Grid {
         push_appended(alloc, out, self.lines, conn, answer.as_slice())
     }
 
-    /// What isn't served yet, a call that waits, is answered on its connection as a message of an unknown type.
-    fn refuse(
+    /// A call arrives at its connection's member and is made, and those who wait there have their turns.
+    fn ask(
         &mut self,
         alloc: Global,
-        conn: u32,
-        correlation: i64,
+        member: MemberId,
+        request: Request,
         out: &mut Vec<u8>,
-    ) -> Result<(), Memory>
-        ensures { (settings : Settings) (r : Run) (number : ℕ) → Holds (boxed form) settings self.old r
-            → AreListening self.old.listeners.items r (Some conn) → IsCounting self.old.connections r conn number
-            → OnOk result (HasTold (boxed form) settings self.new r conn number (unserved correlation) out.old.items out.new.items) }
+    ) -> Result<(), RunEnd>
+        requires limits { CallFits request.call }
+        requires placed { request.partition < partitions }
+        requires member { member < self.old.members }
+        requires stands { (settings : Settings) × (r : Run) × IsBetween (boxed form) settings self.old r (Some request.id.conn) × IsNext r request × HasCallRoom r × AreFew r }
+        ensures ok { (settings : Settings) (r : Run) → IsBetween (boxed form) settings self.old r (Some request.id.conn) → IsNext r request
+            → IsCounting self.old.connections r request.id.conn request.id.number
+            → OnOk result (HasHandledCall (boxed form) settings self.new r request.id.conn (request.id.number + 1) (by_call settings r member request) out.old.items out.new.items) }
+        ensures full { (settings : Settings) (r : Run) → IsBetween (boxed form) settings self.old r (Some request.id.conn) → IsNext r request
+            → IsErrOf result RunEnds.InFlight → GivesUpSo r (by_call settings r member request) }
     {
-        let error = write_error(alloc, correlation, UNKNOWN_TYPE, 0, 0)?;
-        self.tell(alloc, conn, error, out)
+        let conn = request.id.conn;
+        let at = Spot {
+            member,
+            partition: request.partition,
+        };
+        self.admit(alloc, member, request, out)?;
+        self.make_turns(alloc, at, Some(conn), out)
     }
 
-    /// A call arrives at its connection's member. A full partition takes none.
-    fn ask(
+    /// A call arrives at its connection's member and is made. A full partition takes none.
+    fn admit(
         &mut self,
         alloc: Global,
         member: MemberId,

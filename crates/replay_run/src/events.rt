@@ -11,9 +11,9 @@ ghost use Rattle.call_engine.specs.Calls.{Settings};
 ghost use Rattle.call_engine.specs.Objects.{partition_object};
 ghost use Rattle.script_lang.specs.declared.line.Line.{Line as ScriptLine};
 ghost use Rattle.script_lang.specs.declared.line.Line.TheVariants as ScriptLines;
-ghost use Rattle.replay_run.specs.Runs.{Run, partitions, taker_of, world_at, meets_full, event_by, delivery_on, flowed, flowed_in, takes_in, reopening_by};
+ghost use Rattle.replay_run.specs.Runs.{Run, partitions, taker_of, world_at, meets_full, event_by, delivery_on, flowed, flowed_in, takes, takes_in, reopening_by};
 ghost use Rattle.replay_run.specs.Grids.{boxed, Stands, MayRun, HasRun, IsGivenUp};
-ghost use Rattle.replay_run.specs.WorldCalls.{HasRoomAt, IsAmid, HasTaken, HasFlowed, HasTakenInAll, reaching_of, event_in_all, line_of_fate};
+ghost use Rattle.replay_run.specs.WorldCalls.{GivesUpSo, HasRoomAt, IsAmid, HasTaken, HasFlowed, HasTakenInAll, reaching_of, event_in_all, line_of_fate};
 ghost use Rattle.replay_run.specs.declared.run_end.RunEnd.TheVariants as RunEnds;
 
 use crate::grid::Grid;
@@ -23,10 +23,12 @@ use crate::outgoing::{Reaching, append_reached, version_known};
 use crate::print::push_text;
 use crate::reopened::Reopened;
 use crate::run_end::RunEnd;
+use crate::waiting::stirred_by;
 use grid_base::{MemberId, Memory, PARTITIONS, PartitionId, Request, Shelf};
 use partition_world::{Event, Happened, Link, Records, World};
 use script_lang::Line;
 use std::alloc::Global;
+use wait_lists::Spot;
 
 /// What happens to a member in all partitions.
 #[derive(Clone, Copy)]
@@ -181,7 +183,7 @@ impl Grid {
         requires unasked { asked_by (event_of event) ≡ [] }
         requires stands { (settings : Settings) × (r : Run) × IsAmid (boxed form) settings self.old r × HasRoomAt r partition 1 }
         ensures ok { (settings : Settings) (r : Run) → IsAmid (boxed form) settings self.old r → IfOk result (λ happened. HasTaken (boxed form) settings self.new r partition (event_of event) happened out.old.items out.new.items) }
-        ensures full { (settings : Settings) (r : Run) → IsAmid (boxed form) settings self.old r → IsErrOf result RunEnds.InFlight → meets_full (world_at (partition_object settings) r partition) (event_of event) ≡ true }
+        ensures full { (settings : Settings) (r : Run) → IsAmid (boxed form) settings self.old r → IsErrOf result RunEnds.InFlight → GivesUpSo r (λ skips. takes (partition_object settings) skips r partition (event_of event)) }
     {
         let reaching = self.reaching(partition, &event);
         let world = &mut self.worlds[usize::from(partition)];
@@ -189,6 +191,7 @@ impl Grid {
             return Err(RunEnd::InFlight);
         }
         let reopens = matches!(event, Event::Reopen);
+        let stirred = stirred_by(&event);
         let happened = world.step(alloc, &self.env, event)?;
         if let Some(at) = reaching {
             append_reached(
@@ -201,6 +204,11 @@ impl Grid {
             )?;
         }
         self.note_reopening(partition, reopens, happened)?;
+        if let Some(member) = stirred {
+            if member < self.members {
+                self.make_turns(alloc, Spot { member, partition }, None, out)?;
+            }
+        }
         Ok(happened)
     }
 
@@ -257,9 +265,9 @@ impl Grid {
         requires placed { partition < partitions }
         requires stands { (settings : Settings) × (r : Run) × IsAmid (boxed form) settings self.old r × HasRoomAt r partition most }
         ensures ok { (settings : Settings) (r : Run) → IsAmid (boxed form) settings self.old r
-            → IfOk result (λ deliveries. HasFlowed (boxed form) settings self.new r (flowed (partition_object settings) r partition most) deliveries out.old.items out.new.items) }
+            → IfOk result (λ deliveries. HasFlowed (boxed form) settings self.new r (λ skips. flowed (partition_object settings) skips r partition most) deliveries out.old.items out.new.items) }
         ensures most { IfOk result (λ deliveries. deliveries ≤ most) }
-        ensures full { (settings : Settings) (r : Run) → IsAmid (boxed form) settings self.old r → IsErrOf result RunEnds.InFlight → (flowed (partition_object settings) r partition most).full ≡ true }
+        ensures full { (settings : Settings) (r : Run) → IsAmid (boxed form) settings self.old r → IsErrOf result RunEnds.InFlight → GivesUpSo r (λ skips. flowed (partition_object settings) skips r partition most) }
     {
         let mut deliveries = 0;
         'deliveries: while deliveries < most {
@@ -298,8 +306,8 @@ impl Grid {
         requires most { most ≤ 1000 }
         requires stands { (settings : Settings) × (r : Run) × IsAmid (boxed form) settings self.old r × ((p : ℕ) → HasRoomAt r p most) }
         ensures ok { (settings : Settings) (r : Run) → IsAmid (boxed form) settings self.old r
-            → IfOk result (λ deliveries. HasFlowed (boxed form) settings self.new r (flowed_in (partition_object settings) r most (numbers_below partitions)) deliveries out.old.items out.new.items) }
-        ensures full { (settings : Settings) (r : Run) → IsAmid (boxed form) settings self.old r → IsErrOf result RunEnds.InFlight → (flowed_in (partition_object settings) r most (numbers_below partitions)).full ≡ true }
+            → IfOk result (λ deliveries. HasFlowed (boxed form) settings self.new r (λ skips. flowed_in (partition_object settings) skips r most (numbers_below partitions)) deliveries out.old.items out.new.items) }
+        ensures full { (settings : Settings) (r : Run) → IsAmid (boxed form) settings self.old r → IsErrOf result RunEnds.InFlight → GivesUpSo r (λ skips. flowed_in (partition_object settings) skips r most (numbers_below partitions)) }
     {
         let mut deliveries = 0;
         for partition in 0..PARTITIONS {
@@ -336,7 +344,7 @@ impl Grid {
     ) -> Result<Happened, RunEnd>
         requires { (settings : Settings) × (r : Run) × IsAmid (boxed form) settings self.old r × ((p : ℕ) → HasRoomAt r p 1) }
         ensures ok { (settings : Settings) (r : Run) → IsAmid (boxed form) settings self.old r → IfOk result (λ first. HasTakenInAll (boxed form) settings self.new r (event_in_all fate) first out.old.items out.new.items) }
-        ensures full { (settings : Settings) (r : Run) → IsAmid (boxed form) settings self.old r → IsErrOf result RunEnds.InFlight → (takes_in (partition_object settings) r (event_in_all fate) (numbers_below partitions)).full ≡ true }
+        ensures full { (settings : Settings) (r : Run) → IsAmid (boxed form) settings self.old r → IsErrOf result RunEnds.InFlight → GivesUpSo r (λ skips. takes_in (partition_object settings) skips r (event_in_all fate) (numbers_below partitions)) }
     {
         let mut first = Happened::Nothing;
         for partition in 0..PARTITIONS {

@@ -21,6 +21,7 @@ use listeners::Listeners;
 use partition_world::{Link, Recorder, World};
 use script_lang::Line;
 use std::alloc::Global;
+use wait_lists::WaitLists;
 
 /// The worlds of all partitions, the connections to their members and who listens on them, each member's clock, and how
 /// many lines were run.
@@ -40,6 +41,8 @@ pub struct Grid {
     /// Those of each partition.
     pub(crate) links: Vec<Link>,
     pub(crate) worlds: Vec<World<GridShelf, Recorder<Request>>>,
+    /// The calls that wait.
+    pub(crate) waiters: WaitLists,
 }
 
 /// Nobody listens to any of the members.
@@ -85,6 +88,7 @@ impl Grid {
             reopened: Vec::new(alloc),
             links: links_of(alloc, members)?,
             worlds,
+            waiters: WaitLists::new(alloc, members)?,
         })
     }
 
@@ -154,6 +158,9 @@ impl Grid {
             Line::FlowAll { most } => self.flow_all(alloc, number, *most, out),
             Line::Crash { member } => self.run_fate(alloc, number, Fate::Crash(*member), out),
             Line::Detect { member } => self.run_fate(alloc, number, Fate::Detect(*member), out),
+            Line::Clock { member, moment } => {
+                self.set_clock(alloc, number, *member, *moment, out)
+            }
             Line::Rebalance { most } => self.rebalance(alloc, number, *most, out),
             _ => Ok(self.run_quiet_line(alloc, number, line, out)?),
         }
@@ -173,7 +180,6 @@ impl Grid {
     {
         match line {
             Line::OpenConn { conn, member } => self.open(alloc, number, *conn, *member, out),
-            Line::Clock { member, moment } => self.set_clock(number, *member, *moment, out),
             Line::Dump { partition, member } => {
                 self.dump(alloc, number, *partition, *member, out)
             }
@@ -230,18 +236,21 @@ impl Grid {
         self.count(number, out)
     }
 
-    /// `clock M T`: sets a member's clock.
+    /// `clock M T`: sets a member's clock, and makes the turns of its lists.
     fn set_clock(
         &mut self,
+        alloc: Global,
         number: u32,
         member: MemberId,
         moment: Moment,
         out: &mut Vec<u8>,
-    ) -> Result<(), Memory>
+    ) -> Result<(), RunEnd>
         requires { MayRun (boxed form) self.old number (Line.Clock member moment) }
-        ensures { (settings : Settings) (r : Run) → Stands (boxed form) settings self.old r → OnOk result (HasRun (boxed form) settings self.new r (Line.Clock member moment) out.old.items out.new.items) }
+        ensures ok { (settings : Settings) (r : Run) → Stands (boxed form) settings self.old r → OnOk result (HasRun (boxed form) settings self.new r (Line.Clock member moment) out.old.items out.new.items) }
+        ensures full { (settings : Settings) (r : Run) → Stands (boxed form) settings self.old r → IsErrOf result RunEnds.InFlight → IsGivenUp settings r (Line.Clock member moment) }
     {
         self.moments[usize::from(member)] = moment;
-        self.count(number, out)
+        self.count(number, out)?;
+        self.make_turns_of(alloc, member, out)
     }
 }

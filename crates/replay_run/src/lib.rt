@@ -20,6 +20,7 @@ mod registering;
 mod reopened;
 mod run_end;
 mod tally;
+mod waiting;
 
 pub use counts::Counts;
 pub use dumps::{push_decimal, push_value};

@@ -12,7 +12,7 @@ ghost use Rattle.replay_run.specs.Runs.{Run, partitions};
 ghost use Rattle.replay_run.specs.Rebalancing.{is_moving_at, rows_in, marks_in, is_detected_in, detected_in, plan_in, event_begun, first_resends, turned, turned_on, joined, rejoined, stepped, stepped_all, most_line_events};
 ghost use Rattle.replay_run.specs.RebalancingTexts.{kind_word, step_text, steps_text, plan_text, end_word, end_text};
 ghost use Rattle.replay_run.specs.Grids.{boxed, Stands, MayRun, HasRun, IsGivenUp};
-ghost use Rattle.replay_run.specs.WorldCalls.{HasRoomAt, IsAmid, HasGoneOn, MayStep, HasStepped, HasNoSteps};
+ghost use Rattle.replay_run.specs.WorldCalls.{HasRoomAt, IsAmid, HasGoneOnSo, GivesUpSo, MayStep, HasStepped, HasNoSteps};
 ghost use Rattle.replay_run.specs.declared.run_end.RunEnd.TheVariants as RunEnds;
 
 use crate::grid::Grid;
@@ -226,8 +226,8 @@ impl Grid {
         requires placed { partition < partitions }
         requires stands { (settings : Settings) × (r : Run) × IsAmid (boxed form) settings self.old r × HasRoomAt r partition 1 }
         ensures ok { (settings : Settings) (r : Run) → IsAmid (boxed form) settings self.old r
-            → OnOk result (HasGoneOn (boxed form) settings self.new r (first_resends (partition_object settings) r partition) out.old.items out.new.items) }
-        ensures full { (settings : Settings) (r : Run) → IsAmid (boxed form) settings self.old r → IsErrOf result RunEnds.InFlight → (first_resends (partition_object settings) r partition).full ≡ true }
+            → OnOk result (HasGoneOnSo (boxed form) settings self.new r (λ skips. first_resends (partition_object settings) skips r partition) out.old.items out.new.items) }
+        ensures full { (settings : Settings) (r : Run) → IsAmid (boxed form) settings self.old r → IsErrOf result RunEnds.InFlight → GivesUpSo r (λ skips. first_resends (partition_object settings) skips r partition) }
     {
         let first = self.worlds[usize::from(partition)].row().primary();
         let Some(end) = first else {
@@ -248,8 +248,8 @@ impl Grid {
         requires placed { partition < partitions }
         requires stands { (settings : Settings) × (r : Run) × IsAmid (boxed form) settings self.old r × HasRoomAt r partition 1003 }
         ensures ok { (settings : Settings) (r : Run) → IsAmid (boxed form) settings self.old r
-            → OnOk result (HasGoneOn (boxed form) settings self.new r (turned (partition_object settings) r partition) out.old.items out.new.items) }
-        ensures full { (settings : Settings) (r : Run) → IsAmid (boxed form) settings self.old r → IsErrOf result RunEnds.InFlight → (turned (partition_object settings) r partition).full ≡ true }
+            → OnOk result (HasGoneOnSo (boxed form) settings self.new r (λ skips. turned (partition_object settings) skips r partition) out.old.items out.new.items) }
+        ensures full { (settings : Settings) (r : Run) → IsAmid (boxed form) settings self.old r → IsErrOf result RunEnds.InFlight → GivesUpSo r (λ skips. turned (partition_object settings) skips r partition) }
     {
         let service = self.members;
         self.take(alloc, partition, Event::Resend { end: service }, out)?;
@@ -269,8 +269,8 @@ impl Grid {
         requires placed { partition < partitions }
         requires stands { (settings : Settings) × (r : Run) × IsAmid (boxed form) settings self.old r × HasRoomAt r partition 4012 }
         ensures ok { (settings : Settings) (r : Run) → IsAmid (boxed form) settings self.old r
-            → OnOk result (HasGoneOn (boxed form) settings self.new r (turned_on (partition_object settings) r partition MOST_TURNS) out.old.items out.new.items) }
-        ensures full { (settings : Settings) (r : Run) → IsAmid (boxed form) settings self.old r → IsErrOf result RunEnds.InFlight → (turned_on (partition_object settings) r partition MOST_TURNS).full ≡ true }
+            → OnOk result (HasGoneOnSo (boxed form) settings self.new r (λ skips. turned_on (partition_object settings) skips r partition MOST_TURNS) out.old.items out.new.items) }
+        ensures full { (settings : Settings) (r : Run) → IsAmid (boxed form) settings self.old r → IsErrOf result RunEnds.InFlight → GivesUpSo r (λ skips. turned_on (partition_object settings) skips r partition MOST_TURNS) }
     {
         let mut turns = 0;
         'turns: while turns < MOST_TURNS {
@@ -294,8 +294,8 @@ impl Grid {
         requires placed { partition < partitions }
         requires stands { (settings : Settings) × (r : Run) × IsAmid (boxed form) settings self.old r × HasRoomAt r partition 1001 }
         ensures ok { (settings : Settings) (r : Run) → IsAmid (boxed form) settings self.old r
-            → OnOk result (HasGoneOn (boxed form) settings self.new r (joined (partition_object settings) r partition member) out.old.items out.new.items) }
-        ensures full { (settings : Settings) (r : Run) → IsAmid (boxed form) settings self.old r → IsErrOf result RunEnds.InFlight → (joined (partition_object settings) r partition member).full ≡ true }
+            → OnOk result (HasGoneOnSo (boxed form) settings self.new r (λ skips. joined (partition_object settings) skips r partition member) out.old.items out.new.items) }
+        ensures full { (settings : Settings) (r : Run) → IsAmid (boxed form) settings self.old r → IsErrOf result RunEnds.InFlight → GivesUpSo r (λ skips. joined (partition_object settings) skips r partition member) }
     {
         self.take(alloc, partition, Event::BeginJoin { to: member }, out)?;
         self.deliver_first(alloc, partition, MOST_DELIVERIES, out)?;
@@ -313,8 +313,8 @@ impl Grid {
         requires placed { partition < partitions }
         requires stands { (settings : Settings) × (r : Run) × IsAmid (boxed form) settings self.old r × HasRoomAt r partition 1001 }
         ensures ok { (settings : Settings) (r : Run) → IsAmid (boxed form) settings self.old r
-            → OnOk result (HasGoneOn (boxed form) settings self.new r (rejoined (partition_object settings) r partition from Handover) out.old.items out.new.items) }
-        ensures full { (settings : Settings) (r : Run) → IsAmid (boxed form) settings self.old r → IsErrOf result RunEnds.InFlight → (rejoined (partition_object settings) r partition from Handover).full ≡ true }
+            → OnOk result (HasGoneOnSo (boxed form) settings self.new r (λ skips. rejoined (partition_object settings) skips r partition from Handover) out.old.items out.new.items) }
+        ensures full { (settings : Settings) (r : Run) → IsAmid (boxed form) settings self.old r → IsErrOf result RunEnds.InFlight → GivesUpSo r (λ skips. rejoined (partition_object settings) skips r partition from Handover) }
     {
         if self.is_moving(partition) {
             return Ok(());
@@ -334,8 +334,8 @@ impl Grid {
         requires placed { partition < partitions }
         requires stands { (settings : Settings) × (r : Run) × IsAmid (boxed form) settings self.old r × HasRoomAt r partition 1001 }
         ensures ok { (settings : Settings) (r : Run) → IsAmid (boxed form) settings self.old r
-            → OnOk result (HasGoneOn (boxed form) settings self.new r (rejoined (partition_object settings) r partition from kind) out.old.items out.new.items) }
-        ensures full { (settings : Settings) (r : Run) → IsAmid (boxed form) settings self.old r → IsErrOf result RunEnds.InFlight → (rejoined (partition_object settings) r partition from kind).full ≡ true }
+            → OnOk result (HasGoneOnSo (boxed form) settings self.new r (λ skips. rejoined (partition_object settings) skips r partition from kind) out.old.items out.new.items) }
+        ensures full { (settings : Settings) (r : Run) → IsAmid (boxed form) settings self.old r → IsErrOf result RunEnds.InFlight → GivesUpSo r (λ skips. rejoined (partition_object settings) skips r partition from kind) }
     {
         match kind {
             StepKind::Move => Ok(()),
@@ -348,8 +348,8 @@ impl Grid {
         requires placed { step.partition < partitions }
         requires stands { (settings : Settings) × (r : Run) × IsAmid (boxed form) settings self.old r × HasRoomAt r step.partition most_line_events }
         ensures ok { (settings : Settings) (r : Run) → IsAmid (boxed form) settings self.old r
-            → OnOk result (HasGoneOn (boxed form) settings self.new r (stepped (partition_object settings) r step) out.old.items out.new.items) }
-        ensures full { (settings : Settings) (r : Run) → IsAmid (boxed form) settings self.old r → IsErrOf result RunEnds.InFlight → (stepped (partition_object settings) r step).full ≡ true }
+            → OnOk result (HasGoneOnSo (boxed form) settings self.new r (λ skips. stepped (partition_object settings) skips r step) out.old.items out.new.items) }
+        ensures full { (settings : Settings) (r : Run) → IsAmid (boxed form) settings self.old r → IsErrOf result RunEnds.InFlight → GivesUpSo r (λ skips. stepped (partition_object settings) skips r step) }
     {
         let Step {
             partition,
@@ -367,7 +367,7 @@ impl Grid {
         requires placed { step.partition < partitions }
         requires stands { (settings : Settings) × (r : Run) × IsAmid (boxed form) settings self.old r × HasRoomAt r step.partition most_line_events }
         ensures ok { (settings : Settings) (r : Run) → IsAmid (boxed form) settings self.old r → OnOk result (HasStepped (boxed form) settings self.new r (step ∷ []) out.old.items out.new.items) }
-        ensures full { (settings : Settings) (r : Run) → IsAmid (boxed form) settings self.old r → IsErrOf result RunEnds.InFlight → (stepped (partition_object settings) r step).full ≡ true }
+        ensures full { (settings : Settings) (r : Run) → IsAmid (boxed form) settings self.old r → IsErrOf result RunEnds.InFlight → GivesUpSo r (λ skips. stepped (partition_object settings) skips r step) }
     {
         self.run_step(alloc, step, out)?;
         let moving = self.is_moving(step.partition);
@@ -378,7 +378,7 @@ impl Grid {
     fn run_steps(&mut self, alloc: Global, steps: &[Step], out: &mut Vec<u8>) -> Result<(), RunEnd>
         requires { (settings : Settings) × (r : Run) × IsAmid (boxed form) settings self.old r × MayStep r 0 steps.now }
         ensures ok { (settings : Settings) (r : Run) → IsAmid (boxed form) settings self.old r → OnOk result (HasStepped (boxed form) settings self.new r steps.now out.old.items out.new.items) }
-        ensures full { (settings : Settings) (r : Run) → IsAmid (boxed form) settings self.old r → IsErrOf result RunEnds.InFlight → (stepped_all (partition_object settings) r steps.now).full ≡ true }
+        ensures full { (settings : Settings) (r : Run) → IsAmid (boxed form) settings self.old r → IsErrOf result RunEnds.InFlight → GivesUpSo r (λ skips. stepped_all (partition_object settings) skips r steps.now) }
     {
         for place in 0..steps.len() {
             self.run_told(alloc, steps[place], out)?;

@@ -1,7 +1,7 @@
-//! How many calls arrived, and how many of them were refused as they arrived.
+//! How many calls arrived, and how many of them were refused, as they arrived or as they had waited.
 
 ghost use Rattle.std.specs.Prelude.{◌≡◌, ◌+◌, ◌<◌, ◌≤◌, ◌^◌};
-ghost use Rattle.replay_run.specs.Tallies.{no_tally, tallied};
+ghost use Rattle.replay_run.specs.Tallies.{no_tally, tallied, tallied_later};
 
 /// What became of a call as it arrived.
 #[derive(Clone, Copy)]
@@ -30,6 +30,19 @@ impl Tally {
             arrived: 0,
             refused: 0,
             memory: 0,
+        }
+    }
+
+    /// Counts what became of a call that was counted as it arrived, and waited.
+    pub(crate) fn count_later(&mut self, reception: Reception)
+        requires refused { self.old.refused + 1 < 2 ^ 32 }
+        requires memory { self.old.memory + 1 < 2 ^ 32 }
+        ensures { self.new ≡ tallied_later reception self.old }
+    {
+        match reception {
+            Reception::Taken => {}
+            Reception::Refused => self.refused += 1,
+            Reception::OutOfMemory => self.memory += 1,
         }
     }
 

@@ -18,7 +18,6 @@ pub(crate) fn appends(line: &Line) -> bool
         line,
         Line::Grid { .. }
             | Line::OpenConn { .. }
-            | Line::Clock { .. }
             | Line::Dump { .. }
             | Line::Links { .. }
             | Line::Trail { .. }

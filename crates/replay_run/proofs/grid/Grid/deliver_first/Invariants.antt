@@ -11,7 +11,7 @@ abbrev pub invariant-deliveries : goal.invariant-deliveries
 invariant-deliveries g l = record {
   below : l.deliveries ≤ l.most;
   delivered : (settings : Settings) (r : Run) → IsAmid (boxed (λ z. (goal.Processor-dyn g z).form z.1)) settings l.initial.self r
-      → HasDelivered (boxed (λ z. (goal.Processor-dyn g z).form z.1)) settings l.self r l.partition l.most l.deliveries l.initial.out.items l.out.items;
+      → HasDelivered (boxed (λ z. (goal.Processor-dyn g z).form z.1)) settings l.self r l.partition l.deliveries l.initial.out.items l.out.items;
 }
 
 abbrev pub decreases-deliveries : goal.decreases-deliveries

@@ -14,7 +14,7 @@ deliver_first-requires-clause-stands g c =
     let n = c.loop-partition.partition in
     let most = c.args.most in
     let did = c.loop-partition.invariant.flowed c.requires.stands.0 r c.requires.stands.2 in
-    (c.requires.stands.0, flowed_in o r most (numbers_below n), did.on.amid, flow_room o r most n most (c.requires.stands.3 n))
+    (c.requires.stands.0, flowed_in o did.on.skips r most (numbers_below n), did.on.on.amid, flow_room o did.on.skips r most n most (c.requires.stands.3 n))
 
 pub returns-in_err-deliveries-clause-full : goal.returns-in_err-deliveries-clause-full
 returns-in_err-deliveries-clause-full g c = λ settings r amid was.
@@ -23,7 +23,8 @@ returns-in_err-deliveries-clause-full g c = λ settings r amid was.
     let most = c.args.most in
     let did = c.loop-partition.invariant.flowed settings r amid in
     let why = handed_on c.from_residual.result c.in_err-deliveries.field-0.0 InFlight c.from_residual.ensures.1 was in
-    flow_ends o r most n partitions (omega (arith, c.loop-partition-test.true)) (c.in_err-deliveries.ensures.full settings (flowed_in o r most (numbers_below n)) did.on.amid (ap Err why))
+    flow_ends r c.loop-partition.self c.loop-partition.self most n c.loop-partition.deliveries 0 c.args.out.now.items c.loop-partition.out.items did partitions (omega (arith, c.loop-partition-test.true))
+    (c.in_err-deliveries.ensures.full settings (flowed_in o did.on.skips r most (numbers_below n)) did.on.on.amid (ap Err why))
 
 pub loop-partition-preserved : goal.loop-partition-preserved
 loop-partition-preserved g c = record {
@@ -32,8 +33,8 @@ loop-partition-preserved g c = record {
       (let n = c.loop-partition.partition in
       let most = c.args.most in
       let did = c.loop-partition.invariant.flowed settings r amid in
-      one_flowed r c.loop-partition.self c.deliver_first.new.self most n c.loop-partition.deliveries c.in_ok-deliveries.field-0 c.args.out.now.items c.loop-partition.out.items c.deliver_first.new.out.items did
-      (c.in_ok-deliveries.ensures.ok settings (flowed_in (partition_object settings) r most (numbers_below n)) did.on.amid));
+      one_flowed r c.loop-partition.self c.deliver_first.new.self most n c.loop-partition.deliveries c.in_ok-deliveries.field-0 c.args.out.now.items c.loop-partition.out.items did c.deliver_first.new.out.items
+      (c.in_ok-deliveries.ensures.ok settings (flowed_in (partition_object settings) did.on.skips r most (numbers_below n)) did.on.on.amid));
 }
 
 pub returns-clause-ok : goal.returns-clause-ok

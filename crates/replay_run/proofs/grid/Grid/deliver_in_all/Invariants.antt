@@ -12,5 +12,5 @@ abbrev pub invariant-loop-partition : goal.invariant-loop-partition
 invariant-loop-partition g l = record {
   few : l.deliveries ≤ 1000 * l.partition;
   flowed : (settings : Settings) (r : Run) → IsAmid (boxed (λ z. (goal.Processor-dyn g z).form z.1)) settings l.initial.self r
-      → HasFlowed (boxed (λ z. (goal.Processor-dyn g z).form z.1)) settings l.self r (flowed_in (partition_object settings) r l.most (numbers_below l.partition)) l.deliveries l.initial.out.items l.out.items;
+      → HasFlowed (boxed (λ z. (goal.Processor-dyn g z).form z.1)) settings l.self r (λ skips. flowed_in (partition_object settings) skips r l.most (numbers_below l.partition)) l.deliveries l.initial.out.items l.out.items;
 }

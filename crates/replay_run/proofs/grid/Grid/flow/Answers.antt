@@ -24,7 +24,7 @@ pub returns-in_err-deliveries-clause-full : goal.returns-in_err-deliveries-claus
 returns-in_err-deliveries-clause-full g c = λ settings r s was.
     let at_line = next_number c.args.self.now c.args.number (Flow c.args.partition c.args.most) c.requires r s in
     let why = handed_on c.from_residual.result c.in_err-deliveries.field-0.0 InFlight c.from_residual.ensures.1 was in
-    line_given_up settings r (Flow c.args.partition c.args.most)
+    line_given_up settings r (Flow c.args.partition c.args.most) (λ skips. flowed (partition_object settings) skips (next_line r) c.args.partition c.args.most) (λ skips. refl)
     (c.in_err-deliveries.ensures.full settings (next_line r) (counted_amid c.args.self.now r c.args.number s at_line) (ap Err why))
 
 pub returns-clause-ok : goal.returns-clause-ok
@@ -34,14 +34,15 @@ returns-clause-ok g c = λ settings r s.
     let p = c.args.partition in
     let most = c.args.most in
     let o = partition_object settings in
-    let next = flowed o (next_line r) p most in
     let at_line = next_number grid number (Flow p most) c.requires r s in
     let did = c.in_ok-deliveries.ensures.ok settings (next_line r) (counted_amid grid r number s at_line) in
-    let kept = flowed_kept o (next_line r) p most in
-    events_line grid c.deliver_first.new.self r next (Flow p most) s (few_lines grid number (Flow p most) c.requires r s) refl kept (flow_few o r s.few p most c.requires.read.2) (flow_prints settings r next p most)
-    c.new-messages.result.items c.deliver_first.new.out.items did.on
+    let skips = did.on.skips in
+    let next = flowed o skips (next_line r) p most in
+    let kept = flowed_kept o skips (next_line r) p most in
+    events_line grid c.deliver_first.new.self r skips next (Flow p most) s (few_lines grid number (Flow p most) c.requires r s) refl did.on.own kept (flow_few o skips r s.few p most c.requires.read.2) (flow_prints settings r skips next p most)
+    c.new-messages.result.items c.deliver_first.new.out.items did.on.on
     (flow_text number c.in_ok-deliveries.deliveries) c.args.out.now.items c.push_flow.new.out.items c.push_text.new.out.items
     c.new-messages.ensures.items
-    (flow_outcome settings r next number c.in_ok-deliveries.deliveries (at_line ∙ sym kept.lines) did.events)
+    (flow_outcome settings r next number c.in_ok-deliveries.deliveries (at_line ∙ sym kept.lines) did.deliveries)
     c.in_ok-push_flow.ensures
     (c.in_ok-push_text.ensures ∙ ap (λ xs. c.push_flow.new.out.items ++ xs) c.as_slice.ensures.value)

@@ -3,6 +3,7 @@ use Rattle.std.proofs.lemmas.List.{length_push}
 use Rattle.call_engine.specs.declared.env.GridEnv.{GridEnv}
 use Rattle.replay_run.specs.Runs.{begun}
 use Rattle.replay_run.specs.Grids.{GridWorld, IsWorld}
+use Rattle.replay_run.proofs.WaiterLists.{begun_waiters}
 use Rattle.replay_run.proofs.Beginning.{more_worlds, worlds_as, last_world, begun_stands}
 use Rattle.replay_run.proofs.grid.Grid.new.Goals as goal
 use Rattle.call_engine.specs.Env.{settings_of}
@@ -24,5 +25,5 @@ pub returns : goal.returns
 returns g c =
     let some : 1 ≤ c.args.members = c.requires.some in
     let env : GridEnv _ _ = record { registry = c.args.processors.items; capacity = c.args.capacity } in
-    begun_stands _ env c.args.members c.args.backups some (ap (λ list. record { registry = list; capacity = c.args.capacity }) c.new-2.ensures) refl refl c.in_ok-links_of.ensures (c.in_ok-vec.ensures.items_if_clones_equal (λ y e. e) ∙ ap (λ n. replicate n 0) c.from-2.ensures) c.in_ok-new-2.ensures c.new-4.ensures (c.in_ok-nobody.ensures c.args.backups) c.new-5.ensures.items
+    begun_stands _ env c.args.members c.args.backups some (ap (λ list. record { registry = list; capacity = c.args.capacity }) c.new-2.ensures) refl refl c.in_ok-links_of.ensures (c.in_ok-vec.ensures.items_if_clones_equal (λ y e. e) ∙ ap (λ n. replicate n 0) c.from-2.ensures) c.in_ok-new-2.ensures (begun_waiters _ c.args.members c.args.backups c.in_ok-new-3.ensures) c.new-4.ensures (c.in_ok-nobody.ensures c.args.backups) c.new-5.ensures.items
     (λ p below. c.loop-partition.invariant.worlds env p (omega arith))

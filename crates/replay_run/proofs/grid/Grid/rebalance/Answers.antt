@@ -5,8 +5,8 @@ use Rattle.script_lang.specs.declared.line.Line.TheVariants.{Rebalance}
 use Rattle.call_engine.specs.Objects.{partition_object}
 use Rattle.replay_run.specs.Runs.{next_line}
 use Rattle.replay_run.specs.Rebalancing.{plan_in, first_steps, stepped_all, most_line_events}
-use Rattle.replay_run.specs.RebalancingTexts.{steps_text, ran_texts}
-use Rattle.replay_run.specs.WorldCalls.{MayStep}
+use Rattle.replay_run.specs.RebalancingTexts.{steps_text}
+use Rattle.replay_run.specs.WorldCalls.{GivesUpSo, MayStep}
 use Rattle.replay_run.proofs.GridLines.{next_number, few_lines}
 use Rattle.replay_run.proofs.EventLines.{counted_amid, stands_room}
 use Rattle.replay_run.proofs.Planning.{may_step, steps_are_rising}
@@ -46,8 +46,7 @@ returns-in_ok-push_plan-in-Ok-clause-ok g c = λ settings r s.
     on_ok_weaker c.run_steps.result
     (λ ran.
     let did = stepped_as steps ran in
-    planned_line grid c.run_steps.new.self r most s (Balanced plan) planned did.amid number start c.run_steps.new.out.items at_line (few_lines grid number (Rebalance most) c.requires r s)
-    (did.added ∙ ap (λ xs. xs ++ ran_texts o (next_line r) (take most plan.steps)) printed))
+    planned_line grid c.run_steps.new.self r most s (Balanced plan) planned number start _ c.run_steps.new.out.items did at_line (few_lines grid number (Rebalance most) c.requires r s) printed)
     (c.run_steps.ensures.ok settings (next_line r) amid)
 
 pub returns-in_ok-push_plan-in-Ok-clause-full : goal.returns-in_ok-push_plan-in-Ok-clause-full
@@ -59,7 +58,7 @@ returns-in_ok-push_plan-in-Ok-clause-full g c = λ settings r s was.
     let amid = counted_amid grid r c.args.number s (next_number grid c.args.number (Rebalance most) c.requires r s) in
     let planned = gives_plan c.plan.result plan (plan_in o (next_line r)) c.in-Ok.is (c.plan.ensures settings (next_line r) amid) in
     let steps = c.first_steps.ensures ∙ ap (take most) c.as_slice-steps.ensures in
-    planned_full grid c.run_steps.new.self r most s (Balanced plan) planned (ap (λ ss. (stepped_all o (next_line r) ss).full) (sym steps) ∙ c.run_steps.ensures.full settings (next_line r) amid was)
+    planned_full grid c.run_steps.new.self r most s (Balanced plan) planned (subst (λ ss. GivesUpSo (next_line r) (λ skips. stepped_all o skips (next_line r) ss)) steps (c.run_steps.ensures.full settings (next_line r) amid was))
 
 pub returns-in_ok-push_no_plan-in-Err-clause-ok : goal.returns-in_ok-push_no_plan-in-Err-clause-ok
 returns-in_ok-push_no_plan-in-Err-clause-ok g c = λ settings r s.

@@ -1,13 +1,13 @@
-use Rattle.std.proofs.Common.{◌∙◌, ◌++◌, Err, Some, ap, subst, arith}
+use Rattle.std.proofs.Common.{◌∙◌, ◌++◌, Err, Some, sym, ap, arith}
 use Rattle.partition_world.specs.Events.{event_of, happened_of}
 use Rattle.call_engine.specs.Objects.{partition_object}
-use Rattle.replay_run.specs.Runs.{At, next_line, occurred}
+use Rattle.replay_run.specs.Runs.{At, next_line, takes}
 use Rattle.replay_run.specs.Printing.{words_line, words_of}
-use Rattle.replay_run.specs.Grids.{AreFew, most_arriving}
+use Rattle.replay_run.specs.Grids.{most_arriving}
 use Rattle.replay_run.specs.declared.run_end.RunEnd.TheVariants.{InFlight}
 use Rattle.replay_run.proofs.Asking.{handed_on}
 use Rattle.replay_run.proofs.Bounds.{event_line_few}
-use Rattle.replay_run.proofs.EventRuns.{takes_here, occurred_kept}
+use Rattle.replay_run.proofs.EventRuns.{takes_kept}
 use Rattle.replay_run.proofs.GridLines.{next_number, few_lines}
 use Rattle.replay_run.proofs.EventLines.{counted_amid, stands_room, events_line, of_event, event_given_up}
 use Rattle.replay_run.proofs.grid.Grid.run_event.Goals as goal
@@ -43,15 +43,16 @@ returns-clause-ok g c = λ settings r line s is.
     let event = event_of c.args.event in
     let o = partition_object settings in
     let e : At = record { partition = p; event = event } in
-    let next = occurred o (next_line r) p event in
     let its = of_event settings r line e is in
     let at_line = next_number grid number c.requires.0 c.requires.1 r s in
     let taken = c.in_ok-happened.ensures.ok settings (next_line r) (counted_amid grid r number s at_line) in
-    let here = takes_here o (next_line r) p event taken.goes in
-    events_line grid c.take.new.self r next line s (few_lines grid number c.requires.0 c.requires.1 r s) (its.after ∙ here) (occurred_kept o (next_line r) p event) (subst AreFew here (event_line_few o r s.few (Some e))) (its.prints next)
-    c.new-messages.result.items c.take.new.out.items taken.on
+    let skips = taken.on.skips in
+    let next = takes o skips (next_line r) p event in
+    let kept = takes_kept o skips (next_line r) p event in
+    events_line grid c.take.new.self r skips next line s (few_lines grid number c.requires.0 c.requires.1 r s) (its.after skips) taken.on.own kept (event_line_few o skips r s.few (Some e)) (its.prints skips next)
+    c.new-messages.result.items c.take.new.out.items taken.on.on
     (words_line number (words_of c.done_word-done.result.now (happened_of c.in_ok-happened.happened))) c.args.out.now.items c.push_happened.new.out.items c.push_text.new.out.items
     c.new-messages.ensures.items
-    ((λ i. words_line (at_line i) (words_of (c.done_word-done.ensures i) (taken.outcome i))) ∙ its.outcome next)
+    ((λ i. words_line ((at_line ∙ sym kept.lines) i) (words_of (c.done_word-done.ensures i) (taken.outcome i))) ∙ its.outcome next)
     c.in_ok-push_happened.ensures
     (c.in_ok-push_text.ensures ∙ ap (λ xs. c.push_happened.new.out.items ++ xs) c.as_slice.ensures.value)

@@ -2,7 +2,7 @@ use Rattle.std.proofs.Common.{◌∙◌, ◌++◌, Err, sym, ap, arith}
 use Rattle.partition_protocol.specs.Service.{numbers_below}
 use Rattle.partition_world.specs.Events.{happened_of}
 use Rattle.call_engine.specs.Objects.{partition_object}
-use Rattle.replay_run.specs.Runs.{Run, next_line, takes_in, partitions}
+use Rattle.replay_run.specs.Runs.{next_line, takes_in, partitions}
 use Rattle.replay_run.specs.Printing.{words_line, fate_words}
 use Rattle.replay_run.specs.WorldCalls.{event_in_all, line_of_fate}
 use Rattle.replay_run.specs.declared.run_end.RunEnd.TheVariants.{InFlight}
@@ -24,8 +24,8 @@ returns-in_err-first-clause-full g c = λ settings r s was.
     let line = line_of_fate c.args.fate in
     let at_line = next_number c.args.self.now c.args.number line c.requires r s in
     let why = handed_on c.from_residual.result c.in_err-first.field-0.0 InFlight c.from_residual.ensures.1 was in
-    line_given_up settings r line
-    (ap (λ (x : Run). x.full) (of_fate settings r c.args.fate).after ∙ c.in_err-first.ensures.full settings (next_line r) (counted_amid c.args.self.now r c.args.number s at_line) (ap Err why))
+    line_given_up settings r line (λ skips. takes_in (partition_object settings) skips (next_line r) (event_in_all c.args.fate) (numbers_below partitions)) (of_fate settings r c.args.fate).after
+    (c.in_err-first.ensures.full settings (next_line r) (counted_amid c.args.self.now r c.args.number s at_line) (ap Err why))
 
 pub returns-clause-ok : goal.returns-clause-ok
 returns-clause-ok g c = λ settings r s.
@@ -34,13 +34,14 @@ returns-clause-ok g c = λ settings r s.
     let line = line_of_fate c.args.fate in
     let event = event_in_all c.args.fate in
     let o = partition_object settings in
-    let next = takes_in o (next_line r) event (numbers_below partitions) in
     let its = of_fate settings r c.args.fate in
     let at_line = next_number grid number line c.requires r s in
     let did = c.in_ok-first.ensures.ok settings (next_line r) (counted_amid grid r number s at_line) in
-    let kept = takes_in_kept o (next_line r) event (numbers_below partitions) in
-    events_line grid c.take_in_all.new.self r next line s (few_lines grid number line c.requires r s) its.after kept (in_all_few o r s.few event) (its.prints next)
-    c.new-messages.result.items c.take_in_all.new.out.items did.on
+    let skips = did.on.skips in
+    let next = takes_in o skips (next_line r) event (numbers_below partitions) in
+    let kept = takes_in_kept o skips (next_line r) event (numbers_below partitions) in
+    events_line grid c.take_in_all.new.self r skips next line s (few_lines grid number line c.requires r s) (its.after skips) did.on.own kept (in_all_few o skips r s.few event) (its.prints skips next)
+    c.new-messages.result.items c.take_in_all.new.out.items did.on.on
     (words_line number (fate_words (happened_of c.in_ok-first.first))) c.args.out.now.items c.push_fate.new.out.items c.push_text.new.out.items
     c.new-messages.ensures.items
     ((λ i. words_line ((at_line ∙ sym kept.lines) i) (fate_words (did.outcome i))) ∙ its.outcome next)

@@ -44,6 +44,12 @@ returns-in-Detect-clause-ok g c = λ settings r s. on_ok_weaker c.run_fate-in-De
 pub returns-in-Detect-clause-full : goal.returns-in-Detect-clause-full
 returns-in-Detect-clause-full g c = λ settings r s full. subst (IsGivenUp settings r) (sym c.in-Detect.is) (c.run_fate-in-Detect.ensures.full settings r s full)
 
+pub set_clock-requires : goal.set_clock-requires
+set_clock-requires g c = may_run_as c.in-Clock.is c.requires
+
+pub returns-in-Clock-clause-ok : goal.returns-in-Clock-clause-ok
+returns-in-Clock-clause-ok g c = λ settings r s. on_ok_weaker c.set_clock.result (has_run_as c.in-Clock.is) (c.set_clock.ensures.ok settings r s)
+
 pub rebalance-requires : goal.rebalance-requires
 rebalance-requires g c = may_run_as c.in-Rebalance.is c.requires
 

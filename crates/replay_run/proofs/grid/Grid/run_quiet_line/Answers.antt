@@ -21,12 +21,6 @@ open-requires g c = may_run_as c.in-OpenConn.is c.requires.may
 pub returns-in-OpenConn : goal.returns-in-OpenConn
 returns-in-OpenConn g c = λ settings r s. on_ok_weaker c.open.result (has_run_as c.in-OpenConn.is) (c.open.ensures settings r s)
 
-pub set_clock-requires : goal.set_clock-requires
-set_clock-requires g c = may_run_as c.in-Clock.is c.requires.may
-
-pub returns-in-Clock : goal.returns-in-Clock
-returns-in-Clock g c = λ settings r s. on_ok_weaker c.set_clock.result (has_run_as c.in-Clock.is) (c.set_clock.ensures settings r s)
-
 pub dump-requires : goal.dump-requires
 dump-requires g c = may_run_as c.in-Dump.is c.requires.may
 
@@ -53,7 +47,7 @@ pub returns-in_default : goal.returns-in_default
 returns-in_default g c = λ settings r s.
     let line = c.args.line.now in
     let at_line = next_number c.args.self.now c.args.number line c.requires.may r s in
-    let begins = begins_again settings r line c.requires.quiet c.in_default.not-OpenConn c.in_default.not-Clock c.in_default.not-Dump c.in_default.not-Links c.in_default.not-Trail c.in_default.not-Comment c.in_default.not-End in
+    let begins = begins_again settings r line c.requires.quiet c.in_default.not-OpenConn c.in_default.not-Dump c.in_default.not-Links c.in_default.not-Trail c.in_default.not-Comment c.in_default.not-End in
     on_ok_weaker c.pass.result
     (λ e. passed_line c.args.self.now c.pass.new.self r c.args.number line s at_line c.requires.may.within begins.after c.pass.ensures.grid c.args.out.now.items c.pass.new.out.items begins.nothing e)
     c.pass.ensures.text

@@ -1,4 +1,4 @@
-use Rattle.std.proofs.Common.{◌∙◌, ◌+◌, Err, drop, take, get_or, ap, sym, subst, arith}
+use Rattle.std.proofs.Common.{◌+◌, ◌∷◌, ◌++◌, Err, drop, take, get_or, ap, sym, subst, arith}
 use Rattle.rebalance.specs.declared.Step.{Step}
 use Rattle.rebalance.specs.declared.StepKind.TheVariants.{Move}
 use Rattle.std.proofs.lemmas.List.{take_all}
@@ -7,6 +7,7 @@ use Rattle.replay_run.specs.Rebalancing.{stepped_all}
 use Rattle.replay_run.specs.WorldCalls.{MayStep}
 use Rattle.replay_run.specs.declared.run_end.RunEnd.TheVariants.{InFlight}
 use Rattle.replay_run.proofs.Asking.{handed_on}
+use Rattle.replay_run.proofs.GivingUp.{up_as}
 use Rattle.replay_run.proofs.RebalanceLine.{none_stepped, more_stepped, stepped_as, next_may, next_placed, steps_end, split_at, take_one, read_any}
 use Rattle.replay_run.proofs.grid.Grid.run_steps.Goals as goal
 
@@ -32,7 +33,8 @@ run_told-requires-clause-stands g c =
     let steps = c.args.steps.now in
     let i = c.loop-place.place in
     let split = split_at steps i (get_or steps i no_step) (omega arith) (read_any steps i no_step (get_or steps i no_step) (omega arith)) in
-    (settings, stepped_all o r (take i steps), (c.loop-place.invariant settings r c.requires.2).amid, next_may o r 0 (take i steps) (get_or steps i no_step) (drop (i + 1) steps) (subst (MayStep r 0) split c.requires.3))
+    let did = c.loop-place.invariant settings r c.requires.2 in
+    (settings, stepped_all o did.skips r (take i steps), did.amid, next_may o did.skips r 0 (take i steps) (get_or steps i no_step) (drop (i + 1) steps) (subst (MayStep r 0) split c.requires.3))
 
 pub returns-in_err-run_told-clause-full : goal.returns-in_err-run_told-clause-full
 returns-in_err-run_told-clause-full g c = λ settings r amid was.
@@ -41,8 +43,11 @@ returns-in_err-run_told-clause-full g c = λ settings r amid was.
     let i = c.loop-place.place in
     let split = split_at steps i (get_or steps i no_step) (omega arith) (read_any steps i no_step (get_or steps i no_step) (omega arith)) in
     let why = handed_on c.from_residual.result c.in_err-run_told.field-0.0 InFlight c.from_residual.ensures.1 was in
-    ap (λ all. (stepped_all o r all).full) split
-    ∙ steps_end o r (take i steps) (get_or steps i no_step) (drop (i + 1) steps) (c.in_err-run_told.ensures.full settings (stepped_all o r (take i steps)) (c.loop-place.invariant settings r amid).amid (ap Err why))
+    let step = get_or steps i no_step in
+    let did = c.loop-place.invariant settings r amid in
+    up_as r (λ s. stepped_all o s r (take i steps ++ step ∷ drop (i + 1) steps)) (λ s. stepped_all o s r steps) (λ s. sym (ap (λ all. stepped_all o s r all) split))
+    (steps_end r c.loop-place.self c.loop-place.self (take i steps) step c.args.out.now.items c.loop-place.out.items did (drop (i + 1) steps)
+      (c.in_err-run_told.ensures.full settings (stepped_all o did.skips r (take i steps)) did.amid (ap Err why)))
 
 pub loop-place-preserved : goal.loop-place-preserved
 loop-place-preserved g c = λ settings r amid.
@@ -52,7 +57,7 @@ loop-place-preserved g c = λ settings r amid.
     let step = get_or steps i no_step in
     let did = c.loop-place.invariant settings r amid in
     stepped_as (sym (take_one steps i step (omega arith) (read_any steps i no_step step (omega arith))))
-    (more_stepped r c.loop-place.self c.run_told.new.self (take i steps) step c.args.out.now.items c.loop-place.out.items c.run_told.new.out.items did (c.in_ok-run_told.ensures.ok settings (stepped_all o r (take i steps)) did.amid))
+    (more_stepped r c.loop-place.self c.run_told.new.self (take i steps) step c.args.out.now.items c.loop-place.out.items did c.run_told.new.out.items (c.in_ok-run_told.ensures.ok settings (stepped_all o did.skips r (take i steps)) did.amid))
 
 pub returns-clause-ok : goal.returns-clause-ok
 returns-clause-ok g c = λ settings r amid. stepped_as (take_all c.loop-place.place c.args.steps.now (omega arith)) (c.loop-place.invariant settings r amid)

@@ -1,10 +1,10 @@
-use Rattle.std.proofs.Common.{◌∙◌, Err, [], ap}
+use Rattle.std.proofs.Common.{◌∙◌, Err, ap}
 use Rattle.call_engine.specs.Objects.{partition_object}
 use Rattle.replay_run.specs.Rebalancing.{stepped}
 use Rattle.replay_run.specs.declared.run_end.RunEnd.TheVariants.{InFlight}
 use Rattle.replay_run.proofs.Asking.{handed_on}
 use Rattle.replay_run.proofs.Rebalanced.{stepped_kept}
-use Rattle.replay_run.proofs.RebalanceLine.{none_stepped, one_stepped}
+use Rattle.replay_run.proofs.RebalanceLine.{one_stepped}
 use Rattle.replay_run.proofs.grid.Grid.run_told.Goals as goal
 
 pub returns-in_err-run_step-clause-full : goal.returns-in_err-run_step-clause-full
@@ -16,12 +16,13 @@ pub is_moving-moving-requires-clause-stands : goal.is_moving-moving-requires-cla
 is_moving-moving-requires-clause-stands g c =
     let settings = c.requires.stands.0 in
     let r = c.requires.stands.1 in
-    (settings, stepped (partition_object settings) r c.args.step, (c.in_ok-run_step.ensures.ok settings r c.requires.stands.2).amid)
+    let on = c.in_ok-run_step.ensures.ok settings r c.requires.stands.2 in
+    (settings, stepped (partition_object settings) on.skips r c.args.step, on.on.amid)
 
 pub returns-clause-ok : goal.returns-clause-ok
 returns-clause-ok g c = λ settings r amid.
     let o = partition_object settings in
     let step = c.args.step in
     let on = c.in_ok-run_step.ensures.ok settings r amid in
-    one_stepped r c.args.self.now c.run_step.new.self [] step c.args.out.now.items c.args.out.now.items c.run_step.new.out.items c.push_end.new.out.items c.run_step.new.self.lines c.is_moving-moving.result
-    (none_stepped r c.args.self.now c.args.out.now.items amid) on (on.amid.holds.lines ∙ (stepped_kept o r step).lines) (c.is_moving-moving.ensures settings (stepped o r step) on.amid) c.in_ok-push_end.ensures
+    one_stepped r c.run_step.new.self step c.args.out.now.items c.run_step.new.out.items c.push_end.new.out.items c.run_step.new.self.lines c.is_moving-moving.result
+    on (on.on.amid.holds.lines ∙ (stepped_kept o on.skips r step).lines) (c.is_moving-moving.ensures settings (stepped o on.skips r step) on.on.amid) c.in_ok-push_end.ensures

@@ -1,0 +1,4 @@
+pub mod Slots
+pub mod Looks
+pub mod Worlds
+pub mod Partitions
