@@ -119,7 +119,7 @@ module _ {V : Type 0} {T : V → Type 0} {form : FormOf V T} {settings : Setting
     moments = h.moments;
     clocks = h.clocks;
     table = table_alike grid.connections r (leaves r w) refl (append-nil r.appended) (came_ending r w ok.of_waiters i []) h.table;
-    waiters = record { size = h.waiters.size; listed = h.waiters.listed; there = h.waiters.there };
+    waiters = record { size = h.waiters.size; listed = h.waiters.listed; there = h.waiters.there; fit = h.waiters.fit };
     tally = late_tally grid.tally Taken refl (leaves r w) refl refl (left_so (without r w) (without_ok o r w ok) (ending r w) (comes_later o r w ok i) grid.tally h.tally.refused h.tally.memory);
     reopened = h.reopened;
     worlds = λ p low. worlds_alike (leaves r w) (append-nil r.events) refl refl p (h.worlds p low);
@@ -164,7 +164,7 @@ module _ {V : Type 0} {T : V → Type 0} {form : FormOf V T} {settings : Setting
       moments = h.moments;
       clocks = h.clocks;
       table = refused_table;
-      waiters = record { size = h.waiters.size; listed = h.waiters.listed; there = h.waiters.there };
+      waiters = record { size = h.waiters.size; listed = h.waiters.listed; there = h.waiters.there; fit = h.waiters.fit };
       tally = late_tally tally reception is_tally refused_run refl refl tallied;
       reopened = h.reopened;
       worlds = λ p low. worlds_alike refused_run (append-nil r.events) refl refl p (h.worlds p low);

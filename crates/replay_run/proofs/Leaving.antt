@@ -1,5 +1,5 @@
 -- A connection closes: its calls that wait leave, and the grid drops them from their lists.
-use Rattle.std.proofs.Common.{◌≡◌, ℕ, zero, suc, ◌+◌, ◌*◌, ◌≤◌, ◌<◌, ◌==◌, Bool, true, false, not, cond, List, [], ◌∷◌, length, map, filter, Option, Some, None, refl, ap, sym, ◌∙◌, subst, inl, inr, append-nil, arith}
+use Rattle.std.proofs.Common.{◌≡◌, ℕ, zero, suc, ◌+◌, ◌*◌, ◌≤◌, ◌<◌, ◌==◌, Bool, true, false, not, cond, List, [], ◌∷◌, length, map, filter, Option, Some, None, Contains, refl, ap, sym, ◌∙◌, subst, inl, inr, append-nil, arith}
 use Rattle.std.specs.List.{find}
 use Rattle.std.proofs.Math.ListN.{get_or-map}
 use Rattle.std.proofs.lemmas.List.{length-map}
@@ -201,11 +201,12 @@ dropped_lists lists r next c members left h = record {
       ∙ ap (dropped c) (h.listed member p (subst (λ n. member < n) members low) below)
       ∙ listed_stays c (filter (waits_at member p) r.waiters)
       ∙ ap (map as_listed) (two_tests (stays c) (waits_at member p) r.waiters ∙ ap (filter (waits_at member p)) (sym left));
-  there = λ w i.
-      (let k = in_filtered (stays c) r.waiters w (subst (In w) left (in_contains w next.waiters i)) in
-      let at = h.there w (contains_in w r.waiters k.0) in
-      (subst (λ n. w.member < n) (sym members) at.0, at.1));
+  there = λ w i. let at = h.there w (before w i) in (subst (λ n. w.member < n) (sym members) at.0, at.1);
+  fit = λ w i. h.fit w (before w i);
 }
+  where
+    before : (w : Waiter) → Contains next.waiters w → Contains r.waiters w
+    before w i = contains_in w r.waiters (in_filtered (stays c) r.waiters w (subst (In w) left (in_contains w next.waiters i))).0
 
 -- The grid follows: it dropped the lists of a connection that closed.
 pub forsaken_holds : {V : Type 0} {T : V → Type 0} {form : FormOf V T} {settings : Settings} (new : Grid V T) (r : Run) (c : ℕ) → HoldsElse form settings new (forsaken r c) → HasWaiters new.waiters (forsaken r c) → Holds form settings new (forsaken r c)

@@ -14,6 +14,7 @@ waiters_alike lists r next members same h = record {
   size = h.size ∙ ap (λ n. n * partitions) (sym members);
   listed = λ member p low below. h.listed member p (subst (λ n. member < n) members low) below ∙ ap (λ ws. map as_listed (filter (waits_at member p) ws)) (sym same);
   there = λ w c. let at = h.there w (subst (λ ws. Contains ws w) same c) in (subst (λ n. w.member < n) (sym members) at.0, at.1);
+  fit = λ w c. h.fit w (subst (λ ws. Contains ws w) same c);
 }
 
 abbrev nobody : List ListedWaiter
@@ -29,6 +30,7 @@ begun_waiters lists members backups is = record {
   size = ap (λ (xs : List (List ListedWaiter)). length xs) is ∙ length-replicate (members * partitions) nobody;
   listed = λ member p low below. ap (λ xs. list_at xs member p) is ∙ nobody_at (members * partitions) (place_of member p);
   there = λ w c. absurd (in_contains w [] c);
+  fit = λ w c. absurd (in_contains w [] c);
 }
 
 -- Where all lists are empty nobody waits.

@@ -3,6 +3,7 @@ use Rattle.std.specs.Prelude.{◌≡◌, ◌≢◌, ℕ, ◌+◌, ◌*◌, ◌<�
 use Rattle.std.specs.declared.alloc.Global.{Global}
 use Rattle.std.specs.declared.dyn_box.DynBox.{DynBox}
 use Rattle.entry_processors.specs.Processors.{ProcessorForm}
+use Rattle.grid_base.specs.Limits.{CallFits}
 use Rattle.grid_base.specs.declared.names.CallId.{CallId}
 use Rattle.grid_base.specs.declared.calls.Request.{Request}
 use Rattle.partition_protocol.specs.Events.{Event}
@@ -107,11 +108,12 @@ waits_at member p w = (w.member == member) && (w.request.partition == p)
 abbrev pub as_listed : Waiter → ListedWaiter
 as_listed w = record { request = w.request; deadline = w.deadline }
 
--- Each member's list of a partition has those who wait there, in order of arrival, and whoever waits is in one.
+-- Each member's list of a partition has those who wait there, in order of arrival, and whoever waits is in one, with a call that fits.
 pub record HasWaiters (lists : List (List ListedWaiter)) (r : Run) : Type 0 where
   pub size : length lists ≡ r.members * partitions
   pub listed : (member p : ℕ) → member < r.members → p < partitions → list_at lists member p ≡ map as_listed (filter (waits_at member p) r.waiters)
   pub there : (w : Waiter) → Contains r.waiters w → (w.member < r.members) × (w.request.partition < partitions)
+  pub fit : (w : Waiter) → Contains r.waiters w → CallFits w.request.call
 
 -- The calls that arrived were counted, and those that were refused.
 pub record IsTally (tally : Tally) (r : Run) : Type 0 where

@@ -1,5 +1,6 @@
 -- What the code does with calls that wait: the turns of a list, one by one.
 use Rattle.std.specs.Prelude.{◌≡◌, ℕ, ℤ, ◌+◌, ◌<◌, true, false, List, ◌++◌, length, Option, Some, None, option_map, Contains}
+use Rattle.grid_base.specs.Limits.{CallFits}
 use Rattle.grid_base.specs.declared.names.CallId.{CallId}
 use Rattle.grid_base.specs.declared.calls.Request.{Request}
 use Rattle.call_engine.specs.Calls.{Settings}
@@ -88,6 +89,9 @@ pub record MayLeave {V : Type 0} {T : V → Type 0} (form : FormOf V T) (setting
   pub holds : HoldsBut form settings grid r w
   pub listeners : AreListening grid.listeners.items r own
   pub there : Contains r.waiters w
+  pub fits : CallFits w.request.call
+  pub within : at.member < r.members
+  pub low : at.partition < partitions
   pub member : w.member ≡ at.member
   pub partition : w.request.partition ≡ at.partition
   pub turns : IsTurnOf turn w (fate_now (partition_object settings) r w)
