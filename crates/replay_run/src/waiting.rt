@@ -1,20 +1,22 @@
 //! Calls that wait: they join the list of their member and partition, and leave it as their turn comes.
 
-ghost use Rattle.std.specs.Prelude.{◌≡◌, ℕ, true, ◌<◌, ◌∷◌, ◌++◌, [], Some, None, map, length, IfOk, OnOk, IsErrOf};
+ghost use Rattle.std.specs.Prelude.{◌≡◌, ℕ, ◌+◌, ◌^◌, ◌<◌, ◌++◌, Some, None, OnOk, IsErrOf};
 ghost use Rattle.grid_base.specs.declared.calls.Request.{Request as Call};
 ghost use Rattle.grid_base.specs.Limits.{CallFits};
 ghost use Rattle.partition_world.specs.Events.{event_of};
 ghost use Rattle.call_engine.specs.Calls.{Settings};
 ghost use Rattle.call_engine.specs.Objects.{partition_object};
 
-ghost use Rattle.replay_run.specs.Runs.{Run, Waiter as RunWaiter, partitions, stirred_by, next_in_turn, fate_now, served_in};
+ghost use Rattle.replay_run.specs.Runs.{Run, Waiter as RunWaiter, partitions, refused_at, stirred_by, served_in};
 ghost use Rattle.replay_run.specs.ScriptRuns.{IsRun, IsNext};
-ghost use Rattle.replay_run.specs.Rebalancing.{most_line_events};
-ghost use Rattle.replay_run.specs.Grids.{boxed, AreListening, AreFew, Holds, IsCounting};
-ghost use Rattle.replay_run.specs.WorldCalls.{HasCallRoom, GivesUpSo, HasRoomAt};
-ghost use Rattle.replay_run.specs.WaiterCalls.{IsBetween, SameCounts, HasServed, HoldsBut, HasTakenOut, IsTurnOf, by_turns, by_leaving, MayLeave, HasHandledCall, by_waiting};
+ghost use Rattle.replay_run.specs.Tallies.{tallied_later};
+ghost use Rattle.replay_run.specs.Grids.{boxed, AreFew, Holds, IsCounting};
+ghost use Rattle.replay_run.specs.WorldCalls.{HasCallRoom, GivesUpSo, HasRoomAt, texts_of};
+ghost use Rattle.replay_run.specs.WaiterCalls.{IsBetween, HasServed, HasTakenOut, by_turns, by_leaving, MayLeave, HasHandledCall, by_waiting};
 ghost use Rattle.wait_lists.specs.declared.turn.Turn.TheVariants.{Call as Called};
 ghost use Rattle.partition_protocol.specs.Service.{numbers_below};
+ghost use Rattle.replica_node.specs.Calls.{refused_as};
+ghost use Rattle.replay_run.specs.declared.tally.Reception.TheVariants.{Refused as WasRefused};
 ghost use Rattle.replay_run.specs.declared.run_end.RunEnd.TheVariants as RunEnds;
 
 use crate::calls::{Arriving, Caller, Refusal, call, push_refusal};
@@ -125,7 +127,8 @@ impl Grid {
         requires member { at.member < self.old.members }
         requires partition { at.partition < partitions }
         requires stands { (settings : Settings) × (r : Run) × IsRun (partition_object settings) r × Holds (boxed form) settings self.old r }
-        ensures { (settings : Settings) (r : Run) → IsRun (partition_object settings) r → Holds (boxed form) settings self.old r → HasTakenOut (boxed form) settings self.new r at.partition at.member result }
+        ensures taken { (settings : Settings) (r : Run) → IsRun (partition_object settings) r → Holds (boxed form) settings self.old r → HasTakenOut (boxed form) settings self.new r at.partition at.member result }
+        ensures rest { self.new ≡ record self.old { waiters = self.new.waiters } }
     {
         let world = &self.worlds[usize::from(at.partition)];
         let standing = standing_of(world, at.member);
@@ -163,7 +166,12 @@ impl Grid {
         request: &Request,
         why: PartitionRefused,
         out: &mut Vec<u8>,
-    ) -> Result<(), Memory> {
+    ) -> Result<(), Memory>
+        requires refused { self.old.tally.refused + 1 < 2 ^ 32 }
+        requires memory { self.old.tally.memory + 1 < 2 ^ 32 }
+        ensures grid { self.new ≡ record self.old { tally = tallied_later WasRefused self.old.tally } }
+        ensures text { OnOk result (out.new.items ≡ out.old.items ++ texts_of (refused_at self.old.lines request.now (refused_as why))) }
+    {
         self.tally.count_later(Reception::Refused);
         let to = Caller {
             line: self.lines,
