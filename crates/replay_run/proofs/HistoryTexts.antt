@@ -52,7 +52,7 @@ answered_same None answer unheard = sym (ap (option_map (λ (m : Appended). m.li
 answered_same (Some line) answer unheard = refl
 
 -- a call that came at no line has no answer
-uncome_unanswered : {o : Object Request Partition} (r : Run) → IsRun o r → (id : CallId) → came_at r id ≡ None → answer_of r id ≡ None
+pub uncome_unanswered : {o : Object Request Partition} (r : Run) → IsRun o r → (id : CallId) → came_at r id ≡ None → answer_of r id ≡ None
 uncome_unanswered r is id none = unheard_unanswered r is id (go (arrival_of r id) refl)
   where
     go : (found : Option Arrival) → arrival_of r id ≡ found → arrival_of r id ≡ None

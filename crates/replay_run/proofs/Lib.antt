@@ -64,6 +64,7 @@ pub mod Flowing
 pub mod Serving
 pub mod Leaving
 pub mod LateCalls
+pub mod NewCalls
 pub mod Taking
 pub mod EventLines
 pub mod RebalanceLine

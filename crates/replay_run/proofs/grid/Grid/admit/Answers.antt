@@ -5,7 +5,7 @@ use Rattle.replay_run.specs.declared.tally.Tally.{Tally}
 use Rattle.replay_run.specs.Runs.{world_at, is_full}
 use Rattle.replay_run.specs.Tallies.{tallied}
 use Rattle.replay_run.proofs.Asking.{world_within, told_of}
-use Rattle.replay_run.proofs.GridCalls.{counted_as}
+use Rattle.replay_run.proofs.NewCalls.{counted_as}
 use Rattle.replay_run.proofs.Tallies.{tally_room}
 use Rattle.replay_run.proofs.grid.Grid.admit.Goals as goal
 

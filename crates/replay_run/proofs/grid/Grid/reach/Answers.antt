@@ -2,14 +2,15 @@ use Rattle.std.proofs.Common.{◌∙◌, Some, List, slice_get, set, refl, ap, s
 use Rattle.partition_world.specs.Worlds.{waiting}
 use Rattle.table_service.specs.Services.{Setup}
 use Rattle.listeners.specs.declared.listeners.Listeners.{Listeners}
-use Rattle.replay_run.specs.Runs.{events_at, listening, version_known}
+use Rattle.replay_run.specs.Runs.{events_at, listening, version_known, arrival_at}
 use Rattle.replay_run.specs.Tables.{Table}
 use Rattle.replay_run.specs.Grids.{HasConnections}
 use Rattle.replay_run.specs.WorldCalls.{arrival_to, with_answers, going_out, AreOfRun}
 use Rattle.replay_run.proofs.Asking.{world_within, world_there, world_is, world_room, nodes_of, nodes_did, did_by, stands_by, moment_within, moment_there, named_next, told_of}
 use Rattle.replay_run.proofs.GivingOut.{has_given_out}
 use Rattle.replay_run.proofs.TableRuns.{connections_called}
-use Rattle.replay_run.proofs.GridCalls.{asked_grid, call_said}
+use Rattle.replay_run.proofs.GridCalls.{call_said}
+use Rattle.replay_run.proofs.NewCalls.{asked_grid}
 use Rattle.replay_run.proofs.grid.Grid.reach.Goals as goal
 use Rattle.call_engine.specs.Env.{settings_of}
 
@@ -89,13 +90,14 @@ returns-clause-ok g c = λ settings r run h next are count goes.
       members = refl;
       links = refl;
       moments = refl;
-      table = c.in_ok-append_reached.ensures.table r has ∙ ap (λ (t : Table). with_answers t line answers) c.in_ok-arrive.ensures.ok;
-      tally = refl;
+      answered = c.in_ok-append_reached.ensures.table r has ∙ ap (λ (t : Table). with_answers t line answers) c.in_ok-arrive.ensures.ok;
+      waiters = refl;
       listeners = refl;
       reopened = refl;
       worlds = λ i. set grid.worlds.items (c.from.ensures i) c.append_reached.new.world;
     })
+    refl
     (has_given_out settings called c.append_reached.new.world member c.in_ok-append_reached.ensures.world)
     did.2
-    (call_said settings called r member c.args.request line known (sym h.lines) c.args.out.now.items did.0 c.call.new.out.items c.append_reached.new.out.items did.1 (λ es. c.in_ok-append_reached.ensures.text settings es r all of_run))
+    (call_said settings called r (Some conn) (arrival_at r member c.args.request) line known (sym h.lines) c.args.out.now.items did.0 c.call.new.out.items c.append_reached.new.out.items did.1 (λ es. c.in_ok-append_reached.ensures.text settings es r all of_run))
     goes
