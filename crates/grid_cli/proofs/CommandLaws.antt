@@ -51,8 +51,8 @@ nothing_new (x ∷ xs) = nothing_new xs
 abbrev histories : Settings → Run → List ℕ
 histories s r = flat_map (entry_text r.lines) (all_entries (partition_object s) r)
 
-closing_text : (s : Settings) (r : Run) → grid.line_text s r End (next_line r) ≡ ok_text (next_line r).lines ++ histories s (next_line r)
-closing_text s r =
+closing_text : (s : Settings) (skips : List CallId) (r : Run) → grid.line_text s skips r End (next_line r) ≡ ok_text (next_line r).lines ++ histories s (next_line r)
+closing_text s skips r =
     let next : Run = next_line r in
     ap (λ messages. ok_text next.lines ++ flat_map appended_text messages ++ [] ++ [] ++ [] ++ histories s next) (nothing_new r.appended)
     ∙ ap (λ text. text ++ histories s next)
@@ -63,8 +63,8 @@ end_is End e = refl
 end_is line e = absurd (cc e)
 
 last_closes : (s : Settings) (skips : List CallId) (r : ScriptRun) (line : Line) → line ≡ End
-    → ClosesWith s (after_line s skips r line).run (line_text s r line (after_line s skips r line))
-last_closes s skips r line is = subst (λ l. ClosesWith s (after_line s skips r l).run (line_text s r l (after_line s skips r l))) (sym is) ([], closing_text s r.run)
+    → ClosesWith s (after_line s skips r line).run (line_text s skips r line (after_line s skips r line))
+last_closes s skips r line is = subst (λ l. ClosesWith s (after_line s skips r l).run (line_text s skips r l (after_line s skips r l))) (sym is) ([], closing_text s skips r.run)
 
 -- a text before one that closes
 closes_after : (s : Settings) (r : Run) (before text : List ℕ) → ClosesWith s r text → ClosesWith s r (before ++ text)
@@ -98,19 +98,19 @@ later_close s skips limit r (text ∷ texts) e = by_line (λ next. later_close s
     by_end : Rest → (line : Line) → line_of false r.run.members text ≡ Ok line → (after_line s skips r line).run.full ≡ false → (b : Bool) → is_end line ≡ b → Closes s skips r (text ∷ texts) (later_lines s skips limit r (text ∷ texts))
     by_end go line read lasts true ends =
         let next : ScriptRun = after_line s skips r line in
-        let shown : later_lines s skips limit r (text ∷ texts) ≡ (record { text = line_text s r line next; ending = Ended }) = later_line s skips limit r text texts line read ∙ rw (lasts, ends) refl in (
+        let shown : later_lines s skips limit r (text ∷ texts) ≡ (record { text = line_text s skips r line next; ending = Ended }) = later_line s skips limit r text texts line read ∙ rw (lasts, ends) refl in (
           1,
           subst (λ (x : ScriptRun). ClosesWith s x.run (later_lines s skips limit r (text ∷ texts)).text) (sym (run_line s skips r text [] line read))
               (subst (λ (t : Transcript). ClosesWith s next.run t.text) (sym shown) (last_closes s skips r line (end_is line ends))),
         )
     by_end go line read lasts false ends =
         let next : ScriptRun = after_line s skips r line in
-        let shown : later_lines s skips limit r (text ∷ texts) ≡ following (line_text s r line next) (later_lines s skips limit next texts) = later_line s skips limit r text texts line read ∙ rw (lasts, ends) refl in
+        let shown : later_lines s skips limit r (text ∷ texts) ≡ following (line_text s skips r line next) (later_lines s skips limit next texts) = later_line s skips limit r text texts line read ∙ rw (lasts, ends) refl in
         let rest = go next (sym (ap ended_in shown) ∙ e) in (
           suc rest.0,
           subst (λ (x : ScriptRun). ClosesWith s x.run (later_lines s skips limit r (text ∷ texts)).text) (sym (run_line s skips r text (take rest.0 texts) line read))
               (subst (λ (t : Transcript). ClosesWith s (run_after s skips next (take rest.0 texts)).run t.text) (sym shown)
-              (closes_after s (run_after s skips next (take rest.0 texts)).run (line_text s r line next) _ rest.1)),
+              (closes_after s (run_after s skips next (take rest.0 texts)).run (line_text s skips r line next) _ rest.1)),
         )
 
     by_fullness : Rest → (line : Line) → line_of false r.run.members text ≡ Ok line → (b : Bool) → (after_line s skips r line).run.full ≡ b → Closes s skips r (text ∷ texts) (later_lines s skips limit r (text ∷ texts))

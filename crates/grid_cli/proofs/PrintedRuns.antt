@@ -23,11 +23,11 @@ use Rattle.script_run.specs.Printing.{brought, look_text}
 use Rattle.script_run.specs.Printing as script_text
 use Rattle.replay_run.specs.AfterLines.{after_line}
 use Rattle.replay_run.specs.Printing.{ok_text, nothing_text, line_text, does_nothing, outcome_text, appended_text, new_messages, line_messages, line_close, line_dump, line_links, entry_text, printed_by}
-use Rattle.replay_run.proofs.SkipLaws.{on_bytes}
+use Rattle.replay_run.proofs.Midway.{on_bytes}
 use Rattle.rebalance.specs.declared.Step.{Step}
 use Rattle.replay_run.specs.Rebalancing.{is_moving_at, stepped, stepped_all, steps_in}
 use Rattle.replay_run.specs.RebalancingTexts.{end_text, ran_text, ran_texts}
-use Rattle.replay_run.proofs.Growing.{line_grows, stepped_grows, stepped_all_grows}
+use Rattle.replay_run.proofs.Growing.{line_grows, stepped_goes, stepped_all_goes}
 use Rattle.grid_cli.specs.Scripts.{lines_of, limit_of}
 use Rattle.grid_cli.specs.Transcripts.{Transcript, Ended, settings, first_line, later_lines, after_first, following, refused, too_long}
 use Rattle.grid_cli.specs.PrintedRuns.{printed_after, printed_by_grid, printed_of, HasPart, EveryMessageIsPrinted}
@@ -62,10 +62,10 @@ part_of_all m (n ∷ ms) (inr i) = part_right (appended_text n) (flat_map append
 -- a line
 
 -- the text of a line that does something
-abbrev something_text : Settings → Run → Line → Run → List ℕ
-something_text s r line next =
+abbrev something_text : Settings → List CallId → Run → Line → Run → List ℕ
+something_text s skips r line next =
     let o = partition_object s in
-    outcome_text s r line next ++ line_messages s r line next ++ line_close next line ++ line_dump o next line ++ line_links s next line ++ flat_map (entry_text next.lines) (printed_by o next line)
+    outcome_text s r line next ++ line_messages s skips r line next ++ line_close next line ++ line_dump o next line ++ line_links s next line ++ flat_map (entry_text next.lines) (printed_by o next line)
 
 -- Where a line runs steps, each step's messages stand before its end.
 
@@ -80,26 +80,26 @@ module _ (o : Object Request Partition) (m : Appended) where
   none_new : (r : Run) → In m (new_messages r r) → ⊥
   none_new r i = subst (In m) (ap (drop (length r.appended)) (sym (append-nil r.appended)) ∙ drop-append_seam r.appended []) i
 
-  steps_print : (r : Run) (steps : List Step) → In m (new_messages r (stepped_all o r steps)) → HasPart (ran_texts o r steps) (appended_text m)
-  steps_print r [] i = absurd (none_new r i)
-  steps_print r (step ∷ steps) i =
-      let mid = stepped o r step in
-      let one = (stepped_grows o r step).appended in
-      let two = (stepped_all_grows o mid steps).appended in
+  steps_print : (skips : List CallId) (r : Run) (steps : List Step) → In m (new_messages r (stepped_all o skips r steps)) → HasPart (ran_texts o skips r steps) (appended_text m)
+  steps_print skips r [] i = absurd (none_new r i)
+  steps_print skips r (step ∷ steps) i =
+      let mid = stepped o skips r step in
+      let one = ((stepped_goes o r step).grows skips).appended in
+      let two = ((stepped_all_goes o mid steps).grows skips).appended in
       ⊎_elim
-      (λ j. part_left (ran_text o r step) (ran_texts o mid steps) (appended_text m) (part_left (flat_map appended_text (new_messages r mid)) (end_text r.lines step.partition (is_moving_at o mid step.partition)) (appended_text m) (part_of_all m (new_messages r mid) j)))
-      (λ j. part_right (ran_text o r step) (ran_texts o mid steps) (appended_text m) (steps_print mid steps j))
-      (split_new r mid (stepped_all o mid steps) one.0 two.0 one.1 two.1 i)
+      (λ j. part_left (ran_text o skips r step) (ran_texts o skips mid steps) (appended_text m) (part_left (flat_map appended_text (new_messages r mid)) (end_text r.lines step.partition (is_moving_at o mid step.partition)) (appended_text m) (part_of_all m (new_messages r mid) j)))
+      (λ j. part_right (ran_text o skips r step) (ran_texts o skips mid steps) (appended_text m) (steps_print skips mid steps j))
+      (split_new r mid (stepped_all o skips mid steps) one.0 two.0 one.1 two.1 i)
 
-messages_print : (s : Settings) (skips : List CallId) (r : Run) (line : Line) (m : Appended) → In m (new_messages r (after_line (partition_object s) skips r line)) → HasPart (line_messages s r line (after_line (partition_object s) skips r line)) (appended_text m)
-messages_print s skips r (Rebalance most) m i = steps_print (partition_object s) m (next_line r) (steps_in (partition_object s) (next_line r) most) i
+messages_print : (s : Settings) (skips : List CallId) (r : Run) (line : Line) (m : Appended) → In m (new_messages r (after_line (partition_object s) skips r line)) → HasPart (line_messages s skips r line (after_line (partition_object s) skips r line)) (appended_text m)
+messages_print s skips r (Rebalance most) m i = steps_print (partition_object s) m skips (next_line r) (steps_in (partition_object s) (next_line r) most) i
 messages_print s skips r line m i = part_of_all m (new_messages r (after_line (partition_object s) skips r line)) i
 
-new_is_printed : (s : Settings) (r : Run) (line : Line) (next : Run) (m : Appended) → HasPart (line_messages s r line next) (appended_text m) → HasPart (something_text s r line next) (appended_text m)
-new_is_printed s r line next m i =
+new_is_printed : (s : Settings) (skips : List CallId) (r : Run) (line : Line) (next : Run) (m : Appended) → HasPart (line_messages s skips r line next) (appended_text m) → HasPart (something_text s skips r line next) (appended_text m)
+new_is_printed s skips r line next m i =
     let o = partition_object s in
     let outcome = outcome_text s r line next in
-    let messages = line_messages s r line next in
+    let messages = line_messages s skips r line next in
     part_left _ (flat_map (entry_text next.lines) (printed_by o next line)) (appended_text m)
     (part_left _ (line_links s next line) (appended_text m)
     (part_left _ (line_dump o next line) (appended_text m)
@@ -133,7 +133,7 @@ appends_nothing o skips r (NearFeed c most) e = refl
 appends_nothing o skips r line e = absurd (cc e)
 
 line_prints : (s : Settings) (skips : List CallId) (r : Run) (line : Line) (m : Appended) → let next = after_line (partition_object s) skips r line in
-    In m next.appended → In m r.appended ⊎ HasPart (line_text s r line next) (appended_text m)
+    In m next.appended → In m r.appended ⊎ HasPart (line_text s skips r line next) (appended_text m)
 line_prints s skips r line m i = ⊎_elim idle (λ free. on_new free (in_cases m r.appended grown.0 (subst (In m) (sym grown.1) i))) (cases (does_nothing o r line))
   where
     o : Object Request Partition
@@ -145,17 +145,17 @@ line_prints s skips r line m i = ⊎_elim idle (λ free. on_new free (in_cases m
     grown : (new : List Appended) × (r.appended ++ new ≡ next.appended)
     grown = (line_grows o skips r line).appended
 
-    idle : does_nothing o r line ≡ true → In m r.appended ⊎ HasPart (line_text s r line next) (appended_text m)
+    idle : does_nothing o r line ≡ true → In m r.appended ⊎ HasPart (line_text s skips r line next) (appended_text m)
     idle e = inl (subst (In m) (appends_nothing o skips r line e) i)
 
     new : new_messages r next ≡ grown.0
     new = ap (drop (length r.appended)) (sym grown.1) ∙ drop-append_seam r.appended grown.0
 
-    on_new : does_nothing o r line ≡ false → In m r.appended ⊎ In m grown.0 → In m r.appended ⊎ HasPart (line_text s r line next) (appended_text m)
+    on_new : does_nothing o r line ≡ false → In m r.appended ⊎ In m grown.0 → In m r.appended ⊎ HasPart (line_text s skips r line next) (appended_text m)
     on_new free (inl j) = inl j
     on_new free (inr j) =
-        let shown : line_text s r line next ≡ something_text s r line next = ap (λ b. cond b (nothing_text next.lines) (something_text s r line next)) free in
-        inr (subst (λ text. HasPart text (appended_text m)) (sym shown) (new_is_printed s r line next m (messages_print s skips r line m (subst (In m) (sym new) j))))
+        let shown : line_text s skips r line next ≡ something_text s skips r line next = ap (λ b. cond b (nothing_text next.lines) (something_text s skips r line next)) free in
+        inr (subst (λ text. HasPart text (appended_text m)) (sym shown) (new_is_printed s skips r line next m (messages_print s skips r line m (subst (In m) (sym new) j))))
 
 -- bytes that a near client sends
 
@@ -165,7 +165,7 @@ idle_bytes false text part e has = has
 idle_bytes true text part e has = absurd cc
 
 sent_prints : (s : Settings) (skips : List CallId) (r : Run) (c : ℕ) (bytes : List ℕ) (m : Appended) → let next = after_line (partition_object s) skips r (Arrive c bytes) in
-    In m next.appended → In m r.appended ⊎ HasPart (brought s r c bytes next) (appended_text m)
+    In m next.appended → In m r.appended ⊎ HasPart (brought s skips r c bytes next) (appended_text m)
 sent_prints s skips r c bytes m i = ⊎_elim idle (λ free. on_new free (in_cases m r.appended grown.0 (subst (In m) (sym grown.1) i))) (cases (does_nothing o r (Arrive c bytes)))
   where
     o : Object Request Partition
@@ -177,44 +177,44 @@ sent_prints s skips r c bytes m i = ⊎_elim idle (λ free. on_new free (in_case
     grown : (new : List Appended) × (r.appended ++ new ≡ next.appended)
     grown = (line_grows o skips r (Arrive c bytes)).appended
 
-    idle : does_nothing o r (Arrive c bytes) ≡ true → In m r.appended ⊎ HasPart (brought s r c bytes next) (appended_text m)
+    idle : does_nothing o r (Arrive c bytes) ≡ true → In m r.appended ⊎ HasPart (brought s skips r c bytes next) (appended_text m)
     idle e = inl (subst (In m) (appends_nothing o skips r (Arrive c bytes) e) i)
 
     new : new_messages r next ≡ grown.0
     new = ap (drop (length r.appended)) (sym grown.1) ∙ drop-append_seam r.appended grown.0
 
-    on_new : does_nothing o r (Arrive c bytes) ≡ false → In m r.appended ⊎ In m grown.0 → In m r.appended ⊎ HasPart (brought s r c bytes next) (appended_text m)
+    on_new : does_nothing o r (Arrive c bytes) ≡ false → In m r.appended ⊎ In m grown.0 → In m r.appended ⊎ HasPart (brought s skips r c bytes next) (appended_text m)
     on_new free (inl j) = inl j
     on_new free (inr j) =
-        inr (idle_bytes (does_nothing o r (Arrive c bytes)) (line_messages s r (Arrive c bytes) next ++ line_close next (Arrive c bytes)) (appended_text m) free
+        inr (idle_bytes (does_nothing o r (Arrive c bytes)) (line_messages s skips r (Arrive c bytes) next ++ line_close next (Arrive c bytes)) (appended_text m) free
         (part_left _ (line_close next (Arrive c bytes)) (appended_text m) (messages_print s skips r (Arrive c bytes) m (subst (In m) (sym new) j))))
 
 -- a line of a script
 
-abbrev IsShown : Settings → ScriptRun → Line → ScriptRun → Appended → Type 0
-IsShown s r line next m = In m next.run.appended → In m r.run.appended ⊎ HasPart (script_text.line_text s r line next) (appended_text m)
+abbrev IsShown : Settings → List CallId → ScriptRun → Line → ScriptRun → Appended → Type 0
+IsShown s skips r line next m = In m next.run.appended → In m r.run.appended ⊎ HasPart (script_text.line_text s skips r line next) (appended_text m)
 
 behind_outcome : (before text part : List ℕ) {X : Type 0} → X ⊎ HasPart text part → X ⊎ HasPart (before ++ text) part
 behind_outcome before text part (inl x) = inl x
 behind_outcome before text part (inr has) = inr (part_right before text part has)
 
 look_prints : (s : Settings) (skips : List CallId) (r : Run) (c : ℕ) (key : List ℕ) (m : Appended) (found : Look) → let next = after_line (partition_object s) skips r (asked_line c key found) in
-    In m next.appended → In m r.appended ⊎ HasPart (look_text s r c key next found) (appended_text m)
+    In m next.appended → In m r.appended ⊎ HasPart (look_text s skips r c key next found) (appended_text m)
 look_prints s skips r c key m Unmade i = inl i
 look_prints s skips r c key m (Hit n value) i = inl i
 look_prints s skips r c key m (Miss n) i = behind_outcome _ _ (appended_text m) (sent_prints s skips r c (get_sent n key).request m i)
 
 begin_prints : (s : Settings) (skips : List CallId) (r : Run) (c : ℕ) (name : List ℕ) (m : Appended) (begins : Bool) → let next = after_line (partition_object s) skips r (cond begins (Arrive c (opening_of c name)) Comment) in
-    In m next.appended → In m r.appended ⊎ HasPart (cond begins (ok_text next.lines ++ brought s r c (opening_of c name) next) (nothing_text next.lines)) (appended_text m)
+    In m next.appended → In m r.appended ⊎ HasPart (cond begins (ok_text next.lines ++ brought s skips r c (opening_of c name) next) (nothing_text next.lines)) (appended_text m)
 begin_prints s skips r c name m true i = behind_outcome _ _ (appended_text m) (sent_prints s skips r c (opening_of c name) m i)
 begin_prints s skips r c name m false i = inl i
 
 bytes_print : (s : Settings) (skips : List CallId) (r : Run) (c : ℕ) (bytes : List ℕ) (m : Appended) (near : Bool) → let next = after_line (partition_object s) skips r (cond near Comment (Arrive c bytes)) in
-    In m next.appended → In m r.appended ⊎ HasPart (cond near (nothing_text next.lines) (line_text s r (Arrive c bytes) next)) (appended_text m)
+    In m next.appended → In m r.appended ⊎ HasPart (cond near (nothing_text next.lines) (line_text s skips r (Arrive c bytes) next)) (appended_text m)
 bytes_print s skips r c bytes m true i = inl i
 bytes_print s skips r c bytes m false i = line_prints s skips r (Arrive c bytes) m i
 
-script_prints : (s : Settings) (skips : List CallId) (r : ScriptRun) (line : Line) (m : Appended) → IsShown s r line (script.after_line s skips r line) m
+script_prints : (s : Settings) (skips : List CallId) (r : ScriptRun) (line : Line) (m : Appended) → IsShown s skips r line (script.after_line s skips r line) m
 script_prints s skips r (Near c name capacity) m i = begin_prints s skips r.run c name m (can_begin r c name) i
 script_prints s skips r (NearGet c key) m i = look_prints s skips r.run c key m (look (partition_object s) r c key) i
 script_prints s skips r (NearFeed c most) m i = inl i
@@ -244,9 +244,9 @@ module _ (s : Settings) (skips : List CallId) (limit : Option LimitWhat) (m : Ap
   ran = later_line s skips limit r text texts line read
 
   -- what the line appended, where its text begins what is shown
-  on_line : (more : List ℕ) → shown.text ≡ script_text.line_text s r line next ++ more → In m next.run.appended → In m r.run.appended ⊎ HasPart shown.text (appended_text m)
+  on_line : (more : List ℕ) → shown.text ≡ script_text.line_text s skips r line next ++ more → In m next.run.appended → In m r.run.appended ⊎ HasPart shown.text (appended_text m)
   on_line more is i =
-      ⊎_elim (λ j. inl j) (λ has. inr (subst (λ all. HasPart all (appended_text m)) (sym is) (part_left (script_text.line_text s r line next) more (appended_text m) has)))
+      ⊎_elim (λ j. inl j) (λ has. inr (subst (λ all. HasPart all (appended_text m)) (sym is) (part_left (script_text.line_text s skips r line next) more (appended_text m) has)))
       (script_prints s skips r line m i)
 
   given_up_there : next.run.full ≡ true → LaterPrint s skips limit m r (text ∷ texts)
@@ -257,17 +257,17 @@ module _ (s : Settings) (skips : List CallId) (limit : Option LimitWhat) (m : Ap
   ended_there : next.run.full ≡ false → is_end line ≡ true → LaterPrint s skips limit m r (text ∷ texts)
   ended_there lasts ends i =
       let printed : printed_after o skips r (text ∷ texts) ≡ next = printed_here ∙ rw (lasts, ends) refl in
-      let is : shown ≡ (record { text = script_text.line_text s r line next; ending = Ended }) = ran ∙ rw (lasts, ends) refl in
-      on_line [] (ap (λ (t : Transcript). t.text) is ∙ sym (append-nil (script_text.line_text s r line next))) (subst (λ (x : ScriptRun). In m x.run.appended) printed i)
+      let is : shown ≡ (record { text = script_text.line_text s skips r line next; ending = Ended }) = ran ∙ rw (lasts, ends) refl in
+      on_line [] (ap (λ (t : Transcript). t.text) is ∙ sym (append-nil (script_text.line_text s skips r line next))) (subst (λ (x : ScriptRun). In m x.run.appended) printed i)
 
   went_on : next.run.full ≡ false → is_end line ≡ false → LaterPrint s skips limit m r (text ∷ texts)
   went_on lasts goes i =
       let later : Transcript = later_lines s skips limit next texts in
       let printed : printed_after o skips r (text ∷ texts) ≡ printed_after o skips next texts = printed_here ∙ rw (lasts, goes) refl in
-      let is : shown ≡ following (script_text.line_text s r line next) later = ran ∙ rw (lasts, goes) refl in
-      let is_text : shown.text ≡ script_text.line_text s r line next ++ later.text = ap (λ (t : Transcript). t.text) is in
+      let is : shown ≡ following (script_text.line_text s skips r line next) later = ran ∙ rw (lasts, goes) refl in
+      let is_text : shown.text ≡ script_text.line_text s skips r line next ++ later.text = ap (λ (t : Transcript). t.text) is in
       ⊎_elim (on_line later.text is_text)
-      (λ has. inr (subst (λ all. HasPart all (appended_text m)) (sym is_text) (part_right (script_text.line_text s r line next) later.text (appended_text m) has)))
+      (λ has. inr (subst (λ all. HasPart all (appended_text m)) (sym is_text) (part_right (script_text.line_text s skips r line next) later.text (appended_text m) has)))
       (rest next (subst (λ (x : ScriptRun). In m x.run.appended) printed i))
 
   by_end : next.run.full ≡ false → (b : Bool) → is_end line ≡ b → LaterPrint s skips limit m r (text ∷ texts)

@@ -10,13 +10,15 @@ use Rattle.entry_processors.specs.Processors.{ProcessorForm}
 use Rattle.object_store.specs.Partitions.{Partition}
 use Rattle.call_engine.specs.Calls.{Settings}
 use Rattle.call_engine.specs.Objects.{partition_object}
-use Rattle.replay_run.specs.Runs.{Run, Arrival, is_skipped}
+use Rattle.replay_run.specs.Runs.{Arrival, is_skipped}
 use Rattle.replay_run.specs.Printing.{ok_text}
 use Rattle.script_run.specs.Runs.{ScriptRun, begun, grid_line}
 use Rattle.script_run.specs.AfterLines.{after_line}
 use Rattle.script_run.specs.Printing.{line_text}
-use Rattle.script_run.proofs.ScriptLaws.{whole_line_alike, whole_line_counts}
-use Rattle.replay_run.specs.Skips.{AgreeOn, AreOfLine, calls_at}
+use Rattle.script_run.proofs.ScriptLaws.{whole_line_alike, whole_line_grows, text_alike}
+use Rattle.replay_run.specs.Endings.{AreAmong, new_arrivals}
+use Rattle.replay_run.specs.ScriptRuns.{IsRun}
+use Rattle.replay_run.specs.Skips.{AgreeOn, AreOfLine}
 use Rattle.grid_cli.specs.Transcripts.{Transcript, settings, Ended, TooLong, first_line, later_lines, after_first, following, stopped, refused, limit_text, too_long}
 use Rattle.grid_cli.specs.Statuses.{whole}
 use Rattle.grid_cli.specs.Progress.{IsAt, run_after, run_of, begun_by, capacity_by, capacity_of}
@@ -25,8 +27,11 @@ use Rattle.script_lang.specs.declared.line.Line.TheVariants.{Grid}
 use Rattle.script_lang.specs.declared.refusal.LineWhy.{LineWhy}
 use Rattle.grid_cli.specs.declared.status.LimitWhat.{LimitWhat}
 use Rattle.grid_cli.specs.declared.status.LimitWhat.TheVariants.{InFlight}
-use Rattle.replay_run.proofs.Parts.{in_mapped}
-use Rattle.replay_run.proofs.SkipLaws.{Alike, skipped_by_either, not_skipped, unless_same, Counts}
+use Rattle.replay_run.proofs.Fresh.{calls_are_new}
+use Rattle.replay_run.proofs.Growing.{Grows}
+use Rattle.replay_run.proofs.LineCounts.{IsCounted, line_counted}
+use Rattle.replay_run.proofs.Lines.{line_run}
+use Rattle.replay_run.proofs.SkipLaws.{new_of, skipped_by_either, not_skipped, unless_same}
 
 following-following : (a b : List ℕ) (t : Transcript) → following a (following b t) ≡ following (a ++ b) t
 following-following a b t = ap (λ text. record { text = text; ending = t.ending }) (sym (append_assoc a b t.text))
@@ -58,8 +63,8 @@ refused_first forms text why e s limit texts = ap (λ (x : Result Line LineWhy).
 abbrev pub continued : Settings → List CallId → Option LimitWhat → List (List ℕ) → ScriptRun → Line → ScriptRun → Transcript
 continued s k limit texts r line next =
     if next.run.full then too_long (r.run.lines + 1) InFlight
-    else if is_end line then (record { text = line_text s r line next; ending = Ended })
-    else following (line_text s r line next) (later_lines s k limit next texts)
+    else if is_end line then (record { text = line_text s k r line next; ending = Ended })
+    else following (line_text s k r line next) (later_lines s k limit next texts)
 
 pub later_line : (s : Settings) (k : List CallId) (limit : Option LimitWhat) (r : ScriptRun) (text : List ℕ) (texts : List (List ℕ)) (line : Line) → line_of false r.run.members text ≡ Ok line
     → later_lines s k limit r (text ∷ texts) ≡ continued s k limit texts r line (after_line s k r line)
@@ -73,80 +78,113 @@ run_line o s r text texts line read = ap (λ (x : Result Line LineWhy). elim x [
 module _ (forms : List ProcessorForm) (capacity : ℕ) (r : ScriptRun) (skips : List CallId) (done : List (List ℕ)) (written text : List ℕ) (at : IsAt forms capacity r skips done written)
     (line : Line) (read : line_of false r.run.members text ≡ Ok line)
     (k : List CallId) (of_line : AreOfLine (partition_object (settings forms capacity)) r.run (grid_line (partition_object (settings forms capacity)) r line) k) (next : ScriptRun) (after : after_line (settings forms capacity) k r line ≡ next)
-    (new : (b : Arrival) (id : CallId) → In b r.run.arrivals → In id (calls_at (partition_object (settings forms capacity)) r.run (grid_line (partition_object (settings forms capacity)) r line)) → b.request.id ≢ id) where
+    (is : IsRun (partition_object (settings forms capacity)) r.run) where
   abbrev by : Settings
   by = settings forms capacity
 
   abbrev o : Object Request Partition
   o = partition_object by
 
-  -- the calls of the line
-  abbrev calls : List CallId
-  calls = calls_at o r.run (grid_line o r line)
+  abbrev asked : Line
+  asked = grid_line o r line
 
-  counts : Counts r.run next.run calls
-  counts = subst (λ (x : ScriptRun). Counts r.run x.run calls) after (whole_line_counts by k r line)
+  -- the calls that come to their end at the line
+  abbrev come : List Arrival
+  come = new_arrivals r.run next.run
 
-  -- those that had arrived are skipped or not as before
+  grows : Grows r.run next.run
+  grows = subst (λ (x : ScriptRun). Grows r.run x.run) after (whole_line_grows by k r line)
+
+  next_is : IsRun o next.run
+  next_is = subst (λ (x : ScriptRun). IsRun o x.run) after (line_run k r.run is asked)
+
+  counts : IsCounted r.run next.run
+  counts = subst (λ (x : ScriptRun). IsCounted r.run x.run) after (line_counted o k r.run asked)
+
+  all_arrivals : r.run.arrivals ++ come ≡ next.run.arrivals
+  all_arrivals = ap (λ xs. r.run.arrivals ++ xs) (new_of r.run next.run grows.arrivals) ∙ grows.arrivals.1
+
+  own : AreAmong come k
+  own = subst (λ (x : ScriptRun). AreAmong (new_arrivals r.run x.run) k) after of_line
+
+  apart : (b a : Arrival) → In b r.run.arrivals → In a come → b.request.id ≢ a.request.id
+  apart b a i j = calls_are_new r.run next.run next_is grows.arrivals b a i j
+
+  stays : (a : Arrival) → In a r.run.arrivals → Contains next.run.arrivals a
+  stays a i = contains_in a next.run.arrivals (subst (In a) all_arrivals (in_left a r.run.arrivals come i))
+
+  comes : (a : Arrival) → In a come → Contains next.run.arrivals a
+  comes a i = contains_in a next.run.arrivals (subst (In a) all_arrivals (in_right a r.run.arrivals come i))
+
+  -- those that had come to their end are skipped or not as before
   before_line : (a : Arrival) → In a r.run.arrivals → is_skipped (k ++ skips) a.request.id ≡ is_skipped skips a.request.id
   before_line a i =
       skipped_by_either k skips a.request.id ∙ ap (λ b. b || is_skipped skips a.request.id)
-      (not_skipped k a.request.id (λ x j. unless_same a.request.id x (new a x i (in_contains x calls (of_line x (contains_in x k j))))))
+      (not_skipped k a.request.id (λ x j. let b = own x (contains_in x k j) in unless_same a.request.id x (λ e. apart a b.0 i (in_contains b.0 come b.1) (e ∙ sym b.2))))
 
-  -- the line's own calls are skipped or not by its own skips
-  its_calls : Alike (k ++ skips) k calls
-  its_calls id is =
-      skipped_by_either k skips id ∙ ap (λ b. is_skipped k id || b)
-      (not_skipped skips id (λ x j. let a = at.skipped x (contains_in x skips j) in unless_same id x (λ e. new a.0 id (in_contains a.0 r.run.arrivals a.1) is (a.2 ∙ sym e))))
-      ∙ or_false (is_skipped k id)
-
-  arrived_stays : (a : Arrival) → Contains r.run.arrivals a → Contains next.run.arrivals a
-  arrived_stays a c = contains_in a next.run.arrivals (subst (In a) (sym counts.arrivals) (in_left a r.run.arrivals counts.come (in_contains a r.run.arrivals c)))
+  -- and those that do so at the line by its own skips
+  its_calls : (a : Arrival) → In a come → is_skipped (k ++ skips) a.request.id ≡ is_skipped k a.request.id
+  its_calls a i =
+      skipped_by_either k skips a.request.id ∙ ap (λ b. is_skipped k a.request.id || b)
+      (not_skipped skips a.request.id (λ x j. let b = at.skipped x (contains_in x skips j) in unless_same a.request.id x (λ e. apart b.0 a (in_contains b.0 r.run.arrivals b.1) i (b.2 ∙ sym e))))
+      ∙ or_false (is_skipped k a.request.id)
 
   agree_before : (s : List CallId) → AgreeOn next.run.arrivals s (k ++ skips) → AgreeOn r.run.arrivals s skips
-  agree_before s agree a c = agree a (arrived_stays a c) ∙ before_line a (in_contains a r.run.arrivals c)
+  agree_before s agree a c = let i = in_contains a r.run.arrivals c in agree a (stays a i) ∙ before_line a i
 
-  call_arrived : (id : CallId) → In id calls → (a : Arrival) × Contains next.run.arrivals a × (a.request.id ≡ id)
-  call_arrived id i =
-      let a = in_mapped (λ (a : Arrival). a.request.id) counts.come id (subst (λ ids. In id ids) (sym counts.names) i) in
-      (a.0, contains_in a.0 next.run.arrivals (subst (In a.0) (sym counts.arrivals) (in_right a.0 r.run.arrivals counts.come a.1)), a.2)
+  agree_here : (s : List CallId) → AgreeOn next.run.arrivals s (k ++ skips) → AgreeOn (new_arrivals r.run (after_line by k r line).run) k s
+  agree_here s agree = subst (λ (x : ScriptRun). AgreeOn (new_arrivals r.run x.run) k s) (sym after)
+      (λ a c. let i = in_contains a come c in sym (agree a (comes a i) ∙ its_calls a i))
 
   runs_alike : (s : List CallId) → AgreeOn next.run.arrivals s (k ++ skips) → after_line by s r line ≡ next
-  runs_alike s agree =
-      whole_line_alike by s k r line (λ id is. let a = call_arrived id is in
-      subst (λ x. is_skipped s x ≡ is_skipped (k ++ skips) x) a.2 (agree a.0 a.1) ∙ its_calls id is)
-      ∙ after
+  runs_alike s agree = sym (whole_line_alike by k s r line (agree_here s agree)) ∙ after
+
+  same_text : (s : List CallId) → AgreeOn next.run.arrivals s (k ++ skips) → line_text by s r line next ≡ line_text by k r line next
+  same_text s agree = sym (text_alike by k s r line next (agree_here s agree))
+
+  -- what a line gives, where this is its text
+  abbrev told : List CallId → Option LimitWhat → List (List ℕ) → List ℕ → Transcript
+  told s limit texts shown =
+      if next.run.full then too_long (r.run.lines + 1) InFlight
+      else if is_end line then (record { text = shown; ending = Ended })
+      else following shown (later_lines by s limit next texts)
 
   line_ran : (s : List CallId) → AgreeOn next.run.arrivals s (k ++ skips) → (limit : Option LimitWhat) (texts : List (List ℕ))
-      → later_lines by s limit r (text ∷ texts) ≡ continued by s limit texts r line next
-  line_ran s agree limit texts = later_line by s limit r text texts line read ∙ ap (continued by s limit texts r line) (runs_alike s agree)
+      → later_lines by s limit r (text ∷ texts) ≡ told s limit texts (line_text by k r line next)
+  line_ran s agree limit texts =
+      later_line by s limit r text texts line read
+      ∙ ap (continued by s limit texts r line) (runs_alike s agree)
+      ∙ ap (told s limit texts) (same_text s agree)
 
   -- a line that isn't the last leads on, where the run isn't given up
-  pub at_next : next.run.full ≡ false → is_end line ≡ false → IsAt forms capacity next (k ++ skips) (done ++ text ∷ []) (written ++ line_text by r line next)
+  pub at_next : next.run.full ≡ false → is_end line ≡ false → IsAt forms capacity next (k ++ skips) (done ++ text ∷ []) (written ++ line_text by k r line next)
   at_next lasts going = record {
     goes_on = λ s agree limit texts.
         ap (first_line forms s limit) (append_assoc done (text ∷ []) texts)
         ∙ at.goes_on s (agree_before s agree) limit (text ∷ texts)
         ∙ ap (following written) (line_ran s agree limit texts ∙ on_going s limit texts)
-        ∙ following-following written (line_text by r line next) (later_lines by s limit next texts);
+        ∙ following-following written (line_text by k r line next) (later_lines by s limit next texts);
     runs = λ s agree texts.
         ap (run_of forms s) (append_assoc done (text ∷ []) texts)
         ∙ at.runs s (agree_before s agree) (text ∷ texts)
         ∙ run_line by s r text texts line read
         ∙ ap (λ x. run_after by s x texts) (runs_alike s agree);
     keeps = λ texts. ap capacity_of (append_assoc done (text ∷ []) texts) ∙ at.keeps (text ∷ texts);
-    skipped = λ id c. ⊎_elim (λ i. call_arrived id (in_contains id calls (of_line id (contains_in id k i)))) (λ i. let a = at.skipped id (contains_in id skips i) in (a.0, arrived_stays a.0 a.1, a.2)) (in_cases id k skips (in_contains id (k ++ skips) c));
+    skipped = λ id c. ⊎_elim
+        (λ i. let a = own id (contains_in id k i) in (a.0, comes a.0 (in_contains a.0 come a.1), a.2))
+        (λ i. let a = at.skipped id (contains_in id skips i) in (a.0, stays a.0 (in_contains a.0 r.run.arrivals a.1), a.2))
+        (in_cases id k skips (in_contains id (k ++ skips) c));
     count = counts.lines ∙ ap (λ n. n + 1) at.count ∙ sym (length-append done (text ∷ []));
   }
     where
-      on_going : (s : List CallId) (limit : Option LimitWhat) (texts : List (List ℕ)) → continued by s limit texts r line next ≡ following (line_text by r line next) (later_lines by s limit next texts)
+      on_going : (s : List CallId) (limit : Option LimitWhat) (texts : List (List ℕ)) → told s limit texts (line_text by k r line next) ≡ following (line_text by k r line next) (later_lines by s limit next texts)
       on_going s limit texts = rw (lasts, going) refl
 
   agree_itself : AgreeOn next.run.arrivals (k ++ skips) (k ++ skips)
   agree_itself a c = refl
 
   -- where the run stops at the line
-  stops_so : (limit : Option LimitWhat) (texts : List (List ℕ)) (t : Transcript) → continued by (k ++ skips) limit texts r line next ≡ t
+  stops_so : (limit : Option LimitWhat) (texts : List (List ℕ)) (t : Transcript) → told (k ++ skips) limit texts (line_text by k r line next) ≡ t
       → first_line forms (k ++ skips) limit (done ++ text ∷ texts) ≡ following written t
   stops_so limit texts t so =
       at.goes_on (k ++ skips) (agree_before (k ++ skips) agree_itself) limit (text ∷ texts)
@@ -154,8 +192,8 @@ module _ (forms : List ProcessorForm) (capacity : ℕ) (r : ScriptRun) (skips : 
 
   -- the line `end` ends the run
   pub at_end : next.run.full ≡ false → is_end line ≡ true → (limit : Option LimitWhat) (texts : List (List ℕ))
-      → first_line forms (k ++ skips) limit (done ++ text ∷ texts) ≡ whole (written ++ line_text by r line next) Ended
-  at_end lasts ending limit texts = stops_so limit texts (whole (line_text by r line next) Ended) (rw (lasts, ending) refl)
+      → first_line forms (k ++ skips) limit (done ++ text ∷ texts) ≡ whole (written ++ line_text by k r line next) Ended
+  at_end lasts ending limit texts = stops_so limit texts (whole (line_text by k r line next) Ended) (rw (lasts, ending) refl)
 
   -- a line at which the run is given up
   pub at_given_up : next.run.full ≡ true → (limit : Option LimitWhat) (texts : List (List ℕ))

@@ -18,9 +18,9 @@ use Rattle.script_run.specs.Runs.{ScriptRun, begun}
 use Rattle.script_run.specs.AfterLines.{after_line}
 use Rattle.script_run.specs.Printing.{line_text}
 use Rattle.replay_run.specs.SkippedCalls.{TellsOfNoSkip}
-use Rattle.replay_run.proofs.Growing.{Grows, grows_refl, grows_trans}
+use Rattle.replay_run.proofs.Growing.{Grows, goes_nowhere, grows_trans}
 use Rattle.replay_run.proofs.Skipped.{none_before}
-use Rattle.script_run.proofs.ScriptLaws.{whole_line_none, whole_line_grows}
+use Rattle.script_run.proofs.ScriptLaws.{whole_line_none, whole_line_grows, text_none}
 use Rattle.grid_cli.specs.Scripts.{lines_of, limit_of}
 use Rattle.grid_cli.specs.Transcripts.{Transcript, Ended, settings, first_line, later_lines, after_first, following, refused, too_long}
 use Rattle.grid_cli.specs.PrintedRuns.{printed_after, printed_by_grid, printed_of}
@@ -30,18 +30,21 @@ use Rattle.grid_cli.specs.declared.status.LimitWhat.TheVariants.{InFlight}
 use Rattle.grid_cli.proofs.Progress.{continued, later_line}
 use Rattle.grid_cli.proofs.PrintedRuns.{printed_on, printed_at}
 
+stays : (r : ScriptRun) → Grows r.run r.run
+stays r = (goes_nowhere r.run).grows []
+
 printed_grows : (o : Settings) (skips : List CallId) (r : ScriptRun) (texts : List (List ℕ)) → Grows r.run (printed_after o skips r texts).run
-printed_grows o skips r [] = grows_refl r.run
+printed_grows o skips r [] = stays r
 printed_grows o skips r (text ∷ texts) = by_line (λ next. printed_grows o skips next texts) (line_of false r.run.members text)
   where
     by_line : ((next : ScriptRun) → Grows next.run (printed_after o skips next texts).run) → (read : Result Line LineWhy) → Grows r.run (printed_at o skips r texts read).run
-    by_line go (Err why) = grows_refl r.run
+    by_line go (Err why) = stays r
     by_line go (Ok line) =
         let next = after_line o skips r line in
         let rest = printed_after o skips next texts in
         let grows = whole_line_grows o skips r line in
         let P : ScriptRun → Type 0 = λ (x : ScriptRun). Grows r.run x.run in
-        on_if P next.run.full r (cond (is_end line) next rest) (grows_refl r.run) (on_if P (is_end line) next rest grows (grows_trans r.run next.run rest.run grows (go next)))
+        on_if P next.run.full r (cond (is_end line) next rest) (stays r) (on_if P (is_end line) next rest grows (grows_trans r.run next.run rest.run grows (go next)))
 
 agree_behind : (text : List ℕ) (t u : Transcript) → Agree t u → Agree (following text t) (following text u)
 agree_behind text t u (inl e) = inl (ap (following text) e)
@@ -81,16 +84,29 @@ module _ (s : Settings) (skips : List CallId) (limit : Option LimitWhat) (r : Sc
     stands = ((later_lines s [] limit r (text ∷ texts)).text, refl);
   })
 
-  -- The run goes on, and the line asks nothing of the skips.
+  -- The run goes on, and the line asks nothing of the skips, nor does its text.
   same_line : TellsOfNoSkip next.run → after_line o [] r line ≡ next
   same_line none = sym (whole_line_none o skips r line none)
+
+  same_text : TellsOfNoSkip next.run → line_text s [] r line next ≡ line_text s skips r line next
+  same_text none = sym (text_none s skips r line next none)
+
+  -- what the line gives, where this is its text
+  abbrev shows : List CallId → List ℕ → Transcript
+  shows k shown =
+      if next.run.full then too_long (r.run.lines + 1) InFlight
+      else if is_end line then (record { text = shown; ending = Ended })
+      else following shown (later_lines s k limit next texts)
+
+  ran_without : TellsOfNoSkip next.run → later_lines s [] limit r (text ∷ texts) ≡ shows [] (line_text s skips r line next)
+  ran_without none = ran [] (same_line none) ∙ ap (shows []) (same_text none)
 
   ended_there : next.run.full ≡ false → is_end line ≡ true → LaterAgree s skips limit r (text ∷ texts)
   ended_there lasts ends none =
       let shown : printed_after o skips r (text ∷ texts) ≡ next = printed_here ∙ rw (lasts, ends) refl in
       let here = subst (λ (x : ScriptRun). TellsOfNoSkip x.run) shown none in
-      let last : Transcript = record { text = line_text s r line next; ending = Ended } in
-      agree_as _ _ last last (ran skips refl ∙ rw (lasts, ends) refl) (ran [] (same_line here) ∙ rw (lasts, ends) refl) (inl refl)
+      let last : Transcript = record { text = line_text s skips r line next; ending = Ended } in
+      agree_as _ _ last last (ran skips refl ∙ rw (lasts, ends) refl) (ran_without here ∙ rw (lasts, ends) refl) (inl refl)
 
   went_on : next.run.full ≡ false → is_end line ≡ false → LaterAgree s skips limit r (text ∷ texts)
   went_on lasts goes none =
@@ -98,10 +114,10 @@ module _ (s : Settings) (skips : List CallId) (limit : Option LimitWhat) (r : Sc
       let later = subst (λ (x : ScriptRun). TellsOfNoSkip x.run) shown none in
       let here = none_before next.run (printed_after o skips next texts).run (printed_grows o skips next texts) later in
       agree_as _ _
-      (following (line_text s r line next) (later_lines s skips limit next texts))
-      (following (line_text s r line next) (later_lines s [] limit next texts))
-      (ran skips refl ∙ rw (lasts, goes) refl) (ran [] (same_line here) ∙ rw (lasts, goes) refl)
-      (agree_behind (line_text s r line next) (later_lines s skips limit next texts) (later_lines s [] limit next texts) (rest next later))
+      (following (line_text s skips r line next) (later_lines s skips limit next texts))
+      (following (line_text s skips r line next) (later_lines s [] limit next texts))
+      (ran skips refl ∙ rw (lasts, goes) refl) (ran_without here ∙ rw (lasts, goes) refl)
+      (agree_behind (line_text s skips r line next) (later_lines s skips limit next texts) (later_lines s [] limit next texts) (rest next later))
 
   by_end : next.run.full ≡ false → (b : Bool) → is_end line ≡ b → LaterAgree s skips limit r (text ∷ texts)
   by_end lasts true ends none = ended_there lasts ends none

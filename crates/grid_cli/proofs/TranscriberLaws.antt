@@ -32,7 +32,6 @@ use Rattle.grid_cli.specs.declared.transcriber.Stage.{Stage}
 use Rattle.grid_cli.specs.declared.transcriber.Stage.TheVariants.{Waiting, Running}
 use Rattle.grid_cli.specs.declared.transcriber.Ran.{Ran}
 use Rattle.grid_cli.specs.declared.transcriber.Ran.TheVariants.{Goes, Ended as IsEnded, Refused as IsRefused, GivenUp}
-use Rattle.replay_run.proofs.Fresh.{calls_are_new}
 use Rattle.grid_cli.proofs.Members.{members_stay}
 use Rattle.grid_cli.proofs.Progress.{at_first, at_next, at_end, at_given_up, at_refused, at_stop}
 
@@ -56,7 +55,7 @@ module _ {V : Type 0} {T : V → Type 0} {form : FormOf V T} {forms : List Proce
           stands = ran.stands;
           few = subst (λ n. n ≤ 8) (sym (members_stay o ran.skips r.run (grid_line o r line))) follows.few;
           at = subst (λ t. IsAt forms follows.capacity next (ran.skips ++ skips) (done ++ text ∷ []) (written ++ t)) (sym ran.added)
-              (at_next forms follows.capacity r skips done written text follows.at line read ran.skips ran.of_line next refl (λ b id i j. calls_are_new r.run follows.stands.goes.grid.run b i id (grid_line o r line) j) ran.stands.goes.grid.holds.goes_on going);
+              (at_next forms follows.capacity r skips done written text follows.at line read ran.skips ran.of_line next refl follows.stands.goes.grid.run ran.stands.goes.grid.holds.goes_on going);
         },
       )
 
@@ -66,7 +65,7 @@ module _ {V : Type 0} {T : V → Type 0} {form : FormOf V T} {forms : List Proce
       let next : ScriptRun = after_line by ran.skips r line in (
         ran.skips,
         λ limit texts.
-            at_end forms follows.capacity r skips done written text follows.at line read ran.skips ran.of_line next refl (λ b id i j. calls_are_new r.run follows.stands.goes.grid.run b i id (grid_line o r line) j) ran.stands.goes.grid.holds.goes_on ending limit texts
+            at_end forms follows.capacity r skips done written text follows.at line read ran.skips ran.of_line next refl follows.stands.goes.grid.run ran.stands.goes.grid.holds.goes_on ending limit texts
             ∙ ap (λ t. whole (written ++ t) Ended) (sym ran.added),
       )
 
@@ -79,7 +78,7 @@ line_given_up {forms = forms} old new skips done written text added number follo
   λ limit texts. (
     number,
     at_given_up forms follows.capacity follows.run skips done written text follows.at line read given.skips given.of_line (after_line (settings forms follows.capacity) given.skips follows.run line) refl
-        (λ b id i j. calls_are_new follows.run.run follows.stands.goes.grid.run b i id (grid_line (partition_object (settings forms follows.capacity)) follows.run line) j) given.full limit texts
+        follows.stands.goes.grid.run given.full limit texts
         ∙ ap (λ n. whole (written ++ limit_text n InFlight) (TooLong n InFlight)) (sym counted)
         ∙ ap (λ t. whole (written ++ t) (TooLong number InFlight)) (sym shown),
   ),

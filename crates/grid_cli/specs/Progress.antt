@@ -44,6 +44,6 @@ pub record IsAt (forms : List ProcessorForm) (capacity : ℕ) (r : ScriptRun) (s
       → first_line forms s limit (done ++ texts) ≡ following written (later_lines (settings forms capacity) s limit r texts)
   pub runs : (s : List CallId) → AgreeOn r.run.arrivals s skips → (texts : List (List ℕ)) → run_of forms s (done ++ texts) ≡ run_after (settings forms capacity) s r texts
   pub keeps : (texts : List (List ℕ)) → capacity_of (done ++ texts) ≡ capacity
-  -- the skips are calls that arrived
+  -- the skips are calls that arrived, and wait no more
   pub skipped : (id : CallId) → Contains skips id → (a : Arrival) × Contains r.run.arrivals a × (a.request.id ≡ id)
   pub count : r.run.lines ≡ length done

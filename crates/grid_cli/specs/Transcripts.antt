@@ -64,8 +64,8 @@ later_lines s skips limit r (text ∷ texts) =
       | Ok line ↦
           let next = after_line s skips r line in
           if next.run.full then too_long (r.run.lines + 1) InFlight
-          else if is_end line then (record { text = line_text s r line next; ending = Ended })
-          else following (line_text s r line next) (later_lines s skips limit next texts)
+          else if is_end line then (record { text = line_text s skips r line next; ending = Ended })
+          else following (line_text s skips r line next) (later_lines s skips limit next texts)
     ]
 
 -- what objects go by in a grid of these processors, whose first line gave its queues this capacity

@@ -29,6 +29,7 @@ pub mod SkipLaws
 pub mod Growing
 pub mod Skipped
 pub mod Fresh
+pub mod LineCounts
 pub mod NamedFew
 pub mod Bounds
 pub mod LineBounds

@@ -1,6 +1,6 @@
 -- No call is refused twice, so that a run in which no call is counted for want of memory tells of no skip.
 use Rattle.std.proofs.Common.{◌≡◌, ◌≢◌, ℕ, Bool, true, false, cond, List, [], ◌∷◌, ◌++◌, Some, None, pos, refl, ap, sym, ◌∙◌, ◌⊎◌, ⊎_elim, inl, inr, arith}
-use Rattle.std.specs.Prelude.{count_by}
+use Rattle.std.specs.Prelude.{count_by, Contains}
 use Rattle.std.specs.List.{find}
 use Rattle.std.proofs.lemmas.List.Sums.{sum_by-cons}
 use Rattle.grid_base.specs.Errors.{partition_lost, wrong_target, migrating, want_of_memory}
@@ -10,16 +10,16 @@ use Rattle.grid_base.specs.declared.calls.Request.{Request}
 use Rattle.grid_base.specs.Objects.{Object}
 use Rattle.object_store.specs.Partitions.{Partition}
 use Rattle.partition_protocol.specs.World.{World}
-use Rattle.partition_protocol.specs.Execution.{Executes, PartitionLost, WrongTarget, Migrating}
-use Rattle.partition_protocol.specs.Events.{Outcome, Refused, NothingDone, Done, HeldAt, ReleasedAt, TookMessage, RowMadeAt, MoveIsRefused, ReopenIsRefused, happens}
+use Rattle.partition_protocol.specs.Execution.{Reached, Executes, PartitionLost, WrongTarget, Migrating}
+use Rattle.partition_protocol.specs.Events.{Happened, Outcome, Refused, NothingDone, Done, HeldAt, ReleasedAt, TookMessage, RowMadeAt, MoveIsRefused, ReopenIsRefused, happens}
 use Rattle.partition_protocol.proofs.Lists.{In, in_cases, in_contains, on_if}
-use Rattle.replay_run.specs.Runs.{Run, Arrival, Appended, arrival_at, own_answer, refusal, refused_by, is_skipped, call_of, messages_by, happening, world_at, arrived, asked, taker_of, given_out}
-use Rattle.replay_run.specs.ScriptRuns.{IsRun, IsNext, grid_begun, line_counted, clock_was_set, connection_opened, bytes_taken, listener_was_registered, answer_told, event_occurred, call_arrived, run_given_up, call_asked}
+use Rattle.replay_run.specs.Runs.{Run, Arrival, Waiter, Appended, arrival_at, own_answer, refusal, refused_at, refused_by, is_skipped, call_of, messages_by, happening, world_at, without, ending, arrived, asked, taker_of, given_out}
+use Rattle.replay_run.specs.ScriptRuns.{IsRun, grid_begun, line_counted, clock_was_set, connection_opened, bytes_taken, listener_was_registered, answer_told, event_occurred, call_arrived, run_given_up, call_asked, waiter_came, waiter_asked, waiter_refused, waiter_left}
 use Rattle.replay_run.specs.SkippedCalls.{IsTold, TellsOfNoSkip}
 use Rattle.replay_run.specs.Counts.{is_refusal_of, has_number, is_of_memory, error_number, is_out_of_memory}
 use Rattle.replay_run.proofs.Releasing.{messages_refuse_none, given_refuse_none}
 use Rattle.replay_run.proofs.RunFacts.{RunOk, id_name}
-use Rattle.replay_run.proofs.Arriving.{fresh, its_event}
+use Rattle.replay_run.proofs.Arriving.{MayCome, arrives_now, without_ok, comes_later, its_event}
 use Rattle.replay_run.proofs.Refusals.{refusals_name_the_call}
 use Rattle.replay_run.proofs.RunsOfLines.{run_ok}
 use Rattle.replay_run.proofs.Tallies.{named_refusal, refusal_named}
@@ -68,52 +68,64 @@ one_refusal line request (RowMadeAt version) m n i j = absurd i
 one_refusal line request (MoveIsRefused why) m n i j = absurd i
 one_refusal line request (ReopenIsRefused why) m n i j = absurd i
 
-module _ {o : Object Request Partition} (r : Run) (run : IsRun o r) (old : RefusedOnce r.appended) (member : ℕ) (request : Request) (next : IsNext r request) where
-  abbrev a : Arrival
-  a = arrival_at r member request
+-- a call that comes to its end now, and wasn't refused before
+module _ {o : Object Request Partition} (r : Run) (ok : RunOk o r) (old : RefusedOnce r.appended) (a : Arrival) (may : MayCome r a) where
+  unrefused : (m : Appended) → In m r.appended → m.refuses ≢ Some a.request.id
+  unrefused m i e = let from = ok.of_refusals.arrived m a.request.id i e in may.fresh from.0 from.1 (ap id_name from.2)
 
-  abbrev ok : RunOk o r
-  ok = run_ok run
-
-  -- it wasn't refused before
-  unrefused : (m : Appended) → In m r.appended → m.refuses ≢ Some request.id
-  unrefused m i e = let from = ok.of_refusals.arrived m request.id i e in fresh r ok.of_arrivals member request next from.0 from.1 (ap id_name from.2)
-
-  with_its : (more : List Appended) → RefusedOnce more → ((n : Appended) (id : CallId) → In n more → n.refuses ≡ Some id → id ≡ request.id) → RefusedOnce (r.appended ++ more)
+  with_its : (more : List Appended) → RefusedOnce more → ((n : Appended) (id : CallId) → In n more → n.refuses ≡ Some id → id ≡ a.request.id) → RefusedOnce (r.appended ++ more)
   with_its more new its = with_more r.appended more old new (λ m n id i j e f. unrefused m i (e ∙ ap (λ x. Some x) (its n id j f)))
 
-  excused : RefusedOnce (r.appended ++ refusal r.lines request (pos want_of_memory) 0 ∷ [])
-  excused = with_its (refusal r.lines request (pos want_of_memory) 0 ∷ []) (λ m n id i j e f. same_one (refusal r.lines request (pos want_of_memory) 0) m n i j) its
+  -- whom a refusal names
+  names_its : (outcome : Outcome) (n : Appended) (id : CallId) → In n (refused_by a.made a.request outcome) → n.refuses ≡ Some id → id ≡ a.request.id
+  names_its outcome n id k f = let whose : Some a.request.id ≡ Some id = sym (refusals_name_the_call a.made a.request outcome n k) ∙ f in cc
+
+  -- It is refused as a call would be, and with that these messages come, which refuse nothing.
+  refused_with : (outcome : Outcome) (given : List Appended) → ((n : Appended) → In n given → n.refuses ≡ None) → RefusedOnce (r.appended ++ (refused_by a.made a.request outcome ++ given))
+  refused_with outcome given none =
+      with_its (refused_by a.made a.request outcome ++ given)
+      (with_quiet (refused_by a.made a.request outcome) given (λ m n id i j e f. one_refusal a.made a.request outcome m n i j) none)
+      (λ n id j f. ⊎_elim (λ k. names_its outcome n id k f) (λ k. absurd (refuses_none n id (none n k) f)) (in_cases n (refused_by a.made a.request outcome) given j))
+
+  excused : RefusedOnce (r.appended ++ refusal a.made a.request (pos want_of_memory) 0 ∷ [])
+  excused = with_its (refusal a.made a.request (pos want_of_memory) 0 ∷ []) (λ m n id i j e f. same_one (refusal a.made a.request (pos want_of_memory) 0) m n i j) its
     where
-      its : (n : Appended) (id : CallId) → In n (refusal r.lines request (pos want_of_memory) 0 ∷ []) → n.refuses ≡ Some id → id ≡ request.id
-      its n id (inl s) f = let whose : Some request.id ≡ Some id = ap (λ (x : Appended). x.refuses) s ∙ f in cc
+      its : (n : Appended) (id : CallId) → In n (refusal a.made a.request (pos want_of_memory) 0 ∷ []) → n.refuses ≡ Some id → id ≡ a.request.id
+      its n id (inl s) f = let whose : Some a.request.id ≡ Some id = ap (λ (x : Appended). x.refuses) s ∙ f in cc
       its n id (inr j) f = absurd j
 
   abbrev before : World Request
-  before = world_at o r request.partition
+  before = world_at o r a.request.partition
 
-  abbrev outcome : Outcome
-  outcome = (happens o before (call_of a)).outcome
+  abbrev next : Happened Request
+  next = happens o before (call_of a)
 
-  -- what the call appends beside its refusal
-  abbrev given : List Appended
-  given = messages_by o r (Some request.id.conn) request.partition member before (happens o before (call_of a)).world
+  called : (own : Option ℕ) → RefusedOnce (r.appended ++ happening o r own a)
+  called own =
+      refused_with next.outcome (messages_by o r own a.request.partition a.member before next.world)
+      (messages_refuse_none o r a.request.partition own a.member before next.world)
 
-  given_none : (n : Appended) → In n given → n.refuses ≡ None
-  given_none = messages_refuse_none o r request.partition (Some request.id.conn) member before (happens o before (call_of a)).world
+  pub asked_once : (skips : List CallId) (own : Option ℕ) → RefusedOnce (asked o skips r own a).appended
+  asked_once skips own =
+      on_if (λ (x : Run). RefusedOnce x.appended) (is_skipped skips a.request.id) (arrived r a [] (refusal a.made a.request (pos want_of_memory) 0 ∷ [])) (arrived r a (its_event a ∷ []) (happening o r own a)) excused (called own)
 
-  refused : RefusedOnce (r.appended ++ happening o r a)
-  refused =
-      with_its (happening o r a)
-      (with_quiet (refused_by r.lines request outcome) given (λ m n id i j e f. one_refusal r.lines request outcome m n i j) given_none)
-      (λ n id j f. ⊎_elim (its n id f) (λ k. absurd (refuses_none n id (given_none n k) f)) (in_cases n (refused_by r.lines request outcome) given j))
-    where
-      its : (n : Appended) (id : CallId) → n.refuses ≡ Some id → In n (refused_by r.lines request outcome) → id ≡ request.id
-      its n id f k = let whose : Some request.id ≡ Some id = sym (refusals_name_the_call r.lines request outcome n k) ∙ f in cc
+  -- it waited, and is refused as its plain call would be
+  pub turned_away_once : (why : Reached) → RefusedOnce (r.appended ++ refused_at a.made a.request why)
+  turned_away_once why =
+      with_its (refused_at a.made a.request why) (λ m n id i j e f. one_refusal a.made a.request (Refused why) m n i j) (λ n id j f. names_its (Refused why) n id j f)
 
-  pub asked_once : (skips : List CallId) → RefusedOnce (asked o skips r a).appended
-  asked_once skips =
-      on_if (λ (x : Run). RefusedOnce x.appended) (is_skipped skips request.id) (arrived r a [] (refusal r.lines request (pos want_of_memory) 0 ∷ [])) (arrived r a (its_event a ∷ []) (happening o r a)) excused refused
+-- what a session tells by itself refuses nothing
+told_refuses_none : (line c : ℕ) (bytes : List ℕ) (m : Appended) → In m (own_answer line c bytes ∷ []) → m.refuses ≡ None
+told_refuses_none line c bytes m (inl s) = ap (λ (n : Appended). n.refuses) (sym s)
+told_refuses_none line c bytes m (inr i) = absurd i
+
+-- one that waited, as it comes to its end
+module _ {o : Object Request Partition} (r : Run) (is : IsRun o r) (w : Waiter) (there : Contains r.waiters w) where
+  without_it : RunOk o (without r w)
+  without_it = without_ok o r w (run_ok is)
+
+  it_ends : MayCome (without r w) (ending r w)
+  it_ends = comes_later o r w (run_ok is) (in_contains w r.waiters there)
 
 pub refused_once : {o : Object Request Partition} {r : Run} → IsRun o r → RefusedOnce r.appended
 refused_once {o} (grid_begun members backups grid) = λ m n id i j e f. absurd i
@@ -122,16 +134,16 @@ refused_once {o} (clock_was_set r member moment is) = refused_once is
 refused_once {o} (connection_opened r c member is free) = refused_once is
 refused_once {o} (bytes_taken r connection bytes is there) = refused_once is
 refused_once {o} (listener_was_registered r listener connection is there) = refused_once is
-refused_once {o} (answer_told r c bytes is) = with_quiet r.appended (own_answer r.lines c bytes ∷ []) (refused_once is) (own_refuses_none r.lines c bytes)
-  where
-    own_refuses_none : (line c : ℕ) (bytes : List ℕ) (m : Appended) → In m (own_answer line c bytes ∷ []) → m.refuses ≡ None
-    own_refuses_none line c bytes m (inl s) = ap (λ (n : Appended). n.refuses) (sym s)
-    own_refuses_none line c bytes m (inr i) = absurd i
+refused_once {o} (answer_told r c bytes is) = with_quiet r.appended (own_answer r.lines c bytes ∷ []) (refused_once is) (told_refuses_none r.lines c bytes)
 refused_once {o} (event_occurred r p event is quiet) =
     with_quiet r.appended (given_out o r p event) (refused_once is) (given_refuse_none o r p event (taker_of event))
 refused_once {o} (call_arrived r member request is next) = with_quiet r.appended [] (refused_once is) (λ m i. absurd i)
 refused_once {o} (run_given_up r is) = refused_once is
-refused_once {o} (call_asked skips r member request is next) = asked_once r is (refused_once is) member request next skips
+refused_once {o} (call_asked skips r own member request is next) = asked_once r (run_ok is) (refused_once is) (arrival_at r member request) (arrives_now r member request next) skips own
+refused_once {o} (waiter_came r member request deadline is next) = refused_once is
+refused_once {o} (waiter_asked skips r own w is there) = asked_once (without r w) (without_it r is w there) (refused_once is) (ending r w) (it_ends r is w there) skips own
+refused_once {o} (waiter_refused r w why is there) = turned_away_once (without r w) (without_it r is w there) (refused_once is) (ending r w) (it_ends r is w there) why
+refused_once {o} (waiter_left r w is there) = with_quiet r.appended [] (refused_once is) (λ m i. absurd i)
 
 -- what is told of is counted
 

@@ -66,9 +66,9 @@ module _ {V : Type 0} {T : V → Type 0} {form : FormOf V T} (grid : Grid V T) (
   ran new line same {written} {shown} had =
       let has = subst (λ l. HasRun form sample_settings new r l written shown) same had in
       record {
-        skips = has.skips ++ next.stands.skips;
-        arrived = arrived_more o (begun 4 1) next.stands.skips next.done next.stands.arrived next.stands.stands.run next.line has.skips has.of_line;
-        stands = subst (Stands form sample_settings new) (sym (line_more o (begun 4 1) next.stands.skips next.done next.stands.arrived next.stands.stands.run next.line has.skips has.of_line)) has.stands;
+        skips = next.stands.skips ++ has.skips;
+        arrived = arrived_more o (begun 4 1) refl next.stands.skips next.done next.stands.arrived next.stands.stands.run next.line has.skips has.of_line;
+        stands = subst (Stands form sample_settings new) (sym (line_more o (begun 4 1) refl next.stands.skips next.done next.stands.arrived next.stands.stands.run next.line has.skips has.of_line)) has.stands;
       }
 
   pub given_up : (line : Line) → line ≡ next.line → IsGivenUp sample_settings r line → StopsBehind next.done next.line number
