@@ -1,17 +1,21 @@
 -- A line of bytes on an open connection: what its session gave, and that the items are yet to be handled.
-use Rattle.std.proofs.Common.{◌≡◌, ℕ, ◌+◌, not, List, [], ◌++◌, Option, Some, None, subst, ap, ◌∙◌}
+use Rattle.std.proofs.Common.{◌≡◌, true≢false, ℕ, ◌+◌, true, false, not, List, [], ◌++◌, map, Option, Some, None, subst, ap, sym, ◌∙◌}
 use Rattle.std.specs.Option.{is_some}
 use Rattle.partition_protocol.proofs.RowFacts.{both_left}
 use Rattle.call_engine.specs.Calls.{Settings}
 use Rattle.call_engine.specs.Objects.{partition_object}
+use Rattle.frame_codec.specs.declared.malformed.Malformed.{Malformed}
+use Rattle.wait_sets.specs.declared.waiter.Waiter.{Waiter as ListedWaiter}
+use Rattle.session_core.specs.declared.item.Item.{Item}
 use Rattle.session_core.specs.Sessions.{session_after, StandsFor}
 use Rattle.session_core.specs.declared.session.FedSession.{FedSession}
 use Rattle.replay_run.specs.declared.grid.Grid.{Grid}
-use Rattle.replay_run.specs.Runs.{Run, fault_on, lives, with_bytes}
+use Rattle.replay_run.specs.Runs.{Run, Connection, connection_of, fault_on, lives, with_bytes}
 use Rattle.replay_run.specs.Tables.{Table, Opened, opened_at, with_session, Gives, FeedGives}
 use Rattle.replay_run.specs.Grids.{FormOf, IsConnection, Stands}
 use Rattle.replay_run.specs.WorldCalls.{open_member_in, Brings, HasHandledSome}
-use Rattle.replay_run.proofs.GridLines.{with_table, IsOpen, is_open, begun_some}
+use Rattle.replay_run.proofs.GridLines.{with_table, IsOpen, is_open, begun_some, AreLeft}
+use Rattle.replay_run.proofs.Leaving.{dropped}
 use Rattle.replay_run.proofs.LineFacts.{slot, slot_stands, fed_session, they_bring, closed_as}
 
 -- The connection took its bytes, which bring these items, and none of them was handled.
@@ -53,3 +57,12 @@ module _ {V : Type 0} {T : V → Type 0} {form : FormOf V T} {settings : Setting
         none_handled = begun_some grid new r s number conn its.connection at_line its.there its.itself (both_left (not (is_some (fault_on its.connection))) (lives (partition_object settings) r its.connection.member) its.takes) bytes text (made ∙ ap (λ (t : Table). with_table grid number t) table_is);
         closed = closed_as grid r s conn its.connection its.there bytes fed given;
       }
+
+-- What becomes of the lists of those who wait: where a fault has closed the connection, its own have left them.
+module _ {V : Type 0} {T : V → Type 0} {form : FormOf V T} {settings : Settings} (r : Run) (c : ℕ) (k : Connection) (there : connection_of r c ≡ Some k) (bytes : List ℕ) (items : List Item) (brings : Brings settings r k bytes items)
+    (handled : Grid V T) (start mid : List ℕ) (did : HasHandledSome form settings handled r k bytes items start mid) (fault : Option Malformed) (shown : fault ≡ fault_on (with_bytes k bytes)) (waiters : List (List ListedWaiter)) where
+  pub all_left : is_some fault ≡ true → waiters ≡ map (dropped k.conn) handled.waiters → AreLeft r c k there bytes items brings handled start mid did waiters
+  all_left some is = record { if_open = λ e. absurd (true≢false (sym e ∙ ap not (sym (ap is_some shown) ∙ some))); if_closed = λ e. is }
+
+  pub none_left : is_some fault ≡ false → waiters ≡ handled.waiters → AreLeft r c k there bytes items brings handled start mid did waiters
+  none_left none is = record { if_open = λ e. is; if_closed = λ e. absurd (true≢false (sym (ap not (sym (ap is_some shown) ∙ none)) ∙ e)) }

@@ -1,5 +1,5 @@
 -- The items of a line of bytes on the grid, one after the other.
-use Rattle.std.proofs.Common.{◌≡◌, ℕ, ◌+◌, ◌<◌, ◌-◌, List, [], ◌∷◌, ◌++◌, length, get_or, map, take, drop, Option, Some, None, Result, Ok, Err, OnOk, refl, ap, sym, ◌∙◌, subst, append_assoc, arith, length-append}
+use Rattle.std.proofs.Common.{◌≡◌, ℕ, ℤ, ◌+◌, ◌<◌, ◌-◌, List, [], ◌∷◌, ◌++◌, length, get_or, map, take, drop, Option, Some, None, Result, Ok, Err, OnOk, refl, ap, sym, ◌∙◌, subst, inl, append_assoc, arith, length-append}
 use Rattle.std.proofs.lemmas.List.{take-append-drop, drop_more}
 use Rattle.std.specs.Iterator.{Yields}
 use Rattle.std.proofs.lemmas.Iterator.Adapters.{YieldsList-from_vec}
@@ -12,18 +12,20 @@ use Rattle.replay_run.specs.declared.grid.Grid.{Grid}
 use Rattle.call_engine.specs.Calls.{Settings}
 use Rattle.call_engine.specs.Objects.{partition_object}
 use Rattle.event_codecs.specs.declared.registration.Registration.{Registration}
+use Rattle.grid_base.specs.Limits.{CallFits}
 use Rattle.grid_base.specs.Objects.{Object}
+use Rattle.partition_protocol.proofs.Lists.{in_right, contains_in}
 use Rattle.object_store.specs.Partitions.{Partition}
-use Rattle.replay_run.specs.Runs.{Run, Connection, messages_on, with_bytes, told, registers, handled, partitions}
+use Rattle.replay_run.specs.Runs.{Run, Connection, messages_on, with_bytes, told, registers, calls, begins_to_wait, handled, partitions}
 use Rattle.replay_run.specs.Printing.{new_messages}
 use Rattle.replay_run.specs.ScriptRuns.{IsRun, IsNext, MayAsk, calls_in}
 use Rattle.session_core.specs.declared.item.Item.{Item}
-use Rattle.session_core.specs.declared.item.Item.TheVariants.{Register, Reply}
+use Rattle.session_core.specs.declared.item.Item.TheVariants.{Call as Asks, Wait, Register, Reply}
 use Rattle.replay_run.specs.Grids.{FormOf, IsCounting, AreListening, AreFew}
-use Rattle.replay_run.specs.WaiterCalls.{IsBetween, HasHandledCall}
+use Rattle.replay_run.specs.WaiterCalls.{IsBetween, HasHandledCall, by_call, by_waiting}
 use Rattle.replay_run.specs.WorldCalls.{Onward, GivesUpSo, texts_of, IsTo, HasRegistered, HasTold, HasCallRoom, HasRoom, Brings, HasHandledSome, IsGivenUpMidway}
 use Rattle.replay_run.proofs.Items.{IsNamed, IsNumbered}
-use Rattle.replay_run.proofs.Lines.{HasCome, told_come, registers_come, handled_come}
+use Rattle.replay_run.proofs.Lines.{HasCome, told_come, registers_come, handled_come, may_calls, may_begin, calls_run, begins_run}
 use Rattle.replay_run.proofs.LineTexts.{new_with, texts_more}
 use Rattle.replay_run.proofs.Midway.{midway_come, midway_calls, midway_few, its_name, next_midway, item_midway, full_midway, own_midway, told_midway, registered_midway}
 
@@ -142,6 +144,13 @@ registered_one_more {settings = settings} grid r k bytes done registration rest 
 
 -- a call, waiting or not
 
+-- It may be handled: its parts fit, its partition and its member are there, it is the next, and there is room for its event.
+pub record MayHandleNext {V : Type 0} {T : V → Type 0} (form : FormOf V T) (grid : Grid V T) (member : ℕ) (q : Request) : Type 0 where
+  pub fits : CallFits q.call
+  pub placed : q.partition < partitions
+  pub reached : member < grid.members
+  pub stands : (settings : Settings) × (r : Run) × IsBetween form settings grid r (Some q.id.conn) × IsNext r q × HasCallRoom r × AreFew r × IsCounting grid.connections r q.id.conn q.id.number
+
 module _ {V : Type 0} {T : V → Type 0} {form : FormOf V T} {settings : Settings} (grid : Grid V T) (r : Run) (k : Connection) (bytes : List ℕ) (done : List Item) (item : Item) (q : Request)
     (named : IsNumbered (record { conn = k.conn; number = length (messages_on k) + length done }) item ≡ IsNamed (record { conn = k.conn; number = length (messages_on k) + length done }) q)
     (rest : List Item) (brings : Brings settings r k bytes (done ++ item ∷ rest)) (written mid : List ℕ) (so_far : HasHandledSome form settings grid r k bytes done written mid) where
@@ -178,6 +187,15 @@ module _ {V : Type 0} {T : V → Type 0} {form : FormOf V T} {settings : Setting
   pub next_count : IsCounting grid.connections so_far.now q.id.conn q.id.number
   next_count = subst (λ (id : CallId). IsCounting grid.connections so_far.now id.conn id.number) (sym name) so_far.counting
 
+  -- what it asks for
+  pub may_handle : CallFits q.call → HasRoom r k bytes → AreFew r → (member : ℕ) → k.member ≡ member → MayHandleNext form grid member q
+  may_handle fits room few member to = record {
+    fits = fits;
+    placed = next_placed;
+    reached = subst (λ m. m < grid.members) to (reached_now grid r k bytes done item rest brings written mid so_far);
+    stands = (settings, so_far.now, next_between, next_call, next_room room, next_few few, next_count);
+  }
+
   -- It was handled.
   module _ (onward : Onward) (made : (skips : List CallId) → onward skips ≡ handled o skips so_far.now k item) where
     come_by : (skips : List CallId) → HasCome so_far.now (length (calls_in (item ∷ []))) (onward skips)
@@ -204,3 +222,44 @@ module _ {V : Type 0} {T : V → Type 0} {form : FormOf V T} {settings : Setting
       own = own_midway r brings.run k brings.there bytes done item rest brings.come so_far.skips so_far.now so_far.midway up.skips (onward up.skips) (made up.skips) run up.own;
       full = full_midway r brings.run k brings.there bytes done item rest brings.come so_far.skips so_far.now so_far.midway up.skips (onward up.skips) (made up.skips) run up.own up.full;
     }
+
+-- a call that is made at once
+module _ {V : Type 0} {T : V → Type 0} {form : FormOf V T} {settings : Settings} (grid : Grid V T) (r : Run) (k : Connection) (bytes : List ℕ) (done : List Item) (q : Request) (rest : List Item) (brings : Brings settings r k bytes (done ++ Asks q ∷ rest))
+    (written mid : List ℕ) (so_far : HasHandledSome form settings grid r k bytes done written mid) (member : ℕ) (to : k.member ≡ member) where
+  asked_so : (skips : List CallId) → by_call settings so_far.now member q skips ≡ handled (partition_object settings) skips so_far.now k (Asks q)
+  asked_so skips = ap (λ m. calls (partition_object settings) skips so_far.now m q) (sym to)
+
+  pub may_ask : HasRoom r k bytes → AreFew r → MayHandleNext form grid member q
+  may_ask room few =
+      may_handle grid r k bytes done (Asks q) q refl rest brings written mid so_far (brings.fit q (contains_in (Asks q) (done ++ Asks q ∷ rest) (in_right (Asks q) done (Asks q ∷ rest) (inl refl)))) room few member to
+
+  pub asked_one_more : (new : Grid V T) (text : List ℕ) → HasHandledCall form settings new so_far.now q.id.conn (q.id.number + 1) (by_call settings so_far.now member q) mid text → HasHandledSome form settings new r k bytes (done ++ Asks q ∷ []) written text
+  asked_one_more new text did =
+      call_one_more grid r k bytes done (Asks q) q refl rest brings written mid so_far (by_call settings so_far.now member q) asked_so new text did
+      (may_calls so_far.now (with_bytes k bytes) (length (messages_on k) + length done) q so_far.midway.may (name grid r k bytes done (Asks q) q refl rest brings written mid so_far) (partition_object settings) did.skips member)
+
+  pub asked_full : GivesUpSo so_far.now (by_call settings so_far.now member q) → IsGivenUpMidway settings r k bytes (done ++ Asks q ∷ rest)
+  asked_full up =
+      call_given_up grid r k bytes done (Asks q) q refl rest brings written mid so_far (by_call settings so_far.now member q) asked_so up
+      (calls_run up.skips so_far.now member q so_far.midway.run (next_call grid r k bytes done (Asks q) q refl rest brings written mid so_far))
+
+-- and one that waits, so long as the code has it
+module _ {V : Type 0} {T : V → Type 0} {form : FormOf V T} {settings : Settings} (grid : Grid V T) (r : Run) (k : Connection) (bytes : List ℕ) (done : List Item) (q : Request) (timeout : ℤ) (rest : List Item) (brings : Brings settings r k bytes (done ++ Wait q timeout ∷ rest))
+    (written mid : List ℕ) (so_far : HasHandledSome form settings grid r k bytes done written mid) (member : ℕ) (to : k.member ≡ member) (span : ℤ) (as_long : span ≡ timeout) where
+  waited_so : (skips : List CallId) → by_waiting settings so_far.now member q span skips ≡ handled (partition_object settings) skips so_far.now k (Wait q timeout)
+  waited_so skips = λ i. begins_to_wait (partition_object settings) skips so_far.now (sym to i) q (as_long i)
+
+  pub may_wait_next : HasRoom r k bytes → AreFew r → MayHandleNext form grid member q
+  may_wait_next room few =
+      may_handle grid r k bytes done (Wait q timeout) q refl rest brings written mid so_far
+      (brings.waits_fit q timeout (contains_in (Wait q timeout) (done ++ Wait q timeout ∷ rest) (in_right (Wait q timeout) done (Wait q timeout ∷ rest) (inl refl)))) room few member to
+
+  pub waited_one_more : (new : Grid V T) (text : List ℕ) → HasHandledCall form settings new so_far.now q.id.conn (q.id.number + 1) (by_waiting settings so_far.now member q span) mid text → HasHandledSome form settings new r k bytes (done ++ Wait q timeout ∷ []) written text
+  waited_one_more new text did =
+      call_one_more grid r k bytes done (Wait q timeout) q refl rest brings written mid so_far (by_waiting settings so_far.now member q span) waited_so new text did
+      (may_begin so_far.now (with_bytes k bytes) (length (messages_on k) + length done) q so_far.midway.may (name grid r k bytes done (Wait q timeout) q refl rest brings written mid so_far) (partition_object settings) did.skips member span)
+
+  pub waited_full : GivesUpSo so_far.now (by_waiting settings so_far.now member q span) → IsGivenUpMidway settings r k bytes (done ++ Wait q timeout ∷ rest)
+  waited_full up =
+      call_given_up grid r k bytes done (Wait q timeout) q refl rest brings written mid so_far (by_waiting settings so_far.now member q span) waited_so up
+      (begins_run up.skips so_far.now member q span so_far.midway.run (next_call grid r k bytes done (Wait q timeout) q refl rest brings written mid so_far))

@@ -1,5 +1,5 @@
 -- A call that arrives: it reaches its world, which gives out what waited there, and then those who wait at its member have their turns.
-use Rattle.std.proofs.Common.{◌≡◌, ℕ, ◌+◌, ◌<◌, true, false, cond, List, [], ◌∷◌, ◌++◌, length, drop, slice_get, Option, Some, None, Contains, refl, ap, sym, ◌∙◌, subst, ◌⊎◌, ⊎_elim, inl, append_assoc}
+use Rattle.std.proofs.Common.{◌≡◌, ℕ, ◌+◌, ◌<◌, true, false, cond, List, [], ◌∷◌, ◌++◌, length, drop, slice_get, Option, Some, None, Contains, refl, ap, sym, ◌∙◌, subst, ◌⊎◌, ⊎_elim, inl, append_assoc, length-append, arith}
 use Rattle.std.specs.Option.{option_or}
 use Rattle.std.proofs.Math.Seq.{drop-append_seam}
 use Rattle.grid_base.specs.Names.{is_same_call}
@@ -21,10 +21,11 @@ use Rattle.replay_run.specs.Printing.{new_messages, came_at, answer_of}
 use Rattle.replay_run.specs.ScriptRuns.{IsRun, IsNext, call_asked}
 use Rattle.replay_run.specs.Tables.{Table, Opened, opened_at, with_arrival}
 use Rattle.replay_run.specs.Tallies.{tallied}
-use Rattle.replay_run.specs.Grids.{FormOf, GridWorld, HasTable, IsConnection, IsCounting, IsTally, AreListening, Holds}
-use Rattle.replay_run.specs.WorldCalls.{Onward, GivesUpSo, going_out, texts_of, arrival_to, IsCalledSo, IsSkippedSo, HasAsked}
+use Rattle.replay_run.specs.Grids.{FormOf, AreFew, GridWorld, HasTable, IsConnection, IsCounting, IsTally, AreListening, Holds}
+use Rattle.replay_run.specs.WorldCalls.{Onward, GivesUpSo, going_out, texts_of, arrival_to, IsCalledSo, IsSkippedSo, HasAsked, HasCallRoom, HasRoomAt}
 use Rattle.replay_run.specs.WaiterCalls.{IsBetween, HasServed, HasHandledCall, by_turns, by_call}
 use Rattle.replay_run.proofs.Arriving.{arrives_now}
+use Rattle.replay_run.proofs.Bounds.{asked_few}
 use Rattle.replay_run.proofs.EventRuns.{asks_here, asks_nothing, served_run, served_kept}
 use Rattle.replay_run.proofs.GivingOut.{HasGivenOut}
 use Rattle.replay_run.proofs.GivingUp.{gives_up_first, gives_up_then}
@@ -49,6 +50,9 @@ one_new o skips r own a = on_if (λ (x : Run). x.arrivals ≡ r.arrivals ++ a �
 its_arrivals : (o : Object Request Partition) (skips : List CallId) (r : Run) (own : Option ℕ) (a : Arrival) → new_arrivals r (asked o skips r own a) ≡ a ∷ []
 its_arrivals o skips r own a = ap (drop (length r.arrivals)) (one_new o skips r own a) ∙ drop-append_seam r.arrivals (a ∷ [])
 
+none_more_waits : (o : Object Request Partition) (skips : List CallId) (r : Run) (own : Option ℕ) (a : Arrival) → (asked o skips r own a).waiters ≡ r.waiters
+none_more_waits o skips r own a = on_if (λ (x : Run). x.waiters ≡ r.waiters) (is_skipped skips a.request.id) _ _ refl refl
+
 -- The call is the next of its connection, of whose messages those before it were handled.
 module _ {V : Type 0} {T : V → Type 0} {form : FormOf V T} {settings : Settings} (grid : Grid V T) (r : Run) (run : IsRun (partition_object settings) r) (h : Holds form settings grid r) (request : Request) (next : IsNext r request) (count : IsCounting grid.connections r request.id.conn request.id.number) where
   slot : (o : Opened) × (opened_at grid.connections request.id.conn ≡ Some o) × IsConnection o next.connection
@@ -63,9 +67,6 @@ module _ {V : Type 0} {T : V → Type 0} {form : FormOf V T} {settings : Setting
 
   unanswered : answer_of r request.id ≡ None
   unanswered = uncome_unanswered r run request.id comes_first
-
-  abbrev its_table : Table
-  its_table = with_arrival grid.connections request.id.conn r.lines
 
   -- The table has it as an arrival,
   pub arriving_table : (a : Arrival) → a.request.id ≡ request.id → a.line ≡ r.lines → HasTable (with_arrival grid.connections request.id.conn r.lines) (record r { arrivals = r.arrivals ++ a ∷ [] })
@@ -188,14 +189,14 @@ counted_as {form = form} {settings = settings} {r = r} {member = member} {reques
 -- The turns come after it.
 
 module _ (settings : Settings) (r : Run) (member : ℕ) (request : Request) where
-  abbrev o : Object Request Partition
-  o = partition_object settings
+  abbrev object : Object Request Partition
+  object = partition_object settings
 
-  abbrev own : Option ℕ
-  own = Some request.id.conn
+  abbrev its_conn : Option ℕ
+  its_conn = Some request.id.conn
 
-  abbrev a : Arrival
-  a = arrival_at r member request
+  abbrev coming : Arrival
+  coming = arrival_at r member request
 
   abbrev first : Onward
   first skips = asks (partition_object settings) skips r (Some request.id.conn) (arrival_at r member request)
@@ -206,8 +207,8 @@ module _ (settings : Settings) (r : Run) (member : ℕ) (request : Request) wher
   -- It meets a full partition.
   pub admits_none : is_full (world_at (partition_object settings) r request.partition) ≡ true → GivesUpSo r (by_call settings r member request)
   admits_none full =
-      gives_up_first r first then (asks_goes o r own a) (λ x. served_goes o x own request.partition member)
-      (record { skips = []; own = λ id c. absurd (in_contains id [] c); full = asks_nothing o [] r own a full })
+      gives_up_first r first then (asks_goes object r its_conn coming) (λ x. served_goes object x its_conn request.partition member)
+      (record { skips = []; own = λ id c. absurd (in_contains id [] c); full = asks_nothing object [] r its_conn coming full })
 
   module _ {V : Type 0} {T : V → Type 0} {form : FormOf V T} (mid : Grid V T) (run : IsRun (partition_object settings) r) (next : IsNext r request) (written so_far : List ℕ) (did : HasAsked form settings mid r member request written so_far) where
     -- the run by then
@@ -215,30 +216,42 @@ module _ (settings : Settings) (r : Run) (member : ℕ) (request : Request) wher
     admitted = asked (partition_object settings) did.skips r (Some request.id.conn) (arrival_at r member request)
 
     admitted_is : first did.skips ≡ admitted
-    admitted_is = asks_here o did.skips r own a did.goes
+    admitted_is = asks_here object did.skips r its_conn coming did.goes
 
     of_first : AreAmong (new_arrivals r (first did.skips)) did.skips
     of_first =
         subst (λ (x : Run). AreAmong (new_arrivals r x) did.skips) (sym admitted_is)
-        (λ id c. (a, subst (λ xs. Contains xs a) (sym (its_arrivals o did.skips r own a)) (contains_in a (a ∷ []) (inl refl)), did.its_own id c))
+        (λ id c. (coming, subst (λ xs. Contains xs coming) (sym (its_arrivals object did.skips r its_conn coming)) (contains_in coming (coming ∷ []) (inl refl)), did.its_own id c))
 
     pub admitted_run : IsRun (partition_object settings) admitted
-    admitted_run = call_asked did.skips r own member request run next
+    admitted_run = call_asked did.skips r its_conn member request run next
 
     pub admitted_between : IsBetween form settings mid admitted (Some request.id.conn)
     admitted_between = record { run = admitted_run; holds = did.holds; listeners = did.listeners }
 
-    -- A turn meets its partition full.
+    pub admitted_reached : member < r.members → member < mid.members
+    admitted_reached reached = subst (λ n. member < n) (sym (did.holds.members ∙ (asked_come object did.skips r its_conn coming).members)) reached
+
+    -- there is room for the calls of all who wait
+    pub admitted_room : HasCallRoom r → AreFew r → HasRoomAt admitted request.partition 0
+    admitted_room room few =
+        let its = asked_few object did.skips r its_conn coming few request.partition in
+        let come = ap length (one_new object did.skips r its_conn coming) ∙ length-append r.arrivals (coming ∷ []) in
+        let waiters = ap length (none_more_waits object did.skips r its_conn coming) in
+        let lines = (asked_come object did.skips r its_conn coming).lines in
+        omega (arith, its, come, waiters, lines, room)
+
+    -- A turn meets a full partition.
     pub turns_none : GivesUpSo admitted (by_turns settings admitted (Some request.id.conn) request.partition member) → GivesUpSo r (by_call settings r member request)
     turns_none up =
-        gives_up_then r first then (asks_goes o r own a) (λ x. served_goes o x own request.partition member) did.skips of_first
+        gives_up_then r first then (asks_goes object r its_conn coming) (λ x. served_goes object x its_conn request.partition member) did.skips of_first
         (subst (λ (x : Run). GivesUpSo x (then x)) (sym admitted_is) up)
-        (λ t. served_run o t (first did.skips) own request.partition member (subst (IsRun o) (sym admitted_is) admitted_run))
+        (λ t. served_run object t (first did.skips) its_conn request.partition member (subst (IsRun object) (sym admitted_is) admitted_run))
 
     -- All had their turns.
     module _ (new : Grid V T) (text : List ℕ) (turns : HasServed form settings mid new admitted (Some request.id.conn) (by_turns settings admitted (Some request.id.conn) request.partition member) so_far text) where
       abbrev last : Run
-      last = served o turns.skips admitted own request.partition member
+      last = served object turns.skips admitted its_conn request.partition member
 
       abbrev both : List CallId
       both = did.skips ++ turns.skips
@@ -253,12 +266,12 @@ module _ (settings : Settings) (r : Run) (member : ℕ) (request : Request) wher
       of_then = subst (λ (x : Run). AreAmong (new_arrivals x (then x turns.skips)) turns.skips) (sym admitted_is) turns.among
 
       same : by_call settings r member request both ≡ last
-      same = both_go r first then (asks_goes o r own a) (λ x. served_goes o x own request.partition member) did.skips turns.skips once of_first of_then ∙ last_is
+      same = both_go r first then (asks_goes object r its_conn coming) (λ x. served_goes object x its_conn request.partition member) did.skips turns.skips once of_first of_then ∙ last_is
 
       its_text : text ≡ written ++ texts_of (new_messages r last)
       its_text =
-          let more = ((served_goes o admitted own request.partition member).grows turns.skips).appended in
-          let before = ((asks_goes o r own a).grows did.skips).appended in
+          let more = ((served_goes object admitted its_conn request.partition member).grows turns.skips).appended in
+          let before = ((asks_goes object r its_conn coming).grows did.skips).appended in
           turns.added
           ∙ (λ i. did.added i ++ texts_of (new_with admitted last more.0 (sym more.1) i))
           ∙ append_assoc written (texts_of (new_messages r admitted)) (texts_of more.0)
@@ -267,9 +280,9 @@ module _ (settings : Settings) (r : Run) (member : ℕ) (request : Request) wher
       pub handled_call : HasHandledCall form settings new r request.id.conn (request.id.number + 1) (by_call settings r member request) written text
       handled_call = record {
         skips = both;
-        among = both_among r first then (asks_goes o r own a) (λ x. served_goes o x own request.partition member) did.skips turns.skips once of_first of_then;
-        between = subst (λ (x : Run). IsBetween form settings new x own) (sym same) turns.between;
+        among = both_among r first then (asks_goes object r its_conn coming) (λ x. served_goes object x its_conn request.partition member) did.skips turns.skips once of_first of_then;
+        between = subst (λ (x : Run). IsBetween form settings new x its_conn) (sym same) turns.between;
         counting = subst (λ (x : Run). IsCounting new.connections x request.id.conn (request.id.number + 1)) (sym same)
-            (counting_by mid.connections new.connections admitted last request.id.conn (request.id.number + 1) turns.counts (served_kept o turns.skips admitted own request.partition member).connections did.counting);
+            (counting_by mid.connections new.connections admitted last request.id.conn (request.id.number + 1) turns.counts (served_kept object turns.skips admitted its_conn request.partition member).connections did.counting);
         added = its_text ∙ ap (λ (x : Run). written ++ texts_of (new_messages r x)) (sym same);
       }
