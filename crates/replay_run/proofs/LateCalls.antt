@@ -1,5 +1,6 @@
 -- A call that waited: it is made, or refused, or it leaves, and the grid follows.
-use Rattle.std.proofs.Common.{◌≡◌, ℕ, true, false, List, [], ◌∷◌, ◌++◌, length, drop, Option, None, Contains, refl, ap, sym, ◌∙◌, subst, inl, append-nil}
+use Rattle.std.proofs.Common.{◌≡◌, ℕ, ◌+◌, ◌≤◌, ◌<◌, true, false, List, [], ◌∷◌, ◌++◌, length, drop, Option, None, Contains, refl, ap, sym, ◌∙◌, subst, inl, append-nil, arith}
+use Rattle.std.proofs.lemmas.List.Sums.{count_by-le-length}
 use Rattle.std.specs.Option.{option_map}
 use Rattle.std.proofs.Math.Seq.{drop-append_seam}
 use Rattle.grid_base.specs.Objects.{Object}
@@ -17,6 +18,7 @@ use Rattle.replay_run.specs.declared.tally.Tally.{Tally}
 use Rattle.replay_run.specs.declared.tally.Reception.{Reception}
 use Rattle.replay_run.specs.declared.tally.Reception.TheVariants.{Taken}
 use Rattle.replay_run.specs.Runs.{Run, Waiter, Appended, events_at, world_at, is_full, is_skipped, refused_at, arrived, asked, asks, without, ending, leaves, leaves_so, fate_now}
+use Rattle.replay_run.specs.Counts.{is_refused, is_out_of_memory}
 use Rattle.replay_run.specs.Endings.{new_arrivals, AreAmong}
 use Rattle.replay_run.specs.Printing.{new_messages}
 use Rattle.replay_run.specs.ScriptRuns.{IsRun, waiter_asked, waiter_refused, waiter_left}
@@ -27,7 +29,7 @@ use Rattle.replay_run.specs.WorldCalls.{texts_of, GivesUpSo}
 use Rattle.replay_run.specs.WaiterCalls.{IsBetween, handled_count, SameCounts, HasServed, HoldsBut, by_leaving}
 use Rattle.replay_run.proofs.Answering.{refusals_answer_none}
 use Rattle.replay_run.proofs.Arriving.{without_ok, comes_later}
-use Rattle.replay_run.proofs.EventRuns.{asks_here, asks_nothing}
+use Rattle.replay_run.proofs.EventRuns.{asks_here, asks_nothing, fewer}
 use Rattle.replay_run.proofs.GridCalls.{HoldsApart, HasMade}
 use Rattle.replay_run.proofs.LineTexts.{new_with}
 use Rattle.replay_run.proofs.RunFacts.{RunOk}
@@ -75,6 +77,10 @@ module _ {V : Type 0} {T : V → Type 0} {form : FormOf V T} {settings : Setting
     worlds = λ p low. worlds_alike (without r w) refl refl refl p (h.worlds p low);
   }
 
+  -- the run in which it waits no more
+  abbrev pub late_run : Run
+  late_run = record (without r w) { arrivals = r.arrivals ++ ending r w ∷ [] }
+
   -- the table had the call as it came
   pub late_table : HasTable grid.connections (record (without r w) { arrivals = r.arrivals ++ ending r w ∷ [] })
   late_table = table_alike grid.connections r (record (without r w) { arrivals = r.arrivals ++ ending r w ∷ [] }) refl refl (came_ending r w ok.of_waiters i []) h.table
@@ -82,6 +88,38 @@ module _ {V : Type 0} {T : V → Type 0} {form : FormOf V T} {settings : Setting
   pub late_tally : (tally : Tally) (reception : Reception) → tally ≡ tallied_later reception grid.tally
       → (next : Run) → next.arrivals ≡ (without r w).arrivals ++ ending r w ∷ [] → next.waiters ≡ (without r w).waiters → HasTallied reception grid.tally next → IsTally tally next
   late_tally tally reception is next come waiting has = subst (λ t. IsTally t next) (sym is) (ended_tally grid.tally r next w reception ok.of_waiters i h.tally come waiting has)
+
+  -- The grid has this run, before anything becomes of the call.
+  pub late_holds : Holds form settings grid (record (without r w) { arrivals = r.arrivals ++ ending r w ∷ [] })
+  late_holds =
+      let left = left_so (without r w) (without_ok o r w ok) (ending r w) (comes_later o r w ok i) grid.tally h.tally.refused h.tally.memory in
+      let silent : HasTallied Taken grid.tally (record (without r w) { arrivals = r.arrivals ++ ending r w ∷ [] }) =
+      subst (λ ms. HasTallied Taken grid.tally (record (without r w) { arrivals = r.arrivals ++ ending r w ∷ []; appended = ms })) (append-nil r.appended) (record { refused = left.refused; memory = left.memory }) in
+      record {
+        goes_by = h.goes_by;
+        goes_on = h.goes_on;
+        lines = h.lines;
+        members = h.members;
+        links = h.links;
+        moments = h.moments;
+        clocks = h.clocks;
+        table = late_table;
+        waiters = record { size = h.waiters.size; listed = h.waiters.listed; there = h.waiters.there; fit = h.waiters.fit };
+        tally = late_tally grid.tally Taken refl late_run refl refl silent;
+        reopened = h.reopened;
+        worlds = λ p low. worlds_alike late_run refl refl refl p (h.worlds p low);
+      }
+
+  -- More calls came than were refused, since this one wasn't.
+  pub late_few : (grid.tally.refused < grid.tally.arrived) × (grid.tally.memory < grid.tally.arrived)
+  late_few =
+      let refused = count_by-le-length (is_refused r) r.arrivals in
+      let memory = count_by-le-length (is_out_of_memory r) r.arrivals in
+      let less = fewer w r.waiters i in
+      let all = h.tally.arrived in
+      let its_refused = h.tally.refused in
+      let its_memory = h.tally.memory in
+      (omega (arith, refused, less, all, its_refused), omega (arith, memory, less, all, its_memory))
 
   -- Its plain call was made.
   pub late_made : (own : Option ℕ) (new : Grid V T) (written text : List ℕ) → is_made (fate_now o r w) ≡ true → is_full (world_at o (without r w) w.request.partition) ≡ false → SameCounts grid.connections new.connections

@@ -110,7 +110,7 @@ other_stays c w on (v ∷ vs) = go (is_other w v) refl (other_stays c w on vs)
         it false e = absurd cc
 
 -- two tests in either order
-two_tests : (p q : Waiter → Bool) (xs : List Waiter) → filter p (filter q xs) ≡ filter q (filter p xs)
+pub two_tests : (p q : Waiter → Bool) (xs : List Waiter) → filter p (filter q xs) ≡ filter q (filter p xs)
 two_tests p q [] = refl
 two_tests p q (x ∷ xs) = both (p x) (q x) refl refl (two_tests p q xs)
   where
@@ -120,12 +120,12 @@ two_tests p q (x ∷ xs) = both (p x) (q x) refl refl (two_tests p q xs)
     both false true e f rest = ap (λ t. cond t (x ∷ filter p (filter q xs)) (filter p (filter q xs))) e ∙ rest
     both false false e f rest = rest
 
--- and of this one there is one less
-fewer_on : (c : ℕ) (w : Waiter) → is_waiting_on c w ≡ true → (ws : List Waiter) → In w ws → length (filter (is_waiting_on c) (filter (is_other w) ws)) + 1 ≤ length (filter (is_waiting_on c) ws)
-fewer_on c w on ws i =
-    let there = in_kept (is_waiting_on c) ws w i on in
-    let less = fewer w (filter (is_waiting_on c) ws) there in
-    let same = ap length (two_tests (is_waiting_on c) (is_other w) ws) in
+-- and of those that pass a test, as who leaves does, there is one less
+pub fewer_passing : (test : Waiter → Bool) (w : Waiter) → test w ≡ true → (ws : List Waiter) → In w ws → length (filter test (filter (is_other w) ws)) + 1 ≤ length (filter test ws)
+fewer_passing test w on ws i =
+    let there = in_kept test ws w i on in
+    let less = fewer w (filter test ws) there in
+    let same = ap length (two_tests test (is_other w) ws) in
     omega (arith, less, same)
   where
     in_kept : (t : Waiter → Bool) (xs : List Waiter) (x : Waiter) → In x xs → t x ≡ true → In x (filter t xs)
@@ -162,7 +162,7 @@ left_waiters c (suc n) r few = go (find (is_waiting_on c) r.waiters) refl (left_
     go None none rest = let no_more = nobody_on c r.waiters none in rest r (omega (arith, no_more))
     go (Some w) some rest =
         let k = find_some (is_waiting_on c) r.waiters w some in
-        let less = fewer_on c w k.1 r.waiters k.0 in
+        let less = fewer_passing (is_waiting_on c) w k.1 r.waiters k.0 in
         rest (leaves r w) (omega (arith, few, less)) ∙ other_stays c w k.1 r.waiters
 
 no_more_than : (t : Waiter → Bool) (ws : List Waiter) → length (filter t ws) ≤ length ws

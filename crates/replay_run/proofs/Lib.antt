@@ -52,6 +52,7 @@ pub mod Refusing
 pub mod GivingOut
 pub mod WaiterLists
 pub mod GridCalls
+pub mod MadeCalls
 pub mod GridLines
 pub mod LineCalls
 pub mod LineFacts
@@ -63,9 +64,12 @@ pub mod GridEvents
 pub mod GivingUp
 pub mod Flowing
 pub mod Serving
+pub mod Joining
 pub mod Leaving
 pub mod LateCalls
 pub mod NewCalls
+pub mod LateTurns
+pub mod WaiterTurns
 pub mod Taking
 pub mod EventLines
 pub mod RebalanceLine
