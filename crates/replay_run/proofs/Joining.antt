@@ -1,10 +1,9 @@
--- A call comes on its connection, and the table has it; one that waits joins the list of its member and partition, and the grid follows.
+-- A waiting call arrives: it joins the list of its member and partition, and the grid follows.
 use Rattle.std.proofs.Common.{◌≡◌, ◌≢◌, ℕ, ℤ, ◌+◌, ◌<◌, ◌==◌, Bool, true, false, cond, ◌&&◌, true≢false, List, [], ◌∷◌, ◌++◌, length, map, filter, Option, Some, None, Contains, refl, ap, sym, ◌∙◌, subst, ⊎_elim, append-nil, arith, length-append}
 use Rattle.std.proofs.lemmas.Bool.{cases_Bool, eq-eqb}
 use Rattle.std.proofs.lemmas.List.{length-set, map-append, get_or-set_same, get_or-set_other}
 use Rattle.std.proofs.lemmas.List.Elements.{filter-append}
 use Rattle.grid_base.specs.Limits.{CallFits}
-use Rattle.grid_base.specs.declared.names.CallId.{CallId}
 use Rattle.grid_base.specs.declared.calls.Request.{Request}
 use Rattle.partition_protocol.proofs.Lists.{In, in_cases, in_contains, contains_in}
 use Rattle.call_engine.specs.Calls.{Settings}
@@ -14,36 +13,19 @@ use Rattle.wait_sets.specs.declared.waiter.Waiter.{Waiter as ListedWaiter}
 use Rattle.wait_lists.specs.Lists.{place_of, list_at, with_list}
 use Rattle.replay_run.specs.declared.grid.Grid.{Grid}
 use Rattle.replay_run.specs.declared.tally.Reception.TheVariants.{Taken}
-use Rattle.replay_run.specs.Runs.{Run, Waiter, partitions, connection_of, waits, waiter_at, served, events_at}
-use Rattle.replay_run.specs.Printing.{came_at, answer_of}
+use Rattle.replay_run.specs.Runs.{Run, Waiter, partitions, waits, waiter_at, events_at}
 use Rattle.replay_run.specs.ScriptRuns.{IsRun, IsNext, waiter_came}
-use Rattle.replay_run.specs.Tables.{Table, Opened, opened_at, with_arrival}
+use Rattle.replay_run.specs.Tables.{with_arrival}
 use Rattle.replay_run.specs.Tallies.{tallied}
-use Rattle.replay_run.specs.Grids.{FormOf, IsConnection, HasTable, HasWaiters, IsTally, HasWorld, Holds, AreListening, AreFew, IsCounting, as_listed, waits_at}
-use Rattle.replay_run.specs.WorldCalls.{Onward, GivesUpSo, HasCallRoom, HasRoomAt}
+use Rattle.replay_run.specs.Grids.{FormOf, HasTable, HasWaiters, IsTally, HasWorld, Holds, AreListening, AreFew, IsCounting, as_listed, waits_at}
+use Rattle.replay_run.specs.WorldCalls.{GivesUpSo, HasCallRoom, HasRoomAt}
 use Rattle.replay_run.specs.WaiterCalls.{IsBetween, HasServed, HasHandledCall, by_turns, by_waiting}
 use Rattle.replay_run.proofs.EventRuns.{served_kept}
-use Rattle.replay_run.proofs.HistoryTexts.{uncome_unanswered}
+use Rattle.replay_run.proofs.NewCalls.{waiting_table}
 use Rattle.replay_run.proofs.Places.{same_number}
 use Rattle.replay_run.proofs.Serving.{first_holds, second_holds, counting_by}
 use Rattle.replay_run.proofs.TableCounts.{counting_called}
-use Rattle.replay_run.proofs.TableRuns.{found_opened, unheard, came_waiting, arrived_table}
 use Rattle.replay_run.proofs.Tallies.{waiting_tally}
-
--- a call that comes next
-
-module _ {V : Type 0} {T : V → Type 0} {form : FormOf V T} {settings : Settings} (grid : Grid V T) (r : Run) (h : Holds form settings grid r) (request : Request) (next : IsNext r request) (count : IsCounting grid.connections r request.id.conn request.id.number) where
-  -- its connection's place in the table
-  pub come_slot : (o : Opened) × (opened_at grid.connections request.id.conn ≡ Some o) × IsConnection o next.connection
-  come_slot = found_opened grid.connections r h.table request.id.conn next.connection (ap (connection_of r) next.on ∙ next.may.there)
-
-  -- where it comes behind all calls so far
-  pub come_numbered : request.id ≡ record { conn = request.id.conn; number = length come_slot.0.calls }
-  come_numbered = λ i. record { conn = request.id.conn; number = sym (count.here come_slot.0 come_slot.1) i }
-
-  -- It was not answered.
-  pub come_unanswered : IsRun (partition_object settings) r → answer_of r request.id ≡ None
-  come_unanswered run = uncome_unanswered r run request.id (unheard grid.connections r h.table request.id.conn come_slot.0 come_slot.1 request.id r.lines come_numbered)
 
 -- who joins a list is last there
 
@@ -127,9 +109,7 @@ module _ {V : Type 0} {T : V → Type 0} {form : FormOf V T} {settings : Setting
 
   come_table : HasTable new.connections (waits r (waiter_at r member request timeout))
   come_table =
-      let slot = come_slot grid r h request next count in
-      let at = arrived_table grid.connections r h.table request.id.conn slot.0 slot.1 request.id r.lines (come_numbered grid r h request next count) (come_unanswered grid r h request next count run) (waits r w) refl refl (came_waiting r w) in
-      subst (λ t. HasTable t (waits r w)) (sym (joined.connections ∙ ap (with_arrival grid.connections request.id.conn) h.lines)) at
+      subst (λ t. HasTable t (waits r w)) (sym (joined.connections ∙ ap (with_arrival grid.connections request.id.conn) h.lines)) (waiting_table grid r run h request next count w refl refl)
 
   joined_holds : Holds form settings new (waits r (waiter_at r member request timeout))
   joined_holds = record {

@@ -64,10 +64,10 @@ pub mod GridEvents
 pub mod GivingUp
 pub mod Flowing
 pub mod Serving
-pub mod Joining
 pub mod Leaving
 pub mod LateCalls
 pub mod NewCalls
+pub mod Joining
 pub mod LateTurns
 pub mod WaiterTurns
 pub mod Taking

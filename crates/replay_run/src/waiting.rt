@@ -55,7 +55,7 @@ impl Grid {
         requires limits { CallFits request.call }
         requires placed { request.partition < partitions }
         requires member { member < self.old.members }
-        requires stands { (settings : Settings) × (r : Run) × IsBetween (boxed form) settings self.old r (Some request.id.conn) × IsNext r request × HasCallRoom r × AreFew r }
+        requires stands { (settings : Settings) × (r : Run) × IsBetween (boxed form) settings self.old r (Some request.id.conn) × IsNext r request × HasCallRoom r × AreFew r × IsCounting self.old.connections r request.id.conn request.id.number }
         ensures ok { (settings : Settings) (r : Run) → IsBetween (boxed form) settings self.old r (Some request.id.conn) → IsNext r request
             → IsCounting self.old.connections r request.id.conn request.id.number
             → OnOk result (HasHandledCall (boxed form) settings self.new r request.id.conn (request.id.number + 1) (by_waiting settings r member request timeout) out.old.items out.new.items) }
