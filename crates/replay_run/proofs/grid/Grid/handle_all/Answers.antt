@@ -142,7 +142,7 @@ returns-in_err-ask-in-Call-clause-full g c = λ settings r k bytes all_brings of
     let why = handed_on c.from_residual-in_err-ask-in-Call.result c.in_err-ask-in-Call.field-0.0 InFlight c.from_residual-in_err-ask-in-Call.ensures.1 fails in
     given_up_as split
     (asked_full grid r k bytes done q rest brings written mid so_far c.args.member of_member
-    (c.ask.ensures.full settings so_far.now (next_between grid r k bytes done item q refl rest brings written mid so_far) (next_call grid r k bytes done item q refl rest brings written mid so_far) (c.in_err-ask-in-Call.was ∙ ap Err why)))
+    (c.ask.ensures.full settings so_far.now (next_between grid r k bytes done item q refl rest brings written mid so_far) (next_call grid r k bytes done item q refl rest brings written mid so_far) (next_count grid r k bytes done item q refl rest brings written mid so_far) (c.in_err-ask-in-Call.was ∙ ap Err why)))
 
 pub returns-in_err-wait-in-Wait-clause-full : goal.returns-in_err-wait-in-Wait-clause-full
 returns-in_err-wait-in-Wait-clause-full g c = λ settings r k bytes all_brings of_conn of_member begun fails.
@@ -161,7 +161,7 @@ returns-in_err-wait-in-Wait-clause-full g c = λ settings r k bytes all_brings o
     let why = handed_on c.from_residual-in_err-wait-in-Wait.result c.in_err-wait-in-Wait.field-0.0 InFlight c.from_residual-in_err-wait-in-Wait.ensures.1 fails in
     given_up_as split
     (waited_full grid r k bytes done q c.in-Wait.timeout rest brings written mid so_far c.args.member of_member _ (to_z-of_z w64 c.in-Wait.timeout fits)
-    (c.wait.ensures.full settings so_far.now (next_between grid r k bytes done item q refl rest brings written mid so_far) (next_call grid r k bytes done item q refl rest brings written mid so_far) (c.in_err-wait-in-Wait.was ∙ ap Err why)))
+    (c.wait.ensures.full settings so_far.now (next_between grid r k bytes done item q refl rest brings written mid so_far) (next_call grid r k bytes done item q refl rest brings written mid so_far) (next_count grid r k bytes done item q refl rest brings written mid so_far) (c.in_err-wait-in-Wait.was ∙ ap Err why)))
 
 pub returns-clause-ok : goal.returns-clause-ok
 returns-clause-ok g c = λ settings r k bytes brings of_conn of_member begun.
