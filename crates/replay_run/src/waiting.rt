@@ -60,6 +60,7 @@ impl Grid {
             → IsCounting self.old.connections r request.id.conn request.id.number
             → OnOk result (HasHandledCall (boxed form) settings self.new r request.id.conn (request.id.number + 1) (by_waiting settings r member request timeout) out.old.items out.new.items) }
         ensures full { (settings : Settings) (r : Run) → IsBetween (boxed form) settings self.old r (Some request.id.conn) → IsNext r request
+            → IsCounting self.old.connections r request.id.conn request.id.number
             → IsErrOf result RunEnds.InFlight → GivesUpSo r (by_waiting settings r member request timeout) }
     {
         let conn = request.id.conn;
