@@ -46,6 +46,8 @@ pub struct Spoken {
     pub correlation: i64,
     /// The partition that it states, where it is a call.
     pub partition: Option<PartitionId>,
+    /// Whether it is a call that may wait.
+    pub waits: bool,
 }
 
 /// The bytes that a `say` line gives for a saying, if it gives any and they aren't too long for a line.
@@ -63,10 +65,21 @@ fn bytes_said(alloc: Global, correlation: i64, saying: &Saying) -> Result<Option
     }
 }
 
+/// Whether it is a call that may wait.
+fn may_wait(saying: &Saying) -> bool {
+    matches!(
+        saying,
+        Saying::WaitOnMap { .. } | Saying::WaitOnQueue { .. }
+    )
+}
+
 /// The partition of a call, as it states it.
 fn partition_called(message: &Message, saying: &Saying) -> Option<PartitionId> {
     match saying {
-        Saying::OnMap(_) | Saying::OnQueue { .. } => stated_partition(message),
+        Saying::OnMap(_)
+        | Saying::OnQueue { .. }
+        | Saying::WaitOnMap { .. }
+        | Saying::WaitOnQueue { .. } => stated_partition(message),
         _ => None,
     }
 }
@@ -123,6 +136,7 @@ fn as_bytes(alloc: Global, message: &Message, correlation: i64) -> Result<Spoken
         words,
         correlation,
         partition: None,
+        waits: false,
     })
 }
 
@@ -157,6 +171,7 @@ fn told_as(
         words,
         correlation,
         partition: partition_called(message, saying),
+        waits: may_wait(saying),
     })
 }
 

@@ -113,6 +113,38 @@ impl Chart {
         }
     }
 
+    /// Draws what became of a call that waits, if that is what happened.
+    fn draw_waiter(
+        &mut self,
+        alloc: Global,
+        line: u32,
+        happening: &Happening,
+    ) -> Result<(), Memory> {
+        match happening {
+            Happening::Waits { member, .. } => {
+                let lane = self.cast.end(*member);
+                self.mark(alloc, Look::Note, lane, "waits")
+            }
+            Happening::Held {
+                conn,
+                number,
+                member,
+            } => {
+                let text = format!(in alloc; "holds message {number} of {conn}")?;
+                let lane = self.cast.end(*member);
+                self.note(alloc, line, Look::Note, lane, text.as_str())
+            }
+            Happening::Left { conn, number } => {
+                let Some((lane, _)) = self.cast.client(*conn) else {
+                    return Ok(());
+                };
+                let text = format!(in alloc; "message {number} leaves without an answer")?;
+                self.note(alloc, line, Look::Bad, lane, text.as_str())
+            }
+            happening => self.draw_connection(alloc, line, happening),
+        }
+    }
+
     /// Draws what happened on a connection, if that is what happened.
     pub(crate) fn draw_client(
         &mut self,
@@ -144,7 +176,7 @@ impl Chart {
                 self.answered(alloc, line, id, words.as_str())
             }
             Happening::Event { conn, words } => self.told(alloc, line, *conn, words.as_str()),
-            happening => self.draw_connection(alloc, line, happening),
+            happening => self.draw_waiter(alloc, line, happening),
         }
     }
 

@@ -87,7 +87,9 @@ impl Cast {
                 let (conn, member) = (*conn, *member);
                 self.clients.push(Client { conn, member })?;
             }
-            Happening::Reached { partition, .. } => self.show(*partition),
+            Happening::Reached { partition, .. } | Happening::Waits { partition, .. } => {
+                self.show(*partition);
+            }
             _ => {}
         }
         Ok(())

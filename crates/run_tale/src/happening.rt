@@ -67,6 +67,24 @@ pub enum Happening {
         member: MemberId,
         held: bool,
     },
+    /// It is a call that waits at that member, in that partition.
+    Waits {
+        conn: u32,
+        number: u32,
+        partition: PartitionId,
+        member: MemberId,
+    },
+    /// A call that had waited was executed, and its answer waits for the backups.
+    Held {
+        conn: u32,
+        number: u32,
+        member: MemberId,
+    },
+    /// A call that had waited leaves without an answer.
+    Left {
+        conn: u32,
+        number: u32,
+    },
     /// A member answered a message.
     Answered {
         conn: u32,

@@ -2,7 +2,7 @@
 
 use crate::happening::{Flight, Happening, PlanStep};
 use client_words::{Form, Spoken};
-use grid_base::{Memory, PartitionId};
+use grid_base::{MemberId, Memory, PartitionId};
 use run_words::took_words;
 
 /// Where the happenings of a line are told.
@@ -167,15 +167,38 @@ fn push_other(out: &mut String, happening: &Happening) -> Result<(), Memory> {
     }
 }
 
+/// Appends that a member holds an answer.
+fn push_held(out: &mut String, member: MemberId) -> Result<(), Memory> {
+    write!(out, "held by member {member} for its backups")
+}
+
 /// Appends what clients said and were told; or what else happened.
 fn push_client(out: &mut String, happening: &Happening) -> Result<(), Memory> {
     match happening {
         Happening::Heard { conn, saying, .. } => push_spoken(out, *conn, saying),
-        Happening::Reached { member, .. } => {
-            write!(out, "held by member {member} for its backups")
-        }
+        Happening::Reached { member, .. } => push_held(out, *member),
         Happening::Answered { conn, words, .. } => push_told(out, *conn, words.as_str()),
         Happening::Event { conn, words } => push_told(out, *conn, words.as_str()),
+        happening => push_waiter(out, happening),
+    }
+}
+
+/// Appends what became of a call that waits; or what else happened.
+fn push_waiter(out: &mut String, happening: &Happening) -> Result<(), Memory> {
+    match happening {
+        Happening::Waits { member, .. } => write!(out, "waits at member {member}"),
+        Happening::Held {
+            conn,
+            number,
+            member,
+        } => {
+            write!(out, "message {number} of connection {conn} ")?;
+            push_held(out, *member)
+        }
+        Happening::Left { conn, number } => write!(
+            out,
+            "message {number} of connection {conn} leaves without an answer"
+        ),
         happening => push_connection(out, happening),
     }
 }

@@ -3,6 +3,7 @@
 use crate::clients::ClientMessage;
 use crate::notes::Notes;
 use crate::printed::{Appended, all_appended, outcome_of};
+use crate::waiters::WaitsAt;
 use grid_base::{CallId, Memory};
 use run_tale::{Happening, Tale};
 use run_words::{Output, fault_words};
@@ -85,6 +86,7 @@ impl Notes {
         match self.clients.answer(conn, correlation) {
             Some(number) => {
                 let id = CallId { conn, number };
+                self.waiters.remove(&id);
                 self.clients.note_answer(alloc, id, words.as_str())?;
                 all.add_answer(Answered { id, executed }, words)
             }
@@ -173,7 +175,7 @@ impl Notes {
     ) -> Result<(), Memory> {
         let ClientMessage { id, member, spoken } = message;
         let CallId { conn, number } = id;
-        let partition = spoken.partition;
+        let (partition, waits) = (spoken.partition, spoken.waits);
         told.push(Happening::Heard {
             conn,
             number,
@@ -182,7 +184,10 @@ impl Notes {
         let Some(partition) = partition else {
             return Ok(());
         };
-        if answered.map_or(true, |answered| answered.executed) {
+        let at = WaitsAt { partition, member };
+        if waits && answered.is_none() && !at.holds(running, id) {
+            self.tell_waits(id, at, told)?;
+        } else if answered.map_or(true, |answered| answered.executed) {
             told.push(Happening::Reached {
                 conn,
                 number,

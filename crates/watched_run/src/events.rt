@@ -59,7 +59,8 @@ impl Notes {
             Line::OpenConn { conn, member } => self.tell_opened(alloc, *conn, *member, told),
             Line::Clock { member, moment } => {
                 let (member, moment) = (*member, *moment);
-                told.push(Happening::Clock { member, moment })
+                told.push(Happening::Clock { member, moment })?;
+                self.tell_clock_turns(alloc, running, member, text, told)
             }
             Line::Resend { partition, end } => {
                 told.push(Happening::Resent { end: *end })?;

@@ -14,6 +14,7 @@ mod printed;
 mod questions;
 mod rebalances;
 mod sendings;
+mod waiters;
 mod watch;
 
 pub use running_grid::RunEnd;

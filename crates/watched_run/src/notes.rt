@@ -2,12 +2,14 @@
 
 use crate::clients::Clients;
 use crate::sendings::{Sending, Sendings};
-use grid_base::{Memory, PARTITIONS, PartitionId};
+use crate::waiters::WaitsAt;
+use grid_base::{CallId, Memory, PARTITIONS, PartitionId};
 use partition_world::Link;
 use run_tale::{Flight, Happening, Tale};
 use run_words::{leader_of, letter_of, push_row};
 use running_grid::RunningGrid;
 use std::alloc::Global;
+use std::collections::BTreeMap;
 
 /// How many messages are told of those that an end sends at once on a link.
 const MOST_SENT: usize = 8;
@@ -47,6 +49,8 @@ pub(crate) struct Notes {
     /// The script's line of each line that the grid ran, behind its first.
     pub(crate) numbers: Vec<u32>,
     pub(crate) clients: Clients,
+    /// The calls that wait, and where.
+    pub(crate) waiters: BTreeMap<CallId, WaitsAt>,
     pub(crate) parts: Vec<Part>,
 }
 
@@ -61,6 +65,7 @@ impl Notes {
             line: 1,
             numbers: Vec::new(alloc),
             clients: Clients::new(alloc)?,
+            waiters: BTreeMap::new(alloc),
             parts,
         })
     }

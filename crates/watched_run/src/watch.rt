@@ -74,7 +74,7 @@ impl Watch {
     }
 
     /// Runs the next line of the script, and tells what happened, in order. Gives the line. Costs what the line costs the
-    /// grid, and the words of what happened.
+    /// grid, the words of what happened, and a look at each call that waits.
     ///
     /// The deliveries of a `flow` line are run and told one by one, while the grid can run so many lines: 200,000 in all,
     /// those of the script that are to come among them. Else only their number is told.
@@ -91,6 +91,7 @@ impl Watch {
         told.go_on();
         let line = self.running.read(alloc, text)?;
         self.run_read(alloc, &line, text, told)?;
+        self.notes.tell_turns(alloc, &self.running, told)?;
         Ok(line)
     }
 
