@@ -1,6 +1,6 @@
 -- The places of lists, and how many lists have somebody.
-use Rattle.std.proofs.Common.{◌≡◌, ◌≢◌, ◌⊎◌, ⊎_elim, ℕ, ◌+◌, ◌-◌, ◌<◌, ◌≤◌, Bool, true, false, List, [], ◌∷◌, ◌++◌, length, take, get_or, slice_set, replicate, sum_by, All, refl, ap, sym, ◌∙◌, arith}
-use Rattle.std.proofs.lemmas.List.{take_all, take_more_set, get_or_default, get_or-set_same, get_or-set_other}
+use Rattle.std.proofs.Common.{◌≡◌, ◌≢◌, ◌⊎◌, ⊎_elim, ℕ, ◌+◌, ◌-◌, ◌<◌, ◌≤◌, Bool, true, false, List, [], ◌∷◌, ◌++◌, length, take, get_or, slice_set, replicate, sum_by, map, drop, All, refl, ap, sym, ◌∙◌, arith}
+use Rattle.std.proofs.lemmas.List.{append-nil, take_all, drop_all, length-take, length-set, take_more_set, get_or_default, get_or-set_same, get_or-set_other}
 use Rattle.std.proofs.lemmas.List.Elements.{All-nil, All-cons, All-head, All-tail}
 use Rattle.std.proofs.lemmas.List.Folds.{sum_by-replicate}
 use Rattle.std.proofs.lemmas.List.Sums.{sum_by-cons, sum_by_push, sum_by-set}
@@ -113,6 +113,18 @@ counted_further lists i busy list l b =
 
 pub counted_whole : (lists : List (List Waiter)) (n busy : ℕ) → length lists ≤ n → busy ≡ sum_by if_some (take n lists) → busy ≡ sum_by if_some lists
 counted_whole lists n busy l b = b ∙ ap (sum_by if_some) (take_all n lists l)
+
+pub within_lists : (lists : List (List Waiter)) (i busy : ℕ) (list : List Waiter) → i < length lists → busy ≡ sum_by if_some (take i lists) → busy + if_some list ≤ length lists
+within_lists lists i busy list l b =
+    let further = counted_further lists i busy list l b in
+    let most = some_at_most (take (i + 1) (slice_set lists i list)) in
+    let short = length-take (i + 1) (slice_set lists i list) in
+    let long = length-set lists i list in
+    omega (arith, further, most, short, long)
+
+-- once all are passed
+pub passed_all : (f : List Waiter → List Waiter) (lists : List (List Waiter)) (n : ℕ) → length lists ≤ n → map f (take n lists) ++ drop n lists ≡ map f lists
+passed_all f lists n l = rw (take_all n lists l, drop_all n lists l) (append-nil (map f lists))
 
 -- whether a list is busy
 
