@@ -1,13 +1,12 @@
 -- What is known of a list from its last look, and who is taken out of it.
-use Rattle.std.proofs.Common.{◌≡◌, ℕ, ◌+◌, ◌<◌, ◌≤◌, Bool, true, false, cond, List, [], ◌∷◌, ◌++◌, length, take, Option, Some, None, slice_get, refl, sym, ◌∙◌, subst, arith, length-append}
+use Rattle.std.proofs.Common.{◌≡◌, ℕ, ◌<◌, List, [], ◌++◌, length, take, Option, Some, None, slice_get, refl, sym, ◌∙◌, subst, arith}
 use Rattle.std.specs.List.{remove}
 use Rattle.std.specs.Option.{option_to_list}
-use Rattle.std.proofs.lemmas.List.{take_all, take-append-le}
-use Rattle.std.proofs.lemmas.List.Elements.{All-nil}
+use Rattle.std.proofs.lemmas.List.{take_all}
 use Rattle.std.proofs.lemmas.List.Edits.{length-remove}
 use Rattle.grid_base.specs.declared.refusal.PartitionRefused.{PartitionRefused}
 use Rattle.wait_sets.specs.declared.waiter.Waiter.{Waiter}
-use Rattle.wait_sets.specs.WaitSets.{is_due, NoneIsDue}
+use Rattle.wait_sets.specs.WaitSets.{NoneIsDue}
 use Rattle.wait_sets.specs.Laws.{StayUndue}
 use Rattle.wait_lists.specs.declared.turn.Standing.{Standing}
 use Rattle.wait_lists.specs.declared.turn.Standing.TheVariants.{Serves, Refuses, Gone}
@@ -16,18 +15,7 @@ use Rattle.wait_lists.specs.Turns.{AreUndue, TakesNext, first_place, Takes}
 
 -- who isn't due
 
-pub undue_longer : (looked : Option ℕ) (undue : ℕ) (ws : List Waiter) (w : Waiter) → AreUndue looked undue ws → AreUndue looked undue (ws ++ w ∷ [])
-undue_longer None undue ws w h = let l = length-append ws (w ∷ []) in omega (arith, l, h)
-undue_longer (Some now) undue ws w h =
-    let l = length-append ws (w ∷ []) in
-    let within : undue ≤ length ws = h.0 in
-    (omega (arith, l, within), subst (NoneIsDue now) (sym (take-append-le undue ws (w ∷ []) within)) h.1)
-
--- so many aren't due at this moment, where that is the one of the last look; else nobody is known not to be
-pub known_undue : (looked : Option ℕ) (undue now : ℕ) (ws : List Waiter) (same : Bool) → (same ≡ true → looked ≡ Some now) → AreUndue looked undue ws → NoneIsDue now (take (cond same undue 0) ws)
-known_undue looked undue now ws true h k = (subst (λ o. AreUndue o undue ws) (h refl) k).1
-known_undue looked undue now ws false h k = All-nil (λ w. is_due now w ≡ false)
-
+-- nobody, where it was nobody's turn; and else nobody before the one that has left
 pub all_undue : (now : ℕ) (ws : List Waiter) (r : Option ℕ) → r ≡ None → StayUndue now ws r → AreUndue (Some now) (length ws) ws
 all_undue now ws None e h = (omega arith, subst (NoneIsDue now) (sym (take_all (length ws) ws (omega arith))) h)
 all_undue now ws (Some place) e h = absurd cc
@@ -40,14 +28,6 @@ earlier_undue now place ws (Some other) e l h =
     (omega (arith, shorter, l), subst (λ p. NoneIsDue now (take p (remove ws p))) same h)
 
 -- who is taken
-
-pub next_taken : (r : Option ℕ) (place : ℕ) (old : List Waiter) (w : Waiter) (new : List Waiter) → r ≡ Some place → slice_get old place ≡ Some w → new ≡ remove old place → TakesNext r old (Some w) new
-next_taken None place old w new e h k = absurd cc
-next_taken (Some other) place old w new e h k = let same : other ≡ place = cc in subst (λ p. (slice_get old p ≡ Some w) × (new ≡ remove old p)) (sym same) (h, k)
-
-pub none_taken : (r : Option ℕ) (old new : List Waiter) → r ≡ None → new ≡ old → TakesNext r old None new
-none_taken None old new e k = k
-none_taken (Some place) old new e k = absurd cc
 
 pub serves_one : (r : Option ℕ) (old : List Waiter) (w : Waiter) (new : List Waiter) → TakesNext r old (Some w) new → Takes Serves r old (Some (Call w.request)) new
 serves_one None old w new h = absurd h

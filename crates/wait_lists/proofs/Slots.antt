@@ -26,8 +26,8 @@ other_spot m n p q l k d e =
 
 pub every_list_is_its_own : EveryListIsItsOwn
 every_list_is_its_own m p lists list l there = (
-    list_there lists m p list there,
-    λ n q k d. get_or-set_other lists (place_of m p) (place_of n q) list [] (other_spot m n p q l k d),
+  list_there lists m p list there,
+  λ n q k d. get_or-set_other lists (place_of m p) (place_of n q) list [] (other_spot m n p q l k d),
 )
 
 -- how many

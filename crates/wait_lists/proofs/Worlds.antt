@@ -1,11 +1,8 @@
 -- What a member of a partition's world would do with a call.
-use Rattle.std.proofs.Common.{◌≡◌, ℕ, ◌<◌, Bool, true, false, cond, not, List, Option, Some, None, slice_get, refl, ap, sym, ◌∙◌, arith}
+use Rattle.std.proofs.Common.{◌≡◌, ℕ, ◌<◌, Bool, true, false, cond, List, Option, Some, None, slice_get, refl, ap, sym, ◌∙◌, arith}
 use Rattle.grid_base.specs.Shelves.{Meaning}
 use Rattle.partition_protocol.specs.Node.{Node as ProtocolNode}
-use Rattle.std.specs.Prelude.{if◌then◌else◌}
-use Rattle.partition_table.specs.declared.Row.{Row}
-use Rattle.partition_table.specs.Rows.{is_primary}
-use Rattle.partition_protocol.specs.Execution.{Reached, Executes, PartitionLost, WrongTarget, Migrating, reached}
+use Rattle.partition_protocol.specs.Execution.{Reached, reached}
 use Rattle.partition_protocol.specs.Recorded.{Recorded}
 use Rattle.partition_protocol.specs.World.{World as Machine, map_or, is_live}
 use Rattle.partition_protocol.specs.Events.{Event}
@@ -22,27 +19,6 @@ gone_standing b r e = rw e refl
 
 pub live_standing : (m : ℕ) (b : Bool) (r : Option ProtocolNode) (node : ProtocolNode) (d : Option Reached) → b ≡ true → r ≡ Some node → d ≡ Some (reached m node) → d ≡ cond b (map_or r None (λ (n : ProtocolNode). Some (reached m n))) None
 live_standing m b r node d e f g = g ∙ rw (e, f) refl
-
--- what a member does by the row that it knows, part by part
-
-abbrev pub reached_by : (lost leads frozen : Bool) → ℕ → Reached
-reached_by lost leads frozen version = if lost then PartitionLost version else if not leads then WrongTarget version else if frozen then Migrating version else Executes
-
-pub by_row : (m : ℕ) (row : Row) (frozen : Bool) (node : ProtocolNode) (r : Reached) → row ≡ node.known → frozen ≡ node.frozen → r ≡ reached_by row.lost (is_primary row m) frozen row.version → Some r ≡ Some (reached m node)
-by_row m row frozen node r e f h =
-    ap (λ (x : Reached). Some x) (h ∙ ap (λ (x : Row). reached_by x.lost (is_primary x m) frozen x.version) e ∙ ap (λ b. reached_by node.known.lost (is_primary node.known m) b node.known.version) f)
-
-pub by_lost : (lost leads frozen : Bool) (v : ℕ) → lost ≡ true → PartitionLost v ≡ reached_by lost leads frozen v
-by_lost lost leads frozen v l = rw l refl
-
-pub by_another : (lost leads frozen : Bool) (v : ℕ) → lost ≡ false → leads ≡ false → WrongTarget v ≡ reached_by lost leads frozen v
-by_another lost leads frozen v l p = rw (l, p) refl
-
-pub by_frozen : (lost leads frozen : Bool) (v : ℕ) → lost ≡ false → leads ≡ true → frozen ≡ true → Migrating v ≡ reached_by lost leads frozen v
-by_frozen lost leads frozen v l p f = rw (l, p, f) refl
-
-pub by_serving : (lost leads frozen : Bool) (v : ℕ) → lost ≡ false → leads ≡ true → frozen ≡ false → Executes ≡ reached_by lost leads frozen v
-by_serving lost leads frozen v l p f = rw (l, p, f) refl
 
 module _ {S R Plan C State : Type 0} (k : Meaning S C State) (records : R → Recorded C → Type 0) (limits : C → Type 0) (world : World S R Plan C) (events : List (Event C)) (member : ℕ) (stands : StandsFor k records limits world events) where
   abbrev pub run_is : Machine C

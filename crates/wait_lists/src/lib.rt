@@ -9,7 +9,7 @@
 //! Where nobody waits, a line costs what it did: a list is looked at in constant time, and `WaitLists::is_idle` says that
 //! there is none to look at.
 //!
-//! Built ahead: no program has a call wait yet.
+//! The runs of scripts keep such lists (`replay_run`), so `grid replay` has calls wait; a server doesn't.
 #![tactic(auto)]
 
 pub mod laws;

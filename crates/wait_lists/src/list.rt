@@ -81,7 +81,12 @@ impl WaitList {
     }
 
     /// The first that is ready or due at that moment, which leaves; none exactly where nobody is.
-    pub(crate) fn take_next(&mut self, shelf: &GridShelf, env: &GridEnv, now: Moment) -> Option<Waiter>
+    pub(crate) fn take_next(
+        &mut self,
+        shelf: &GridShelf,
+        env: &GridEnv,
+        now: Moment,
+    ) -> Option<Waiter>
         ensures { TakesNext (position (is_its_turn (settings_of (boxed form) env.now) shelf.now now) self.old) self.old result self.new }
     {
         every_look_says_who_is_undue();

@@ -18,10 +18,10 @@ loop-list-preserved c =
     let stays : List Waiter → List Waiter = filter (λ waiter. not (is_of c.args.conn waiter)) in
     let within : c.loop-list.list-index < length c.loop-list.lists = omega (arith, c.loop-list.auto.lists, c.loop-list-test.true) in
     let dropped : c.drop_conn.new.self ≡ stays c.list-item.result = c.drop_conn.ensures ∙ ap stays (sym c.list-item.is) in (
-        ap (slice_set c.loop-list.lists c.loop-list.list-index) dropped
-        ∙ map_over_more stays c.args.lists.now c.loop-list.lists c.loop-list.list-index c.list-item.result c.loop-list-test.true c.loop-list.invariant.0 c.list-item.is,
-        ap (λ n. c.loop-list.busy + n) c.busy-busy.ensures
-        ∙ counted_further c.loop-list.lists c.loop-list.list-index c.loop-list.busy c.drop_conn.new.self within c.loop-list.invariant.1,
+      ap (slice_set c.loop-list.lists c.loop-list.list-index) dropped
+          ∙ map_over_more stays c.args.lists.now c.loop-list.lists c.loop-list.list-index c.list-item.result c.loop-list-test.true c.loop-list.invariant.0 c.list-item.is,
+      ap (λ n. c.loop-list.busy + n) c.busy-busy.ensures
+          ∙ counted_further c.loop-list.lists c.loop-list.list-index c.loop-list.busy c.drop_conn.new.self within c.loop-list.invariant.1,
     )
 
 pub returns-clause-lists : goal.returns-clause-lists

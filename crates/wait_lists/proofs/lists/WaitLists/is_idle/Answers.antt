@@ -12,6 +12,6 @@ none_is n e = rw e refl
 
 pub returns : goal.returns
 returns c = (
-    λ h. subst (All (λ (list : List Waiter). list ≡ [])) c.self.view_is (all_idle c.self.inside.lists.items (sym c.self.invariant ∙ is_none c.self.inside.busy h)),
-    λ h. none_is c.self.inside.busy (c.self.invariant ∙ some_idle c.self.inside.lists.items (subst (All (λ (list : List Waiter). list ≡ [])) (sym c.self.view_is) h)),
+  λ h. subst (All (λ (list : List Waiter). list ≡ [])) c.self.view_is (all_idle c.self.inside.lists.items (sym c.self.invariant ∙ is_none c.self.inside.busy h)),
+  λ h. none_is c.self.inside.busy (c.self.invariant ∙ some_idle c.self.inside.lists.items (subst (All (λ (list : List Waiter). list ≡ [])) (sym c.self.view_is) h)),
 )
