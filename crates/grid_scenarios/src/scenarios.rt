@@ -10,7 +10,7 @@ pub(crate) struct Subject {
 }
 
 /// All of them, in the order in which they run.
-pub(crate) const SUBJECTS: [Subject; 26] = [
+pub(crate) const SUBJECTS: [Subject; 27] = [
     Subject {
         folder: "sessions",
         scenarios: SESSIONS,
@@ -78,6 +78,10 @@ pub(crate) const SUBJECTS: [Subject; 26] = [
     Subject {
         folder: "near",
         scenarios: NEAR,
+    },
+    Subject {
+        folder: "waiting",
+        scenarios: WAITING,
     },
     Subject {
         folder: "bad_bytes",
@@ -392,6 +396,17 @@ const REBALANCING: &[(&str, u8)] = &[
     ("a_held_put_is_answered_by_a_step", 0),
     ("lost_messages_are_sent_again_by_a_step", 0),
     ("contents_go_with_their_partition", 0),
+    ("listeners_and_waiters", 0),
+    ("random_01", 0),
+    ("random_02", 0),
+    ("random_03", 0),
+    ("random_04", 0),
+    ("random_05", 0),
+    ("random_06", 0),
+    ("random_07", 0),
+    ("random_08", 0),
+    ("random_09", 0),
+    ("random_10", 0),
 ];
 
 /// Clients that listen: what they are told, by whom, when and in which order.
@@ -455,6 +470,56 @@ const NEAR: &[(&str, u8)] = &[
     ("a_hit_after_a_reopening", 0),
     ("a_near_connection_is_opened_once", 0),
     ("near_lines_on_other_connections", 0),
+];
+
+/// Calls that wait: when they have their turns, in which order, who is refused and who leaves unanswered.
+const WAITING: &[(&str, u8)] = &[
+    ("a_put_waits_for_a_lock", 0),
+    ("a_poll_waits_until_its_deadline", 0),
+    ("a_lock_is_refused_as_its_partition_moves", 0),
+    ("ready_at_its_arrival", 0),
+    ("timeout_zero", 0),
+    ("negative_timeout", 0),
+    ("deadline_past_the_last_moment", 0),
+    ("clock_that_goes_back", 0),
+    ("put_gives_up_locked", 0),
+    ("lock_is_handed_on", 0),
+    ("lease_that_ends", 0),
+    ("offer_waits_for_room", 0),
+    ("capacity_zero", 0),
+    ("polls_are_served_in_order", 0),
+    ("chain_of_runs", 0),
+    ("later_ready_before_earlier", 0),
+    ("ready_and_due_together", 0),
+    ("due_before_ready", 0),
+    ("clock_goes_by_partition", 0),
+    ("overtaken_by_its_own_connection", 0),
+    ("refused_at_arrival", 0),
+    ("refused_between_freeze_and_row", 0),
+    ("refused_when_the_role_goes", 0),
+    ("freeze_refuses_and_releases_nothing", 0),
+    ("unfrozen_by_a_row", 0),
+    ("lost_partition", 0),
+    ("moved_away_and_back", 0),
+    ("closed_connection", 0),
+    ("crashed_member", 0),
+    ("unanswered_waiter_survives_a_crash", 0),
+    ("runs_wait_for_backups", 0),
+    ("own_releases_come_first", 0),
+    ("events_of_a_waiting_put", 0),
+    ("near_client_beside_a_waiter", 0),
+    ("refusals_of_the_session", 0),
+    ("further_bytes_and_pieces", 0),
+    ("random_01", 0),
+    ("random_02", 0),
+    ("random_03", 0),
+    ("random_04", 0),
+    ("random_05", 0),
+    ("random_06", 0),
+    ("random_07", 0),
+    ("random_08", 0),
+    ("random_09", 0),
+    ("random_10", 0),
 ];
 
 /// Bytes at fault: what closes a connection from its first message on, and what was served before.
