@@ -95,13 +95,13 @@ turned_parts o skips r p (suc a) b (suc all) e = go (is_moving_at o r p) refl (�
 pub record HasTurned {V : Type 0} {T : V → Type 0} (form : FormOf V T) (settings : Settings) (grid : Grid V T) (r : Run) (p turns : ℕ) (written text : List ℕ) : Type 0 where
   pub on : HasGoneOnSo form settings grid r (λ skips. turned_on (partition_object settings) skips r p turns) written text
 
+abbrev turns_on : Settings → ℕ → ℕ → Run → Onward
+turns_on settings p turns x skips = turned_on (partition_object settings) skips x p turns
+
+abbrev one_turn : Settings → ℕ → Run → Onward
+one_turn settings p x skips = turned (partition_object settings) skips x p
+
 module _ {V : Type 0} {T : V → Type 0} {form : FormOf V T} {settings : Settings} (r : Run) (p : ℕ) where
-  abbrev turns_on : ℕ → Run → Onward
-  turns_on turns x skips = turned_on (partition_object settings) skips x p turns
-
-  abbrev one_turn : Run → Onward
-  one_turn x skips = turned (partition_object settings) skips x p
-
   pub none_turned : (grid : Grid V T) (text : List ℕ) → IsAmid form settings grid r → HasTurned form settings grid r p 0 text text
   none_turned grid text amid = record { on = so_nowhere grid r text amid }
 
@@ -122,9 +122,9 @@ module _ {V : Type 0} {T : V → Type 0} {form : FormOf V T} {settings : Setting
       one_turned new text taken =
           let o = partition_object settings in
           let now = turned_so_far in
-          let step = so_as new now (one_turn now) (turns_on (suc zero) now) mid text taken (sym (turn_more o taken.skips now p zero moving)) in
-          let whole = so_further grid new r (turns_on turns r) (turns_on (suc zero)) (turned_on_goes o r p turns) (λ x. turned_on_goes o x p (suc zero)) written mid did.on text step.0 in
-          record { on = (so_as new r (λ s. turns_on (suc zero) (turns_on turns r s) s) (turns_on (turns + 1) r) written text whole.0 (sym (turned_parts o whole.0.skips r p turns (suc zero) (turns + 1) (omega arith)))).0 }
+          let step = so_as new now (one_turn settings p now) (turns_on settings p (suc zero) now) mid text taken (sym (turn_more o taken.skips now p zero moving)) in
+          let whole = so_further grid new r (turns_on settings p turns r) (turns_on settings p (suc zero)) (turned_on_goes o r p turns) (λ x. turned_on_goes o x p (suc zero)) written mid did.on text step.0 in
+          record { on = (so_as new r (λ s. turns_on settings p (suc zero) (turns_on settings p turns r s) s) (turns_on settings p (turns + 1) r) written text whole.0 (sym (turned_parts o whole.0.skips r p turns (suc zero) (turns + 1) (omega arith)))).0 }
 
       -- or the run is given up
       pub turn_ends : turns < 4 → GivesUpSo turned_so_far (λ skips. turned (partition_object settings) skips turned_so_far p) → GivesUpSo r (λ skips. turned_on (partition_object settings) skips r p most_turns)
@@ -133,13 +133,13 @@ module _ {V : Type 0} {T : V → Type 0} {form : FormOf V T} {settings : Setting
           let now = turned_so_far in
           let rest : ℕ = 3 - turns in
           let all : turns + suc rest ≡ most_turns = omega (arith, more) in
-          let step = gives_up_first now (one_turn now) (turns_on rest) (turned_goes o now p) (λ x. turned_on_goes o x p rest) full in
-          let its = up_as now (λ s. turns_on rest (one_turn now s) s) (turns_on (suc rest) now) (λ s. sym (turn_more o s now p rest moving)) step in
-          let whole = gives_up_after grid grid r (turns_on turns r) (turns_on (suc rest)) (turned_on_goes o r p turns) (λ x. turned_on_goes o x p (suc rest)) written mid did.on its (λ s. turned_on_run s now p (suc rest) did.on.on.amid.run) in
-          up_as r (λ s. turns_on (suc rest) (turns_on turns r s) s) (turns_on most_turns r) (λ s. sym (turned_parts o s r p turns (suc rest) most_turns all)) whole
+          let step = gives_up_first now (one_turn settings p now) (turns_on settings p rest) (turned_goes o now p) (λ x. turned_on_goes o x p rest) full in
+          let its = up_as now (λ s. turns_on settings p rest (one_turn settings p now s) s) (turns_on settings p (suc rest) now) (λ s. sym (turn_more o s now p rest moving)) step in
+          let whole = gives_up_after grid grid r (turns_on settings p turns r) (turns_on settings p (suc rest)) (turned_on_goes o r p turns) (λ x. turned_on_goes o x p (suc rest)) written mid did.on its (λ s. turned_on_run s now p (suc rest) did.on.on.amid.run) in
+          up_as r (λ s. turns_on settings p (suc rest) (turns_on settings p turns r s) s) (turns_on settings p most_turns r) (λ s. sym (turned_parts o s r p turns (suc rest) most_turns all)) whole
 
     all_turned : turned_on (partition_object settings) did.on.skips r p most_turns ≡ turned_so_far → HasGoneOnSo form settings grid r (λ skips. turned_on (partition_object settings) skips r p most_turns) written mid
-    all_turned same = (so_as grid r (turns_on turns r) (turns_on most_turns r) written mid did.on (sym same)).0
+    all_turned same = (so_as grid r (turns_on settings p turns r) (turns_on settings p most_turns r) written mid did.on (sym same)).0
 
     pub none_moving : turns ≤ 4 → is_moving_at (partition_object settings) turned_so_far p ≡ false → HasGoneOnSo form settings grid r (λ skips. turned_on (partition_object settings) skips r p most_turns) written mid
     none_moving within still =
@@ -366,7 +366,7 @@ module _ {V : Type 0} {T : V → Type 0} {form : FormOf V T} {settings : Setting
         let both = did.skips ++ one.skips in
         let last = stepped o one.skips now step in
         let g = stepped_all_goes o r steps in
-        let h = λ x. stepped_goes o x step in
+        let h = λ (x : Run). stepped_goes o x step in
         let once : ArrivalsOk last = (run_ok one.amid.run).of_arrivals in
         let same : stepped o both (stepped_all o both r steps) step ≡ last = both_go r steps_on its_step g h did.skips one.skips once did.own one.own in
         let whole : stepped_all o both r (steps ++ step ∷ []) ≡ last = stepped_more o both r steps step ∙ same in
