@@ -19,7 +19,7 @@ use Rattle.wait_lists.specs.declared.turn.Turn.{Turn}
 use Rattle.replay_run.specs.declared.grid.Grid.{Grid}
 use Rattle.replay_run.specs.Runs.{Run, Waiter, partitions, events_at, without, ending, leaves_so, fate_now, is_its_turn, next_in_turn, served, served_in, served_so_often}
 use Rattle.replay_run.specs.Tables.{opened_at}
-use Rattle.replay_run.specs.Grids.{FormOf, HasWaiters, AreListening, as_listed, waits_at}
+use Rattle.replay_run.specs.Grids.{FormOf, HasWaiters, Holds, AreListening, as_listed, waits_at}
 use Rattle.replay_run.specs.WorldCalls.{Onward, HasRoomAt}
 use Rattle.replay_run.specs.WaiterCalls.{IsBetween, handled_count, HasServed, HoldsBut, IsTurnOf, MayLeave, by_leaving}
 use Rattle.replay_run.proofs.EventRuns.{Kept, kept_refl, kept_turns, fewer, is_other, ended_few, served_in_keeps, served_in_kept}
@@ -133,3 +133,33 @@ module _ (o : Object Request Partition) (skips : List CallId) (r : Run) (own : O
           ∙ ap (λ ws. length (filter (waits_at member p) ws)) left_then in
       let less = fewer_passing (waits_at member p) w here r.waiters has.there in
       omega (arith, before, now, less)
+
+-- so many turns were made
+
+module _ {V : Type 0} {T : V → Type 0} {form : FormOf V T} {settings : Settings} (old grid : Grid V T) (r : Run) (own : Option ℕ) (p member number : ℕ) (written text : List ℕ) (did : HasTurned form settings old grid r own p member number written text) where
+  abbrev turned : Run
+  turned = turned_so_far old r own p member grid number written text did
+
+  pub members_still : IsBetween form settings old r own → grid.members ≡ old.members
+  members_still between = did.on.between.holds.members ∙ (often_kept (partition_object settings) did.on.skips r own p member number).members ∙ sym between.holds.members
+
+  pub turned_room : HasRoomAt r p 0 → HasRoomAt (turned_so_far old r own p member grid number written text did) p 0
+  turned_room room = often_room (partition_object settings) did.on.skips r own p member number p 0 room
+
+  -- Nobody was left to be taken out.
+  pub turned_still : (taken : Grid V T) → taken ≡ record grid { waiters = taken.waiters } → Holds form settings taken (turned_so_far old r own p member grid number written text did) → HasTurned form settings old taken r own p member number written text
+  turned_still taken rest holds = record {
+    on = record {
+      skips = did.on.skips;
+      among = did.on.among;
+      between = record { run = did.on.between.run; holds = holds; listeners = subst (λ (g : Grid V T). AreListening g.listeners.items turned own) (sym rest) did.on.between.listeners };
+      counts = λ c. ap (λ (g : Grid V T). option_map handled_count (opened_at g.connections c)) rest ∙ did.on.counts c;
+      added = did.on.added;
+    };
+    few = did.few;
+  }
+
+-- list after list
+pub lists_members : {V : Type 0} {T : V → Type 0} {form : FormOf V T} {settings : Settings} (old grid : Grid V T) (r : Run) (member n : ℕ) (written text : List ℕ) → HasServed form settings old grid r None (λ skips. served_in (partition_object settings) skips r member (numbers_below n)) written text
+    → IsBetween form settings old r None → grid.members ≡ old.members
+lists_members {settings = settings} old grid r member n written text did between = did.between.holds.members ∙ (served_in_kept (partition_object settings) did.skips r member (numbers_below n)).members ∙ sym between.holds.members
