@@ -2,25 +2,40 @@
 use Rattle.std.proofs.Common.{◌≡◌, ℕ, ◌+◌, ◌-◌, ◌<◌, ◌^◌, true, false, List, [], ◌∷◌, ◌++◌, length, get_or, map, Some, Option, slice_get, refl, ap, sym, ◌∙◌, subst, arith}
 use Rattle.std.specs.Option.{option_map}
 use Rattle.grid_base.specs.declared.calls.Request.{Request}
+use Rattle.grid_base.specs.declared.refusal.PartitionRefused.{PartitionRefused}
+use Rattle.grid_base.specs.declared.refusal.PartitionRefused.TheVariants.{PartitionLost, WrongTarget, Migrating}
 use Rattle.partition_protocol.specs.Arrivals.{NamedOnce, arrivals, name}
 use Rattle.partition_protocol.specs.Events.{Event}
 use Rattle.partition_protocol.specs.World.{World}
 use Rattle.partition_protocol.proofs.Lists.{in_contains}
 use Rattle.call_engine.specs.Calls.{Settings}
 use Rattle.call_engine.specs.Env.{settings_of}
+use Rattle.call_engine.specs.Limits.{RequestFits}
 use Rattle.call_engine.specs.Objects.{partition_object}
-use Rattle.partition_world.specs.Worlds.{steps_of, run_of}
+use Rattle.partition_world.specs.Recorders.{KeepsAll}
+use Rattle.partition_world.specs.Worlds.{steps_of, run_of, waiting}
+use Rattle.replica_node.specs.Calls.{refused_as}
 use Rattle.wait_lists.specs.declared.spot.Spot.{Spot}
-use Rattle.wait_lists.specs.declared.turn.Turn.TheVariants.{Call}
+use Rattle.wait_lists.specs.declared.turn.Turn.TheVariants.{Call, Refusal, Silence}
 use Rattle.replay_run.specs.declared.grid.Grid.{Grid}
-use Rattle.replay_run.specs.Runs.{Run, Waiter, partitions, events_at, moment_of, world_at, call_of}
+use Rattle.replay_run.specs.declared.tally.Reception.{Reception}
+use Rattle.replay_run.specs.declared.tally.Reception.TheVariants.{Refused as WasRefused}
+use Rattle.replay_run.specs.Runs.{Run, Waiter, partitions, events_at, moment_of, world_at, version_known, listening, call_of, is_full, refused_at, without, ending}
 use Rattle.replay_run.specs.Shelves.{grid_meaning}
+use Rattle.replay_run.specs.Tables.{Table, opened_at}
+use Rattle.replay_run.specs.Tallies.{received, tallied_later}
 use Rattle.replay_run.specs.Grids.{FormOf, GridWorld, StandsForEvents, IsWorld, Holds}
-use Rattle.replay_run.specs.WorldCalls.{HasRoomAt, arrival_to}
-use Rattle.replay_run.specs.WaiterCalls.{MayLeave}
+use Rattle.replay_run.specs.WorldCalls.{GivesUpSo, HasRoomAt, IsAppended, arrival_to, going_out, texts_of}
+use Rattle.replay_run.specs.WaiterCalls.{handled_count, SameCounts, HasServed, MayLeave, by_leaving}
+use Rattle.replay_run.proofs.Arriving.{without_ok, comes_later}
 use Rattle.replay_run.proofs.Asking.{world_within, world_there, world_is, moment_within, moment_there, named_late, told_of}
 use Rattle.replay_run.proofs.EventRuns.{fewer}
-use Rattle.replay_run.proofs.LateCalls.{late_run, late_holds}
+use Rattle.replay_run.proofs.GivingOut.{HasGivenOut}
+use Rattle.replay_run.proofs.GridCalls.{IsAfter, HasMade, call_said}
+use Rattle.replay_run.proofs.LateCalls.{late_run, late_holds, late_apart, late_table, late_tally, late_few, late_made, late_full, late_left, late_refused}
+use Rattle.replay_run.proofs.MadeCalls.{Became, came_so, made_grid}
+use Rattle.replay_run.proofs.RunsOfLines.{run_ok}
+use Rattle.replay_run.proofs.Serving.{counts_answers}
 
 -- the waiter by the request and the member that the code has
 abbrev pub as_coded : Waiter → ℕ → Request → Waiter
@@ -33,6 +48,9 @@ module _ {V : Type 0} {T : V → Type 0} {form : FormOf V T} {settings : Setting
 
   pub coded_may : MayLeave form settings grid r at own (Call request) (as_coded w at.member request)
   coded_may = subst (λ x. MayLeave form settings grid r at own (Call request) x) (sym coded_same) may
+
+  abbrev its : Waiter
+  its = as_coded w at.member request
 
   -- its partition is one of the grid's
   pub coded_low : request.partition < partitions
@@ -90,3 +108,61 @@ module _ {V : Type 0} {T : V → Type 0} {form : FormOf V T} {settings : Setting
       -- It has a name of its own.
       pub late_named : NamedOnce (map name (arrivals (events_at request.partition r.events ++ call_of (arrival_to grid.lines at.member now request) ∷ [])))
       late_named = named_late settings r coded_may.run (as_coded w at.member request) coded_may.there grid.lines now coded_may.holds.lines late_moment
+
+  -- Its partition isn't full, and it reached its world, which then gave out all that waited there.
+  module _ (new : Grid V T) (old called world : GridWorld) (there : slice_get grid.worlds.items request.partition ≡ Some old) (line now known : ℕ) (at_line : line ≡ r.lines) (at_moment : now ≡ moment_of r at.member)
+      (knew : known ≡ version_known (world_at (partition_object settings) r request.partition) at.member) (reception : Reception) (added written mid text : List ℕ)
+      (after : IsAfter grid new line request.partition grid.connections world (going_out r own (waiting called at.member))) (counted : new.tally ≡ tallied_later reception grid.tally)
+      (out : HasGivenOut settings called world at.member) (began : mid ≡ written ++ added)
+      (wrote : (events : List (Event Request)) → IsAppended (grid_meaning settings) KeepsAll RequestFits called events (record { line = line; partition = at.partition; member = at.member; known = known; own = own }) r (listening r own at.member) mid text)
+      (did : Became settings old called (events_at request.partition r.events) (arrival_to line at.member now request) added reception) where
+    made_late : HasMade form settings new (without r its) own (ending r its) written text
+    made_late =
+        let m = coded_may in
+        let o = partition_object settings in
+        let ok = run_ok m.run in
+        let i = in_contains its r.waiters m.there in
+        made_grid grid (without r its) (without_ok o r its ok) (late_apart grid r its m.run m.there m.holds) own (ending r its) (comes_later o r its ok i)
+        (record { size = m.listeners.size; each = m.listeners.each }) coded_low grid.connections (late_table grid r its m.run m.there m.holds) new old called world there known knew reception added written text
+        (subst (λ l. IsAfter grid new l request.partition grid.connections world (going_out r own (waiting called at.member))) at_line after) out
+        (call_said settings called (without r its) own (ending r its) line known (sym at_line) written added mid text began
+          (λ events. subst (λ q. IsAppended (grid_meaning settings) KeepsAll RequestFits called events (record { line = line; partition = q; member = at.member; known = known; own = own }) r (listening r own at.member) mid text) (sym m.partition) (wrote events)))
+        (late_tally grid r its m.run m.there m.holds new.tally reception counted) m.holds.tally.refused m.holds.tally.memory
+        (came_so settings (ending r its) line at.member now request at_line refl at_moment refl old called (events_at request.partition r.events) added reception did)
+
+    -- No message was handled anew.
+    same_counts : SameCounts grid.connections new.connections
+    same_counts c = ap (λ (t : Table). option_map handled_count (opened_at t c)) after.answered ∙ counts_answers line (going_out r own (waiting called at.member)) grid.connections c
+
+    pub late_grid : is_full (world_at (partition_object settings) r request.partition) ≡ false → HasServed form settings grid new r own (by_leaving settings r own w) written text
+    late_grid goes =
+        let m = coded_may in
+        subst (λ v. HasServed form settings grid new r own (by_leaving settings r own v) written text) coded_same
+        (late_made grid r its m.run m.there m.holds own new written text m.turns.1 goes same_counts made_late)
+
+  -- or it meets its partition full
+  pub late_met : is_full (world_at (partition_object settings) r request.partition) ≡ true → GivesUpSo r (by_leaving settings r own w)
+  late_met full =
+      let m = coded_may in
+      subst (λ v. GivesUpSo r (by_leaving settings r own v)) coded_same (late_full grid r its m.run m.there m.holds own m.turns.1 full)
+
+-- It is refused, or leaves without an answer.
+
+tells_refusal : (line : ℕ) (request : Request) (why : PartitionRefused) → WasRefused ≡ received (refused_at line request (refused_as why))
+tells_refusal line request (PartitionLost version) = refl
+tells_refusal line request (WrongTarget version) = refl
+tells_refusal line request (Migrating version) = refl
+
+module _ {V : Type 0} {T : V → Type 0} {form : FormOf V T} {settings : Settings} (grid : Grid V T) (r : Run) (own : Option ℕ) (at : Spot) (request : Request) (w : Waiter) where
+  pub refusal_served : (why : PartitionRefused) → MayLeave form settings grid r at own (Refusal request why) w → (new : Grid V T) (written text : List ℕ) → new ≡ record grid { tally = tallied_later WasRefused grid.tally }
+      → text ≡ written ++ texts_of (refused_at grid.lines request (refused_as why)) → HasServed form settings grid new r own (by_leaving settings r own w) written text
+  refusal_served why may new written text made is =
+      late_refused grid r w may.run may.there may.holds (refused_as why) WasRefused (tells_refusal r.lines w.request why) new (tallied_later WasRefused grid.tally) made refl own written text may.listeners may.turns.1
+      (is ∙ (λ i. written ++ texts_of (refused_at (may.holds.lines i) (may.turns.0 i) (refused_as why))))
+
+  pub silence_served : MayLeave form settings grid r at own (Silence request) w → (text : List ℕ) → HasServed form settings grid grid r own (by_leaving settings r own w) text text
+  silence_served may text = late_left grid r w may.run may.there may.holds own text may.listeners may.turns.1
+
+  -- More calls came than were refused.
+  pub refusal_few : (why : PartitionRefused) → MayLeave form settings grid r at own (Refusal request why) w → (grid.tally.refused < grid.tally.arrived) × (grid.tally.memory < grid.tally.arrived)
+  refusal_few why may = late_few grid r w may.run may.there may.holds

@@ -35,8 +35,8 @@ impl Tally {
 
     /// Counts what became of a call that was counted as it arrived, and waited.
     pub(crate) fn count_later(&mut self, reception: Reception)
-        requires refused { self.old.refused + 1 < 2 ^ 32 }
-        requires memory { self.old.memory + 1 < 2 ^ 32 }
+        requires refused { self.old.refused < self.old.arrived }
+        requires memory { self.old.memory < self.old.arrived }
         ensures { self.new ≡ tallied_later reception self.old }
     {
         match reception {

@@ -168,8 +168,8 @@ impl Grid {
         why: PartitionRefused,
         out: &mut Vec<u8>,
     ) -> Result<(), Memory>
-        requires refused { self.old.tally.refused + 1 < 2 ^ 32 }
-        requires memory { self.old.tally.memory + 1 < 2 ^ 32 }
+        requires refused { self.old.tally.refused < self.old.tally.arrived }
+        requires memory { self.old.tally.memory < self.old.tally.arrived }
         ensures grid { self.new ≡ record self.old { tally = tallied_later WasRefused self.old.tally } }
         ensures text { OnOk result (out.new.items ≡ out.old.items ++ texts_of (refused_at self.old.lines request.now (refused_as why))) }
     {
