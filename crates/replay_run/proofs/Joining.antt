@@ -71,7 +71,7 @@ module _ (lists : List (List ListedWaiter)) (r : Run) (w : Waiter) (h : HasWaite
   among_both P before own x c = ⊎_elim (λ i. before x (contains_in x r.waiters i)) last (in_cases x r.waiters (w ∷ []) (in_contains x (r.waiters ++ w ∷ []) c))
     where
       last : In x (w ∷ []) → P x
-      last i = ⊎_elim (λ e. subst P (sym e) own) (λ j. absurd j) i
+      last i = ⊎_elim (λ e. subst P e own) (λ j. absurd j) i
 
   pub joined_waiters : HasWaiters (with_list lists w.member w.request.partition its_list) (waits r w)
   joined_waiters = record {

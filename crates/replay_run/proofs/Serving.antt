@@ -191,16 +191,15 @@ pub record HasTurned {V : Type 0} {T : V → Type 0} (form : FormOf V T) (settin
   pub on : HasServed form settings old grid r own (λ skips. served_so_often (partition_object settings) skips own p member number r) written text
   pub few : length (served_so_often (partition_object settings) on.skips own p member number r).waiters + number ≤ length r.waiters
 
-module _ {V : Type 0} {T : V → Type 0} {form : FormOf V T} {settings : Settings} (old : Grid V T) (r : Run) (own : Option ℕ) (p member : ℕ) where
-  abbrev o : Object Request Partition
-  o = partition_object settings
-
+-- where turns lead
+module _ (settings : Settings) (own : Option ℕ) (p member : ℕ) where
   abbrev so_often : ℕ → Run → Onward
-  so_often n x skips = served_so_often o skips own p member n x
+  so_often n x skips = served_so_often (partition_object settings) skips own p member n x
 
   abbrev one_turn : Run → Onward
-  one_turn x skips = turn_of o skips x own (next_in_turn o x p member)
+  one_turn x skips = turn_of (partition_object settings) skips x own (next_in_turn (partition_object settings) x p member)
 
+module _ {V : Type 0} {T : V → Type 0} {form : FormOf V T} {settings : Settings} (old : Grid V T) (r : Run) (own : Option ℕ) (p member : ℕ) where
   pub none_turned : (text : List ℕ) → IsBetween form settings old r own → HasTurned form settings old old r own p member 0 text text
   none_turned text between = record { on = served_nowhere own old r text between; few = omega arith }
 
@@ -213,10 +212,11 @@ module _ {V : Type 0} {T : V → Type 0} {form : FormOf V T} {settings : Setting
       -- One more leaves.
       pub one_turned : (new : Grid V T) (text : List ℕ) → HasServed form settings grid new turned_so_far own (by_leaving settings turned_so_far own w) mid text → HasTurned form settings old new r own p member (number + 1) written text
       one_turned new text b =
+          let o = partition_object settings in
           let now = turned_so_far in
-          let step = served_as own grid new now (by_leaving settings now own w) (one_turn now) mid text b (sym (ap (turn_of o b.skips now own) next)) in
-          let whole = served_further own old grid new r (so_often number r) one_turn (so_often_goes o own p member number r) (λ x. turn_goes o x own (next_in_turn o x p member)) written mid did.on text step.0 in
-          let all = served_as own old new r (λ s. one_turn (so_often number r s) s) (so_often (number + 1) r) written text whole.0 (sym (often_more o whole.0.skips own p member r number)) in
+          let step = served_as own grid new now (by_leaving settings now own w) (one_turn settings own p member now) mid text b (sym (ap (turn_of o b.skips now own) next)) in
+          let whole = served_further own old grid new r (so_often settings own p member number r) (one_turn settings own p member) (so_often_goes o own p member number r) (λ x. turn_goes o x own (next_in_turn o x p member)) written mid did.on text step.0 in
+          let all = served_as own old new r (λ s. one_turn settings own p member (so_often settings own p member number r s) s) (so_often settings own p member (number + 1) r) written text whole.0 (sym (often_more o whole.0.skips own p member r number)) in
           let same = ap (λ (x : Run). length x.waiters) (all.1 ∙ whole.1) in
           let less = turn_less o step.0.skips now own p member w next in
           let before = did.few in
@@ -225,22 +225,24 @@ module _ {V : Type 0} {T : V → Type 0} {form : FormOf V T} {settings : Setting
       -- or its call meets a full partition
       pub meets_one : GivesUpSo turned_so_far (by_leaving settings turned_so_far own w) → GivesUpSo r (by_turns settings r own p member)
       meets_one b =
+          let o = partition_object settings in
           let now = turned_so_far in
           let there = fewer w now.waiters (find_some (is_its_turn o now p member) now.waiters w next).0 in
           let before = did.few in
           let rest = length r.waiters - (number + 1) in
           let e : number + suc rest ≡ length r.waiters = omega (arith, there, before) in
-          let step = up_as now (by_leaving settings now own w) (one_turn now) (λ s. sym (ap (turn_of o s now own) next)) b in
-          let its = gives_up_first now (one_turn now) (so_often rest) (turn_goes o now own (next_in_turn o now p member)) (λ x. so_often_goes o own p member rest x) step in
-          let whole = gives_up_then r (so_often number r) (so_often (suc rest)) (so_often_goes o own p member number r) (λ x. so_often_goes o own p member (suc rest) x) did.on.skips did.on.among its
+          let step = up_as now (by_leaving settings now own w) (one_turn settings own p member now) (λ s. sym (ap (turn_of o s now own) next)) b in
+          let its = gives_up_first now (one_turn settings own p member now) (so_often settings own p member rest) (turn_goes o now own (next_in_turn o now p member)) (λ x. so_often_goes o own p member rest x) step in
+          let whole = gives_up_then r (so_often settings own p member number r) (so_often settings own p member (suc rest)) (so_often_goes o own p member number r) (λ x. so_often_goes o own p member (suc rest) x) did.on.skips did.on.among its
               (λ s. so_often_keeps o s p (IsRun o) (run_turns s p) own member (suc rest) now did.on.between.run) in
-          up_as r (λ s. so_often (suc rest) (so_often number r s) s) (by_turns settings r own p member) (λ s. sym (often_parts o s own p member r number (suc rest) (length r.waiters) e)) whole
+          up_as r (λ s. so_often settings own p member (suc rest) (so_often settings own p member number r s) s) (by_turns settings r own p member) (λ s. sym (often_parts o s own p member r number (suc rest) (length r.waiters) e)) whole
 
     -- Nobody has a turn.
     pub all_turned : next_in_turn (partition_object settings) turned_so_far p member ≡ None → HasServed form settings old grid r own (by_turns settings r own p member) written mid
     all_turned none =
+        let o = partition_object settings in
         let few : number ≤ length r.waiters = (let before = did.few in omega (arith, before)) in
-        (served_as own old grid r (so_often number r) (by_turns settings r own p member) written mid did.on (sym (no_turn_left o did.on.skips own p member r number few none))).0
+        (served_as own old grid r (so_often settings own p member number r) (by_turns settings r own p member) written mid did.on (sym (no_turn_left o did.on.skips own p member r number few none))).0
 
 -- list after list of a member
 
@@ -257,44 +259,43 @@ none_served o skips r member [] nobody = refl
 none_served o skips r member (p ∷ ps) nobody =
     ap (λ x. served_in o skips x member ps) (ap (λ (ws : List Waiter). served_so_often o skips None p member (length ws) r) nobody) ∙ none_served o skips r member ps nobody
 
-module _ {V : Type 0} {T : V → Type 0} {form : FormOf V T} {settings : Settings} (old : Grid V T) (r : Run) (member : ℕ) where
-  abbrev lists_below : ℕ → Run → Onward
-  lists_below n x skips = served_in (partition_object settings) skips x member (numbers_below n)
-
+-- where the turns of so many lists lead
+module _ (settings : Settings) (r : Run) (member : ℕ) where
   abbrev pub by_lists : ℕ → Onward
-  by_lists n = lists_below n r
+  by_lists n skips = served_in (partition_object settings) skips r member (numbers_below n)
 
-  pub no_list : (text : List ℕ) → IsBetween form settings old r None → HasServed form settings old old r None (by_lists 0) text text
+abbrev its_list : Settings → ℕ → ℕ → Run → Onward
+its_list settings member n x = by_turns settings x None n member
+
+module _ {V : Type 0} {T : V → Type 0} {form : FormOf V T} {settings : Settings} (old : Grid V T) (r : Run) (member : ℕ) where
+  pub no_list : (text : List ℕ) → IsBetween form settings old r None → HasServed form settings old old r None (by_lists settings r member 0) text text
   no_list text between = served_nowhere None old r text between
 
-  module _ (grid : Grid V T) (n : ℕ) (written mid : List ℕ) (did : HasServed form settings old grid r None (by_lists n) written mid) where
+  module _ (grid : Grid V T) (n : ℕ) (written mid : List ℕ) (did : HasServed form settings old grid r None (by_lists settings r member n) written mid) where
     -- the run by then
     abbrev pub served_so_far : Run
     served_so_far = served_in (partition_object settings) did.skips r member (numbers_below n)
 
-    abbrev its_list : Run → Onward
-    its_list x = by_turns settings x None n member
-
-    pub one_list : (new : Grid V T) (text : List ℕ) → HasServed form settings grid new served_so_far None (by_turns settings served_so_far None n member) mid text → HasServed form settings old new r None (by_lists (n + 1)) written text
+    pub one_list : (new : Grid V T) (text : List ℕ) → HasServed form settings grid new served_so_far None (by_turns settings served_so_far None n member) mid text → HasServed form settings old new r None (by_lists settings r member (n + 1)) written text
     one_list new text b =
         let o = partition_object settings in
-        let whole = served_further None old grid new r (by_lists n) its_list (served_in_goes o r member (numbers_below n)) (λ x. served_goes o x None n member) written mid did text b in
-        (served_as None old new r (λ s. its_list (by_lists n s) s) (by_lists (n + 1)) written text whole.0
+        let whole = served_further None old grid new r (by_lists settings r member n) (its_list settings member n) (served_in_goes o r member (numbers_below n)) (λ x. served_goes o x None n member) written mid did text b in
+        (served_as None old new r (λ s. its_list settings member n (by_lists settings r member n s) s) (by_lists settings r member (n + 1)) written text whole.0
           (sym (ap (λ k. served_in o whole.0.skips r member (numbers_below k)) (add-one n) ∙ served_in_more o whole.0.skips r member n))).0
 
     -- or one meets its partition full
-    pub list_full : (m : ℕ) → n < m → GivesUpSo served_so_far (by_turns settings served_so_far None n member) → GivesUpSo r (by_lists m)
+    pub list_full : (m : ℕ) → n < m → GivesUpSo served_so_far (by_turns settings served_so_far None n member) → GivesUpSo r (by_lists settings r member m)
     list_full m l full =
         let o = partition_object settings in
-        let whole = gives_up_then r (by_lists n) its_list (served_in_goes o r member (numbers_below n)) (λ x. served_goes o x None n member) did.skips did.among full (λ s. served_run s served_so_far None n member did.between.run) in
-        let next : GivesUpSo r (by_lists (suc n)) = up_as r (λ s. its_list (by_lists n s) s) (by_lists (suc n)) (λ s. sym (served_in_more o s r member n)) whole in
-        stays_on (λ k. GivesUpSo r (by_lists k))
-        (λ k up. up_as r (λ s. by_turns settings (by_lists k s) None k member s) (by_lists (suc k)) (λ s. sym (served_in_more o s r member k))
-          (gives_up_first r (by_lists k) (λ x. by_turns settings x None k member) (served_in_goes o r member (numbers_below k)) (λ x. served_goes o x None k member) up))
+        let whole = gives_up_then r (by_lists settings r member n) (its_list settings member n) (served_in_goes o r member (numbers_below n)) (λ x. served_goes o x None n member) did.skips did.among full (λ s. served_run s served_so_far None n member did.between.run) in
+        let next : GivesUpSo r (by_lists settings r member (suc n)) = up_as r (λ s. its_list settings member n (by_lists settings r member n s) s) (by_lists settings r member (suc n)) (λ s. sym (served_in_more o s r member n)) whole in
+        stays_on (λ k. GivesUpSo r (by_lists settings r member k))
+        (λ k up. up_as r (λ s. by_turns settings (by_lists settings r member k s) None k member s) (by_lists settings r member (suc k)) (λ s. sym (served_in_more o s r member k))
+          (gives_up_first r (by_lists settings r member k) (λ x. by_turns settings x None k member) (served_in_goes o r member (numbers_below k)) (λ x. served_goes o x None k member) up))
         (suc n) m (omega (arith, l)) next
 
-  pub lists_at : (grid : Grid V T) (n m : ℕ) (written text : List ℕ) → n ≡ m → HasServed form settings old grid r None (by_lists n) written text → HasServed form settings old grid r None (by_lists m) written text
-  lists_at grid n m written text same = subst (λ k. HasServed form settings old grid r None (by_lists k) written text) same
+  pub lists_at : (grid : Grid V T) (n m : ℕ) (written text : List ℕ) → n ≡ m → HasServed form settings old grid r None (by_lists settings r member n) written text → HasServed form settings old grid r None (by_lists settings r member m) written text
+  lists_at grid n m written text same = subst (λ k. HasServed form settings old grid r None (by_lists settings r member k) written text) same
 
   pub idle_lists : (ps : List ℕ) (text : List ℕ) → r.waiters ≡ [] → IsBetween form settings old r None → HasServed form settings old old r None (λ skips. served_in (partition_object settings) skips r member ps) text text
   idle_lists ps text nobody between =

@@ -4,6 +4,7 @@ use Rattle.std.specs.Prelude.{All, slice_index_or}
 use Rattle.std.proofs.lemmas.Bool.{eq-eqb}
 use Rattle.partition_protocol.proofs.Lists.{In, in_contains, contains_in}
 use Rattle.std.proofs.lemmas.List.{length-replicate}
+use Rattle.std.proofs.lemmas.List.Elements.{All-head, All-tail}
 use Rattle.wait_sets.specs.declared.waiter.Waiter.{Waiter as ListedWaiter}
 use Rattle.replay_run.specs.Runs.{Run, Waiter, begun, partitions}
 use Rattle.wait_lists.specs.Lists.{place_of, list_at}
@@ -40,8 +41,8 @@ IsEmpty list = list ≡ nobody
 
 empty_at : (lists : List (List ListedWaiter)) (k : ℕ) → All IsEmpty lists → slice_index_or lists k nobody ≡ nobody
 empty_at [] k all = refl
-empty_at (list ∷ lists) zero all = all.0
-empty_at (list ∷ lists) (suc k) all = empty_at lists k all.1
+empty_at (list ∷ lists) zero all = All-head IsEmpty list lists all
+empty_at (list ∷ lists) (suc k) all = empty_at lists k (All-tail IsEmpty list lists all)
 
 somebody : (member p : ℕ) (w : Waiter) (ws : List Waiter) → In w ws → waits_at member p w ≡ true → map as_listed (filter (waits_at member p) ws) ≡ nobody → ⊥
 somebody member p w [] i here none = absurd i

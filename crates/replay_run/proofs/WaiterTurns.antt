@@ -66,8 +66,8 @@ module _ (o : Object Request Partition) (skips : List CallId) where
 -- it waits there, and something is to be done with it
 pub record HasTurn (o : Object Request Partition) (r : Run) (p member : ℕ) (w : Waiter) : Type 0 where
   pub there : In w r.waiters
-  pub partition : w.request.partition ≡ p
-  pub member : w.member ≡ member
+  pub in_partition : w.request.partition ≡ p
+  pub at_member : w.member ≡ member
   pub over : is_over (fate_now o r w) ≡ true
 
 pub has_turn : (o : Object Request Partition) (r : Run) (p member : ℕ) (w : Waiter) → next_in_turn o r p member ≡ Some w → HasTurn o r p member w
@@ -76,8 +76,8 @@ has_turn o r p at w next =
     let spot = first_holds ((w.request.partition == p) && (w.member == at)) (is_over (fate_now o r w)) found.1 in
     record {
       there = found.0;
-      partition = same_number w.request.partition p (first_holds (w.request.partition == p) (w.member == at) spot);
-      member = same_number w.member at (second_holds (w.request.partition == p) (w.member == at) spot);
+      in_partition = same_number w.request.partition p (first_holds (w.request.partition == p) (w.member == at) spot);
+      at_member = same_number w.member at (second_holds (w.request.partition == p) (w.member == at) spot);
       over = second_holds ((w.request.partition == p) && (w.member == at)) (is_over (fate_now o r w)) found.1;
     }
 
@@ -98,8 +98,8 @@ module _ {V : Type 0} {T : V → Type 0} {form : FormOf V T} {settings : Setting
         fits = between.holds.waiters.fit w there;
         within = subst (λ n. at.member < n) between.holds.members within;
         low = low;
-        member = has.member;
-        partition = has.partition;
+        member = has.at_member;
+        partition = has.in_partition;
         turns = turns;
       }
 
@@ -122,12 +122,12 @@ module _ (o : Object Request Partition) (skips : List CallId) (r : Run) (own : O
   members_then : (leaves_so o skips r own w (fate_now o r w)).members ≡ r.members
   members_then =
       let has = has_turn o r p member w next in
-      (leaving_keeps o skips p (Kept r) (kept_turns o skips r p) r own w (fate_now o r w) has.there has.partition (kept_refl r)).members
+      (leaving_keeps o skips p (Kept r) (kept_turns o skips r p) r own w (fate_now o r w) has.there has.in_partition (kept_refl r)).members
 
   pub list_less : (lists new : List (List ListedWaiter)) → HasWaiters lists r → HasWaiters new (leaves_so o skips r own w (fate_now o r w)) → member < r.members → p < partitions → length (list_at new member p) < length (list_at lists member p)
   list_less lists new h after within low =
       let has = has_turn o r p member w next in
-      let here : waits_at member p w ≡ true = (λ i. eq-eqb w.member member has.member i && eq-eqb w.request.partition p has.partition i) in
+      let here : waits_at member p w ≡ true = (λ i. eq-eqb w.member member has.at_member i && eq-eqb w.request.partition p has.in_partition i) in
       let before = ap length (h.listed member p within low) ∙ length-map (filter (waits_at member p) r.waiters) as_listed in
       let now = ap length (after.listed member p (subst (λ n. member < n) (sym members_then) within) low) ∙ length-map (filter (waits_at member p) (leaves_so o skips r own w (fate_now o r w)).waiters) as_listed
           ∙ ap (λ ws. length (filter (waits_at member p) ws)) left_then in
