@@ -1,6 +1,6 @@
 -- After its opening a near client is attached.
-use Rattle.std.proofs.Common.{◌≡◌, ℕ, zero, suc, ◌+◌, ◌<◌, ◌≤◌, Bool, true, false, cond, not, ◌==◌, List, [], ◌∷◌, ◌++◌, map, filter, length, Some, None, option_map, is_some, slice_get, refl, ap, sym, ◌∙◌, subst, append_assoc, append-nil, arith, le_of_suc-le-suc}
-use Rattle.std.specs.List.{find, filter_map, cons_option}
+use Rattle.std.proofs.Common.{◌≡◌, ℕ, zero, suc, ◌+◌, ◌<◌, ◌≤◌, true, cond, not, List, [], ◌∷◌, ◌++◌, map, filter, length, Some, None, option_map, is_some, slice_get, refl, ap, sym, ◌∙◌, subst, append_assoc, append-nil, arith, le_of_suc-le-suc}
+use Rattle.std.specs.List.{filter_map, cons_option}
 use Rattle.std.proofs.lemmas.List.Elements.{filter-append}
 use Rattle.grid_base.specs.Objects.{Object}
 use Rattle.grid_base.specs.declared.calls.Request.{Request}
@@ -23,7 +23,7 @@ use Rattle.call_engine.specs.Objects.{partition_object}
 use Rattle.request_codecs.specs.Openings.{authentication_correlation, invalidations_correlation, rows_correlation, opening}
 use Rattle.near_protocol.specs.Client.{RowHeard}
 use Rattle.near_protocol.specs.Near.{world, known_version}
-use Rattle.replay_run.specs.Runs.{Run, Connection, Appended, world_at, is_connection, connection_of, is_open, updated, with_bytes, took_bytes, own_answer, events_to, registered_reply, known_at, rows_known, partitions}
+use Rattle.replay_run.specs.Runs.{Run, Connection, Appended, world_at, connection_of, is_open, with_bytes, took_bytes, own_answer, events_to, registered_reply, known_at, rows_known, partitions}
 use Rattle.replay_run.specs.Runs as replay
 use Rattle.near_runs.specs.Messages.{sent_to, row_said}
 use Rattle.near_runs.specs.NearConnections.{is_of, IsNear, grid_of}
@@ -31,17 +31,7 @@ use Rattle.near_runs.specs.Sessions.{MayOpen, near_opened}
 use Rattle.near_runs.specs.Attaching.{IsFresh, IsAttached, EveryOpeningAttaches}
 use Rattle.near_runs.proofs.Sent.{sent_to-append}
 use Rattle.near_runs.proofs.Runs.{world_is}
-use Rattle.near_runs.proofs.Sessions.{every_opening_is_heard}
-
--- the connection, with more bytes
-pub find_updated : (new : Connection) (ks : List Connection) (k : Connection) → find (is_connection new.conn) ks ≡ Some k → find (is_connection new.conn) (updated new ks) ≡ Some new
-find_updated new [] k e = absurd cc
-find_updated new (j ∷ ks) k e = go (j.conn == new.conn) refl e (find_updated new ks k)
-  where
-    go : (b : Bool) → (j.conn == new.conn) ≡ b → cond b (Some j) (find (is_connection new.conn) ks) ≡ Some k → (find (is_connection new.conn) ks ≡ Some k → find (is_connection new.conn) (updated new ks) ≡ Some new)
-        → cond ((cond b new j).conn == new.conn) (Some (cond b new j)) (find (is_connection new.conn) (updated new ks)) ≡ Some new
-    go true t s ih = ap (λ x. cond x (Some new) (find (is_connection new.conn) (updated new ks))) (number_same new.conn new.conn refl)
-    go false t s ih = ap (λ x. cond x (Some j) (find (is_connection new.conn) (updated new ks))) t ∙ ih s
+use Rattle.near_runs.proofs.Sessions.{find_updated, every_opening_is_heard}
 
 got : {X : Type 0} (xs : List X) (m : ℕ) → m < length xs → (x : X) × (slice_get xs m ≡ Some x)
 got [] m l = absurd (omega (arith, l))

@@ -1,5 +1,5 @@
 -- A run goes with a near client's machine, event by event.
-use Rattle.std.proofs.Common.{◌≡◌, ℕ, ◌≤◌, Bool, true, false, cond, ◌==◌, List, [], ◌∷◌, ◌++◌, map, filter, None, Contains, refl, ap, sym, ◌∙◌, subst, ◌⊎◌, ⊎_elim, inl, inr, append_assoc}
+use Rattle.std.proofs.Common.{◌≡◌, ℕ, ◌≤◌, Bool, true, false, cond, ◌==◌, List, [], ◌∷◌, ◌++◌, map, filter, Option, None, Contains, refl, ap, sym, ◌∙◌, subst, ◌⊎◌, ⊎_elim, inl, inr, append_assoc}
 use Rattle.std.specs.Prelude.{pos}
 use Rattle.std.specs.List.{find}
 use Rattle.std.proofs.lemmas.List.Elements.{filter-append}
@@ -146,20 +146,20 @@ every_event_is_followed settings client name r s p e one f quiet named =
     (ap (λ b. cond b s (machine_occurred (partition_object settings) (keyed settings s.conn name client) s p e)) (no_call_on s.conn e quiet))
 
 -- a call that finds memory
-module _ (settings : Settings) (client : ℕ) (name : List ℕ) (r : Run) (s : Machine) (a : Arrival) (skips : List CallId) (one : 1 ≤ r.members) (f : Follows settings client name r s) (right : IsRight s.conn s.member a.request.partition (call_of a))
+module _ (settings : Settings) (client : ℕ) (name : List ℕ) (r : Run) (s : Machine) (own : Option ℕ) (a : Arrival) (skips : List CallId) (one : 1 ≤ r.members) (f : Follows settings client name r s) (right : IsRight s.conn s.member a.request.partition (call_of a))
     (named : AreNamedOnce (grid_after settings s.conn name client r a.request.partition (call_of a))) (found : is_skipped skips a.request.id ≡ false) where
-  call_followed : (t : Machine) → t ≡ machine_occurred (partition_object settings) (keyed settings s.conn name client) s a.request.partition (call_of a) → Follows settings client name (asked (partition_object settings) skips r a) t
+  call_followed : (t : Machine) → t ≡ machine_occurred (partition_object settings) (keyed settings s.conn name client) s a.request.partition (call_of a) → Follows settings client name (asked (partition_object settings) skips r own a) t
   call_followed t is = subst (λ z. Follows settings client name z t) (sym now)
-      (follows_more settings client name r (arrived r a (record { partition = a.request.partition; event = call_of a } ∷ []) (happening (partition_object settings) r a)) a.request.partition (call_of a) (happening (partition_object settings) r a)
+      (follows_more settings client name r (arrived r a (record { partition = a.request.partition; event = call_of a } ∷ []) (happening (partition_object settings) r own a)) a.request.partition (call_of a) (happening (partition_object settings) r own a)
       (record { members = refl; backups = refl; events = refl; connections = refl; registered = refl; appended = refl })
-      s t f right (every_call_says settings r s.conn s.member name client a one f.near right named) is)
+      s t f right (every_call_says settings r s.conn s.member name client own a one f.near right named) is)
     where
-      now : asked (partition_object settings) skips r a ≡ arrived r a (record { partition = a.request.partition; event = call_of a } ∷ []) (happening (partition_object settings) r a)
-      now = ap (λ b. cond b (arrived r a [] (replay.refusal a.line a.request (pos want_of_memory) 0 ∷ [])) (arrived r a (record { partition = a.request.partition; event = call_of a } ∷ []) (happening (partition_object settings) r a))) found
+      now : asked (partition_object settings) skips r own a ≡ arrived r a (record { partition = a.request.partition; event = call_of a } ∷ []) (happening (partition_object settings) r own a)
+      now = ap (λ b. cond b (arrived r a [] (replay.refusal a.made a.request (pos want_of_memory) 0 ∷ [])) (arrived r a (record { partition = a.request.partition; event = call_of a } ∷ []) (happening (partition_object settings) r own a))) found
 
 pub every_other_call_is_followed : EveryOtherCallIsFollowed
-every_other_call_is_followed settings client name r s a skips one f apart right named found =
-    call_followed settings client name r s a skips one f right named found (step settings client name s (Occurs a.request.partition (call_of a)))
+every_other_call_is_followed settings client name r s own a skips one f apart right named found =
+    call_followed settings client name r s own a skips one f right named found (step settings client name s (Occurs a.request.partition (call_of a)))
     (ap (λ b. cond b s (machine_occurred (partition_object settings) (keyed settings s.conn name client) s a.request.partition (call_of a))) (number_other a.request.id.conn s.conn apart))
 
 -- ---- a look-up that misses
@@ -198,12 +198,12 @@ module _ (settings : Settings) (client : ℕ) (name key : List ℕ) (r : Run) (s
       ∙ ap (λ q. machine_occurred (partition_object settings) l (opening_at s key) q (Call s.member s.conn s.next_number (l.get s.next_number key) a.now)) (sym its_partition)
       ∙ ap (λ e. machine_occurred (partition_object settings) l (opening_at s key) a.request.partition e) (sym its_call)
 
-  miss_followed : (skips : List CallId) → 1 ≤ r.members → AreNamedOnce (grid_after settings s.conn name client r a.request.partition (call_of a)) → is_skipped skips a.request.id ≡ false → hit l key s.client ≡ None
-      → Follows settings client name (asked (partition_object settings) skips r a) (step settings client name s (LooksUp key a.now))
-  miss_followed skips one named found none = call_followed settings client name r (opening_at s key) a skips one opened right named found (step settings client name s (LooksUp key a.now)) (missed none)
+  miss_followed : (own : Option ℕ) (skips : List CallId) → 1 ≤ r.members → AreNamedOnce (grid_after settings s.conn name client r a.request.partition (call_of a)) → is_skipped skips a.request.id ≡ false → hit l key s.client ≡ None
+      → Follows settings client name (asked (partition_object settings) skips r own a) (step settings client name s (LooksUp key a.now))
+  miss_followed own skips one named found none = call_followed settings client name r (opening_at s key) own a skips one opened right named found (step settings client name s (LooksUp key a.now)) (missed none)
 
 pub every_miss_is_followed : EveryMissIsFollowed
-every_miss_is_followed settings client name key r s a skips one f next none named found = miss_followed settings client name key r s a f next skips one named found none
+every_miss_is_followed settings client name key r s own a skips one f next none named found = miss_followed settings client name key r s a f next own skips one named found none
 
 -- ---- what is nothing to the run
 

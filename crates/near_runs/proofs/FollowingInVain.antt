@@ -19,14 +19,14 @@ use Rattle.near_runs.specs.FollowingInVain.{EveryMissInVainIsFollowed}
 use Rattle.near_runs.proofs.Sent.{sent_to-append, said-append}
 
 pub every_miss_in_vain_is_followed : EveryMissInVainIsFollowed
-every_miss_in_vain_is_followed settings client name key r s a skips f request none skipped =
+every_miss_in_vain_is_followed settings client name key r s own a skips f request none skipped =
     subst (λ z. Follows settings client name z (step settings client name s (LooksUpInVain key))) (sym now) (subst (Follows settings client name after) (sym missed) it)
   where
     after : Run
-    after = arrived r a [] (refusal a.line a.request (pos want_of_memory) 0 ∷ [])
+    after = arrived r a [] (refusal a.made a.request (pos want_of_memory) 0 ∷ [])
 
-    now : asked (partition_object settings) skips r a ≡ arrived r a [] (refusal a.line a.request (pos want_of_memory) 0 ∷ [])
-    now = ap (λ b. cond b (arrived r a [] (refusal a.line a.request (pos want_of_memory) 0 ∷ [])) (arrived r a (record { partition = a.request.partition; event = call_of a } ∷ []) (happening (partition_object settings) r a))) skipped
+    now : asked (partition_object settings) skips r own a ≡ arrived r a [] (refusal a.made a.request (pos want_of_memory) 0 ∷ [])
+    now = ap (λ b. cond b (arrived r a [] (refusal a.made a.request (pos want_of_memory) 0 ∷ [])) (arrived r a (record { partition = a.request.partition; event = call_of a } ∷ []) (happening (partition_object settings) r own a))) skipped
 
     missed : step settings client name s (LooksUpInVain key) ≡ missed_in_vain s key
     missed = ap (looked_up_in_vain (keyed settings s.conn name client) s key) none
@@ -35,12 +35,12 @@ every_miss_in_vain_is_followed settings client name key r s a skips f request no
     on_it : (a.request.id.conn == s.conn) ≡ true
     on_it = number_same a.request.id.conn s.conn (ap (λ (q : Request). q.id.conn) request)
 
-    sent : sent_to s.conn (refusal a.line a.request (pos want_of_memory) 0 ∷ []) ≡ error_bytes (correlation_of s.next_number) (pos want_of_memory) (cast_signed w32 0) (pos 0) ∷ []
+    sent : sent_to s.conn (refusal a.made a.request (pos want_of_memory) 0 ∷ []) ≡ error_bytes (correlation_of s.next_number) (pos want_of_memory) (cast_signed w32 0) (pos 0) ∷ []
     sent =
-        ap (λ b. map (λ (x : Appended). x.bytes) (cond b (refusal a.line a.request (pos want_of_memory) 0 ∷ []) [])) on_it
+        ap (λ b. map (λ (x : Appended). x.bytes) (cond b (refusal a.made a.request (pos want_of_memory) 0 ∷ []) [])) on_it
         ∙ ap (λ (q : Request). error_bytes q.correlation (pos want_of_memory) (cast_signed w32 0) (pos 0) ∷ []) request
 
-    it : Follows settings client name (arrived r a [] (refusal a.line a.request (pos want_of_memory) 0 ∷ [])) (missed_in_vain s key)
+    it : Follows settings client name (arrived r a [] (refusal a.made a.request (pos want_of_memory) 0 ∷ [])) (missed_in_vain s key)
     it = record {
       grid = f.grid ∙ sym (ap (λ es. all_happened (partition_object settings) (keyed settings s.conn name client) (new_grid r.members r.backups) (machine_events es)) (append-nil r.events));
       near = record {
@@ -55,7 +55,7 @@ every_miss_in_vain_is_followed settings client name key r s a skips f request no
       since = f.since ++ error_bytes (correlation_of s.next_number) (pos want_of_memory) (cast_signed w32 0) (pos 0) ∷ [];
       heard = f.heard;
       sent =
-          sent_to-append s.conn r.appended (refusal a.line a.request (pos want_of_memory) 0 ∷ [])
+          sent_to-append s.conn r.appended (refusal a.made a.request (pos want_of_memory) 0 ∷ [])
           ∙ ap (λ xs. sent_to s.conn r.appended ++ xs) sent
           ∙ ap (λ xs. xs ++ error_bytes (correlation_of s.next_number) (pos want_of_memory) (cast_signed w32 0) (pos 0) ∷ []) f.sent
           ∙ append_assoc f.earlier f.since (error_bytes (correlation_of s.next_number) (pos want_of_memory) (cast_signed w32 0) (pos 0) ∷ []);

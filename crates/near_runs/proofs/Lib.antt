@@ -20,7 +20,6 @@ pub mod NearHits
 pub mod Lines
 pub mod OwnLines
 pub mod Feeds
-pub mod ClientRuns
 pub mod Values
 pub mod Telling
 pub mod Quiet

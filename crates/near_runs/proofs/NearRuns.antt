@@ -126,10 +126,10 @@ module _ (settings : Settings) (client : ℕ) (name : List ℕ) where
   goes_event : (r : Run) (s : Machine) (p : ℕ) (e : Event Request) → is_call_on s.conn e ≡ false → (step settings client name s (Occurs p e)).grid ≡ happened o (keyed settings s.conn name client) s.grid p e
   goes_event r s p e other = ap (λ b. (cond b s (machine_occurred o (keyed settings s.conn name client) s p e)).grid) other
 
-  asked_members : (r : Run) (a : Arrival) (skips : List CallId) → (asked (partition_object settings) skips r a).members ≡ r.members
-  asked_members r a skips = by (is_skipped skips a.request.id)
+  asked_members : (r : Run) (own : Option ℕ) (a : Arrival) (skips : List CallId) → (asked (partition_object settings) skips r own a).members ≡ r.members
+  asked_members r own a skips = by (is_skipped skips a.request.id)
     where
-      by : (b : Bool) → (cond b (arrived r a [] (refusal a.line a.request (pos want_of_memory) 0 ∷ [])) (arrived r a (record { partition = a.request.partition; event = call_of a } ∷ []) (happening (partition_object settings) r a))).members ≡ r.members
+      by : (b : Bool) → (cond b (arrived r a [] (refusal a.made a.request (pos want_of_memory) 0 ∷ [])) (arrived r a (record { partition = a.request.partition; event = call_of a } ∷ []) (happening (partition_object settings) r own a))).members ≡ r.members
       by true = refl
       by false = refl
 
@@ -156,28 +156,28 @@ module _ (settings : Settings) (client : ℕ) (name : List ℕ) where
       let b = both run (before s (Occurs p e) named) in
       let once = after_event r s (step settings client name s (Occurs p e)) p e b.follows (goes_event r s p e (no_call_on s.conn e quiet)) named in
       record { members = b.members; made = made_step s b.made (Occurs p e); follows = every_event_is_followed settings client name r s p e b.members b.follows quiet once }
-  both (call_arrived r s earlier heard a skips run apart right found) named =
+  both (call_arrived r s earlier heard own a skips run apart right found) named =
       let b = both run (before s (Occurs a.request.partition (call_of a)) named) in
       let once = after_event r s (step settings client name s (Occurs a.request.partition (call_of a))) a.request.partition (call_of a) b.follows (goes_event r s a.request.partition (call_of a) (number_other a.request.id.conn s.conn apart)) named in
       record {
-        members = subst (λ n. 1 ≤ n) (sym (asked_members r a skips)) b.members;
+        members = subst (λ n. 1 ≤ n) (sym (asked_members r own a skips)) b.members;
         made = made_step s b.made (Occurs a.request.partition (call_of a));
-        follows = every_other_call_is_followed settings client name r s a skips b.members b.follows apart right once found;
+        follows = every_other_call_is_followed settings client name r s own a skips b.members b.follows apart right once found;
       }
-  both (client_missed r s earlier heard key a skips run next none found) named =
+  both (client_missed r s earlier heard key own a skips run next none found) named =
       let b = both run (before s (LooksUp key a.now) named) in
       let once = after_event r s (step settings client name s (LooksUp key a.now)) a.request.partition (call_of a) b.follows (ap (λ (z : Machine). z.grid) (missed settings client name key r s a b.follows next none)) named in
       record {
-        members = subst (λ n. 1 ≤ n) (sym (asked_members r a skips)) b.members;
+        members = subst (λ n. 1 ≤ n) (sym (asked_members r own a skips)) b.members;
         made = made_step s b.made (LooksUp key a.now);
-        follows = every_miss_is_followed settings client name key r s a skips b.members b.follows next none once found;
+        follows = every_miss_is_followed settings client name key r s own a skips b.members b.follows next none once found;
       }
-  both (client_missed_in_vain r s earlier heard key a skips run may request none skipped) named =
+  both (client_missed_in_vain r s earlier heard key own a skips run may request none skipped) named =
       let b = both run (before s (LooksUpInVain key) named) in
       record {
-        members = subst (λ n. 1 ≤ n) (sym (asked_members r a skips)) b.members;
+        members = subst (λ n. 1 ≤ n) (sym (asked_members r own a skips)) b.members;
         made = made_step s b.made (LooksUpInVain key);
-        follows = every_miss_in_vain_is_followed settings client name key r s a skips b.follows request none skipped;
+        follows = every_miss_in_vain_is_followed settings client name key r s own a skips b.follows request none skipped;
       }
   both (client_hit r s earlier heard key value now run found) named =
       let b = both run (before s (LooksUp key now) named) in

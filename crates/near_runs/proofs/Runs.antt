@@ -248,12 +248,9 @@ module _ (settings : Settings) (r : Run) (c m : ℕ) (name : List ℕ) (client :
 
 -- ---- of a call
 
-module _ (settings : Settings) (r : Run) (c m : ℕ) (name : List ℕ) (client : ℕ) (a : Arrival) (one : 1 ≤ r.members) (near : IsNear r c m name)
+module _ (settings : Settings) (r : Run) (c m : ℕ) (name : List ℕ) (client : ℕ) (own : Option ℕ) (a : Arrival) (one : 1 ≤ r.members) (near : IsNear r c m name)
     (right : IsRight c m a.request.partition (call_of a)) (named : AreNamedOnce (grid_after settings c name client r a.request.partition (call_of a)))
     (P : List ℕ → Said (List ℕ) → Type 0) (speaks : Speaks settings P c m name a.request.partition (after_event settings r c name client a.request.partition (call_of a))) where
-  abbrev pub own : Option ℕ
-  own = Some a.request.id.conn
-
   abbrev pub before : World Request
   before = world (partition_object settings) (grid_of settings c name client r) a.request.partition
 
@@ -272,8 +269,8 @@ module _ (settings : Settings) (r : Run) (c m : ℕ) (name : List ℕ) (client :
   abbrev pub given : List (Said (List ℕ))
   given = flat_map (said_of a.request.partition m c (grid_after settings c name client r a.request.partition (call_of a)).changes) (released_between before after)
 
-  refused : AreSaidBy P (sent_to c (refused_by a.line a.request outcome)) refusal
-  refused = refused_says c a.line a.request.id.number a.request P speaks.refuses (λ s. let its = (right.1 s).1 in (its.correlation, its.small)) outcome (not_refused (partition_object settings) before a.member a.request.id.conn a.request.id.number a.request a.now)
+  refused : AreSaidBy P (sent_to c (refused_by a.made a.request outcome)) refusal
+  refused = refused_says c a.made a.request.id.number a.request P speaks.refuses (λ s. let its = (right.1 s).1 in (its.correlation, its.small)) outcome (not_refused (partition_object settings) before a.member a.request.id.conn a.request.id.number a.request a.now)
 
   -- a call makes no member adopt a row
   no_rows : a.member ≡ m → told_rows ≡ []
@@ -289,39 +286,39 @@ module _ (settings : Settings) (r : Run) (c m : ℕ) (name : List ℕ) (client :
           let t : nat_lt n.known.version b.known.version ≡ false = is_not_less n.known.version b.known.version (subst (λ k. k ≤ n.known.version) (sym version) (le_refl n.known.version)) in
           rw t refl
 
-  says_at : a.member ≡ m → AreSaidBy P (sent_to c (refused_by a.line a.request outcome) ++ sent_to c (messages_by (partition_object settings) r own a.request.partition m before after)) (told_rows ++ (refusal ++ given))
+  says_at : a.member ≡ m → AreSaidBy P (sent_to c (refused_by a.made a.request outcome) ++ sent_to c (messages_by (partition_object settings) r own a.request.partition m before after)) (told_rows ++ (refusal ++ given))
   says_at s =
-      let both = said-append P (sent_to c (refused_by a.line a.request outcome)) (sent_to c (messages_by (partition_object settings) r own a.request.partition m before after)) refusal (told_rows ++ given)
+      let both = said-append P (sent_to c (refused_by a.made a.request outcome)) (sent_to c (messages_by (partition_object settings) r own a.request.partition m before after)) refusal (told_rows ++ given)
       refused (here settings r c m name client one near a.request.partition (call_of a) right named P speaks own (λ k z. sym z ∙ s)) in
-      subst (λ ys. AreSaidBy P (sent_to c (refused_by a.line a.request outcome) ++ sent_to c (messages_by (partition_object settings) r own a.request.partition m before after)) (ys ++ (refusal ++ given))) (sym (no_rows s))
-      (subst (λ ys. AreSaidBy P (sent_to c (refused_by a.line a.request outcome) ++ sent_to c (messages_by (partition_object settings) r own a.request.partition m before after)) (refusal ++ (ys ++ given))) (no_rows s) both)
+      subst (λ ys. AreSaidBy P (sent_to c (refused_by a.made a.request outcome) ++ sent_to c (messages_by (partition_object settings) r own a.request.partition m before after)) (ys ++ (refusal ++ given))) (sym (no_rows s))
+      (subst (λ ys. AreSaidBy P (sent_to c (refused_by a.made a.request outcome) ++ sent_to c (messages_by (partition_object settings) r own a.request.partition m before after)) (refusal ++ (ys ++ given))) (no_rows s) both)
 
-  silent : a.member ≢ m → AreSaidBy P (sent_to c (refused_by a.line a.request outcome) ++ sent_to c (messages_by (partition_object settings) r own a.request.partition a.member before after)) (told_rows ++ (refusal ++ given))
+  silent : a.member ≢ m → AreSaidBy P (sent_to c (refused_by a.made a.request outcome) ++ sent_to c (messages_by (partition_object settings) r own a.request.partition a.member before after)) (told_rows ++ (refusal ++ given))
   silent d =
       let other : (a.request.id.conn == c) ≡ false = number_other a.request.id.conn c (λ s. d ((right.1 s).0)) in
       let none : refusal ≡ [] = ap (λ b. cond (is_refused outcome && b) (Refusal a.request.id.number ∷ []) []) other ∙ no_refusal (is_refused outcome) (Refusal a.request.id.number ∷ []) in
-      subst (λ xs. AreSaidBy P (sent_to c (refused_by a.line a.request outcome) ++ xs) (told_rows ++ (refusal ++ given)))
+      subst (λ xs. AreSaidBy P (sent_to c (refused_by a.made a.request outcome) ++ xs) (told_rows ++ (refusal ++ given)))
       (sym (unsent settings r c m name client one near a.request.partition (call_of a) right named P speaks own a.member d (λ j z. sym z)))
-      (subst (λ ys. AreSaidBy P (sent_to c (refused_by a.line a.request outcome) ++ []) (told_rows ++ (ys ++ given))) (sym none)
-      (subst (λ ys. AreSaidBy P (sent_to c (refused_by a.line a.request outcome) ++ []) ys) (sym (unsaid settings r c m name client one near a.request.partition (call_of a) right named P speaks (λ z. d z)))
-      (said-append P (sent_to c (refused_by a.line a.request outcome)) [] [] [] (subst (AreSaidBy P (sent_to c (refused_by a.line a.request outcome))) none refused) tt)))
+      (subst (λ ys. AreSaidBy P (sent_to c (refused_by a.made a.request outcome) ++ []) (told_rows ++ (ys ++ given))) (sym none)
+      (subst (λ ys. AreSaidBy P (sent_to c (refused_by a.made a.request outcome) ++ []) ys) (sym (unsaid settings r c m name client one near a.request.partition (call_of a) right named P speaks (λ z. d z)))
+      (said-append P (sent_to c (refused_by a.made a.request outcome)) [] [] [] (subst (AreSaidBy P (sent_to c (refused_by a.made a.request outcome))) none refused) tt)))
     where
       no_refusal : (b : Bool) (ms : List (Said (List ℕ))) → cond (b && false) ms [] ≡ []
       no_refusal true ms = refl
       no_refusal false ms = refl
 
-  pub call_says : AreSaidBy P (sent_to c (happening (partition_object settings) r a)) (told_rows ++ (refusal ++ given))
+  pub call_says : AreSaidBy P (sent_to c (happening (partition_object settings) r own a)) (told_rows ++ (refusal ++ given))
   call_says = subst
-      (λ (z : World Request). AreSaidBy P (sent_to c (refused_by a.line a.request (happens (partition_object settings) z (call_of a)).outcome ++ messages_by (partition_object settings) r own a.request.partition a.member z (happens (partition_object settings) z (call_of a)).world)) (told_rows ++ (refusal ++ given)))
+      (λ (z : World Request). AreSaidBy P (sent_to c (refused_by a.made a.request (happens (partition_object settings) z (call_of a)).outcome ++ messages_by (partition_object settings) r own a.request.partition a.member z (happens (partition_object settings) z (call_of a)).world)) (told_rows ++ (refusal ++ given)))
       (world_is settings c name client r a.request.partition)
-      (subst (λ xs. AreSaidBy P xs (told_rows ++ (refusal ++ given))) (sym (sent_to-append c (refused_by a.line a.request outcome) (messages_by (partition_object settings) r own a.request.partition a.member before after)))
+      (subst (λ xs. AreSaidBy P xs (told_rows ++ (refusal ++ given))) (sym (sent_to-append c (refused_by a.made a.request outcome) (messages_by (partition_object settings) r own a.request.partition a.member before after)))
       (⊎_elim at_it silent (number_cases a.member m)))
     where
-      at_it : a.member ≡ m → AreSaidBy P (sent_to c (refused_by a.line a.request outcome) ++ sent_to c (messages_by (partition_object settings) r own a.request.partition a.member before after)) (told_rows ++ (refusal ++ given))
-      at_it s = subst (λ k. AreSaidBy P (sent_to c (refused_by a.line a.request outcome) ++ sent_to c (messages_by (partition_object settings) r own a.request.partition k before after)) (told_rows ++ (refusal ++ given))) (sym s) (says_at s)
+      at_it : a.member ≡ m → AreSaidBy P (sent_to c (refused_by a.made a.request outcome) ++ sent_to c (messages_by (partition_object settings) r own a.request.partition a.member before after)) (told_rows ++ (refusal ++ given))
+      at_it s = subst (λ k. AreSaidBy P (sent_to c (refused_by a.made a.request outcome) ++ sent_to c (messages_by (partition_object settings) r own a.request.partition k before after)) (told_rows ++ (refusal ++ given))) (sym s) (says_at s)
 
 pub every_call_says : EveryCallSays
-every_call_says settings r c m name client a one near right named = call_says settings r c m name client a one near right named (AreBytesOf name) (speak_bytes settings c m name a.request.partition (after_event settings r c name client a.request.partition (call_of a)))
+every_call_says settings r c m name client own a one near right named = call_says settings r c m name client own a one near right named (AreBytesOf name) (speak_bytes settings c m name a.request.partition (after_event settings r c name client a.request.partition (call_of a)))
 
 -- ---- of any other event
 

@@ -1,7 +1,7 @@
 -- The session of a near connection hears the opening, and each get.
-use Rattle.std.proofs.Common.{◌≡◌, ℕ, zero, suc, ◌+◌, take, ◌<◌, true, cond, List, [], ◌∷◌, ◌++◌, length, drop, Option, Some, None, refl, ap, sym, ◌∙◌, subst, arith, append_assoc, append-nil, lit<, lit≤}
+use Rattle.std.proofs.Common.{◌≡◌, ℕ, zero, suc, ◌+◌, take, ◌<◌, ◌==◌, Bool, true, false, not, cond, List, [], ◌∷◌, ◌++◌, length, drop, Option, Some, None, is_some, refl, ap, sym, ◌∙◌, subst, arith, append_assoc, append-nil, lit<, lit≤}
 use Rattle.std.specs.Prelude.{ℤ, pos, codes, All, slice_index}
-use Rattle.std.specs.List.{flat_map}
+use Rattle.std.specs.List.{find, flat_map}
 use Rattle.std.specs.Int.{w64}
 use Rattle.std.specs.Int.RustNames.{FitsSigned}
 use Rattle.std.proofs.lemmas.Int.{ints}
@@ -11,6 +11,7 @@ use Rattle.std.proofs.lemmas.List.Elements.{All-nil, All-cons}
 use Rattle.std.proofs.Math.Seq.{drop-append_seam}
 use Rattle.grid_base.specs.declared.names.ClientKey.{ClientKey}
 use Rattle.grid_base.specs.declared.names.ClientKey.TheVariants.{Known}
+use Rattle.grid_base.specs.declared.calls.Request.{Request}
 use Rattle.grid_base.specs.declared.calls.MapCall.{MapCall}
 use Rattle.grid_base.specs.declared.calls.MapCall.TheVariants.{Get}
 use Rattle.frame_codec.specs.Laws.{spelled, IsWithinLimits}
@@ -23,6 +24,7 @@ use Rattle.message_frames.specs.Messages.{Heard, prefix_of, shortest_start, mess
 use Rattle.message_frames.specs.declared.message.Message.{Message}
 use Rattle.message_frames.specs.Writing.{IsWritable}
 use Rattle.message_frames.proofs.HeardPieces.{grammar_heard, unheard}
+use Rattle.partition_protocol.proofs.RowFacts.{number_same}
 use Rattle.session_core.specs.Items.{identity_after, identity_after_all, items_from, items_of}
 use Rattle.session_core.specs.declared.item.Item.{Item}
 use Rattle.session_core.specs.declared.item.Item.TheVariants.{Call}
@@ -34,9 +36,10 @@ use Rattle.compose_words.specs.declared.saying.Listening.TheVariants as listenin
 use Rattle.compose_words.proofs.Streams.{said_bytes}
 use Rattle.request_codecs.specs.Openings.{authentication_frames, listener_frames, view_frames, opening}
 use Rattle.grid_client.specs.Calls.{correlation_of}
-use Rattle.replay_run.specs.Runs.{Run, items_on, with_bytes, items_by, took_bytes, handled_all, next_line}
+use Rattle.replay_run.specs.Runs.{Run, Connection, is_connection, connection_of, is_open, items_on, updated, with_bytes, items_by, took_bytes, left_so_often, forsaken, calls, handled_all, next_line}
+use Rattle.replay_run.proofs.Lines.{calls_come}
 use Rattle.near_runs.specs.Maps.{get_request}
-use Rattle.near_runs.specs.Sessions.{HasSent, MayOpen, opening_items, EveryOpeningIsHeard, get_bytes, MayGet, EveryGetIsHeard, EveryOpeningIsServed, EveryGetIsServed}
+use Rattle.near_runs.specs.Sessions.{HasSent, MayOpen, opening_items, EveryOpeningIsHeard, near_opened, get_bytes, MayGet, EveryGetIsHeard, EveryOpeningIsServed, EveryGetIsServed}
 
 -- ---- a stream that goes on
 
@@ -202,24 +205,53 @@ every_get_is_heard conn member client name key text sent may =
 
 -- ---- lines
 
+-- the connection, with more bytes
+pub find_updated : (new : Connection) (ks : List Connection) (k : Connection) → find (is_connection new.conn) ks ≡ Some k → find (is_connection new.conn) (updated new ks) ≡ Some new
+find_updated new [] k e = absurd cc
+find_updated new (j ∷ ks) k e = go (j.conn == new.conn) refl e (find_updated new ks k)
+  where
+    go : (b : Bool) → (j.conn == new.conn) ≡ b → cond b (Some j) (find (is_connection new.conn) ks) ≡ Some k → (find (is_connection new.conn) ks ≡ Some k → find (is_connection new.conn) (updated new ks) ≡ Some new)
+        → cond ((cond b new j).conn == new.conn) (Some (cond b new j)) (find (is_connection new.conn) (updated new ks)) ≡ Some new
+    go true t s ih = ap (λ x. cond x (Some new) (find (is_connection new.conn) (updated new ks))) (number_same new.conn new.conn refl)
+    go false t s ih = ap (λ x. cond x (Some j) (find (is_connection new.conn) (updated new ks))) t ∙ ih s
+
+-- it is open still, so that nobody leaves who waits
+lasts : (r next : Run) (k : Connection) (bytes : List ℕ) → connection_of r k.conn ≡ Some k → next.connections ≡ (took_bytes r k bytes).connections → fault_of true (k.bytes ++ bytes) ≡ None → forsaken next k.conn ≡ next
+lasts r next k bytes there same whole = ap (λ b. cond b next (left_so_often k.conn (length next.waiters) next)) open
+  where
+    open : is_open (connection_of next k.conn) ≡ true
+    open = ap (λ ks. is_open (find (is_connection k.conn) ks)) same ∙ ap is_open (find_updated (with_bytes k bytes) r.connections k there) ∙ ap (λ f. not (is_some f)) whole
+
 pub every_get_is_served : EveryGetIsServed
-every_get_is_served o skips r k client name key takes sent may =
-    ap (λ b. cond b (handled_all o skips taken k (items_by k (get_bytes name client (length (messages_of true k.bytes)) key))) (next_line r)) takes
-    ∙ ap (handled_all o skips taken k) (ap (drop (length (items_on k))) (every_get_is_heard k.conn k.member client name key k.bytes sent may).1 ∙ drop-append_seam (items_on k) (Call (get_request k.conn name client (length (messages_of true k.bytes)) key) ∷ []))
+every_get_is_served o skips r k client name key there takes sent may =
+    ap (λ b. cond b (forsaken (handled_all o skips taken k (items_by k (get_bytes name client (length (messages_of true k.bytes)) key))) k.conn) (next_line r)) takes
+    ∙ ap (λ items. forsaken (handled_all o skips taken k items) k.conn) (ap (drop (length (items_on k))) heard.1 ∙ drop-append_seam (items_on k) (Call request ∷ []))
+    ∙ lasts r (calls o skips taken k.member request) k (get_bytes name client (length (messages_of true k.bytes)) key) there (calls_come o skips taken k.member request).connections heard.0.whole
   where
     taken : Run
     taken = took_bytes r k (get_bytes name client (length (messages_of true k.bytes)) key)
 
+    request : Request
+    request = get_request k.conn name client (length (messages_of true k.bytes)) key
+
+    heard : HasSent k.conn client (k.bytes ++ get_bytes name client (length (messages_of true k.bytes)) key)
+        × (items_of k.conn k.member (messages_of true (k.bytes ++ get_bytes name client (length (messages_of true k.bytes)) key)) ≡ items_of k.conn k.member (messages_of true k.bytes) ++ Call (get_request k.conn name client (length (messages_of true k.bytes)) key) ∷ [])
+    heard = every_get_is_heard k.conn k.member client name key k.bytes sent may
+
 pub every_opening_is_served : EveryOpeningIsServed
-every_opening_is_served o skips r k client name takes empty may =
-    ap (λ b. cond b (handled_all o skips (took_bytes r k (opening client (Some name))) k (items_by k (opening client (Some name)))) (next_line r)) takes
-    ∙ ap (handled_all o skips (took_bytes r k (opening client (Some name))) k) items
+every_opening_is_served o skips r k client name there takes empty may =
+    ap (λ b. cond b (forsaken (handled_all o skips (took_bytes r k (opening client (Some name))) k (items_by k (opening client (Some name)))) k.conn) (next_line r)) takes
+    ∙ ap (λ items. forsaken (handled_all o skips (took_bytes r k (opening client (Some name))) k items) k.conn) items
+    ∙ lasts r (near_opened o r k name (opening client (Some name))) k (opening client (Some name)) there refl (ap (λ b. fault_of true (b ++ opening client (Some name))) empty ∙ heard.0.whole)
   where
+    heard : HasSent k.conn client (opening client (Some name)) × (items_of k.conn k.member (messages_of true (opening client (Some name))) ≡ opening_items k.member name)
+    heard = every_opening_is_heard k.conn k.member client name may
+
     none : items_on k ≡ []
     none = ap (λ b. items_of k.conn k.member (messages_of true b)) empty ∙ ap (items_of k.conn k.member) (unheard true [] (λ bytes e. absurd cc))
 
     all : items_on (with_bytes k (opening client (Some name))) ≡ opening_items k.member name
-    all = ap (λ b. items_of k.conn k.member (messages_of true (b ++ opening client (Some name)))) empty ∙ (every_opening_is_heard k.conn k.member client name may).1
+    all = ap (λ b. items_of k.conn k.member (messages_of true (b ++ opening client (Some name)))) empty ∙ heard.1
 
     items : items_by k (opening client (Some name)) ≡ opening_items k.member name
     items = ap (λ (xs : List Item). drop (length xs) (items_on (with_bytes k (opening client (Some name))))) none ∙ all

@@ -280,16 +280,16 @@ text_of : {settings : Settings} {client : ℕ} {name : List ℕ} {r : Run} {s : 
 text_of (client_came r k first capacity one within fresh new may) = may.text
 text_of (went_aside r next s earlier heard run aside) = text_of run
 text_of (event_happened r s earlier heard p e run quiet) = text_of run
-text_of (call_arrived r s earlier heard a skips run apart fitting found) = text_of run
-text_of (client_missed r s earlier heard key a skips run next none found) = text_of run
-text_of (client_missed_in_vain r s earlier heard key a skips run may request none skipped) = text_of run
+text_of (call_arrived r s earlier heard own a skips run apart fitting found) = text_of run
+text_of (client_missed r s earlier heard key own a skips run next none found) = text_of run
+text_of (client_missed_in_vain r s earlier heard key own a skips run may request none skipped) = text_of run
 text_of (client_hit r s earlier heard key value now run found) = text_of run
 text_of (client_heard r s earlier heard message rest run is) = text_of run
 
 module _ (settings : Settings) (client : ℕ) (name : List ℕ) where
-  asked_now : (r : Run) (a : Arrival) (skips : List CallId) → is_skipped skips a.request.id ≡ false
-      → asked (partition_object settings) skips r a ≡ arrived r a (record { partition = a.request.partition; event = call_of a } ∷ []) (happening (partition_object settings) r a)
-  asked_now r a skips found = ap (λ b. cond b (arrived r a [] (refusal a.line a.request (pos want_of_memory) 0 ∷ [])) (arrived r a (record { partition = a.request.partition; event = call_of a } ∷ []) (happening (partition_object settings) r a))) found
+  asked_now : (r : Run) (own : Option ℕ) (a : Arrival) (skips : List CallId) → is_skipped skips a.request.id ≡ false
+      → asked (partition_object settings) skips r own a ≡ arrived r a (record { partition = a.request.partition; event = call_of a } ∷ []) (happening (partition_object settings) r own a)
+  asked_now r own a skips found = ap (λ b. cond b (arrived r a [] (refusal a.made a.request (pos want_of_memory) 0 ∷ [])) (arrived r a (record { partition = a.request.partition; event = call_of a } ∷ []) (happening (partition_object settings) r own a))) found
 
   -- the run and its machine after an event, which they go well with
   went : {next : Run} {t : Machine} {earlier : List (List ℕ)} {heard : List (Said (List ℕ))} → IsNearRun settings client name next t earlier heard → AreNamedOnce t.grid → (z : Machine) → t ≡ z → IsNear next z.conn z.member name
@@ -334,58 +334,58 @@ module _ (settings : Settings) (client : ℕ) (name : List ℕ) where
       (told_event settings client name r (occurred (partition_object settings) r p e) s p e new refl refl refl refl earlier heard old b.members b.follows.grid
       (went (event_happened r s earlier heard p e run quiet) named (machine_occurred (partition_object settings) (keyed settings s.conn name client) s p e) is) (text_of run) now
       (event_says settings r s.conn s.member name client p e b.members b.follows.near quiet after (Tells name)))
-  told (call_arrived r s earlier heard a skips run apart fitting found) named modest =
+  told (call_arrived r s earlier heard own a skips run apart fitting found) named modest =
       let p = a.request.partition in
-      let next = arrived r a (record { partition = p; event = call_of a } ∷ []) (happening (partition_object settings) r a) in
-      let run_is = asked_now r a skips found in
+      let next = arrived r a (record { partition = p; event = call_of a } ∷ []) (happening (partition_object settings) r own a) in
+      let run_is = asked_now r own a skips found in
       let is : step settings client name s (Occurs p (call_of a)) ≡ machine_occurred (partition_object settings) (keyed settings s.conn name client) s p (call_of a) =
       ap (λ b. cond b s (machine_occurred (partition_object settings) (keyed settings s.conn name client) s p (call_of a))) (number_other a.request.id.conn s.conn apart)
       in
       let conn = ap (λ (z : Machine). z.conn) is in
-      let now : IsModest s.conn name next = subst (IsModest s.conn name) run_is (subst (λ c. IsModest c name (asked (partition_object settings) skips r a)) conn modest) in
+      let now : IsModest s.conn name next = subst (IsModest s.conn name) run_is (subst (λ c. IsModest c name (asked (partition_object settings) skips r own a)) conn modest) in
       let once = before settings client name s (Occurs p (call_of a)) named in
       let b = every_near_run_goes_well settings client name r s earlier heard run once in
-      let new = happening (partition_object settings) r a in
+      let new = happening (partition_object settings) r own a in
       let old = told run once (modest_before s.conn name r next (goes_on settings client name r next s p (call_of a) new refl refl refl refl) now) in
       let after : AreNamedOnce (grid_after settings s.conn name client r p (call_of a)) =
       subst AreNamedOnce (ap (λ (z : Machine). z.grid) is ∙ ap (λ g. happened (partition_object settings) (keyed settings s.conn name client) g p (call_of a)) b.follows.grid) named
       in
-      let near = subst (λ z. IsNear z s.conn s.member name) run_is (went (call_arrived r s earlier heard a skips run apart fitting found) named (machine_occurred (partition_object settings) (keyed settings s.conn name client) s p (call_of a)) is) in
+      let near = subst (λ z. IsNear z s.conn s.member name) run_is (went (call_arrived r s earlier heard own a skips run apart fitting found) named (machine_occurred (partition_object settings) (keyed settings s.conn name client) s p (call_of a)) is) in
       subst (λ z. Told name z (step settings client name s (Occurs p (call_of a))) earlier heard) (sym run_is)
       (subst (λ z. Told name next z earlier heard) (sym is)
       (told_event settings client name r next s p (call_of a) new refl refl refl refl earlier heard old b.members b.follows.grid near (text_of run) now
-      (call_says settings r s.conn s.member name client a b.members b.follows.near fitting after (Tells name))))
-  told (client_missed r s earlier heard key a skips run next_get none found) named modest =
+      (call_says settings r s.conn s.member name client own a b.members b.follows.near fitting after (Tells name))))
+  told (client_missed r s earlier heard key own a skips run next_get none found) named modest =
       let p = a.request.partition in
-      let next = arrived r a (record { partition = p; event = call_of a } ∷ []) (happening (partition_object settings) r a) in
-      let run_is = asked_now r a skips found in
+      let next = arrived r a (record { partition = p; event = call_of a } ∷ []) (happening (partition_object settings) r own a) in
+      let run_is = asked_now r own a skips found in
       let once = before settings client name s (LooksUp key a.now) named in
       let b = every_near_run_goes_well settings client name r s earlier heard run once in
       let waits = opening_at s key in
       let is = missed settings client name key r s a b.follows next_get none in
       let conn = ap (λ (z : Machine). z.conn) is in
-      let now : IsModest s.conn name next = subst (IsModest s.conn name) run_is (subst (λ c. IsModest c name (asked (partition_object settings) skips r a)) conn modest) in
-      let new = happening (partition_object settings) r a in
+      let now : IsModest s.conn name next = subst (IsModest s.conn name) run_is (subst (λ c. IsModest c name (asked (partition_object settings) skips r own a)) conn modest) in
+      let new = happening (partition_object settings) r own a in
       let old = told run once (modest_before s.conn name r next (goes_on settings client name r next s p (call_of a) new refl refl refl refl) now) in
       let opened = told_same name r r s waits earlier heard old refl refl refl refl in
       let after : AreNamedOnce (grid_after settings s.conn name client r p (call_of a)) =
       subst AreNamedOnce (ap (λ (z : Machine). z.grid) is ∙ ap (λ g. happened (partition_object settings) (keyed settings s.conn name client) g p (call_of a)) b.follows.grid) named
       in
-      let near = subst (λ z. IsNear z s.conn s.member name) run_is (went (client_missed r s earlier heard key a skips run next_get none found) named (machine_occurred (partition_object settings) (keyed settings s.conn name client) waits p (call_of a)) is) in
+      let near = subst (λ z. IsNear z s.conn s.member name) run_is (went (client_missed r s earlier heard key own a skips run next_get none found) named (machine_occurred (partition_object settings) (keyed settings s.conn name client) waits p (call_of a)) is) in
       subst (λ z. Told name z (step settings client name s (LooksUp key a.now)) earlier heard) (sym run_is)
       (subst (λ z. Told name next z earlier heard) (sym is)
       (told_event settings client name r next waits p (call_of a) new refl refl refl refl earlier heard opened b.members b.follows.grid near (text_of run) now
-      (call_says settings r s.conn s.member name client a b.members b.follows.near (right settings client name key r s a b.follows next_get) after (Tells name))))
-  told (client_missed_in_vain r s earlier heard key a skips run may request none skipped) named modest =
-      let next = arrived r a [] (refusal a.line a.request (pos want_of_memory) 0 ∷ []) in
-      let run_is : asked (partition_object settings) skips r a ≡ next =
-      ap (λ b. cond b next (arrived r a (record { partition = a.request.partition; event = call_of a } ∷ []) (happening (partition_object settings) r a))) skipped
+      (call_says settings r s.conn s.member name client own a b.members b.follows.near (right settings client name key r s a b.follows next_get) after (Tells name))))
+  told (client_missed_in_vain r s earlier heard key own a skips run may request none skipped) named modest =
+      let next = arrived r a [] (refusal a.made a.request (pos want_of_memory) 0 ∷ []) in
+      let run_is : asked (partition_object settings) skips r own a ≡ next =
+      ap (λ b. cond b next (arrived r a (record { partition = a.request.partition; event = call_of a } ∷ []) (happening (partition_object settings) r own a))) skipped
       in
       let is : step settings client name s (LooksUpInVain key) ≡ missed_in_vain s key = ap (looked_up_in_vain (keyed settings s.conn name client) s key) none in
       let conn = ap (λ (z : Machine). z.conn) is in
       let once = before settings client name s (LooksUpInVain key) named in
-      let now : IsModest s.conn name next = subst (IsModest s.conn name) run_is (subst (λ c. IsModest c name (asked (partition_object settings) skips r a)) conn modest) in
-      let new = refusal a.line a.request (pos want_of_memory) 0 ∷ [] in
+      let now : IsModest s.conn name next = subst (IsModest s.conn name) run_is (subst (λ c. IsModest c name (asked (partition_object settings) skips r own a)) conn modest) in
+      let new = refusal a.made a.request (pos want_of_memory) 0 ∷ [] in
       let old = told run once (modest_before s.conn name r next (record { members = refl; events = ([], refl); sent = (sent_to s.conn new, sent_to-append s.conn r.appended new) }) now) in
       let on_it : (a.request.id.conn == s.conn) ≡ true = number_same a.request.id.conn s.conn (ap (λ (q : Request). q.id.conn) request) in
       let bytes : sent_to s.conn new ≡ error_bytes (correlation_of s.next_number) (pos want_of_memory) (cast_signed w32 0) (pos 0) ∷ [] =

@@ -1,5 +1,5 @@
 -- How a run goes with a near client's machine, event by event.
-use Rattle.std.specs.Prelude.{◌≡◌, ◌≢◌, ℕ, ◌≤◌, true, false, List, [], ◌∷◌, ◌++◌, filter, Some, None}
+use Rattle.std.specs.Prelude.{◌≡◌, ◌≢◌, ℕ, ◌≤◌, true, false, List, [], ◌∷◌, ◌++◌, filter, Option, Some, None}
 use Rattle.grid_base.specs.declared.calls.Request.{Request}
 use Rattle.grid_base.specs.declared.names.CallId.{CallId}
 use Rattle.call_engine.specs.Calls.{Settings}
@@ -58,10 +58,10 @@ EveryEventIsFollowed = (settings : Settings) (client : ℕ) (name : List ℕ) (r
 
 -- a call on another connection
 abbrev pub EveryOtherCallIsFollowed : Type 0
-EveryOtherCallIsFollowed = (settings : Settings) (client : ℕ) (name : List ℕ) (r : Run) (s : Machine) (a : Arrival) (skips : List CallId)
+EveryOtherCallIsFollowed = (settings : Settings) (client : ℕ) (name : List ℕ) (r : Run) (s : Machine) (own : Option ℕ) (a : Arrival) (skips : List CallId)
     → 1 ≤ r.members → Follows settings client name r s → a.request.id.conn ≢ s.conn → IsRight s.conn s.member a.request.partition (call_of a)
     → AreNamedOnce (grid_after settings s.conn name client r a.request.partition (call_of a)) → is_skipped skips a.request.id ≡ false
-    → Follows settings client name (asked (partition_object settings) skips r a) (step settings client name s (Occurs a.request.partition (call_of a)))
+    → Follows settings client name (asked (partition_object settings) skips r own a) (step settings client name s (Occurs a.request.partition (call_of a)))
 
 -- A look-up that misses: its get arrives at the connection's member, under the machine's next number.
 pub record IsNextGet (settings : Settings) (client : ℕ) (name key : List ℕ) (r : Run) (s : Machine) (a : Arrival) : Type 0 where
@@ -71,10 +71,10 @@ pub record IsNextGet (settings : Settings) (client : ℕ) (name key : List ℕ) 
   pub lives : is_live (world_at (partition_object settings) r a.request.partition) s.member ≡ true
 
 abbrev pub EveryMissIsFollowed : Type 0
-EveryMissIsFollowed = (settings : Settings) (client : ℕ) (name key : List ℕ) (r : Run) (s : Machine) (a : Arrival) (skips : List CallId)
+EveryMissIsFollowed = (settings : Settings) (client : ℕ) (name key : List ℕ) (r : Run) (s : Machine) (own : Option ℕ) (a : Arrival) (skips : List CallId)
     → 1 ≤ r.members → Follows settings client name r s → IsNextGet settings client name key r s a → hit (keyed settings s.conn name client) key s.client ≡ None
     → AreNamedOnce (grid_after settings s.conn name client r a.request.partition (call_of a)) → is_skipped skips a.request.id ≡ false
-    → Follows settings client name (asked (partition_object settings) skips r a) (step settings client name s (LooksUp key a.now))
+    → Follows settings client name (asked (partition_object settings) skips r own a) (step settings client name s (LooksUp key a.now))
 
 -- A look-up that hits is nothing to the run.
 abbrev pub EveryHitIsFollowed : Type 0

@@ -1,5 +1,5 @@
 -- A look-up that misses, and whose get finds no memory.
-use Rattle.std.specs.Prelude.{◌≡◌, ℕ, true, List, None}
+use Rattle.std.specs.Prelude.{◌≡◌, ℕ, true, List, Option, None}
 use Rattle.grid_base.specs.declared.names.CallId.{CallId}
 use Rattle.call_engine.specs.Calls.{Settings}
 use Rattle.call_engine.specs.Objects.{partition_object}
@@ -11,7 +11,7 @@ use Rattle.near_runs.specs.Following.{Machine, Follows, step}
 
 -- It makes no event, and the client is told so.
 abbrev pub EveryMissInVainIsFollowed : Type 0
-EveryMissInVainIsFollowed = (settings : Settings) (client : ℕ) (name key : List ℕ) (r : Run) (s : Machine) (a : Arrival) (skips : List CallId)
+EveryMissInVainIsFollowed = (settings : Settings) (client : ℕ) (name key : List ℕ) (r : Run) (s : Machine) (own : Option ℕ) (a : Arrival) (skips : List CallId)
     → Follows settings client name r s → a.request ≡ get_request s.conn name client s.next_number key → hit (keyed settings s.conn name client) key s.client ≡ None
     → is_skipped skips a.request.id ≡ true
-    → Follows settings client name (asked (partition_object settings) skips r a) (step settings client name s (LooksUpInVain key))
+    → Follows settings client name (asked (partition_object settings) skips r own a) (step settings client name s (LooksUpInVain key))

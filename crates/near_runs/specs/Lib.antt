@@ -16,6 +16,5 @@ pub mod NearHits
 pub mod Lines
 pub mod OwnLines
 pub mod Feeds
-pub mod ClientRuns
 pub mod Modest
 pub mod Spoken

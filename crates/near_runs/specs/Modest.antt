@@ -12,7 +12,7 @@ use Rattle.object_store.specs.Partitions.{Partition}
 use Rattle.partition_protocol.specs.Events.{Event, Call}
 use Rattle.script_lang.specs.Lines.{IsWithin}
 use Rattle.script_lang.specs.declared.line.Line.{Line}
-use Rattle.replay_run.specs.Runs.{Run, events_at, partitions}
+use Rattle.replay_run.specs.Runs.{Run, Waiter, events_at, partitions}
 use Rattle.replay_run.specs.AfterLines.{after_line}
 use Rattle.near_runs.specs.Messages.{sent_to}
 
@@ -22,13 +22,21 @@ HasKey (call.Map c) = 8 ≤ length (key_of c)
 HasKey (call.Queue c) = ⊤
 
 -- The parts of a call fit frames.
+abbrev pub IsFitting : Request → Type 0
+IsFitting request = CallFits request.call × HasKey request.call
+
 abbrev pub BringsFitting : Event Request → Type 0
-BringsFitting (Call k conn number request now) = CallFits request.call × HasKey request.call
+BringsFitting (Call k conn number request now) = IsFitting request
 BringsFitting event = ⊤
 
 -- Each event is in one of the grid's partitions, and its call fits.
 abbrev pub AreProper : Run → Type 0
 AreProper r = (p : ℕ) (e : Event Request) → Contains (events_at p r.events) e → (p < partitions) × BringsFitting e
+
+-- So is the call of whoever waits, which may be an event later.
+pub record StaysProper (r : Run) : Type 0 where
+  pub events : AreProper r
+  pub waiters : (w : Waiter) → Contains r.waiters w → (w.request.partition < partitions) × IsFitting w.request
 
 -- A near client of a map is on the connection. Members are counted by a byte, and the events of a partition by four bytes; an
 -- invalidation of any key of the map fits a message; and there is a number for each message to the connection.
@@ -39,6 +47,6 @@ pub record IsModest (c : ℕ) (name : List ℕ) (r : Run) : Type 0 where
   pub short : length name + 30 ≤ most_bytes
   pub room : length (sent_to c r.appended) ≤ most_messages
 
--- A line of a script leaves the events proper, whatever it is.
+-- A line of a script leaves a run proper, whatever it is.
 abbrev pub EveryLineStaysProper : Type 0
-EveryLineStaysProper = (o : Object Request Partition) (skips : List CallId) (r : Run) (members size : ℕ) (line : Line) → IsWithin members size line → AreProper r → AreProper (after_line o skips r line)
+EveryLineStaysProper = (o : Object Request Partition) (skips : List CallId) (r : Run) (members size : ℕ) (line : Line) → IsWithin members size line → StaysProper r → StaysProper (after_line o skips r line)

@@ -1,5 +1,5 @@
 -- Near connections in a run, and what each event says on one.
-use Rattle.std.specs.Prelude.{◌≡◌, ℕ, ◌<◌, ◌≤◌, true, ◌==◌, Bool, List, [], map, filter, Some, Contains}
+use Rattle.std.specs.Prelude.{◌≡◌, ℕ, ◌<◌, ◌≤◌, true, ◌==◌, Bool, List, [], map, filter, Option, Some, Contains}
 use Rattle.grid_base.specs.declared.calls.GridCall.TheVariants.{Map}
 use Rattle.grid_base.specs.declared.calls.MapCall.TheVariants.{Get}
 use Rattle.grid_base.specs.declared.calls.Request.{Request}
@@ -61,11 +61,11 @@ pub record IsNear (r : Run) (c m : ℕ) (name : List ℕ) : Type 0 where
 -- What an event brings to a near connection is what the machine says at it, message by message and in order.
 
 abbrev pub EveryCallSays : Type 0
-EveryCallSays = (settings : Settings) (r : Run) (c m : ℕ) (name : List ℕ) (client : ℕ) (a : Arrival)
+EveryCallSays = (settings : Settings) (r : Run) (c m : ℕ) (name : List ℕ) (client : ℕ) (own : Option ℕ) (a : Arrival)
     → let p = a.request.partition in
     let next = grid_after settings c name client r p (call_of a) in
     1 ≤ r.members → IsNear r c m name → IsRight c m p (call_of a) → AreNamedOnce next
-    → AreSaid name (sent_to c (happening (partition_object settings) r a)) (said_by (partition_object settings) m c (world (partition_object settings) (grid_of settings c name client r) p) next.changes p (call_of a))
+    → AreSaid name (sent_to c (happening (partition_object settings) r own a)) (said_by (partition_object settings) m c (world (partition_object settings) (grid_of settings c name client r) p) next.changes p (call_of a))
 
 abbrev pub EveryEventSays : Type 0
 EveryEventSays = (settings : Settings) (r : Run) (c m : ℕ) (name : List ℕ) (client p : ℕ) (e : Event Request)

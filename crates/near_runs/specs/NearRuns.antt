@@ -1,5 +1,5 @@
 -- Runs with a near client, made step by step with its machine, and what its hits are worth.
-use Rattle.std.specs.Prelude.{◌≡◌, ◌≢◌, ℕ, ◌<◌, ◌≤◌, true, false, List, [], ◌∷◌, ◌++◌, Some, None}
+use Rattle.std.specs.Prelude.{◌≡◌, ◌≢◌, ℕ, ◌<◌, ◌≤◌, true, false, List, [], ◌∷◌, ◌++◌, Option, Some, None}
 use Rattle.grid_base.specs.declared.calls.Request.{Request}
 use Rattle.grid_base.specs.declared.names.CallId.{CallId}
 use Rattle.call_engine.specs.Calls.{Settings}
@@ -32,16 +32,16 @@ pub data IsNearRun (settings : Settings) (client : ℕ) (name : List ℕ) : Run 
   -- an event that is no call, or a call on another connection
   event_happened : (r : Run) (s : Machine) (earlier : List (List ℕ)) (heard : List (Said (List ℕ))) (p : ℕ) (e : Event Request) → IsNearRun settings client name r s earlier heard → asked_by e ≡ []
       → IsNearRun settings client name (occurred (partition_object settings) r p e) (step settings client name s (Occurs p e)) earlier heard
-  call_arrived : (r : Run) (s : Machine) (earlier : List (List ℕ)) (heard : List (Said (List ℕ))) (a : Arrival) (skips : List CallId) → IsNearRun settings client name r s earlier heard → a.request.id.conn ≢ s.conn → IsRight s.conn s.member a.request.partition (call_of a)
-      → is_skipped skips a.request.id ≡ false → IsNearRun settings client name (asked (partition_object settings) skips r a) (step settings client name s (Occurs a.request.partition (call_of a))) earlier heard
+  call_arrived : (r : Run) (s : Machine) (earlier : List (List ℕ)) (heard : List (Said (List ℕ))) (own : Option ℕ) (a : Arrival) (skips : List CallId) → IsNearRun settings client name r s earlier heard → a.request.id.conn ≢ s.conn → IsRight s.conn s.member a.request.partition (call_of a)
+      → is_skipped skips a.request.id ≡ false → IsNearRun settings client name (asked (partition_object settings) skips r own a) (step settings client name s (Occurs a.request.partition (call_of a))) earlier heard
   -- the client looks a key up, and misses or hits
-  client_missed : (r : Run) (s : Machine) (earlier : List (List ℕ)) (heard : List (Said (List ℕ))) (key : List ℕ) (a : Arrival) (skips : List CallId) → IsNearRun settings client name r s earlier heard → IsNextGet settings client name key r s a
+  client_missed : (r : Run) (s : Machine) (earlier : List (List ℕ)) (heard : List (Said (List ℕ))) (key : List ℕ) (own : Option ℕ) (a : Arrival) (skips : List CallId) → IsNearRun settings client name r s earlier heard → IsNextGet settings client name key r s a
       → hit (keyed settings s.conn name client) key s.client ≡ None → is_skipped skips a.request.id ≡ false
-      → IsNearRun settings client name (asked (partition_object settings) skips r a) (step settings client name s (LooksUp key a.now)) earlier heard
+      → IsNearRun settings client name (asked (partition_object settings) skips r own a) (step settings client name s (LooksUp key a.now)) earlier heard
   -- its get finds no memory
-  client_missed_in_vain : (r : Run) (s : Machine) (earlier : List (List ℕ)) (heard : List (Said (List ℕ))) (key : List ℕ) (a : Arrival) (skips : List CallId) → IsNearRun settings client name r s earlier heard → MayGet name client s.next_number key
+  client_missed_in_vain : (r : Run) (s : Machine) (earlier : List (List ℕ)) (heard : List (Said (List ℕ))) (key : List ℕ) (own : Option ℕ) (a : Arrival) (skips : List CallId) → IsNearRun settings client name r s earlier heard → MayGet name client s.next_number key
       → a.request ≡ get_request s.conn name client s.next_number key → hit (keyed settings s.conn name client) key s.client ≡ None → is_skipped skips a.request.id ≡ true
-      → IsNearRun settings client name (asked (partition_object settings) skips r a) (step settings client name s (LooksUpInVain key)) earlier heard
+      → IsNearRun settings client name (asked (partition_object settings) skips r own a) (step settings client name s (LooksUpInVain key)) earlier heard
   client_hit : (r : Run) (s : Machine) (earlier : List (List ℕ)) (heard : List (Said (List ℕ))) (key : List ℕ) (value : Value) (now : ℕ) → IsNearRun settings client name r s earlier heard → hit (keyed settings s.conn name client) key s.client ≡ Some value
       → IsNearRun settings client name r (step settings client name s (LooksUp key now)) earlier heard
   -- it hears the next message

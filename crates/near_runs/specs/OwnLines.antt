@@ -20,6 +20,7 @@ use Rattle.near_runs.specs.Sessions.{HasSent, MayOpen, MayGet, get_bytes}
 use Rattle.near_runs.specs.Attaching.{IsFresh}
 use Rattle.near_runs.specs.Following.{Machine}
 use Rattle.near_runs.specs.NearRuns.{IsNearRun}
+use Rattle.near_runs.specs.Lines.{WaitElsewhere}
 
 -- The opening arrives: the client is attached.
 abbrev pub EveryOpeningLineIsFollowed : Type 0
@@ -28,7 +29,7 @@ EveryOpeningLineIsFollowed = (settings : Settings) (client : ℕ) (name : List �
     1 ≤ r.members → k.member < r.members → IsFresh r k → IsNew k.conn (machine_events r.events) → MayOpen client name → takes_bytes (partition_object settings) r k ≡ true
     → IsNearRun settings client name next (attached (partition_object settings) partitions k.member k.conn first capacity (grid_of settings k.conn name client next)) (sent_to k.conn r.appended) []
 
--- what a look-up finds as it misses: the connection takes bytes, its client has sent as many messages as the machine has numbers, and the partition's member lives and has room
+-- what a look-up finds as it misses: the connection takes bytes, its client has sent as many messages as the machine has numbers, and the partition's member lives and has room; whoever waits is on another connection
 pub record MayMiss (settings : Settings) (client : ℕ) (name key : List ℕ) (r : Run) (s : Machine) (k : Connection) : Type 0 where
   pub there : connection_of r s.conn ≡ Some k
   pub member_is : k.member ≡ s.member
@@ -38,6 +39,7 @@ pub record MayMiss (settings : Settings) (client : ℕ) (name key : List ℕ) (r
   pub lives : is_live (world_at (partition_object settings) r (partition_of_key key)) s.member ≡ true
   pub room : is_full (world_at (partition_object settings) r (partition_of_key key)) ≡ false
   pub fits : MayGet name client s.next_number key
+  pub elsewhere : WaitElsewhere s.conn r
 
 -- the run after it, with its machine: a look-up is open
 pub record HasOpened (settings : Settings) (client : ℕ) (name key : List ℕ) (s : Machine) (earlier : List (List ℕ)) (heard : List (Said (List ℕ))) (next : Run) : Type 0 where
@@ -46,6 +48,7 @@ pub record HasOpened (settings : Settings) (client : ℕ) (name key : List ℕ) 
   pub conn : machine.conn ≡ s.conn
   pub looks : machine.client ≡ opened s.next_number key s.client
   pub number : machine.next_number ≡ s.next_number + 1
+  pub elsewhere : WaitElsewhere s.conn next
 
 -- A get arrives, whether it finds memory or not.
 abbrev pub EveryGetLineIsFollowed : Type 0

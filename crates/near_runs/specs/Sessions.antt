@@ -21,7 +21,7 @@ use Rattle.request_codecs.specs.Openings.{authentication_correlation, invalidati
 use Rattle.request_codecs.specs.Requests.{request, request_bytes}
 use Rattle.grid_client.specs.Calls.{correlation_of}
 use Rattle.grid_client.specs.States.{get_of}
-use Rattle.replay_run.specs.Runs.{Run, Connection, takes_bytes, arrival_at, took_bytes, told, registers, asks, bytes_arrived}
+use Rattle.replay_run.specs.Runs.{Run, Connection, connection_of, takes_bytes, took_bytes, told, registers, calls, bytes_arrived}
 use Rattle.near_runs.specs.Maps.{get_request}
 
 -- Whole messages arrived on the connection, without a fault, and by them its client is known.
@@ -82,7 +82,7 @@ near_opened o r k name bytes =
 
 abbrev pub EveryOpeningIsServed : Type 0
 EveryOpeningIsServed = (o : Object Request Partition) (skips : List CallId) (r : Run) (k : Connection) (client : ℕ) (name : List ℕ)
-    → takes_bytes o r k ≡ true → k.bytes ≡ [] → MayOpen client name
+    → connection_of r k.conn ≡ Some k → takes_bytes o r k ≡ true → k.bytes ≡ [] → MayOpen client name
     → bytes_arrived o skips r k (opening client (Some name)) ≡ near_opened o r k name (opening client (Some name))
 
 abbrev pub EveryGetIsServed : Type 0
@@ -90,5 +90,5 @@ EveryGetIsServed = (o : Object Request Partition) (skips : List CallId) (r : Run
     → let number = length (messages_of true k.bytes) in
     let bytes = get_bytes name client number key in
     let taken = took_bytes r k bytes in
-    takes_bytes o r k ≡ true → HasSent k.conn client k.bytes → MayGet name client number key
-    → bytes_arrived o skips r k bytes ≡ asks o skips taken (arrival_at taken k.member (get_request k.conn name client number key))
+    connection_of r k.conn ≡ Some k → takes_bytes o r k ≡ true → HasSent k.conn client k.bytes → MayGet name client number key
+    → bytes_arrived o skips r k bytes ≡ calls o skips taken k.member (get_request k.conn name client number key)

@@ -7,7 +7,6 @@
 ghost use Rattle.near_runs.specs.Attaching.{EveryOpeningAttaches};
 ghost use Rattle.near_runs.specs.Feeds.{EveryFeedIsFollowed};
 ghost use Rattle.near_runs.specs.Following.{EveryEventIsFollowed, EveryHearingIsFollowed, EveryHitIsFollowed, EveryMissIsFollowed, EveryOtherCallIsFollowed, EveryOtherStepIsAside};
-ghost use Rattle.near_runs.specs.ClientRuns.{EveryHitOfAClientRunStands};
 ghost use Rattle.near_runs.specs.Clients.{EveryMessageIsHeard};
 ghost use Rattle.near_runs.specs.FollowingInVain.{EveryMissInVainIsFollowed};
 ghost use Rattle.near_runs.specs.Hearings.{EveryAnswerIsHeard, EveryRefusalIsHeard};
@@ -116,7 +115,8 @@ pub fn every_hit_of_a_near_client_stands()
     ensures { EveryHitOfANearClientStands }
 {}
 
-/// Whatever line another one's is, the run goes on with the near client's machine, whose client does nothing.
+/// Whatever line another one's is, the run goes on with the near client's machine, whose client does nothing. Whoever waits
+/// does so on another connection, and has its turns as the machine sees calls of others.
 pub fn every_other_line_is_followed()
     ensures { EveryOtherLineIsFollowed }
 {}
@@ -133,14 +133,8 @@ pub fn every_feed_is_followed()
     ensures { EveryFeedIsFollowed }
 {}
 
-/// In a run of lines with a near client that begins with its opening's line, and goes on by lines of others, look-ups and what it
-/// reads, each value that it hits is a hit of the run, and stands as the machine's does.
-pub fn every_hit_of_a_client_run_stands()
-    ensures { EveryHitOfAClientRunStands }
-{}
-
 /// Whatever line of a script is run, each event of the run is in one of the grid's partitions, and the parts of each call fit
-/// frames.
+/// frames, also of a call that waits.
 pub fn every_line_stays_proper()
     ensures { EveryLineStaysProper }
 {}

@@ -17,9 +17,10 @@ use Rattle.session_core.specs.declared.item.Item.TheVariants.{Call as Asks, Wait
 use Rattle.script_lang.specs.declared.line.Line.{Line}
 use Rattle.script_lang.specs.declared.line.Line.TheVariants as line
 use Rattle.near_protocol.proofs.Hear.{find_in}
-use Rattle.replay_run.specs.Runs.{Run, Connection, Arrival, At, is_connection, connection_of, world_at, lives, is_full, is_skipped, updated, with_bytes, took_bytes, takes_bytes, can_open, opened, next_line, arrived, asked, asks, given_up, arrival_at, registers, handled_all, items_by, bytes_arrived, takes, delivery_on, event_by, partitions}
+use Rattle.replay_run.specs.Runs.{Run, Connection, Arrival, At, is_connection, connection_of, world_at, lives, is_full, is_skipped, updated, with_bytes, took_bytes, takes_bytes, can_open, opened, next_line, clock_set, arrived, asked, asks, given_up, arrival_at, waiter_at, waits, served, forsaken, registers, calls, begins_to_wait, handled_all, items_by, bytes_arrived, takes, delivery_on, event_by, partitions}
 use Rattle.replay_run.specs.AfterLines.{after_event, after_line}
-use Rattle.replay_run.proofs.EventRuns.{takes_keeps, takes_in_keeps, flowed_keeps, flowed_in_keeps}
+use Rattle.replay_run.proofs.Turns.{KeepsTurns, by_endings, served_keeps, takes_keeps, forsaken_keeps}
+use Rattle.replay_run.proofs.EventRuns.{served_in_keeps, takes_in_keeps, flowed_keeps, flowed_in_keeps, forsaken_kept}
 use Rattle.replay_run.proofs.Rebalanced.{rebalance_keeps}
 use Rattle.replay_run.proofs.Lines.{handled_all_come}
 use Rattle.near_runs.specs.NearConnections.{is_of}
@@ -87,13 +88,20 @@ record Still (r next : Run) : Type 0 where
   members : next.members ≡ r.members
 
 module _ (o : Object Request Partition) (skips : List CallId) (r : Run) where
-  takes_still : (x : Run) (p : ℕ) (e : Event Request) → Still r x → Still r (takes o x p e)
-  takes_still x p e h = takes_keeps o (Still r) x p e (record { connections = h.connections; registered = h.registered; members = h.members }) (record { connections = h.connections; registered = h.registered; members = h.members })
+  turns_still : (p : ℕ) → KeepsTurns o skips p (Still r)
+  turns_still p = by_endings o skips p (Still r) (λ x h. record { connections = h.connections; registered = h.registered; members = h.members })
+      (λ x w events appended i made here h. record { connections = h.connections; registered = h.registered; members = h.members })
+
+  served_still : (x : Run) (p member : ℕ) → Still r x → Still r (served o skips x None p member)
+  served_still x p member h = served_keeps o skips p (Still r) (turns_still p) x None member h
+
+  takes_still : (x : Run) (p : ℕ) (e : Event Request) → Still r x → Still r (takes o skips x p e)
+  takes_still x p e h = takes_keeps o skips p (Still r) (turns_still p) x e h (record { connections = h.connections; registered = h.registered; members = h.members })
 
   counted : Still r (next_line r)
   counted = record { connections = refl; registered = refl; members = refl }
 
-  event_still : (e : Option At) → Still r (after_event o (next_line r) e)
+  event_still : (e : Option At) → Still r (after_event o skips (next_line r) e)
   event_still None = counted
   event_still (Some e) = takes_still (next_line r) e.partition e.event counted
 
@@ -107,35 +115,58 @@ module _ (o : Object Request Partition) (skips : List CallId) (r : Run) where
   still_line : (l : Line) → Line_still l
   still_line (line.OpenConn c member) = tt
   still_line (line.Arrive c bytes) = tt
-  still_line (line.Clock member moment) = record { connections = refl; registered = refl; members = refl }
-  still_line (line.Flow partition most) = flowed_keeps o (Still r) partition (λ x l h. takes_still x partition (delivery_on l) h) (next_line r) most counted
-  still_line (line.FlowAll most) = flowed_in_keeps o (Still r) (λ x p l h. takes_still x p (delivery_on l) h) (next_line r) most (numbers_below partitions) counted
-  still_line (line.Crash member) = takes_in_keeps o (Still r) (event.Crash member) (λ x p h. takes_still x p (event.Crash member) h) (next_line r) (numbers_below partitions) counted
-  still_line (line.Detect member) = takes_in_keeps o (Still r) (event.Detect member) (λ x p h. takes_still x p (event.Detect member) h) (next_line r) (numbers_below partitions) counted
-  still_line (line.Rebalance most) = rebalance_keeps o (Still r) (λ x p e of_step h. takes_still x p e h) (next_line r) most counted
+  still_line (line.Clock member moment) = served_in_keeps o skips (Still r) member (λ x p h. served_still x p member h) (clock_set r member moment) (numbers_below partitions) (record { connections = refl; registered = refl; members = refl })
+  still_line (line.Flow partition most) = flowed_keeps o skips (Still r) partition (λ x l h. takes_still x partition (delivery_on l) h) (next_line r) most counted
+  still_line (line.FlowAll most) = flowed_in_keeps o skips (Still r) (λ x p l h. takes_still x p (delivery_on l) h) (next_line r) most (numbers_below partitions) counted
+  still_line (line.Crash member) = takes_in_keeps o skips (Still r) (event.Crash member) (λ x p h. takes_still x p (event.Crash member) h) (next_line r) (numbers_below partitions) counted
+  still_line (line.Detect member) = takes_in_keeps o skips (Still r) (event.Detect member) (λ x p h. takes_still x p (event.Detect member) h) (next_line r) (numbers_below partitions) counted
+  still_line (line.Rebalance most) = rebalance_keeps o skips (Still r) (λ x p e of_step h. takes_still x p e h) (next_line r) most counted
   still_line l = event_still (event_by l)
 
   -- ---- bytes
 
+  -- whoever has a turn registers nothing
+  abbrev Registers : Run → Run → Type 0
+  Registers x y = y.registered ≡ x.registered
+
+  served_registered : (x : Run) (own : Option ℕ) (p member : ℕ) → Registers x (served o skips x own p member)
+  served_registered x own p member = served_keeps o skips p (Registers x) (by_endings o skips p (Registers x) (λ y h. h) (λ y w events appended i made here h. h)) x own member refl
+
+  forsaken_registered : (x : Run) (c : ℕ) → Registers x (forsaken x c)
+  forsaken_registered x c = forsaken_keeps (Registers x) (λ y w i h. h) c x refl
+
+  asks_registered : (x : Run) (own : Option ℕ) (a : Arrival) → Registers x (asks o skips x own a)
+  asks_registered x own a = on_if (Registers x) (is_full (world_at o x a.request.partition)) (given_up (arrived x a [] [])) (asked o skips x own a) refl (on_if (Registers x) (is_skipped skips a.request.id) _ _ refl refl)
+
   handled_registered : (c : ℕ) (k : Connection) → k.conn ≢ c → (items : List Item) (x : Run) → filter (is_of c) (handled_all o skips x k items).registered ≡ filter (is_of c) x.registered
   handled_registered c k apart [] x = refl
   handled_registered c k apart (Reply bytes ∷ items) x = handled_registered c k apart items _
-  handled_registered c k apart (Wait request timeout ∷ items) x = handled_registered c k apart items _
+  handled_registered c k apart (Wait request timeout ∷ items) x =
+      handled_registered c k apart items (begins_to_wait o skips x k.member request timeout)
+      ∙ ap (filter (is_of c)) (served_registered (waits x (waiter_at x k.member request timeout)) (Some request.id.conn) request.partition k.member)
   handled_registered c k apart (Register registration ∷ items) x =
       handled_registered c k apart items (registers o x k.conn k.member registration)
       ∙ filter-append (is_of c) x.registered (record { conn = k.conn; registration = registration } ∷ [])
       ∙ ap (λ b. filter (is_of c) x.registered ++ cond b (record { conn = k.conn; registration = registration } ∷ []) []) (number_other k.conn c apart)
       ∙ append-nil (filter (is_of c) x.registered)
-  handled_registered c k apart (Asks request ∷ items) x = handled_registered c k apart items (asks o skips x (arrival_at x k.member request)) ∙ ap (filter (is_of c)) (asked_on (arrival_at x k.member request))
-    where
-      asked_on : (a : Arrival) → (asks o skips x a).registered ≡ x.registered
-      asked_on a = on_if (λ (y : Run). y.registered ≡ x.registered) (is_full (world_at o x a.request.partition)) (given_up (arrived x a [] [])) (asked o skips x a) refl (on_if (λ (y : Run). y.registered ≡ x.registered) (is_skipped skips a.request.id) _ _ refl refl)
+  handled_registered c k apart (Asks request ∷ items) x =
+      let own = Some request.id.conn in
+      let made = asks o skips x own (arrival_at x k.member request) in
+      handled_registered c k apart items (calls o skips x k.member request)
+      ∙ ap (filter (is_of c)) (served_registered made own request.partition k.member ∙ asks_registered x own (arrival_at x k.member request))
 
   abbrev bytes_on : Connection → List ℕ → Run
-  bytes_on k bytes = handled_all o skips (took_bytes r k bytes) k (items_by k bytes)
+  bytes_on k bytes = forsaken (handled_all o skips (took_bytes r k bytes) k (items_by k bytes)) k.conn
 
   bytes_connections : (k : Connection) (bytes : List ℕ) → (bytes_on k bytes).connections ≡ updated (with_bytes k bytes) r.connections
-  bytes_connections k bytes = (handled_all_come o skips (took_bytes r k bytes) k (items_by k bytes)).connections
+  bytes_connections k bytes =
+      let all = handled_all o skips (took_bytes r k bytes) k (items_by k bytes) in
+      (forsaken_kept all k.conn).connections ∙ (handled_all_come o skips (took_bytes r k bytes) k (items_by k bytes)).connections
+
+  bytes_members : (k : Connection) (bytes : List ℕ) → (bytes_on k bytes).members ≡ r.members
+  bytes_members k bytes =
+      let all = handled_all o skips (took_bytes r k bytes) k (items_by k bytes) in
+      (forsaken_kept all k.conn).members ∙ (handled_all_come o skips (took_bytes r k bytes) k (items_by k bytes)).members
 
   -- ---- a connection that is there
 
@@ -153,7 +184,7 @@ module _ (o : Object Request Partition) (skips : List CallId) (r : Run) where
       by None e = there
       by (Some j) e = on_if (Keeps c k) (takes_bytes o r j) (bytes_on j bytes) (next_line r)
           (ap (λ ks. find (is_connection c) ks) (bytes_connections j bytes) ∙ not_updated c (with_bytes j bytes) r.connections (λ s. apart (sym (its_conn r m j e) ∙ s)) ∙ there) there
-  keeps_connection (line.Clock member moment) c k apart there = there
+  keeps_connection (line.Clock member moment) c k apart there = by_still c k _ (still_line (line.Clock member moment)) there
   keeps_connection (line.Flow partition most) c k apart there = by_still c k _ (still_line (line.Flow partition most)) there
   keeps_connection (line.FlowAll most) c k apart there = by_still c k _ (still_line (line.FlowAll most)) there
   keeps_connection (line.Crash member) c k apart there = by_still c k _ (still_line (line.Crash member)) there
@@ -182,7 +213,8 @@ module _ (o : Object Request Partition) (skips : List CallId) (r : Run) where
       here s = absurd (speaks j.bytes bytes some (unspoken (with_bytes j bytes) (subst (λ n. connection_of (bytes_on j bytes) n ≡ Some (with_bytes j bytes)) s (ap (λ ks. find (is_connection j.conn) ks) (bytes_connections j bytes) ∙ now_updated (with_bytes j bytes) r.connections j there))))
 
       away : (j.conn ≢ c) → filter (is_of c) (bytes_on j bytes).registered ≡ []
-      away apart = handled_registered c j apart (items_by j bytes) (took_bytes r j bytes)
+      away apart = ap (filter (is_of c)) (forsaken_registered (handled_all o skips (took_bytes r j bytes) j (items_by j bytes)) j.conn)
+          ∙ handled_registered c j apart (items_by j bytes) (took_bytes r j bytes)
           ∙ none c (λ k e. unspoken k (ap (λ ks. find (is_connection c) ks) (bytes_connections j bytes) ∙ not_updated c (with_bytes j bytes) r.connections apart ∙ e))
 
   pub keeps_listeners : (l : Line) → BringsSome l → NoneListens r → NoneListens (after_line o skips r l)
@@ -193,7 +225,7 @@ module _ (o : Object Request Partition) (skips : List CallId) (r : Run) where
       by : (found : Option Connection) → connection_of r m ≡ found → NoneListens (elim found [ None ↦ next_line r | Some j ↦ bytes_arrived o skips r j bytes ])
       by None e = none
       by (Some j) e = on_if NoneListens (takes_bytes o r j) (bytes_on j bytes) (next_line r) (listens_bytes j bytes some (ap (connection_of r) (its_conn r m j e) ∙ e) none) none
-  keeps_listeners (line.Clock member moment) some none = none
+  keeps_listeners (line.Clock member moment) some none = listens_still _ (still_line (line.Clock member moment)) none
   keeps_listeners (line.Flow partition most) some none = listens_still _ (still_line (line.Flow partition most)) none
   keeps_listeners (line.FlowAll most) some none = listens_still _ (still_line (line.FlowAll most)) none
   keeps_listeners (line.Crash member) some none = listens_still _ (still_line (line.Crash member)) none
@@ -209,8 +241,8 @@ module _ (o : Object Request Partition) (skips : List CallId) (r : Run) where
     where
       by : (found : Option Connection) → (elim found as (λ _. Run) [ None ↦ next_line r | Some j ↦ bytes_arrived o skips r j bytes ]).members ≡ r.members
       by None = refl
-      by (Some j) = on_if (λ (x : Run). x.members ≡ r.members) (takes_bytes o r j) (bytes_on j bytes) (next_line r) (handled_all_come o skips (took_bytes r j bytes) j (items_by j bytes)).members refl
-  keeps_members (line.Clock member moment) = refl
+      by (Some j) = on_if (λ (x : Run). x.members ≡ r.members) (takes_bytes o r j) (bytes_on j bytes) (next_line r) (bytes_members j bytes) refl
+  keeps_members (line.Clock member moment) = (still_line (line.Clock member moment)).members
   keeps_members (line.Flow partition most) = (still_line (line.Flow partition most)).members
   keeps_members (line.FlowAll most) = (still_line (line.FlowAll most)).members
   keeps_members (line.Crash member) = (still_line (line.Crash member)).members

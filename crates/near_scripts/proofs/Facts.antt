@@ -23,7 +23,8 @@ use Rattle.near_runs.specs.NearRuns.{IsNearRun}
 use Rattle.near_runs.specs.Clients.{GoesWith}
 use Rattle.near_runs.specs.Pieces.{AllMean}
 use Rattle.near_runs.specs.Feeds.{all_said}
-use Rattle.near_runs.specs.Modest.{AreProper}
+use Rattle.near_runs.specs.Lines.{WaitElsewhere}
+use Rattle.near_runs.specs.Modest.{StaysProper}
 use Rattle.script_lang.specs.Limits.{most_line_bytes}
 use Rattle.grid_client.specs.Nears.{Near, hit}
 use Rattle.script_run.specs.NearClients.{NearClient, map_name, value_kept}
@@ -43,7 +44,7 @@ pub record Stands (settings : Settings) (r : Run) : Type 0 where
   pub bounded : IsBounded r
   pub together : CrashTogether (partition_object settings) r
   pub listens : NoneListens r
-  pub proper : AreProper r
+  pub proper : StaysProper r
   pub members : r.members < 2 ^ 8
 
 -- ---- a near client
@@ -71,6 +72,8 @@ pub record IsLive (settings : Settings) (r : Run) (n : NearClient) : Type 0 wher
   pub sent : HasSent connection.conn client connection.bytes
   pub messages : length (messages_of true connection.bytes) ≡ machine.next_number
   pub few : machine.next_number ≤ r.lines + 3
+  -- no call waits there
+  pub elsewhere : WaitElsewhere n.conn r
   -- what was sent to it, and what that says
   pub since : List (List ℕ)
   pub appended : sent_to n.conn r.appended ≡ earlier ++ since

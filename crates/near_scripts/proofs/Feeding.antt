@@ -101,6 +101,7 @@ module _ (settings : Settings) (r : Run) (s : Stands settings r) (n : NearClient
       sent = a.sent;
       messages = a.messages ∙ sym u.number;
       few = subst (λ (k : ℕ). k ≤ r.lines + 3) (sym u.number) a.few;
+      elsewhere = a.elsewhere;
       since = a.since;
       appended = a.appended;
       reading = append_assoc n.read (piece most n) (drop most n.unread) ∙ ap (λ bs. n.read ++ bs) (take-append-drop most n.unread) ∙ a.reading;

@@ -27,17 +27,19 @@ use Rattle.grid_client.specs.Nears.{Value, hit}
 use Rattle.grid_client.specs.Calls.{correlation_of, asked_call}
 use Rattle.request_codecs.specs.Requests.{request_bytes}
 use Rattle.grid_client.specs.States.{asking, opening_look_up, get_of, looked}
-use Rattle.replay_run.specs.Runs.{Run, Connection, Arrival, connection_of, is_connection, is_open, lives, takes_bytes, took_bytes, with_bytes, items_by, handled_all, bytes_arrived, next_line, world_at, is_full, arrival_at, arrived, asked, asks, given_up}
+use Rattle.replay_run.specs.Runs.{Run, Connection, Arrival, connection_of, is_connection, is_open, lives, takes_bytes, took_bytes, with_bytes, items_by, served, forsaken, calls, handled_all, bytes_arrived, next_line, world_at, is_full, arrival_at, arrived, asked, asks, given_up}
 use Rattle.replay_run.specs.AfterLines.{after_line}
 use Rattle.replay_run.specs.Appending.{new_messages}
 use Rattle.replay_run.proofs.Lines.{handled_all_come}
-use Rattle.replay_run.proofs.SkipLaws.{line_counts}
+use Rattle.replay_run.proofs.Bounds.{line_lines}
+use Rattle.replay_run.proofs.EventRuns.{forsaken_kept, served_full, asks_nothing}
 use Rattle.near_runs.specs.Maps.{keyed, get_request}
 use Rattle.near_runs.specs.Messages.{sent_to}
 use Rattle.near_runs.specs.Sessions.{HasSent, MayGet, get_bytes}
 use Rattle.near_runs.specs.NearConnections.{IsNear}
 use Rattle.near_runs.specs.Following.{Machine, step}
 use Rattle.near_runs.specs.NearRuns.{client_hit}
+use Rattle.near_runs.specs.Lines.{WaitElsewhere}
 use Rattle.near_runs.specs.OwnLines.{MayMiss}
 use Rattle.near_runs.specs.Clients.{GoesWith}
 use Rattle.near_runs.proofs.Sent.{sent_to-append}
@@ -81,6 +83,7 @@ hit_on settings r n key value kept a =
       sent = a.sent;
       messages = a.messages ∙ sym (ap (λ (z : Machine). z.next_number) is);
       few = subst (λ (k : ℕ). k ≤ r.lines + 3) (sym (ap (λ (z : Machine). z.next_number) is)) a.few;
+      elsewhere = a.elsewhere;
       since = a.since;
       appended = a.appended;
       reading = a.reading;
@@ -97,13 +100,16 @@ items_length conn member number identity (message ∷ messages) = ap (λ n. suc 
 
 -- bytes on a connection that takes them
 module _ (o : Object Request Partition) (skips : List CallId) (r : Run) (c : ℕ) (k : Connection) (bytes : List ℕ) (there : connection_of r c ≡ Some k) (takes : takes_bytes o r k ≡ true) where
-  pub arrives : after_line o skips r (Arrive c bytes) ≡ handled_all o skips (took_bytes r k bytes) k (items_by k bytes)
-  arrives = ap (λ x. elim x [ None ↦ next_line r | Some j ↦ bytes_arrived o skips r j bytes ]) there ∙ ap (λ b. cond b (handled_all o skips (took_bytes r k bytes) k (items_by k bytes)) (next_line r)) takes
+  abbrev all : Run
+  all = handled_all o skips (took_bytes r k bytes) k (items_by k bytes)
+
+  pub arrives : after_line o skips r (Arrive c bytes) ≡ forsaken (handled_all o skips (took_bytes r k bytes) k (items_by k bytes)) k.conn
+  arrives = ap (λ x. elim x [ None ↦ next_line r | Some j ↦ bytes_arrived o skips r j bytes ]) there ∙ ap (λ b. cond b (forsaken all k.conn) (next_line r)) takes
 
   pub has_bytes : connection_of (after_line o skips r (Arrive c bytes)) c ≡ Some (with_bytes k bytes)
   has_bytes =
       ap (λ (x : Run). connection_of x c) arrives
-      ∙ ap (λ ks. find (is_connection c) ks) (handled_all_come o skips (took_bytes r k bytes) k (items_by k bytes)).connections
+      ∙ ap (λ ks. find (is_connection c) ks) ((forsaken_kept all k.conn).connections ∙ (handled_all_come o skips (took_bytes r k bytes) k (items_by k bytes)).connections)
       ∙ subst (λ n. find (is_connection n) (took_bytes r k bytes).connections ≡ Some (with_bytes k bytes)) (its_conn r c k there) (now_updated (with_bytes k bytes) r.connections k (ap (connection_of r) (its_conn r c k there) ∙ there))
 
 module _ (settings : Settings) (skips : List CallId) (r : Run) (s : Stands settings r) (n : NearClient) (a : IsLive settings r n) (key : List ℕ) (whole : 8 ≤ length key) (short : 2 * length key ≤ most_line_bytes)
@@ -159,20 +165,29 @@ module _ (settings : Settings) (skips : List CallId) (r : Run) (s : Stands setti
 
   abbrev IsServed : ℕ → Type 0
   IsServed m = MayGet a.name a.client m key → bytes_arrived o skips r k (get_bytes a.name a.client m key)
-      ≡ asks o skips (took_bytes r k (get_bytes a.name a.client m key)) (arrival_at (took_bytes r k (get_bytes a.name a.client m key)) k.member (get_request k.conn a.name a.client m key))
+      ≡ calls o skips (took_bytes r k (get_bytes a.name a.client m key)) k.member (get_request k.conn a.name a.client m key)
 
-  served : IsServed a.machine.next_number
-  served = subst IsServed a.messages (λ may. every_get_is_served o skips r k a.client a.name key takes a.sent may)
+  there_own : connection_of r k.conn ≡ Some k
+  there_own = ap (connection_of r) (its_conn r n.conn k a.there) ∙ a.there
+
+  is_served : IsServed a.machine.next_number
+  is_served = subst IsServed a.messages (λ may. every_get_is_served o skips r k a.client a.name key there_own takes a.sent may)
 
   has_room : next.full ≡ false → is_full its_world ≡ false
   has_room going = false_or_not (is_full its_world) (λ full.
-      absurd (let clash : true ≡ false = sym (ap (λ (x : Run). x.full) (ap (λ x. elim x [ None ↦ next_line r | Some j ↦ bytes_arrived o skips r j bytes ]) there_too ∙ served fits) ∙ ap (λ b. (cond b (given_up (arrived taken it [] [])) (asked o skips taken it)).full) full) ∙ going in cc))
+      absurd (let clash : true ≡ false = sym (ap (λ (x : Run). x.full) (ap (λ x. elim x [ None ↦ next_line r | Some j ↦ bytes_arrived o skips r j bytes ]) there_too ∙ is_served fits) ∙ given_up_there full) ∙ going in cc))
     where
       taken : Run
       taken = took_bytes r k bytes
 
+      own : Option ℕ
+      own = Some k.conn
+
       it : Arrival
       it = arrival_at taken k.member (get_request k.conn a.name a.client number key)
+
+      given_up_there : is_full its_world ≡ true → (calls o skips taken k.member (get_request k.conn a.name a.client number key)).full ≡ true
+      given_up_there full = served_full o skips (asks o skips taken own it) own (partition_of_key key) k.member (asks_nothing o skips taken own it full)
 
   may : next.full ≡ false → MayMiss settings a.client a.name key r a.machine a.connection
   may going = record {
@@ -184,6 +199,7 @@ module _ (settings : Settings) (skips : List CallId) (r : Run) (s : Stands setti
     lives = lives_alike o r s.together (partition_of_key key) (below_partitions key) a.machine.member ∙ ap (λ m. lives o r m) (sym member_is) ∙ both_right (is_open (Some k)) (lives o r k.member) takes;
     room = has_room going;
     fits = fits;
+    elsewhere = subst (λ (c : ℕ). WaitElsewhere c r) (sym a.conn) a.elsewhere;
   }
 
   goes : (machine.hit (keyed settings n.conn a.name a.client) key a.machine.client ≡ None) × GoesWith n.conn a.name (asking (asked_call n.state.next n.conn (partition_of_key key) (get_of a.name key a.client)) (opening_look_up key n.state)) (opened n.state.next key a.machine.client)
@@ -208,7 +224,7 @@ module _ (settings : Settings) (skips : List CallId) (r : Run) (s : Stands setti
   missed_there going =
       let h = every_get_line_is_followed settings a.client a.name key r a.machine a.earlier a.heard a.connection skips a.run named (may going) goes.0 in
       let adds = line_appends settings skips r (Arrive a.machine.conn bytes) in
-      let counted = (line_counts o skips r (Arrive a.machine.conn bytes)).lines in
+      let counted = line_lines o skips r (Arrive a.machine.conn bytes) in
       let few = a.few in
       let one = missed_one key n a.one in
       let more = heard fits in
@@ -232,6 +248,7 @@ module _ (settings : Settings) (skips : List CallId) (r : Run) (s : Stands setti
         sent = more.0;
         messages = more.1 ∙ sym h.number;
         few = omega (arith, few, numbers, counted);
+        elsewhere = subst (λ (c : ℕ). WaitElsewhere c next) a.conn h.elsewhere;
         since = a.since ++ sent_to n.conn adds.more;
         appended = ap (sent_to n.conn) adds.are ∙ sent_to-append n.conn r.appended adds.more ∙ ap (λ xs. xs ++ sent_to n.conn adds.more) a.appended ∙ append_assoc a.earlier a.since (sent_to n.conn adds.more);
         reading = read_more r next adds n a.since a.reading;

@@ -1,5 +1,5 @@
 -- In a near client's machine no two calls of one partition have one name, since none have in its run.
-use Rattle.std.proofs.Common.{◌≡◌, ℕ, Bool, true, false, cond, List, [], ◌∷◌, ◌++◌, map, Some, None, refl, ap, sym, ◌∙◌, subst, append-nil}
+use Rattle.std.proofs.Common.{◌≡◌, ℕ, Bool, true, false, cond, List, [], ◌∷◌, ◌++◌, map, Option, Some, None, refl, ap, sym, ◌∙◌, subst, append-nil}
 use Rattle.std.specs.Prelude.{pos}
 use Rattle.grid_base.specs.Errors.{want_of_memory}
 use Rattle.grid_base.specs.Objects.{Object}
@@ -58,14 +58,14 @@ module _ (settings : Settings) (client : ℕ) (name : List ℕ) where
   o = partition_object settings
 
   -- a call's part in the run, where it finds memory and where it doesn't
-  abbrev with_call : Run → Arrival → Run
-  with_call r a = arrived r a (record { partition = a.request.partition; event = call_of a } ∷ []) (happening o r a)
+  abbrev with_call : Run → Option ℕ → Arrival → Run
+  with_call r own a = arrived r a (record { partition = a.request.partition; event = call_of a } ∷ []) (happening o r own a)
 
-  abbrev choice : Run → Arrival → Bool → Run
-  choice r a b = cond b (arrived r a [] (refusal a.line a.request (pos want_of_memory) 0 ∷ [])) (with_call r a)
+  abbrev choice : Run → Option ℕ → Arrival → Bool → Run
+  choice r own a b = cond b (arrived r a [] (refusal a.made a.request (pos want_of_memory) 0 ∷ [])) (with_call r own a)
 
-  found_is : (skips : List CallId) (r : Run) (a : Arrival) → is_skipped skips a.request.id ≡ false → asked o skips r a ≡ with_call r a
-  found_is skips r a found = ap (choice r a) found
+  found_is : (skips : List CallId) (r : Run) (own : Option ℕ) (a : Arrival) → is_skipped skips a.request.id ≡ false → asked o skips r own a ≡ with_call r own a
+  found_is skips r own a found = ap (choice r own a) found
 
   world_alike : (r : Run) (g : Grid Request (List ℕ)) (p : ℕ) → Alike r g → world o g p ≡ world_at o r p
   world_alike r g p a =
@@ -76,7 +76,7 @@ module _ (settings : Settings) (client : ℕ) (name : List ℕ) where
       ∙ ap (run o (start p r.members r.backups)) (events_is settings 0 name client r p)
 
   -- a look-up that misses
-  module _ (r : Run) (s : Machine) (key : List ℕ) (a : Arrival) (skips : List CallId) (like : Alike r s.grid) (next : IsNextGet settings client name key r s a) (none : hit (keyed settings s.conn name client) key s.client ≡ None) where
+  module _ (r : Run) (s : Machine) (key : List ℕ) (own : Option ℕ) (a : Arrival) (skips : List CallId) (like : Alike r s.grid) (next : IsNextGet settings client name key r s a) (none : hit (keyed settings s.conn name client) key s.client ≡ None) where
     abbrev its_event : Event Request
     its_event = Call s.member s.conn s.next_number (get_request s.conn name client s.next_number key) a.now
 
@@ -89,19 +89,19 @@ module _ (settings : Settings) (client : ℕ) (name : List ℕ) where
     missed_is : (step settings client name s (LooksUp key a.now)).grid ≡ happened o (keyed settings s.conn name client) s.grid (partition_of_key key) its_event
     missed_is = ap (λ x. (looked_up o (keyed settings s.conn name client) s key a.now x).grid) none ∙ ap (λ b. (cond b (machine_occurred o (keyed settings s.conn name client) (opening_at s key) (partition_of_key key) its_event) s).grid) lives
 
-    missed_alike : is_skipped skips a.request.id ≡ false → Alike (asked o skips r a) (step settings client name s (LooksUp key a.now)).grid
+    missed_alike : is_skipped skips a.request.id ≡ false → Alike (asked o skips r own a) (step settings client name s (LooksUp key a.now)).grid
     missed_alike found =
-        subst (λ (x : Run). Alike x (step settings client name s (LooksUp key a.now)).grid) (sym (found_is skips r a found))
-        (subst (Alike (with_call r a)) (sym missed_is)
-        (more_alike o (keyed settings s.conn name client) r (with_call r a) s.grid (partition_of_key key) its_event refl refl (ap (λ (x : At). r.events ++ x ∷ []) same_at) like))
+        subst (λ (x : Run). Alike x (step settings client name s (LooksUp key a.now)).grid) (sym (found_is skips r own a found))
+        (subst (Alike (with_call r own a)) (sym missed_is)
+        (more_alike o (keyed settings s.conn name client) r (with_call r own a) s.grid (partition_of_key key) its_event refl refl (ap (λ (x : At). r.events ++ x ∷ []) same_at) like))
 
   -- and whose get finds no memory
-  vain_alike : (r : Run) (s : Machine) (key : List ℕ) (a : Arrival) (skips : List CallId) → Alike r s.grid → hit (keyed settings s.conn name client) key s.client ≡ None → is_skipped skips a.request.id ≡ true
-      → Alike (asked o skips r a) (step settings client name s (LooksUpInVain key)).grid
-  vain_alike r s key a skips like none skipped =
-      subst (λ (x : Run). Alike x (step settings client name s (LooksUpInVain key)).grid) (sym (ap (choice r a) skipped))
-      (subst (Alike (arrived r a [] (refusal a.line a.request (pos want_of_memory) 0 ∷ []))) (sym (ap (λ x. (looked_up_in_vain (keyed settings s.conn name client) s key x).grid) none))
-      (none_alike r (arrived r a [] (refusal a.line a.request (pos want_of_memory) 0 ∷ [])) s.grid refl refl (append-nil r.events) like))
+  vain_alike : (r : Run) (s : Machine) (key : List ℕ) (own : Option ℕ) (a : Arrival) (skips : List CallId) → Alike r s.grid → hit (keyed settings s.conn name client) key s.client ≡ None → is_skipped skips a.request.id ≡ true
+      → Alike (asked o skips r own a) (step settings client name s (LooksUpInVain key)).grid
+  vain_alike r s key own a skips like none skipped =
+      subst (λ (x : Run). Alike x (step settings client name s (LooksUpInVain key)).grid) (sym (ap (choice r own a) skipped))
+      (subst (Alike (arrived r a [] (refusal a.made a.request (pos want_of_memory) 0 ∷ []))) (sym (ap (λ x. (looked_up_in_vain (keyed settings s.conn name client) s key x).grid) none))
+      (none_alike r (arrived r a [] (refusal a.made a.request (pos want_of_memory) 0 ∷ [])) s.grid refl refl (append-nil r.events) like))
 
   alike : {r : Run} {s : Machine} {earlier : List (List ℕ)} {heard : List (Said (List ℕ))} → IsNearRun settings client name r s earlier heard → Alike r s.grid
   alike (client_came r0 k first capacity one within fresh new may) =
@@ -115,12 +115,12 @@ module _ (settings : Settings) (client : ℕ) (name : List ℕ) where
   alike (event_happened r s earlier heard p e run quiet) =
       subst (Alike (replay.occurred o r p e)) (sym (ap (λ b. (cond b s (machine_occurred o (keyed settings s.conn name client) s p e)).grid) (no_call_on s.conn e quiet)))
       (more_alike o (keyed settings s.conn name client) r (replay.occurred o r p e) s.grid p e refl refl refl (alike run))
-  alike (call_arrived r s earlier heard a skips run apart right found) =
-      subst (λ (x : Run). Alike x (step settings client name s (Occurs a.request.partition (call_of a))).grid) (sym (found_is skips r a found))
-      (subst (Alike (with_call r a)) (sym (ap (λ b. (cond b s (machine_occurred o (keyed settings s.conn name client) s a.request.partition (call_of a))).grid) (number_other a.request.id.conn s.conn apart)))
-      (more_alike o (keyed settings s.conn name client) r (with_call r a) s.grid a.request.partition (call_of a) refl refl refl (alike run)))
-  alike (client_missed r s earlier heard key a skips run next none found) = missed_alike r s key a skips (alike run) next none found
-  alike (client_missed_in_vain r s earlier heard key a skips run may request none skipped) = vain_alike r s key a skips (alike run) none skipped
+  alike (call_arrived r s earlier heard own a skips run apart right found) =
+      subst (λ (x : Run). Alike x (step settings client name s (Occurs a.request.partition (call_of a))).grid) (sym (found_is skips r own a found))
+      (subst (Alike (with_call r own a)) (sym (ap (λ b. (cond b s (machine_occurred o (keyed settings s.conn name client) s a.request.partition (call_of a))).grid) (number_other a.request.id.conn s.conn apart)))
+      (more_alike o (keyed settings s.conn name client) r (with_call r own a) s.grid a.request.partition (call_of a) refl refl refl (alike run)))
+  alike (client_missed r s earlier heard key own a skips run next none found) = missed_alike r s key own a skips (alike run) next none found
+  alike (client_missed_in_vain r s earlier heard key own a skips run may request none skipped) = vain_alike r s key own a skips (alike run) none skipped
   alike (client_hit r s earlier heard key value now run found) = subst (Alike r) (sym (ap (λ x. (looked_up o (keyed settings s.conn name client) s key now x).grid) found)) (alike run)
   alike (client_heard r s earlier heard message rest run is) = subst (Alike r) (sym (ap (λ ms. (hears (keyed settings s.conn name client) s ms).grid) is)) (alike run)
 

@@ -30,10 +30,10 @@ use Rattle.script_lang.specs.declared.line.Line.TheVariants.{Arrive}
 use Rattle.grid_client.specs.Nears.{new_near as new_cache}
 use Rattle.grid_client.specs.States.{first_number}
 use Rattle.replay_run.specs.ScriptRuns.{home}
-use Rattle.replay_run.specs.Runs.{Run, Connection, Arrival, connection_of, messages_on, lives, is_open, takes_bytes, took_bytes, with_bytes, items_by, handled_all, next_line, bytes_arrived, events_at, partitions}
+use Rattle.replay_run.specs.Runs.{Run, Connection, Arrival, Waiter, connection_of, messages_on, lives, is_open, takes_bytes, took_bytes, with_bytes, items_by, forsaken, handled_all, next_line, bytes_arrived, events_at, partitions}
 use Rattle.replay_run.specs.AfterLines.{after_line}
 use Rattle.replay_run.specs.Appending.{new_messages}
-use Rattle.replay_run.proofs.RunFacts.{RunOk, ArrivalsOk, asked_of, is_of}
+use Rattle.replay_run.proofs.RunFacts.{RunOk, ArrivalsOk, WaitersOk, asked_of, is_of}
 use Rattle.replay_run.proofs.RunsOfLines.{run_ok}
 use Rattle.replay_run.proofs.Parts.{in_mapped, in_filtered}
 use Rattle.near_runs.specs.NearConnections.{machine_events, grid_of, IsRight}
@@ -41,13 +41,14 @@ use Rattle.near_runs.specs.Messages.{sent_to}
 use Rattle.near_runs.specs.Maps.{keyed}
 use Rattle.near_runs.specs.Sessions.{MayOpen, HasSent, opening_items}
 use Rattle.near_runs.specs.Following.{Machine}
+use Rattle.near_runs.specs.Lines.{WaitElsewhere}
 use Rattle.near_runs.specs.NearRuns.{IsNearRun}
 use Rattle.near_runs.specs.Pieces.{AllMean}
 use Rattle.near_runs.specs.Attaching.{IsFresh}
 use Rattle.near_runs.proofs.Runs.{events_is}
 use Rattle.near_runs.proofs.Sent.{sent_to-append}
 use Rattle.near_runs.proofs.OwnLines.{every_opening_line_is_followed}
-use Rattle.near_runs.proofs.Sessions.{every_opening_is_heard}
+use Rattle.near_runs.proofs.Sessions.{every_opening_is_heard, every_opening_is_served}
 use Rattle.script_run.specs.NearClients.{NearClient, client_number, opening_of, new_near}
 use Rattle.script_run.specs.AfterLines.{noting}
 use Rattle.script_run.proofs.OneConnection.{begun_one}
@@ -67,6 +68,17 @@ none_sent = unheard true [] (λ bytes e. absurd cc)
 none_said : messages_of false [] ≡ []
 none_said = all_heard [] (record { frames = All-nil (λ piece. All IsWithinLimits (piece_frames piece)); rules = refl })
 
+-- a call of it would be one of its messages
+none_counted : (r : Run) (k : Connection) → connection_of r k.conn ≡ Some k → k.bytes ≡ [] → (q : Request) → (j : Connection) × (connection_of r q.id.conn ≡ Some j) × (q.id.number < length (messages_on j)) → q.id.conn ≢ k.conn
+none_counted r k there empty q (j, found, some) on =
+    let one : j ≡ k = (let both : Some j ≡ Some k = sym found ∙ ap (connection_of r) on ∙ there in cc) in
+    let no_more : length (messages_on j) ≡ 0 = ap (λ (x : Connection). length (messages_on x)) one ∙ ap (λ bs. length (messages_of true bs)) empty ∙ ap length none_sent in
+    omega (arith, no_more, some)
+
+-- nor does one wait there
+waits_elsewhere : (r : Run) → WaitersOk r → (k : Connection) → connection_of r k.conn ≡ Some k → k.bytes ≡ [] → WaitElsewhere k.conn r
+waits_elsewhere r ok k there empty w c = let i = in_contains w r.waiters c in (none_counted r k there empty w.request (ok.counted w i), (ok.placed w i).own)
+
 module _ (r : Run) (ok : ArrivalsOk r) (k : Connection) (there : connection_of r k.conn ≡ Some k) (empty : k.bytes ≡ []) where
   -- a call in a partition's events is an arrival of that partition
   arrival : (p : ℕ) (a : Asked Request) → In a (arrivals (events_at p r.events)) → (x : Arrival) × In x r.arrivals × (is_of p x ≡ true) × (asked_of x ≡ a)
@@ -78,12 +90,7 @@ module _ (r : Run) (ok : ArrivalsOk r) (k : Connection) (there : connection_of r
   pub none_arrived : (p : ℕ) (a : Asked Request) → In a (arrivals (events_at p r.events)) → a.conn ≢ k.conn
   none_arrived p a i same =
       let x = arrival p a i in
-      let c = ok.counted x.0 x.1 in
-      let on : x.0.request.id.conn ≡ k.conn = ap (λ (b : Asked Request). b.conn) x.3 ∙ same in
-      let one : c.0 ≡ k = (let both : Some c.0 ≡ Some k = sym c.1 ∙ ap (connection_of r) on ∙ there in cc) in
-      let no_more : length (messages_on c.0) ≡ 0 = ap (λ (j : Connection). length (messages_on j)) one ∙ ap (λ bs. length (messages_of true bs)) empty ∙ ap length none_sent in
-      let some = c.2 in
-      omega (arith, no_more, some)
+      none_counted r k there empty x.0.request (ok.counted x.0 x.1) (ap (λ (b : Asked Request). b.conn) x.3 ∙ same)
 
   -- ---- so each event is right for a client that comes on it
 
@@ -178,6 +185,12 @@ module _ (settings : Settings) (skips : List CallId) (r : Run) (s : Stands setti
     opened_at d same = subst (λ e. IsNearRun settings client name (after_line o skips r (Arrive e (opening_of c name))) (attached o partitions k.member k.conn first_number capacity (grid_of settings k.conn name client (after_line o skips r (Arrive e (opening_of c name))))) (sent_to k.conn r.appended) []) (sym same)
         (every_opening_line_is_followed settings client name r k skips first_number capacity ok.members within fresh new may takes)
 
+    -- nobody begins to wait as it comes
+    elsewhere : WaitElsewhere c next
+    elsewhere = subst (λ (x : Run). WaitElsewhere c x)
+        (sym (ap (λ x. elim x [ None ↦ next_line r | Some j ↦ bytes_arrived o skips r j (opening_of c name) ]) there ∙ every_opening_is_served o skips r k client name there_too takes empty may))
+        (subst (λ (d : ℕ). WaitElsewhere d r) on (waits_elsewhere r ok.of_waiters k there_too empty))
+
     comes : IsLive settings next after
     comes =
         let adds = line_appends settings skips r (Arrive c (opening_of c name)) in
@@ -207,6 +220,7 @@ module _ (settings : Settings) (skips : List CallId) (r : Run) (s : Stands setti
           sent = has_sent;
           messages = three;
           few = (let few : 3 ≤ next.lines + 3 = omega arith in few);
+          elsewhere = elsewhere;
           since = sent_to c adds.more;
           appended = ap (sent_to c) adds.are ∙ sent_to-append c r.appended adds.more ∙ ap (λ d. sent_to d r.appended ++ sent_to c adds.more) (sym on);
           reading = read_more r next adds n [] refl;
@@ -220,7 +234,7 @@ module _ (settings : Settings) (skips : List CallId) (r : Run) (s : Stands setti
   IsOpen = is_open (Some k) ≡ true
 
   idle : takes_bytes (partition_object settings) r k ≡ false → next ≡ next_line r
-  idle gone = ap (λ x. elim x [ None ↦ next_line r | Some j ↦ bytes_arrived o skips r j (opening_of c name) ]) there ∙ ap (λ b. cond b (handled_all o skips (took_bytes r k (opening_of c name)) k (items_by k (opening_of c name))) (next_line r)) gone
+  idle gone = ap (λ x. elim x [ None ↦ next_line r | Some j ↦ bytes_arrived o skips r j (opening_of c name) ]) there ∙ ap (λ b. cond b (forsaken (handled_all o skips (took_bytes r k (opening_of c name)) k (items_by k (opening_of c name))) k.conn) (next_line r)) gone
 
   never : IsOpen → takes_bytes (partition_object settings) r k ≡ false → IsDead settings next after
   never opened gone =

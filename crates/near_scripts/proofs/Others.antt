@@ -9,10 +9,10 @@ use Rattle.replay_run.specs.Runs.{Run}
 use Rattle.replay_run.specs.AfterLines.{after_line}
 use Rattle.replay_run.specs.Appending.{new_messages}
 use Rattle.replay_run.proofs.Growing.{line_grows}
-use Rattle.replay_run.proofs.SkipLaws.{line_counts}
+use Rattle.replay_run.proofs.Bounds.{line_lines}
 use Rattle.near_runs.specs.Messages.{sent_to}
 use Rattle.near_runs.specs.Clients.{GoesWith}
-use Rattle.near_runs.specs.Lines.{IsOthers}
+use Rattle.near_runs.specs.Lines.{IsOthers, WaitElsewhere}
 use Rattle.near_runs.proofs.Sent.{sent_to-append}
 use Rattle.near_runs.proofs.Lines.{every_other_line_is_followed}
 use Rattle.script_run.specs.NearClients.{NearClient}
@@ -37,9 +37,11 @@ module _ (settings : Settings) (skips : List CallId) (r : Run) (l : Line) (n : N
 
   live_on : IsLive settings r n → IsLive settings next after
   live_on a =
-      let g = every_other_line_is_followed settings a.client a.name r a.machine a.earlier a.heard skips l a.run (subst (λ (c : ℕ). IsOthers c l) (sym a.conn) others) in
+      let g = every_other_line_is_followed settings a.client a.name r a.machine a.earlier a.heard skips l a.run
+      (subst (λ (c : ℕ). WaitElsewhere c r) (sym a.conn) a.elsewhere) (subst (λ (c : ℕ). IsOthers c l) (sym a.conn) others)
+      in
       let adds = line_appends settings skips r l in
-      let lines = (line_counts (partition_object settings) skips r l).lines in
+      let lines = line_lines (partition_object settings) skips r l in
       let few = a.few in
       let same = g.number in
       record {
@@ -60,6 +62,7 @@ module _ (settings : Settings) (skips : List CallId) (r : Run) (l : Line) (n : N
         sent = a.sent;
         messages = a.messages ∙ sym g.number;
         few = omega (arith, few, same, lines);
+        elsewhere = subst (λ (c : ℕ). WaitElsewhere c next) a.conn g.elsewhere;
         since = a.since ++ sent_to n.conn adds.more;
         appended = ap (sent_to n.conn) adds.are ∙ sent_to-append n.conn r.appended adds.more ∙ ap (λ xs. xs ++ sent_to n.conn adds.more) a.appended ∙ append_assoc a.earlier a.since (sent_to n.conn adds.more);
         reading = read_more r next adds n a.since a.reading;

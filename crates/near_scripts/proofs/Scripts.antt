@@ -18,13 +18,14 @@ use Rattle.script_lang.specs.declared.line.Line.TheVariants as line
 use Rattle.replay_run.specs.Runs.{Run, Connection, Appended, connection_of, is_open, lives, takes_bytes}
 use Rattle.replay_run.specs.AfterLines as grid
 use Rattle.replay_run.specs.Appending.{new_messages}
+use Rattle.replay_run.proofs.Bounds.{line_lines}
 use Rattle.replay_run.proofs.Growing.{Grows}
 use Rattle.near_runs.specs.Messages.{sent_to}
 use Rattle.near_runs.specs.Lines.{IsOthers}
 use Rattle.script_run.specs.NearClients.{NearClient, is_near, new_near, opening_of, value_kept, used, missed, get_sent, fed}
 use Rattle.script_run.specs.Runs.{ScriptRun, begun, near_of, is_near_connection, is_silent, is_new, can_begin, takes, Look, Unmade, Hit, Miss, look_at, look_of, may_look, look, asked_line, grid_line, changed, after_look, nears_by}
 use Rattle.script_run.specs.AfterLines.{noting, played, after_line, after_lines}
-use Rattle.script_run.proofs.ScriptLaws.{whole_line_grows, whole_lines_grow, whole_line_counts}
+use Rattle.script_run.proofs.ScriptLaws.{whole_line_grows, whole_lines_grow}
 use Rattle.near_runs.proofs.Sent.{sent_to-append}
 use Rattle.near_scripts.specs.HitsStand.{AreLines}
 use Rattle.near_scripts.proofs.Within.{AreOnOne, grid_within, line_one}
@@ -377,7 +378,7 @@ module _ (settings : Settings) (skips : List CallId) (c members : ℕ) where
       let grows = whole_lines_grow settings skips next lines in
       let once = whole_line_grows settings skips s l in
       let now = still_going next.run later.run grows going in
-      let counted = (whole_line_counts settings skips s l).lines in
+      let counted = line_lines (partition_object settings) skips s.run (grid_line (partition_object settings) s l) in
       let here : IsWithin members most_line_bytes l = within l (inl refl) in
       let one_more : s.run.lines + 1 ≤ most_lines = omega (arith, few) in
       all_lines next lines (λ k i. within k (inr i)) (omega (arith, few, counted)) going room (record {

@@ -31,7 +31,7 @@ begun_stands settings members backups some low = record {
   bounded = record { lines = lit≤ tt; reopenings = lit≤ tt };
   together = λ p few. refl;
   listens = λ c unspoken. refl;
-  proper = λ p e i. absurd (in_contains e [] i);
+  proper = record { events = λ p e i. absurd (in_contains e [] i); waiters = λ w i. absurd (in_contains w [] i) };
   members = low;
 }
 
@@ -65,7 +65,7 @@ modest settings r c name s short room = record {
       let small = s.small in
       let lines = s.bounded.lines in
       omega (arith, few, come, fewer, small, lines);
-  proper = s.proper;
+  proper = s.proper.events;
   short = omega (arith, short);
   room = room;
 }

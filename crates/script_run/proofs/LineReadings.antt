@@ -25,15 +25,15 @@ use Rattle.rebalance.specs.declared.StepKind.TheVariants as kind
 use Rattle.rebalance.specs.Plans.{Planned, NoMember, Unsettled, Balanced}
 use Rattle.script_lang.specs.declared.line.Line.{Line}
 use Rattle.script_lang.specs.declared.line.Line.TheVariants.{OpenConn, Arrive, Clock, Deliver, Lose, Repeat, Flow, FlowAll, Resend, Crash, Detect, Move, Join, Handover, Advance, Reopen, Rebalance}
-use Rattle.replay_run.specs.Runs.{Run, Connection, At, Appended, connection_of, takes_bytes, next_line, event_by, can_open, opened, clock_set, took_bytes, items_by, handled_all, bytes_arrived}
+use Rattle.replay_run.specs.Runs.{Run, Connection, At, Appended, connection_of, takes_bytes, next_line, event_by, can_open, opened, took_bytes, items_by, forsaken, handled_all, bytes_arrived}
 use Rattle.replay_run.specs.AfterLines.{after_line}
 use Rattle.replay_run.specs.Appending.{appended_text, new_messages}
 use Rattle.replay_run.specs.Dumps.{number, line_end}
-use Rattle.replay_run.specs.Printing.{ok_text, nothing_text, words_of, done_word, fate_words, took_word, move_refused_word, reopen_refused_word, fault_word, close_text, closing_text, flow_text, new_events, event_text, fate_text, outcome_at, does_nothing, line_text}
+use Rattle.replay_run.specs.Printing.{ok_text, nothing_text, words_of, done_word, fate_words, took_word, move_refused_word, reopen_refused_word, fault_word, close_text, closing_text, flow_text, deliveries, event_text, fate_text, outcome_at, does_nothing, line_text}
 use Rattle.replay_run.specs.Rebalancing.{stepped, stepped_all, rebalanced, steps_in, plan_in, is_moving_at}
 use Rattle.replay_run.specs.RebalancingTexts.{kind_word, step_text, plan_text, end_text, ran_text, ran_texts}
 use Rattle.replay_run.specs.WorldCalls.{is_quiet}
-use Rattle.replay_run.proofs.Growing.{stepped_grows, stepped_all_grows}
+use Rattle.replay_run.proofs.Growing.{Grows, stepped_goes, stepped_all_goes}
 use Rattle.replay_run.proofs.LineTexts.{new_more}
 use Rattle.script_run.specs.Outputs.{sent_to, bytes_to}
 use Rattle.script_run.specs.Reading.{Tells}
@@ -160,22 +160,22 @@ module _ (c : ℕ) where
   reads_end line partition true = reads_two line (codes "open ") (decimal partition) (record { stay = decimal_stays partition; other = refl })
   reads_end line partition false = reads_two line (codes "done ") (decimal partition) (record { stay = decimal_stays partition; other = refl })
 
-  module _ (small : c < 100) (o : Object Request Partition) where
+  module _ (small : c < 100) (o : Object Request Partition) (skips : List CallId) where
     -- the steps that are run
-    reads_ran : (r : Run) (steps : List Step) → Reads c (ran_texts o r steps) (sent_to c (new_messages r (stepped_all o r steps)))
+    reads_ran : (r : Run) (steps : List Step) → Reads c (ran_texts o skips r steps) (sent_to c (new_messages r (stepped_all o skips r steps)))
     reads_ran r [] = subst (λ (ms : List Appended). Reads c [] (sent_to c ms)) (sym (none_new r r refl)) (reads_none c)
     reads_ran r (step ∷ steps) =
-        let mid = stepped o r step in
-        let last = stepped_all o mid steps in
+        let mid = stepped o skips r step in
+        let last = stepped_all o skips mid steps in
         let first = new_messages r mid in
         let rest = new_messages mid last in
-        let grows = (stepped_all_grows o mid steps).appended in
+        let grows = ((stepped_all_goes o mid steps).grows skips).appended in
         let grown : last.appended ≡ mid.appended ++ rest =
         sym grows.1 ∙ ap (λ (ms : List Appended). mid.appended ++ ms) (sym (ap (drop (length mid.appended)) (sym grows.1) ∙ drop_at mid.appended grows.0 (length mid.appended) refl)) in
         let whole : sent_to c first ++ sent_to c rest ≡ sent_to c (new_messages r last) =
-        sym (flat_map-append (bytes_to c) first rest) ∙ ap (sent_to c) (sym (new_more r mid last rest (stepped_grows o r step).appended grown)) in
-        subst (Reads c (ran_texts o r (step ∷ steps))) whole
-        (reads_both c (ran_text o r step) (ran_texts o mid steps) (sent_to c first) (sent_to c rest)
+        sym (flat_map-append (bytes_to c) first rest) ∙ ap (sent_to c) (sym (new_more r mid last rest ((stepped_goes o r step).grows skips).appended grown)) in
+        subst (Reads c (ran_texts o skips r (step ∷ steps))) whole
+        (reads_both c (ran_text o skips r step) (ran_texts o skips mid steps) (sent_to c first) (sent_to c rest)
         (reads_before c (flat_map appended_text first) (end_text r.lines step.partition (is_moving_at o mid step.partition)) (sent_to c first)
         (reads_messages c small first) (reads_end r.lines step.partition (is_moving_at o mid step.partition)))
         (reads_ran mid steps))
@@ -220,17 +220,17 @@ module _ (settings : Settings) (skips : List CallId) (r : Run) where
         (reads_ok c next.lines) (reads_messages c small (news next)) (reads_closing c next.lines k (connection_of next k))
 
     -- the steps of a plan
-    reads_rebalanced : (most : ℕ) (next : Run) → next ≡ rebalanced o (next_line r) most
-        → Reads c (plan_text next.lines (plan_in o (next_line r)) ++ ran_texts o (next_line r) (steps_in o (next_line r) most) ++ [] ++ [] ++ [] ++ []) (sent_to c (news next))
+    reads_rebalanced : (most : ℕ) (next : Run) → next ≡ rebalanced o skips (next_line r) most
+        → Reads c (plan_text next.lines (plan_in o (next_line r)) ++ ran_texts o skips (next_line r) (steps_in o (next_line r) most) ++ [] ++ [] ++ [] ++ []) (sent_to c (news next))
     reads_rebalanced most next is =
-        let ran = subst (λ (x : Run). Reads c (ran_texts o (next_line r) (steps_in o (next_line r) most)) (sent_to c (new_messages (next_line r) x))) (sym is) (reads_ran c small o (next_line r) (steps_in o (next_line r) most)) in
-        reads_parts c (plan_text next.lines (plan_in o (next_line r))) (ran_texts o (next_line r) (steps_in o (next_line r) most)) [] (sent_to c (news next)) (reads_plan c next.lines (plan_in o (next_line r))) ran (reads_none c)
+        let ran = subst (λ (x : Run). Reads c (ran_texts o skips (next_line r) (steps_in o (next_line r) most)) (sent_to c (new_messages (next_line r) x))) (sym is) (reads_ran c small o skips (next_line r) (steps_in o (next_line r) most)) in
+        reads_parts c (plan_text next.lines (plan_in o (next_line r))) (ran_texts o skips (next_line r) (steps_in o (next_line r) most)) [] (sent_to c (news next)) (reads_plan c next.lines (plan_in o (next_line r))) ran (reads_none c)
 
   -- bytes that do nothing append nothing
   idle_none : (k : ℕ) (bytes : List ℕ) → does_nothing o r (Arrive k bytes) ≡ true → news (after_line o skips r (Arrive k bytes)) ≡ []
   idle_none k bytes idle = found (connection_of r k) idle
     where
-      by : (x : Connection) (b : Bool) → not b ≡ true → news (cond b (handled_all o skips (took_bytes r x bytes) x (items_by x bytes)) (next_line r)) ≡ []
+      by : (x : Connection) (b : Bool) → not b ≡ true → news (cond b (forsaken (handled_all o skips (took_bytes r x bytes) x (items_by x bytes)) x.conn) (next_line r)) ≡ []
       by x true e = absurd cc
       by x false e = none_new r (next_line r) refl
 
@@ -243,8 +243,9 @@ module _ (settings : Settings) (skips : List CallId) (r : Run) where
     abbrev after : Line → Run
     after line = after_line o skips r line
 
-    reads_text : (line : Line) → is_quiet line ≡ false → Reads c (line_text settings r line (after line)) (sent_to c (news (after line)))
+    reads_text : (line : Line) → is_quiet line ≡ false → Reads c (line_text settings skips r line (after line)) (sent_to c (news (after line)))
     reads_text (Arrive k bytes) busy = let line = Arrive k bytes in reads_arrived c small k bytes (after line) (does_nothing o r line) (idle_none k bytes)
+    reads_text (Clock member moment) busy = let line = Clock member moment in reads_happened c small (after line).lines (after line) (event_by line)
     reads_text (Deliver p from to place) busy = let line = Deliver p from to place in reads_happened c small (after line).lines (after line) (event_by line)
     reads_text (Lose p from to place) busy = let line = Lose p from to place in reads_happened c small (after line).lines (after line) (event_by line)
     reads_text (Repeat p from to place) busy = let line = Repeat p from to place in reads_happened c small (after line).lines (after line) (event_by line)
@@ -254,22 +255,22 @@ module _ (settings : Settings) (skips : List CallId) (r : Run) where
     reads_text (Handover p from to) busy = let line = Handover p from to in reads_happened c small (after line).lines (after line) (event_by line)
     reads_text (Advance p) busy = let line = Advance p in reads_happened c small (after line).lines (after line) (event_by line)
     reads_text (Reopen p) busy = let line = Reopen p in reads_happened c small (after line).lines (after line) (event_by line)
-    reads_text (Flow p most) busy = let line = Flow p most in reads_flowed c small (after line).lines (length (new_events r (after line))) (after line)
-    reads_text (FlowAll most) busy = let line = FlowAll most in reads_flowed c small (after line).lines (length (new_events r (after line))) (after line)
+    reads_text (Flow p most) busy = let line = Flow p most in reads_flowed c small (after line).lines (deliveries r (after line)) (after line)
+    reads_text (FlowAll most) busy = let line = FlowAll most in reads_flowed c small (after line).lines (deliveries r (after line)) (after line)
     reads_text (Crash member) busy = let line = Crash member in reads_fated c small (after line).lines (after line) (event.Crash member)
     reads_text (Detect member) busy = let line = Detect member in reads_fated c small (after line).lines (after line) (event.Detect member)
     reads_text (Rebalance most) busy = reads_rebalanced c small most (after (Rebalance most)) refl
     reads_text line busy = absurd cc
 
-  pub line_tells : (line : Line) → is_quiet line ≡ false → Tells (line_text settings r line (after_line o skips r line)) (news (after_line o skips r line))
+  pub line_tells : (line : Line) → is_quiet line ≡ false → Tells (line_text settings skips r line (after_line o skips r line)) (news (after_line o skips r line))
   line_tells line busy c old more within adds =
       let next = after_line o skips r line in
       let small : c < 100 = omega (arith, within) in
-      reads_whole c (line_text settings r line next) (sent_to c (news next)) old more (reads_text c small line busy) adds
+      reads_whole c (line_text settings skips r line next) (sent_to c (news next)) old more (reads_text c small line busy) adds
 
   pub quiet_none : (line : Line) → is_quiet line ≡ true → news (after_line o skips r line) ≡ []
   quiet_none (OpenConn k member) quiet = on_if (λ (x : Run). news x ≡ []) (can_open o r k member) (opened r k member) (next_line r) (none_new r (opened r k member) refl) (none_new r (next_line r) refl)
-  quiet_none (Clock member moment) quiet = none_new r (clock_set r member moment) refl
+  quiet_none (Clock member moment) quiet = absurd cc
   quiet_none (Arrive k bytes) quiet = absurd cc
   quiet_none (Deliver p from to place) quiet = absurd cc
   quiet_none (Lose p from to place) quiet = absurd cc

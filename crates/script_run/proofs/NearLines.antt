@@ -14,7 +14,7 @@ use Rattle.replay_run.specs.Grids.{FormOf, most_arriving}
 use Rattle.replay_run.specs.Printing.{ok_text, nothing_text, words_line}
 use Rattle.replay_run.specs.Printing as grid_text
 use Rattle.replay_run.specs.Runs.{connection_of}
-use Rattle.replay_run.proofs.SkipLaws.{line_counts}
+use Rattle.replay_run.proofs.Bounds.{line_lines}
 use Rattle.script_run.specs.declared.client.NearClient.{NearClient as KeptClient}
 use Rattle.script_run.specs.declared.grid.ScriptGrid.{ScriptGrid}
 use Rattle.script_run.specs.NearClients.{NearClient, opening_of, new_near, used, get_sent, missed, piece, told, fed}
@@ -32,17 +32,17 @@ same_mid : (settings : Settings) (s : ScriptRun) (line : Line) (ns : List NearCl
 same_mid settings s line ns stay = ap (λ (xs : List NearClient). record s { nears = xs }) stay
 
 pub ran_sent : {V : Type 0} {T : V → Type 0} {form : FormOf V T} {settings : Settings} (new : ScriptGrid V T) (s : ScriptRun) (line : Line) (ns : List NearClient) (c : ℕ) (bytes : List ℕ) → nears_by (partition_object settings) s line ≡ ns
-    → grid_line (partition_object settings) s line ≡ Arrive c bytes → (number : ℕ) (outcome : ℕ → List ℕ) → ((next : ScriptRun) → line_text settings s line next ≡ outcome next.run.lines ++ brought settings s.run c bytes next.run)
+    → grid_line (partition_object settings) s line ≡ Arrive c bytes → (number : ℕ) (outcome : ℕ → List ℕ) → ((skips : List CallId) (next : ScriptRun) → line_text settings skips s line next ≡ outcome next.run.lines ++ brought settings skips s.run c bytes next.run)
     → number ≡ s.run.lines + 1 → (written text : List ℕ) → HasSent form settings new (record s { nears = ns }) c bytes (written ++ outcome number) text → HasRun form settings new s line written text
 ran_sent {form = form} {settings = settings} new s line ns c bytes stay asked number outcome says at_line written text sent =
     let next = played settings sent.skips (record s { nears = ns }) (Arrive c bytes) in
     let one = same_mid settings s line ns stay in
-    let lines : number ≡ next.run.lines = at_line ∙ sym (line_counts (partition_object settings) sent.skips s.run (Arrive c bytes)).lines in
-    let shown : text ≡ written ++ line_text settings s line next =
-    sent.added ∙ append_assoc written (outcome number) (brought settings s.run c bytes next.run)
-    ∙ ap (λ (n : ℕ). written ++ (outcome n ++ brought settings s.run c bytes next.run)) lines ∙ ap (λ (t : List ℕ). written ++ t) (sym (says next)) in
+    let lines : number ≡ next.run.lines = at_line ∙ sym (line_lines (partition_object settings) sent.skips s.run (Arrive c bytes)) in
+    let shown : text ≡ written ++ line_text settings sent.skips s line next =
+    sent.added ∙ append_assoc written (outcome number) (brought settings sent.skips s.run c bytes next.run)
+    ∙ ap (λ (n : ℕ). written ++ (outcome n ++ brought settings sent.skips s.run c bytes next.run)) lines ∙ ap (λ (t : List ℕ). written ++ t) (sym (says sent.skips next)) in
     ran_as new s line (Arrive c bytes) asked sent.skips sent.of_line (subst (λ (m : ScriptRun). Stands form settings new (played settings sent.skips m (Arrive c bytes))) (sym one) sent.stands) written text
-    (subst (λ (m : ScriptRun). text ≡ written ++ line_text settings s line (played settings sent.skips m (Arrive c bytes))) (sym one) shown)
+    (subst (λ (m : ScriptRun). text ≡ written ++ line_text settings sent.skips s line (played settings sent.skips m (Arrive c bytes))) (sym one) shown)
 
 pub given_up_sent : {settings : Settings} (s : ScriptRun) (line : Line) (ns : List NearClient) (c : ℕ) (bytes : List ℕ) → nears_by (partition_object settings) s line ≡ ns → grid_line (partition_object settings) s line ≡ Arrive c bytes
     → IsGivenUpAt settings (record s { nears = ns }) (Arrive c bytes) → IsGivenUp settings s line
@@ -65,7 +65,7 @@ pub ran_begun : {V : Type 0} {T : V → Type 0} {form : FormOf V T} {settings : 
 ran_begun {settings = settings} new s c name capacity number can at_line written text sent =
     ran_sent new s (Near c name capacity) (begun s c name capacity) c (opening_of c name) (if_true (can_begin s c name) (begun s c name capacity) s.nears can)
     (if_true (can_begin s c name) (Arrive c (opening_of c name)) Comment can) number ok_text
-    (λ next. if_true (can_begin s c name) (ok_text next.run.lines ++ brought settings s.run c (opening_of c name) next.run) (nothing_text next.run.lines) can) at_line written text sent
+    (λ skips next. if_true (can_begin s c name) (ok_text next.run.lines ++ brought settings skips s.run c (opening_of c name) next.run) (nothing_text next.run.lines) can) at_line written text sent
 
 pub given_up_begun : {settings : Settings} (s : ScriptRun) (c : ℕ) (name : List ℕ) (capacity : ℕ) → can_begin s c name ≡ true → IsGivenUpAt settings (record s { nears = begun s c name capacity }) (Arrive c (opening_of c name))
     → IsGivenUp settings s (Near c name capacity)
@@ -79,7 +79,7 @@ pub ran_not_looked : {V : Type 0} {T : V → Type 0} {form : FormOf V T} {settin
     → look (partition_object settings) s c key ≡ Unmade → new.spoken ≡ all.spoken → (written text : List ℕ) → HasCounted form settings new s (nothing_text number) written text → HasRun form settings new s (NearGet c key) written text
 ran_not_looked {settings = settings} new all s c key number stands at_line unmade same written text counted =
     ran_passed new all s (NearGet c key) number stands at_line (ap (asked_line c key) unmade) (ap (λ (l : Look). after_look c key l s.nears) unmade)
-    (λ next. ap (look_text settings s.run c key next.run) unmade) same written text counted
+    (λ next. ap (look_text settings [] s.run c key next.run) unmade) same written text counted
 
 -- a hit
 pub ran_hit : {V : Type 0} {T : V → Type 0} {form : FormOf V T} {settings : Settings} (new all : ScriptGrid V T) (s : ScriptRun) (c : ℕ) (key : List ℕ) (number : ℕ) (n : NearClient) (value : Value) → AreSpoken all.spoken.items s.run
@@ -90,7 +90,7 @@ ran_hit {form = form} {settings = settings} new all s c key number n value spoke
     let one = same_mid settings s line (changed c (used key) s.nears) (ap (λ (l : Look). after_look c key l s.nears) hit) in
     ran_counted new all s line (ap (asked_line c key) hit) spoken same (hit_text number value) written text
     (subst (λ (m : ScriptRun). HasCounted form settings new m (hit_text number value) written text) (sym one) counted)
-    (ap (λ (k : ℕ). hit_text k value) at_line ∙ sym (ap (look_text settings s.run c key (played settings [] (mid settings s line) Comment).run) hit))
+    (ap (λ (k : ℕ). hit_text k value) at_line ∙ sym (ap (look_text settings [] s.run c key (played settings [] (mid settings s line) Comment).run) hit))
 
 -- a miss
 
@@ -99,7 +99,7 @@ pub ran_missed : {V : Type 0} {T : V → Type 0} {form : FormOf V T} {settings :
     → HasRun form settings new s (NearGet c key) written text
 ran_missed {settings = settings} new s c key number n miss at_line written text sent =
     ran_sent new s (NearGet c key) (changed c (missed key) s.nears) c (get_sent n key).request (ap (λ (l : Look). after_look c key l s.nears) miss) (ap (asked_line c key) miss) number (λ k. words_line k (codes "miss"))
-    (λ next. ap (look_text settings s.run c key next.run) miss) at_line written text sent
+    (λ skips next. ap (look_text settings skips s.run c key next.run) miss) at_line written text sent
 
 pub given_up_missed : {settings : Settings} (s : ScriptRun) (c : ℕ) (key : List ℕ) (n : NearClient) → look (partition_object settings) s c key ≡ Miss n
     → IsGivenUpAt settings (record s { nears = changed c (missed key) s.nears }) (Arrive c (get_sent n key).request) → IsGivenUp settings s (NearGet c key)
@@ -168,19 +168,19 @@ module _ {V : Type 0} {T : V → Type 0} {form : FormOf V T} {settings : Setting
   stands_after = record { goes = ran.goes; spoken = subst (λ (xs : Vec Bool Global). AreSpoken xs.items after.run) (sym same) (spoken ran.skips) }
 
   lines_after : after.run.lines ≡ number
-  lines_after = (line_counts (partition_object settings) ran.skips s.run (Arrive c bytes)).lines ∙ sym at_line
+  lines_after = line_lines (partition_object settings) ran.skips s.run (Arrive c bytes) ∙ sym at_line
 
   -- Bytes can arrive: the text is that of a line of bytes.
-  printed_is : takes (partition_object settings) s.run (connection_of s.run c) ≡ true → printed ≡ ok_text number ++ brought settings s.run c bytes after.run
+  printed_is : takes (partition_object settings) s.run (connection_of s.run c) ≡ true → printed ≡ ok_text number ++ brought settings ran.skips s.run c bytes after.run
   printed_is taking =
-      ran.added ∙ ap (λ (t : List ℕ). t ++ grid_text.line_text settings s.run (Arrive c bytes) after.run) none
-      ∙ text_of_bytes settings s.run c bytes after.run taking ∙ ap (λ (n : ℕ). ok_text n ++ brought settings s.run c bytes after.run) lines_after
+      ran.added ∙ ap (λ (t : List ℕ). t ++ grid_text.line_text settings ran.skips s.run (Arrive c bytes) after.run) none
+      ∙ text_of_bytes settings ran.skips s.run c bytes after.run taking ∙ ap (λ (n : ℕ). ok_text n ++ brought settings ran.skips s.run c bytes after.run) lines_after
 
   pub printed_brings : takes (partition_object settings) s.run (connection_of s.run c) ≡ true → (more : List ℕ) × (printed ≡ ok_text number ++ more)
-  printed_brings taking = (brought settings s.run c bytes after.run, printed_is taking)
+  printed_brings taking = (brought settings ran.skips s.run c bytes after.run, printed_is taking)
 
   pub sent_taking : takes (partition_object settings) s.run (connection_of s.run c) ≡ true → (written text : List ℕ) → ((more : List ℕ) → printed ≡ ok_text number ++ more → text ≡ written ++ more) → HasSent form settings new s c bytes written text
-  sent_taking taking written text added = record { skips = ran.skips; of_line = ran.of_line; stands = stands_after; added = added (brought settings s.run c bytes after.run) (printed_is taking) }
+  sent_taking taking written text added = record { skips = ran.skips; of_line = ran.of_line; stands = stands_after; added = added (brought settings ran.skips s.run c bytes after.run) (printed_is taking) }
 
   -- They can't: nothing is brought.
   pub sent_idle : takes (partition_object settings) s.run (connection_of s.run c) ≡ false → (written : List ℕ) → HasSent form settings new s c bytes written written
@@ -188,5 +188,5 @@ module _ {V : Type 0} {T : V → Type 0} {form : FormOf V T} {settings : Setting
     skips = ran.skips;
     of_line = ran.of_line;
     stands = stands_after;
-    added = sym (append-nil written) ∙ ap (λ (t : List ℕ). written ++ t) (sym (nothing_brought settings s.run c bytes after.run idle));
+    added = sym (append-nil written) ∙ ap (λ (t : List ℕ). written ++ t) (sym (nothing_brought settings ran.skips s.run c bytes after.run idle));
   }

@@ -102,8 +102,8 @@ module _ {V : Type 0} {T : V → Type 0} {form : FormOf V T} {settings : Setting
   -- what it printed tells that
   pub printed_tells : is_quiet line ≡ false → (more : List ℕ) → more ≡ drop (length written) text → Tells more (new_messages s.run next)
   printed_tells busy more is =
-      let shown : more ≡ grid_text.line_text settings s.run line next =
-      is ∙ ap (drop (length written)) ran.added ∙ drop_at written (grid_text.line_text settings s.run line next) (length written) refl in
+      let shown : more ≡ grid_text.line_text settings ran.skips s.run line next =
+      is ∙ ap (drop (length written)) ran.added ∙ drop_at written (grid_text.line_text settings ran.skips s.run line next) (length written) refl in
       subst (λ (t : List ℕ). Tells t (new_messages s.run next)) (sym shown) (line_tells settings ran.skips s.run line busy)
 
   -- or nothing was appended
@@ -138,14 +138,14 @@ mid settings s line = record s { nears = nears_by (partition_object settings) s 
 -- It is this line to the grid.
 pub ran_as : {V : Type 0} {T : V → Type 0} {form : FormOf V T} {settings : Settings} (new : ScriptGrid V T) (s : ScriptRun) (line asked : Line) → grid_line (partition_object settings) s line ≡ asked → (skips : List CallId)
     → AreOfLine (partition_object settings) s.run asked skips → Stands form settings new (played settings skips (mid settings s line) asked)
-    → (written text : List ℕ) → text ≡ written ++ line_text settings s line (played settings skips (mid settings s line) asked) → HasRun form settings new s line written text
+    → (written text : List ℕ) → text ≡ written ++ line_text settings skips s line (played settings skips (mid settings s line) asked) → HasRun form settings new s line written text
 ran_as {form = form} {settings = settings} new s line asked is skips of_line stands written text added =
     let whole : after_line settings skips s line ≡ played settings skips (mid settings s line) asked = ap (played settings skips (mid settings s line)) is in
     record {
       skips = skips;
       of_line = subst (λ (l : Line). AreOfLine (partition_object settings) s.run l skips) (sym is) of_line;
       stands = subst (Stands form settings new) (sym whole) stands;
-      added = added ∙ ap (λ (next : ScriptRun). written ++ line_text settings s line next) (sym whole);
+      added = added ∙ ap (λ (next : ScriptRun). written ++ line_text settings skips s line next) (sym whole);
     }
 
 pub given_up_at : {settings : Settings} (s : ScriptRun) (line asked : Line) → grid_line (partition_object settings) s line ≡ asked → IsGivenUpAt settings (mid settings s line) asked → IsGivenUp settings s line
@@ -157,7 +157,7 @@ given_up_at {settings = settings} s line asked is given = record {
 
 -- nothing happens on the grid
 pub ran_counted : {V : Type 0} {T : V → Type 0} {form : FormOf V T} {settings : Settings} (new all : ScriptGrid V T) (s : ScriptRun) (line : Line) → grid_line (partition_object settings) s line ≡ Comment → AreSpoken all.spoken.items s.run
-    → new.spoken ≡ all.spoken → (added written text : List ℕ) → HasCounted form settings new (mid settings s line) added written text → added ≡ line_text settings s line (played settings [] (mid settings s line) Comment)
+    → new.spoken ≡ all.spoken → (added written text : List ℕ) → HasCounted form settings new (mid settings s line) added written text → added ≡ line_text settings [] s line (played settings [] (mid settings s line) Comment)
     → HasRun form settings new s line written text
 ran_counted {settings = settings} new all s line is spoken same added written text counted shown =
     let still = are_spoken_as settings [] s.run all.spoken new.spoken Comment (λ k bytes e. cc e) same spoken in
@@ -165,7 +165,7 @@ ran_counted {settings = settings} new all s line is spoken same added written te
 
 -- its condition is false
 pub ran_passed : {V : Type 0} {T : V → Type 0} {form : FormOf V T} {settings : Settings} (new all : ScriptGrid V T) (s : ScriptRun) (line : Line) (number : ℕ) → Stands form settings all s → number ≡ s.run.lines + 1
-    → grid_line (partition_object settings) s line ≡ Comment → nears_by (partition_object settings) s line ≡ s.nears → ((next : ScriptRun) → line_text settings s line next ≡ nothing_text next.run.lines) → new.spoken ≡ all.spoken
+    → grid_line (partition_object settings) s line ≡ Comment → nears_by (partition_object settings) s line ≡ s.nears → ((next : ScriptRun) → line_text settings [] s line next ≡ nothing_text next.run.lines) → new.spoken ≡ all.spoken
     → (written text : List ℕ) → HasCounted form settings new s (nothing_text number) written text → HasRun form settings new s line written text
 ran_passed {form = form} {settings = settings} new all s line number stands at_line is stay says same written text counted =
     let one : mid settings s line ≡ s = ap (λ (ns : List NearClient). record s { nears = ns }) stay in
@@ -178,7 +178,7 @@ ran_passed {form = form} {settings = settings} new all s line number stands at_l
 pub record IsGrids (settings : Settings) (s : ScriptRun) (line : Line) : Type 0 where
   pub asked : grid_line (partition_object settings) s line ≡ line
   pub stay : nears_by (partition_object settings) s line ≡ s.nears
-  pub says : (next : ScriptRun) → line_text settings s line next ≡ grid_text.line_text settings s.run line next.run
+  pub says : (skips : List CallId) (next : ScriptRun) → line_text settings skips s line next ≡ grid_text.line_text settings skips s.run line next.run
 
 pub is_grids : (settings : Settings) (s : ScriptRun) (line : Line) → ((c : ℕ) (name : List ℕ) (capacity : ℕ) → line ≢ Near c name capacity) → ((c : ℕ) (key : List ℕ) → line ≢ NearGet c key)
     → ((c most : ℕ) → line ≢ NearFeed c most) → ((c : ℕ) (bytes : List ℕ) → line ≢ Arrive c bytes) → IsGrids settings s line
@@ -186,14 +186,14 @@ is_grids settings s (Near c name capacity) begins asks feeds arrives = absurd (b
 is_grids settings s (NearGet c key) begins asks feeds arrives = absurd (asks c key refl)
 is_grids settings s (NearFeed c most) begins asks feeds arrives = absurd (feeds c most refl)
 is_grids settings s (Arrive c bytes) begins asks feeds arrives = absurd (arrives c bytes refl)
-is_grids settings s line begins asks feeds arrives = record { asked = refl; stay = refl; says = λ next. refl }
+is_grids settings s line begins asks feeds arrives = record { asked = refl; stay = refl; says = λ skips next. refl }
 
 -- so are bytes on a connection that is no near connection
 pub is_grids_bytes : (settings : Settings) (s : ScriptRun) (c : ℕ) (bytes : List ℕ) → is_near_connection s c ≡ false → IsGrids settings s (Arrive c bytes)
 is_grids_bytes settings s c bytes free = record {
   asked = if_false (is_near_connection s c) Comment (Arrive c bytes) free;
   stay = refl;
-  says = λ next. if_false (is_near_connection s c) (nothing_text next.run.lines) (grid_text.line_text settings s.run (Arrive c bytes) next.run) free;
+  says = λ skips next. if_false (is_near_connection s c) (nothing_text next.run.lines) (grid_text.line_text settings skips s.run (Arrive c bytes) next.run) free;
 }
 
 stayed : {settings : Settings} {s : ScriptRun} {line : Line} → IsGrids settings s line → mid settings s line ≡ s
@@ -205,7 +205,7 @@ ran_grids {form = form} {settings = settings} new s line grids written text ran 
     ran_as new s line line grids.asked ran.skips ran.of_line
     (subst (λ (m : ScriptRun). Stands form settings new (played settings ran.skips m line)) (sym (stayed grids)) (record { goes = ran.goes; spoken = spoken })) written text
     (ran.added
-    ∙ ap (λ (t : List ℕ). written ++ t) (sym (grids.says (played settings ran.skips s line)) ∙ ap (λ (m : ScriptRun). line_text settings s line (played settings ran.skips m line)) (sym (stayed grids))))
+    ∙ ap (λ (t : List ℕ). written ++ t) (sym (grids.says ran.skips (played settings ran.skips s line)) ∙ ap (λ (m : ScriptRun). line_text settings ran.skips s line (played settings ran.skips m line)) (sym (stayed grids))))
 
 pub given_up_grids : {settings : Settings} (s : ScriptRun) (line : Line) → IsGrids settings s line → IsGivenUpAt settings s line → IsGivenUp settings s line
 given_up_grids {settings = settings} s line grids given = given_up_at s line line grids.asked (subst (λ (m : ScriptRun). IsGivenUpAt settings m line) (sym (stayed grids)) given)

@@ -3,6 +3,7 @@ use Rattle.std.proofs.Common.{◌≡◌, ℕ, Bool, true, false, not, cond, List
 use Rattle.std.specs.List.{flat_map}
 use Rattle.grid_base.specs.Objects.{Object}
 use Rattle.grid_base.specs.declared.calls.Request.{Request}
+use Rattle.grid_base.specs.declared.names.CallId.{CallId}
 use Rattle.call_engine.specs.Calls.{Settings}
 use Rattle.call_engine.specs.Objects.{partition_object}
 use Rattle.object_store.specs.Partitions.{Partition}
@@ -21,7 +22,7 @@ idle_is o r c bytes = at (connection_of r c)
     at None = refl
     at (Some k) = refl
 
-module _ (settings : Settings) (r : Run) (c : ℕ) (bytes : List ℕ) (next : Run) where
+module _ (settings : Settings) (skips : List CallId) (r : Run) (c : ℕ) (bytes : List ℕ) (next : Run) where
   abbrev o : Object Request Partition
   o = partition_object settings
 
@@ -37,14 +38,14 @@ module _ (settings : Settings) (r : Run) (c : ℕ) (bytes : List ℕ) (next : Ru
       ∙ append_assoc (ok_text next.lines) messages close
 
   -- What they bring stands behind the outcome.
-  pub text_of_bytes : takes o r (connection_of r c) ≡ true → line_text settings r (Arrive c bytes) next ≡ ok_text next.lines ++ brought settings r c bytes next
+  pub text_of_bytes : takes o r (connection_of r c) ≡ true → line_text settings skips r (Arrive c bytes) next ≡ ok_text next.lines ++ brought settings skips r c bytes next
   text_of_bytes taking = by (does_nothing o r (Arrive c bytes)) (idle_is o r c bytes ∙ ap not taking)
     where
       by : (b : Bool) → b ≡ false → cond b (nothing_text next.lines) (ok_text next.lines ++ messages ++ close ++ [] ++ [] ++ []) ≡ ok_text next.lines ++ cond b [] (messages ++ close)
       by true e = absurd cc
       by false e = grouped
 
-  pub nothing_brought : takes o r (connection_of r c) ≡ false → brought settings r c bytes next ≡ []
+  pub nothing_brought : takes o r (connection_of r c) ≡ false → brought settings skips r c bytes next ≡ []
   nothing_brought idle = by (does_nothing o r (Arrive c bytes)) (idle_is o r c bytes ∙ ap not idle)
     where
       by : (b : Bool) → b ≡ true → cond b [] (messages ++ close) ≡ []

@@ -14,12 +14,12 @@ use Rattle.partition_protocol.specs.Service.{numbers_below}
 use Rattle.partition_protocol.proofs.Lists.{on_if}
 use Rattle.script_lang.specs.declared.line.Line.{Line}
 use Rattle.script_lang.specs.declared.line.Line.TheVariants.{OpenConn, Arrive, Clock, Flow, FlowAll, Crash, Detect, Rebalance}
-use Rattle.replay_run.specs.Runs.{Run, Connection, begun, partitions, is_connection, connection_of, takes_bytes, can_open, opened, updated, with_bytes, took_bytes, items_by, handled_all, bytes_arrived, next_line, event_by}
+use Rattle.replay_run.specs.Runs.{Run, Connection, begun, partitions, is_connection, connection_of, takes_bytes, can_open, opened, updated, with_bytes, took_bytes, items_by, forsaken, handled_all, bytes_arrived, next_line, clock_set, event_by}
 use Rattle.replay_run.specs.AfterLines.{after_line}
 use Rattle.replay_run.specs.WorldCalls.{member_if_open, open_member_in}
-use Rattle.replay_run.proofs.EventRuns.{Kept, flowed_kept, flowed_in_kept, takes_in_kept}
+use Rattle.replay_run.proofs.EventRuns.{Kept, served_in_kept, flowed_kept, flowed_in_kept, takes_in_kept, forsaken_kept}
 use Rattle.replay_run.proofs.Rebalanced.{rebalanced_kept}
-use Rattle.replay_run.proofs.SkipLaws.{event_kept}
+use Rattle.replay_run.proofs.Bounds.{event_kept}
 use Rattle.replay_run.proofs.Lines.{handled_all_come}
 use Rattle.script_run.specs.Runs.{is_silent, takes}
 use Rattle.script_run.specs.Grids.{has_spoken, AreSpoken}
@@ -85,13 +85,13 @@ module _ (o : Object Request Partition) (skips : List CallId) (r : Run) (c : ℕ
   pub spoken_kept : (line : Line) → ((k : ℕ) (bytes : List ℕ) → line ≢ Arrive k bytes) → Same (after_line o skips r line)
   spoken_kept (OpenConn k member) other = on_if Same (can_open o r k member) (opened r k member) (next_line r) (spoken_opened r.connections (record { conn = k; member = member; bytes = [] }) c refl) refl
   spoken_kept (Arrive k bytes) other = absurd (other k bytes refl)
-  spoken_kept (Clock member moment) other = refl
-  spoken_kept (Flow partition most) other = kept_same _ (flowed_kept o (next_line r) partition most)
-  spoken_kept (FlowAll most) other = kept_same _ (flowed_in_kept o (next_line r) most (numbers_below partitions))
-  spoken_kept (Crash member) other = kept_same _ (takes_in_kept o (next_line r) (event.Crash member) (numbers_below partitions))
-  spoken_kept (Detect member) other = kept_same _ (takes_in_kept o (next_line r) (event.Detect member) (numbers_below partitions))
-  spoken_kept (Rebalance most) other = kept_same _ (rebalanced_kept o (next_line r) most)
-  spoken_kept line other = kept_same _ (event_kept o (next_line r) (event_by line))
+  spoken_kept (Clock member moment) other = ap (λ (ks : List Connection). spoken_on ks c) (served_in_kept o skips (clock_set r member moment) member (numbers_below partitions)).connections
+  spoken_kept (Flow partition most) other = kept_same _ (flowed_kept o skips (next_line r) partition most)
+  spoken_kept (FlowAll most) other = kept_same _ (flowed_in_kept o skips (next_line r) most (numbers_below partitions))
+  spoken_kept (Crash member) other = kept_same _ (takes_in_kept o skips (next_line r) (event.Crash member) (numbers_below partitions))
+  spoken_kept (Detect member) other = kept_same _ (takes_in_kept o skips (next_line r) (event.Detect member) (numbers_below partitions))
+  spoken_kept (Rebalance most) other = kept_same _ (rebalanced_kept o skips (next_line r) most)
+  spoken_kept line other = kept_same _ (event_kept o skips (next_line r) (event_by line))
 
   -- bytes
 
@@ -99,14 +99,18 @@ module _ (o : Object Request Partition) (skips : List CallId) (r : Run) (c : ℕ
   abbrev pub spoken_by : ℕ → List ℕ → Bool
   spoken_by k bytes = has_spoken (connection_of (after_line o skips r (Arrive k bytes)) c)
 
+  bytes_connections : (x : Connection) (bytes : List ℕ) → (forsaken (handled_all o skips (took_bytes r x bytes) x (items_by x bytes)) x.conn).connections ≡ updated (with_bytes x bytes) r.connections
+  bytes_connections x bytes =
+      let all = handled_all o skips (took_bytes r x bytes) x (items_by x bytes) in
+      (forsaken_kept all x.conn).connections ∙ (handled_all_come o skips (took_bytes r x bytes) x (items_by x bytes)).connections
+
   arrived_elsewhere : (k : ℕ) (bytes : List ℕ) → (k == c) ≡ false → spoken_by k bytes ≡ has_spoken (connection_of r c)
   arrived_elsewhere k bytes other = found (connection_of r k) refl
     where
-      by : (x : Connection) → x.conn ≡ k → (b : Bool) → Same (cond b (handled_all o skips (took_bytes r x bytes) x (items_by x bytes)) (next_line r))
+      by : (x : Connection) → x.conn ≡ k → (b : Bool) → Same (cond b (forsaken (handled_all o skips (took_bytes r x bytes) x (items_by x bytes)) x.conn) (next_line r))
       by x own true =
-          let come = handled_all_come o skips (took_bytes r x bytes) x (items_by x bytes) in
           let away : (x.conn == c) ≡ false = ap (λ (n : ℕ). n == c) own ∙ other in
-          ap (λ (ks : List Connection). spoken_on ks c) come.connections ∙ spoken_other r.connections (with_bytes x bytes) c away
+          ap (λ (ks : List Connection). spoken_on ks c) (bytes_connections x bytes) ∙ spoken_other r.connections (with_bytes x bytes) c away
       by x own false = refl
 
       found : (at : Option Connection) → connection_of r k ≡ at → Same (elim at [ None ↦ next_line r | Some x ↦ bytes_arrived o skips r x bytes ])
@@ -122,11 +126,10 @@ module _ (o : Object Request Partition) (skips : List CallId) (r : Run) (c : ℕ
       speaks (b ∷ before) more some = refl
 
       by : (x : Connection) → connection_of r c ≡ Some x → (b : Bool)
-          → has_spoken (connection_of (cond b (handled_all o skips (took_bytes r x bytes) x (items_by x bytes)) (next_line r)) c) ≡ (b || has_spoken (Some x))
+          → has_spoken (connection_of (cond b (forsaken (handled_all o skips (took_bytes r x bytes) x (items_by x bytes)) x.conn) (next_line r)) c) ≡ (b || has_spoken (Some x))
       by x e true =
-          let come = handled_all_come o skips (took_bytes r x bytes) x (items_by x bytes) in
           let own : (x.conn == c) ≡ true = let same = found_number c r.connections x e in grind (arith, nat_tests) in
-          ap (λ (ks : List Connection). spoken_on ks c) come.connections ∙ spoken_here r.connections (with_bytes x bytes) x c e own (speaks x.bytes bytes some)
+          ap (λ (ks : List Connection). spoken_on ks c) (bytes_connections x bytes) ∙ spoken_here r.connections (with_bytes x bytes) x c e own (speaks x.bytes bytes some)
       by x e false = ap has_spoken e
 
       found : (at : Option Connection) → connection_of r c ≡ at

@@ -83,7 +83,7 @@ pub record HasRun {V : Type 0} {T : V → Type 0} (form : FormOf V T) (settings 
   pub skips : List CallId
   pub of_line : AreOfLine (partition_object settings) s.run (grid_line (partition_object settings) s line) skips
   pub stands : Stands form settings new (after_line settings skips s line)
-  pub added : text ≡ written ++ line_text settings s line (after_line settings skips s line)
+  pub added : text ≡ written ++ line_text settings skips s line (after_line settings skips s line)
 
 -- The run is given up at the line, of whose calls these found no memory: an event met a full partition.
 pub record IsGivenUp (settings : Settings) (s : ScriptRun) (line : Line) : Type 0 where
@@ -107,7 +107,7 @@ pub record HasPlayed {V : Type 0} {T : V → Type 0} (form : FormOf V T) (settin
   pub skips : List CallId
   pub of_line : AreOfLine (partition_object settings) s.run line skips
   pub goes : Goes form settings new (played settings skips s line)
-  pub added : text ≡ written ++ grid_text.line_text settings s.run line (played settings skips s line).run
+  pub added : text ≡ written ++ grid_text.line_text settings skips s.run line (played settings skips s line).run
 
 -- The run was given up at it.
 pub record IsGivenUpAt (settings : Settings) (s : ScriptRun) (line : Line) : Type 0 where
@@ -125,7 +125,7 @@ pub record HasSent {V : Type 0} {T : V → Type 0} (form : FormOf V T) (settings
   pub skips : List CallId
   pub of_line : AreOfLine (partition_object settings) s.run (Arrive c bytes) skips
   pub stands : Stands form settings new (played settings skips s (Arrive c bytes))
-  pub added : text ≡ written ++ brought settings s.run c bytes (played settings skips s (Arrive c bytes)).run
+  pub added : text ≡ written ++ brought settings skips s.run c bytes (played settings skips s (Arrive c bytes)).run
 
 -- A near client may send these bytes.
 pub record MaySend {V : Type 0} {T : V → Type 0} (form : FormOf V T) (all : ScriptGrid V T) (number c : ℕ) (bytes : List ℕ) : Type 0 where

@@ -2,6 +2,7 @@
 use Rattle.std.specs.Prelude.{ℕ, List, [], ◌++◌, length, if◌then◌else◌, Option, Some, None, codes, decimal}
 use Rattle.std.specs.Fmt.{signed_decimal}
 use Rattle.std.specs.List.{flat_map}
+use Rattle.grid_base.specs.declared.names.CallId.{CallId}
 use Rattle.call_engine.specs.Calls.{Settings}
 use Rattle.call_engine.specs.Objects.{partition_object}
 use Rattle.grid_client.specs.declared.heard.Heard.{Heard}
@@ -17,21 +18,21 @@ use Rattle.script_run.specs.NearClients.{NearClient, opening_of, get_sent, piece
 use Rattle.script_run.specs.Runs.{ScriptRun, Look, Unmade, Hit, Miss, near_of, is_near_connection, can_begin, look}
 
 -- what bytes bring that a near client sends: the messages that they append, and their connection's close, if they showed a fault; nothing, where they can't arrive
-abbrev pub brought : Settings → Run → ℕ → List ℕ → Run → List ℕ
-brought settings before c bytes after =
+abbrev pub brought : Settings → List CallId → Run → ℕ → List ℕ → Run → List ℕ
+brought settings skips before c bytes after =
     let line = Arrive c bytes in
     if does_nothing (partition_object settings) before line then []
-    else line_messages settings before line after ++ line_close after line
+    else line_messages settings skips before line after ++ line_close after line
 
 -- `I hit VALUE`
 abbrev pub hit_text : ℕ → Value → List ℕ
 hit_text line value = words_line line (codes "hit " ++ value_text value)
 
 -- A miss prints what its get brings.
-abbrev pub look_text : Settings → Run → ℕ → List ℕ → Run → Look → List ℕ
-look_text settings before c key after Unmade = nothing_text after.lines
-look_text settings before c key after (Hit n value) = hit_text after.lines value
-look_text settings before c key after (Miss n) = words_line after.lines (codes "miss") ++ brought settings before c (get_sent n key).request after
+abbrev pub look_text : Settings → List CallId → Run → ℕ → List ℕ → Run → Look → List ℕ
+look_text settings skips before c key after Unmade = nothing_text after.lines
+look_text settings skips before c key after (Hit n value) = hit_text after.lines value
+look_text settings skips before c key after (Miss n) = words_line after.lines (codes "miss") ++ brought settings skips before c (get_sent n key).request after
 
 -- What a client makes of a message, each on a line of its own; of one that answers no look-up nothing is said.
 abbrev pub heard_text : ℕ → Heard → List ℕ
@@ -47,9 +48,10 @@ abbrev pub fed_text : ℕ → ℕ → Option NearClient → List ℕ
 fed_text line most None = nothing_text line
 fed_text line most (Some n) = words_line line (codes "fed " ++ decimal (length (piece most n))) ++ flat_map (heard_text line) (told most n).heard
 
-abbrev pub line_text : Settings → ScriptRun → Line → ScriptRun → List ℕ
-line_text settings s (Near c name capacity) next = if can_begin s c name then ok_text next.run.lines ++ brought settings s.run c (opening_of c name) next.run else nothing_text next.run.lines
-line_text settings s (NearGet c key) next = look_text settings s.run c key next.run (look (partition_object settings) s c key)
-line_text settings s (NearFeed c most) next = fed_text next.run.lines most (near_of s c)
-line_text settings s (Arrive c bytes) next = if is_near_connection s c then nothing_text next.run.lines else grid.line_text settings s.run (Arrive c bytes) next.run
-line_text settings s line next = grid.line_text settings s.run line next.run
+-- The text of a line at which these calls found no memory.
+abbrev pub line_text : Settings → List CallId → ScriptRun → Line → ScriptRun → List ℕ
+line_text settings skips s (Near c name capacity) next = if can_begin s c name then ok_text next.run.lines ++ brought settings skips s.run c (opening_of c name) next.run else nothing_text next.run.lines
+line_text settings skips s (NearGet c key) next = look_text settings skips s.run c key next.run (look (partition_object settings) s c key)
+line_text settings skips s (NearFeed c most) next = fed_text next.run.lines most (near_of s c)
+line_text settings skips s (Arrive c bytes) next = if is_near_connection s c then nothing_text next.run.lines else grid.line_text settings skips s.run (Arrive c bytes) next.run
+line_text settings skips s line next = grid.line_text settings skips s.run line next.run
