@@ -85,7 +85,7 @@ module _ {V : Type 0} {T : V → Type 0} {form : FormOf V T} {settings : Setting
   coming_count = counting_called grid.connections r request.id.conn request.id.number r.lines count
 
 -- but for its table and its tally the grid has what the run has
-pub held_apart : {V : Type 0} {T : V → Type 0} {form : FormOf V T} {settings : Settings} (grid : Grid V T) (r : Run) → Holds form settings grid r → HoldsApart form settings grid r
+abbrev pub held_apart : {V : Type 0} {T : V → Type 0} {form : FormOf V T} {settings : Settings} (grid : Grid V T) (r : Run) → Holds form settings grid r → HoldsApart form settings grid r
 held_apart grid r h = record {
   goes_by = h.goes_by;
   goes_on = h.goes_on;
@@ -246,7 +246,7 @@ module _ (settings : Settings) (r : Run) (member : ℕ) (request : Request) wher
     turns_none up =
         gives_up_then r first then (asks_goes object r its_conn coming) (λ x. served_goes object x its_conn request.partition member) did.skips of_first
         (subst (λ (x : Run). GivesUpSo x (then x)) (sym admitted_is) up)
-        (λ t. served_run object t (first did.skips) its_conn request.partition member (subst (IsRun object) (sym admitted_is) admitted_run))
+        (λ t. served_run t (first did.skips) its_conn request.partition member (subst (IsRun object) (sym admitted_is) admitted_run))
 
     -- All had their turns.
     module _ (new : Grid V T) (text : List ℕ) (turns : HasServed form settings mid new admitted (Some request.id.conn) (by_turns settings admitted (Some request.id.conn) request.partition member) so_far text) where
