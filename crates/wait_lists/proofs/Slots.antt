@@ -1,5 +1,5 @@
 -- The places of lists, and how many lists have somebody.
-use Rattle.std.proofs.Common.{◌≡◌, ◌≢◌, ◌⊎◌, ⊎_elim, ℕ, ◌+◌, ◌-◌, ◌<◌, ◌≤◌, Bool, true, false, List, [], ◌∷◌, ◌++◌, length, take, get_or, slice_set, replicate, sum_by, map, drop, All, refl, ap, sym, ◌∙◌, arith}
+use Rattle.std.proofs.Common.{◌≡◌, ◌≢◌, ◌⊎◌, ⊎_elim, ℕ, ◌+◌, ◌-◌, ◌<◌, ◌≤◌, List, [], ◌∷◌, ◌++◌, length, take, get_or, slice_set, replicate, sum_by, map, drop, All, refl, ap, sym, ◌∙◌, arith}
 use Rattle.std.proofs.lemmas.List.{append-nil, take_all, drop_all, length-take, length-set, take_more_set, get_or_default, get_or-set_same, get_or-set_other}
 use Rattle.std.proofs.lemmas.List.Elements.{All-nil, All-cons, All-head, All-tail}
 use Rattle.std.proofs.lemmas.List.Folds.{sum_by-replicate}
@@ -68,10 +68,6 @@ pub some_added : (list : List Waiter) (w : Waiter) → if_some (list ++ w ∷ []
 some_added [] w = refl
 some_added (x ∷ xs) w = refl
 
-pub some_there : (list : List Waiter) → (list ≡ [] → ⊥) → if_some list ≡ 1
-some_there [] d = absurd (d refl)
-some_there (x ∷ xs) d = refl
-
 -- with another list at a place
 pub counted_anew : (lists : List (List Waiter)) (i : ℕ) (list : List Waiter) → i < length lists → sum_by if_some (slice_set lists i list) + if_some (get_or lists i []) ≡ sum_by if_some lists + if_some list
 counted_anew lists i list l = sum_by-set if_some lists i list [] l
@@ -125,11 +121,3 @@ within_lists lists i busy list l b =
 -- once all are passed
 pub passed_all : (f : List Waiter → List Waiter) (lists : List (List Waiter)) (n : ℕ) → length lists ≤ n → map f (take n lists) ++ drop n lists ≡ map f lists
 passed_all f lists n l = rw (take_all n lists l, drop_all n lists l) (append-nil (map f lists))
-
--- whether a list is busy
-
-pub none_busy : (idle : Bool) (list : List Waiter) → (idle ≡ true → list ≡ []) → idle ≡ true → 0 ≡ if_some list
-none_busy idle list h e = ap if_some (sym (h e))
-
-pub one_busy : (idle : Bool) (list : List Waiter) → (list ≡ [] → idle ≡ true) → idle ≡ false → 1 ≡ if_some list
-one_busy idle list h e = sym (some_there list (λ n. let clash : true ≡ false = sym (h n) ∙ e in absurd cc))

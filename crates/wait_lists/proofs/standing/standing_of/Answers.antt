@@ -1,4 +1,4 @@
-use Rattle.std.proofs.Common.{◌≡◌, true, false, sym, ◌∙◌}
+use Rattle.std.proofs.Common.{◌≡◌, true, sym, ◌∙◌}
 use Rattle.grid_base.specs.Shelves.{meaning}
 use Rattle.partition_protocol.specs.World.{is_live}
 use Rattle.partition_world.specs.Worlds.{run_of}
