@@ -26,12 +26,11 @@ use Rattle.call_engine.specs.Objects.{partition_object}
 use Rattle.object_store.specs.Partitions.{Partition}
 use Rattle.replay_run.specs.declared.grid.Grid.{Grid}
 use Rattle.replay_run.specs.Runs.{Run, Appended, Reopened, partitions, messages_on, events_at, world_at, listening, message_of, version_known, adopted_since, messages_at, taker_of, given_to, given_out, reopening_by, occurred, meets_full}
-use Rattle.replay_run.specs.Printing.{outcome_at}
 use Rattle.replay_run.specs.ScriptRuns.{event_occurred}
 use Rattle.replay_run.specs.Shelves.{grid_meaning}
 use Rattle.replay_run.specs.Tables.{Table}
 use Rattle.replay_run.specs.Grids.{FormOf, GridWorld, StandsForEvents, IsWorld, HasTable, HasWaiters, IsSettled, IsTally, AreListening, HasWorld, Holds}
-use Rattle.replay_run.specs.WorldCalls.{texts_of, with_answers, going_out, messages_in, reaching_of, HasRoomAt, IsAmid, HasGoneOn}
+use Rattle.replay_run.specs.WorldCalls.{texts_of, with_answers, going_out, messages_in, reaching_of, HasRoomAt, IsAmid, HasOccurred}
 use Rattle.replay_run.proofs.Arriving.{arrivals-append, events_with_one, maybe_one}
 use Rattle.replay_run.proofs.Asking.{world_there, world_is, stands_by}
 use Rattle.replay_run.proofs.GivingOut.{HasGivenOut}
@@ -147,12 +146,6 @@ waiting_at world (Some member) = waiting world member
 abbrev pub said_at : Settings → Run → ℕ → Event Request → GridWorld → Option ℕ → List Appended
 said_at settings r p event called None = []
 said_at settings r p event called (Some member) = messages_in (grid_meaning settings) called (events_at p r.events ++ event ∷ []) (reaching_of settings r p member) r (listening r None member)
-
--- The event has happened, and what it appended was printed; those whom it stirs are still to have their turns.
-pub record HasOccurred {V : Type 0} {T : V → Type 0} (form : FormOf V T) (settings : Settings) (new : Grid V T) (r : Run) (p : ℕ) (event : Event Request) (happened : Happened) (written text : List ℕ) : Type 0 where
-  pub goes : meets_full (world_at (partition_object settings) r p) event ≡ false
-  pub on : HasGoneOn form settings new r (occurred (partition_object settings) r p event) written text
-  pub outcome : happened_of happened ≡ outcome_at (partition_object settings) r p event
 
 -- The table, the reopenings and the worlds after an event.
 pub record IsAfterEvent {V : Type 0} {T : V → Type 0} (grid new : Grid V T) (partition : ℕ) (world : GridWorld) (answers : List CallAnswer) (more : List Reopened) : Type 0 where

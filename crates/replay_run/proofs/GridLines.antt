@@ -214,6 +214,21 @@ pub record HasClock {V : Type 0} {T : V → Type 0} (grid new : Grid V T) (numbe
   pub reopened : new.reopened.items ≡ grid.reopened.items
   pub worlds : new.worlds.items ≡ grid.worlds.items
 
+pub has_clock : {V : Type 0} {T : V → Type 0} (grid new : Grid V T) (number member moment : ℕ) (moments : Vec ℕ Global) → new ≡ record grid { lines = number; moments = moments } → moments.items ≡ slice_set grid.moments.items member moment → HasClock grid new number member moment
+has_clock {V = V} {T = T} grid new number member moment moments made set = record {
+  env = ap (λ (x : Grid V T). x.env) made;
+  lines = ap (λ (x : Grid V T). x.lines) made;
+  members = ap (λ (x : Grid V T). x.members) made;
+  links = ap (λ (x : Grid V T). x.links.items) made;
+  moments = ap (λ (x : Grid V T). x.moments.items) made ∙ set;
+  connections = ap (λ (x : Grid V T). x.connections) made;
+  waiters = ap (λ (x : Grid V T). x.waiters) made;
+  tally = ap (λ (x : Grid V T). x.tally) made;
+  listeners = ap (λ (x : Grid V T). x.listeners.items) made;
+  reopened = ap (λ (x : Grid V T). x.reopened.items) made;
+  worlds = ap (λ (x : Grid V T). x.worlds.items) made;
+}
+
 module _ {V : Type 0} {T : V → Type 0} {form : FormOf V T} {settings : Settings} (grid new : Grid V T) (r : Run) (number member moment : ℕ) (s : Stands form settings grid r) (at_line : number ≡ r.lines + 1) (limit : number ≤ most_lines) (set : HasClock grid new number member moment) where
   abbrev clocked : Run
   clocked = clock_set r member moment

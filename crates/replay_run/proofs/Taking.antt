@@ -1,5 +1,5 @@
 -- An event of a partition, and the turns of those whom it stirs.
-use Rattle.std.proofs.Common.{◌≡◌, ℕ, ◌<◌, ◌==◌, true, ◌&&◌, List, [], ◌++◌, length, Option, Some, None, refl, ap, sym, ◌∙◌, subst}
+use Rattle.std.proofs.Common.{◌≡◌, ℕ, ◌<◌, ◌==◌, true, ◌&&◌, List, [], ◌∷◌, ◌++◌, length, Option, Some, None, refl, ap, sym, ◌∙◌, subst, arith}
 use Rattle.grid_base.specs.Objects.{Object}
 use Rattle.grid_base.specs.declared.names.CallId.{CallId}
 use Rattle.grid_base.specs.declared.calls.Request.{Request}
@@ -14,11 +14,10 @@ use Rattle.replay_run.specs.declared.grid.Grid.{Grid}
 use Rattle.replay_run.specs.Endings.{new_arrivals, AreAmong}
 use Rattle.replay_run.specs.Runs.{Run, Waiter, world_at, meets_full, stirred_by, occurred, served_at, served, takes, is_its_turn}
 use Rattle.replay_run.specs.Grids.{FormOf, HasWaiters}
-use Rattle.replay_run.specs.WorldCalls.{texts_of, IsAmid, HasGoneOn, GivesUpSo, HasTaken}
+use Rattle.replay_run.specs.WorldCalls.{texts_of, HasRoomAt, IsAmid, HasGoneOn, GivesUpSo, HasOccurred, HasTaken}
 use Rattle.replay_run.specs.WaiterCalls.{IsBetween, HasServed, by_turns}
-use Rattle.replay_run.proofs.EventRuns.{takes_here, takes_nothing, served_kept}
+use Rattle.replay_run.proofs.EventRuns.{events_more, takes_here, takes_nothing, served_kept}
 use Rattle.replay_run.proofs.Flowing.{gone_further, gone_as}
-use Rattle.replay_run.proofs.GridEvents.{HasOccurred}
 use Rattle.replay_run.proofs.Growing.{served_goes}
 use Rattle.replay_run.proofs.LineTexts.{new_with}
 use Rattle.replay_run.proofs.Lookups.{find_none}
@@ -37,6 +36,10 @@ nobody_there o skips lists r own p member has out = often_none o skips own p mem
 
 pub between_amid : {V : Type 0} {T : V → Type 0} {form : FormOf V T} {settings : Settings} (grid : Grid V T) (r : Run) → IsAmid form settings grid r → IsBetween form settings grid r None
 between_amid grid r amid = record { run = amid.run; holds = amid.holds; listeners = amid.listeners }
+
+-- Its event counted, the calls that wait have the room that they had.
+pub turn_room : (o : Object Request Partition) (r : Run) (p : ℕ) (event : Event Request) → HasRoomAt r p 1 → HasRoomAt (occurred o r p event) p 0
+turn_room o r p event room = let more = events_more p r.events (record { partition = p; event = event } ∷ []) in omega (arith, room, more)
 
 -- The event meets the partition full.
 pub met_full : (o : Object Request Partition) (r : Run) (p : ℕ) (event : Event Request) → meets_full (world_at o r p) event ≡ true → GivesUpSo r (λ skips. takes o skips r p event)

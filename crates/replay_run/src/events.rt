@@ -13,7 +13,7 @@ ghost use Rattle.script_lang.specs.declared.line.Line.{Line as ScriptLine};
 ghost use Rattle.script_lang.specs.declared.line.Line.TheVariants as ScriptLines;
 ghost use Rattle.replay_run.specs.Runs.{Run, partitions, taker_of, world_at, meets_full, event_by, delivery_on, flowed, flowed_in, takes, takes_in, reopening_by};
 ghost use Rattle.replay_run.specs.Grids.{boxed, Stands, MayRun, HasRun, IsGivenUp};
-ghost use Rattle.replay_run.specs.WorldCalls.{GivesUpSo, HasRoomAt, IsAmid, HasTaken, HasFlowed, HasTakenInAll, reaching_of, event_in_all, line_of_fate};
+ghost use Rattle.replay_run.specs.WorldCalls.{GivesUpSo, HasRoomAt, IsAmid, HasOccurred, HasTaken, HasFlowed, HasTakenInAll, reaching_of, event_in_all, line_of_fate};
 ghost use Rattle.replay_run.specs.declared.run_end.RunEnd.TheVariants as RunEnds;
 
 use crate::grid::Grid;
@@ -170,8 +170,8 @@ impl Grid {
         })
     }
 
-    /// Runs an event of a partition that is no call, and appends what it does at the member that it reaches. A full
-    /// partition takes no event but a loss. After an error the grid is given up.
+    /// Runs an event of a partition that is no call, and appends what it does at the member that it reaches; then those
+    /// whom it stirs have their turns. A full partition takes no event but a loss. After an error the grid is given up.
     pub(crate) fn take(
         &mut self,
         alloc: Global,
@@ -185,13 +185,36 @@ impl Grid {
         ensures ok { (settings : Settings) (r : Run) → IsAmid (boxed form) settings self.old r → IfOk result (λ happened. HasTaken (boxed form) settings self.new r partition (event_of event) happened out.old.items out.new.items) }
         ensures full { (settings : Settings) (r : Run) → IsAmid (boxed form) settings self.old r → IsErrOf result RunEnds.InFlight → GivesUpSo r (λ skips. takes (partition_object settings) skips r partition (event_of event)) }
     {
+        let stirred = stirred_by(&event);
+        let happened = self.occur(alloc, partition, event, out)?;
+        if let Some(member) = stirred {
+            if member < self.members {
+                self.make_turns(alloc, Spot { member, partition }, None, out)?;
+            }
+        }
+        Ok(happened)
+    }
+
+    /// The same, but for the turns.
+    fn occur(
+        &mut self,
+        alloc: Global,
+        partition: PartitionId,
+        event: Event<Request>,
+        out: &mut Vec<u8>,
+    ) -> Result<Happened, RunEnd>
+        requires placed { partition < partitions }
+        requires unasked { asked_by (event_of event) ≡ [] }
+        requires stands { (settings : Settings) × (r : Run) × IsAmid (boxed form) settings self.old r × HasRoomAt r partition 1 }
+        ensures ok { (settings : Settings) (r : Run) → IsAmid (boxed form) settings self.old r → IfOk result (λ happened. HasOccurred (boxed form) settings self.new r partition (event_of event) happened out.old.items out.new.items) }
+        ensures full { (settings : Settings) (r : Run) → IsAmid (boxed form) settings self.old r → IsErrOf result RunEnds.InFlight → meets_full (world_at (partition_object settings) r partition) (event_of event) ≡ true }
+    {
         let reaching = self.reaching(partition, &event);
         let world = &mut self.worlds[usize::from(partition)];
         if meets_full(world, &event) {
             return Err(RunEnd::InFlight);
         }
         let reopens = matches!(event, Event::Reopen);
-        let stirred = stirred_by(&event);
         let happened = world.step(alloc, &self.env, event)?;
         if let Some(at) = reaching {
             append_reached(
@@ -204,11 +227,6 @@ impl Grid {
             )?;
         }
         self.note_reopening(partition, reopens, happened)?;
-        if let Some(member) = stirred {
-            if member < self.members {
-                self.make_turns(alloc, Spot { member, partition }, None, out)?;
-            }
-        }
         Ok(happened)
     }
 
