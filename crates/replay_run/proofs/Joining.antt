@@ -1,5 +1,5 @@
 -- A waiting call arrives: it joins the list of its member and partition, and the grid follows.
-use Rattle.std.proofs.Common.{◌≡◌, ◌≢◌, ℕ, ℤ, ◌+◌, ◌<◌, ◌==◌, Bool, true, false, cond, ◌&&◌, true≢false, List, [], ◌∷◌, ◌++◌, length, map, filter, Option, Some, None, Contains, refl, ap, sym, ◌∙◌, subst, ⊎_elim, append-nil, arith, length-append}
+use Rattle.std.proofs.Common.{◌≡◌, ◌≢◌, ℕ, ℤ, ◌+◌, ◌<◌, ◌==◌, true, false, cond, ◌&&◌, true≢false, List, [], ◌∷◌, ◌++◌, length, map, filter, Option, Some, Contains, refl, ap, sym, ◌∙◌, subst, ⊎_elim, append-nil, arith, length-append}
 use Rattle.std.proofs.lemmas.Bool.{cases_Bool, eq-eqb}
 use Rattle.std.proofs.lemmas.List.{length-set, map-append, get_or-set_same, get_or-set_other}
 use Rattle.std.proofs.lemmas.List.Elements.{filter-append}
@@ -13,7 +13,7 @@ use Rattle.wait_sets.specs.declared.waiter.Waiter.{Waiter as ListedWaiter}
 use Rattle.wait_lists.specs.Lists.{place_of, list_at, with_list}
 use Rattle.replay_run.specs.declared.grid.Grid.{Grid}
 use Rattle.replay_run.specs.declared.tally.Reception.TheVariants.{Taken}
-use Rattle.replay_run.specs.Runs.{Run, Waiter, partitions, waits, waiter_at, events_at}
+use Rattle.replay_run.specs.Runs.{Run, Waiter, partitions, waits, waiter_at}
 use Rattle.replay_run.specs.ScriptRuns.{IsRun, IsNext, waiter_came}
 use Rattle.replay_run.specs.Tables.{with_arrival}
 use Rattle.replay_run.specs.Tallies.{tallied}
@@ -34,7 +34,7 @@ listed_more member p ws w =
     ap (map as_listed) (filter-append (waits_at member p) ws (w ∷ [])) ∙ map-append as_listed (filter (waits_at member p) ws) (filter (waits_at member p) (w ∷ []))
 
 -- each member and partition has a place of its own
-other_place : (m p : ℕ) (w : Waiter) → p < partitions → w.request.partition < partitions → waits_at m p w ≡ false → place_of m p ≢ place_of w.member w.request.partition
+pub other_place : (m p : ℕ) (w : Waiter) → p < partitions → w.request.partition < partitions → waits_at m p w ≡ false → place_of m p ≢ place_of w.member w.request.partition
 other_place m p w low below away e =
     let members : w.member ≡ m = omega (arith, e, low, below) in
     let here : w.request.partition ≡ p = omega (arith, e, members) in

@@ -70,6 +70,7 @@ pub mod NewCalls
 pub mod Joining
 pub mod LateTurns
 pub mod WaiterTurns
+pub mod NextTurns
 pub mod Taking
 pub mod EventLines
 pub mod RebalanceLine
