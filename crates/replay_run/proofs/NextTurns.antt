@@ -81,7 +81,7 @@ same_passing : (test : Waiter → Bool) (w : Waiter) → test w ≡ false → (w
 same_passing test w fails [] once i = absurd i
 same_passing test w fails (v ∷ vs) once (inl e) =
     subst (λ (x : Waiter). filter test (filter (is_other x) (v ∷ vs)) ≡ filter test (v ∷ vs)) e
-        (ap (filter test) (first_goes v vs once) ∙ sym (ap (λ b. cond b (v ∷ filter test vs) (filter test vs)) (subst (λ (x : Waiter). test x ≡ false) (sym e) fails)))
+    (ap (filter test) (first_goes v vs once) ∙ sym (ap (λ b. cond b (v ∷ filter test vs) (filter test vs)) (subst (λ (x : Waiter). test x ≡ false) (sym e) fails)))
 same_passing test w fails (v ∷ vs) once (inr i) =
     ap (filter test) (first_stays v w vs once i) ∙ ap (λ xs. cond (test v) (v ∷ xs) xs) (same_passing test w fails vs once.1 i)
 
@@ -147,13 +147,13 @@ module _ (here turns : Waiter → Bool) (test : Meant → Bool) (same : (w : Wai
       go : (a b : Bool) → here v ≡ a → test (as_machine v) ≡ b → IsFoundSo here turns vs (pick test (meant_here vs)) → IsFoundSo here turns (v ∷ vs) (pick test (meant_here (v ∷ vs)))
       go true true h t rest =
           subst (IsFoundSo here turns (v ∷ vs)) (sym (ap (pick test) (here_first v vs h) ∙ ap (λ b. cond b (Some (record { front = []; one = as_machine v; back = meant_here vs })) (skipping (as_machine v) (pick test (meant_here vs)))) t))
-              (found_first v vs once (same v ∙ (λ i. h i && t i)))
+          (found_first v vs once (same v ∙ (λ i. h i && t i)))
       go true false h t rest =
           subst (IsFoundSo here turns (v ∷ vs)) (sym (ap (pick test) (here_first v vs h) ∙ ap (λ b. cond b (Some (record { front = []; one = as_machine v; back = meant_here vs })) (skipping (as_machine v) (pick test (meant_here vs)))) t))
-              (passed v vs once (same v ∙ (λ i. h i && t i)) h (pick test (meant_here vs)) rest)
+          (passed v vs once (same v ∙ (λ i. h i && t i)) h (pick test (meant_here vs)) rest)
       go false b h t rest =
           subst (IsFoundSo here turns (v ∷ vs)) (sym (ap (pick test) (not_here v vs h)))
-              (passed_by v vs once (same v ∙ (λ i. h i && t i)) h (pick test (meant_here vs)) rest)
+          (passed_by v vs once (same v ∙ (λ i. h i && t i)) h (pick test (meant_here vs)) rest)
 
 -- the lists
 
@@ -293,7 +293,7 @@ module _ {V : Type 0} {T : V → Type 0} {form : FormOf V T} {settings : Setting
         → HasTakenOut form settings new r p m turn
     taken_out turn others leaves =
         go (pick (stirs (partition_object settings) (grid_terms (λ y. false)) (machine_now settings r m p)) (map as_machine (filter (waits_at m p) r.waiters))) turn (found_so settings r m p run)
-            (subst (λ (xs : List Meant). LeavesAsPicked (fate_then settings r m p) m (pick (stirs (partition_object settings) (grid_terms (λ y. false)) (machine_now settings r m p)) xs) (list_at grid.waiters m p) turn (list_at new.waiters m p)) here_listed leaves)
+        (subst (λ (xs : List Meant). LeavesAsPicked (fate_then settings r m p) m (pick (stirs (partition_object settings) (grid_terms (λ y. false)) (machine_now settings r m p)) xs) (list_at grid.waiters m p) turn (list_at new.waiters m p)) here_listed leaves)
       where
         same_lists : list_at new.waiters m p ≡ list_at grid.waiters m p → grid.waiters ≡ new.waiters
         same_lists e = sym (others ∙ ap (with_list grid.waiters m p) e ∙ set-get_or grid.waiters (place_of m p) [])
@@ -306,11 +306,11 @@ module _ {V : Type 0} {T : V → Type 0} {form : FormOf V T} {settings : Setting
             let part = first_holds (f.w.request.partition == p) (f.w.member == m) spot in
             let at : waits_at m p f.w ≡ true = (λ i. second_holds (f.w.request.partition == p) (f.w.member == m) spot i && part i) in
             let its : list_at new.waiters m p ≡ map as_listed (filter (waits_at m p) (without r f.w).waiters) =
-                meant_alike m (list_at new.waiters m p) (map as_listed (filter (waits_at m p) (without r f.w).waiters)) (left.2 ∙ sym f.left ∙ sym (meant_listed m p (without r f.w).waiters)) in (
-                f.w,
-                f.found,
-                turn_of settings r m p it f.w q.one f.one (same_number f.w.request.partition p part) left.0 left.1,
-                one_taken f.w (taken_waiters grid.waiters new.waiters r m p f.w h.waiters (run_ok run).of_waiters.once some.0 at (subst (λ n. m < n) h.members within) low others its),
+            meant_alike m (list_at new.waiters m p) (map as_listed (filter (waits_at m p) (without r f.w).waiters)) (left.2 ∙ sym f.left ∙ sym (meant_listed m p (without r f.w).waiters)) in (
+              f.w,
+              f.found,
+              turn_of settings r m p it f.w q.one f.one (same_number f.w.request.partition p part) left.0 left.1,
+              one_taken f.w (taken_waiters grid.waiters new.waiters r m p f.w h.waiters (run_ok run).of_waiters.once some.0 at (subst (λ n. m < n) h.members within) low others its),
             )
 
         go : (q : Option (Picked Request)) (it : Option Turn) → IsFoundSo (waits_at m p) (is_its_turn (partition_object settings) r p m) r.waiters q

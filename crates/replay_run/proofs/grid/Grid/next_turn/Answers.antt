@@ -29,4 +29,4 @@ pub returns-clause-taken : goal.returns-clause-taken
 returns-clause-taken g c = λ settings r run h.
     let grid = c.args.self.now in
     turn_taken grid (record grid { waiters = c.turn.new.self }) refl r h run c.args.at.member c.args.at.partition c.requires.member c.requires.partition c.from.result c.from.ensures c.index-world.result.now c.index-world.ensures
-        c.from-2.result c.from-2.ensures c.index-now.result.now c.index-now.ensures c.standing_of-standing.result c.contents.result.shelf.now c.standing_of-standing.ensures c.contents.ensures.state c.turn.result c.turn.ensures.turn c.turn.ensures.others
+    c.from-2.result c.from-2.ensures c.index-now.result.now c.index-now.ensures c.standing_of-standing.result c.contents.result.shelf.now c.standing_of-standing.ensures c.contents.ensures.state c.turn.result c.turn.ensures.turn c.turn.ensures.others
