@@ -64,6 +64,7 @@ pub mod GridEvents
 pub mod GivingUp
 pub mod Flowing
 pub mod Serving
+pub mod Staying
 pub mod Leaving
 pub mod LateCalls
 pub mod NewCalls

@@ -15,6 +15,7 @@ pub mod ScriptRuns
 pub mod Shelves
 pub mod SkippedCalls
 pub mod Skips
+pub mod Staying
 pub mod Tables
 pub mod Tallies
 pub mod WaiterCalls

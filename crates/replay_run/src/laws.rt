@@ -3,6 +3,7 @@
 ghost use Rattle.replay_run.specs.Counts.{EveryCallCountsOnce};
 ghost use Rattle.replay_run.specs.Linearizability.{EveryRunIsLinearizable};
 ghost use Rattle.replay_run.specs.SkippedCalls.{EverySkippedCallIsTold, EveryRunThatTellsOfNoSkipHasNone};
+ghost use Rattle.replay_run.specs.Staying.{EveryWaiterStays};
 
 /// For every list of lines, whichever calls find no memory: what the run prints for each object is the history of one
 /// object used by one thread.
@@ -25,4 +26,10 @@ pub fn every_run_that_tells_of_no_skip_has_none()
 /// counted once.
 pub fn every_call_counts_once()
     ensures { EveryCallCountsOnce }
+{}
+
+/// After each line nothing is to be done with any call that waits, unless the run is given up: its member lives and
+/// serves, and it is neither ready nor due.
+pub fn every_waiter_stays()
+    ensures { EveryWaiterStays }
 {}
