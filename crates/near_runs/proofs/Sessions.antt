@@ -217,10 +217,10 @@ find_updated new (j ∷ ks) k e = go (j.conn == new.conn) refl e (find_updated n
 
 -- it is open still, so that nobody leaves who waits
 lasts : (r next : Run) (k : Connection) (bytes : List ℕ) → connection_of r k.conn ≡ Some k → next.connections ≡ (took_bytes r k bytes).connections → fault_of true (k.bytes ++ bytes) ≡ None → forsaken next k.conn ≡ next
-lasts r next k bytes there same whole = ap (λ b. cond b next (left_so_often k.conn (length next.waiters) next)) open
+lasts r next k bytes there same whole = ap (λ b. cond b next (left_so_often k.conn (length next.waiters) next)) still_open
   where
-    open : is_open (connection_of next k.conn) ≡ true
-    open = ap (λ ks. is_open (find (is_connection k.conn) ks)) same ∙ ap is_open (find_updated (with_bytes k bytes) r.connections k there) ∙ ap (λ f. not (is_some f)) whole
+    still_open : is_open (connection_of next k.conn) ≡ true
+    still_open = ap (λ ks. is_open (find (is_connection k.conn) ks)) same ∙ ap is_open (find_updated (with_bytes k bytes) r.connections k there) ∙ ap (λ f. not (is_some f)) whole
 
 pub every_get_is_served : EveryGetIsServed
 every_get_is_served o skips r k client name key there takes sent may =
