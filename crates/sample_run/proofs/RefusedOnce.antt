@@ -1,5 +1,5 @@
 -- No call is refused twice, so that a run in which no call is counted for want of memory tells of no skip.
-use Rattle.std.proofs.Common.{◌≡◌, ◌≢◌, ℕ, Bool, true, false, cond, List, [], ◌∷◌, ◌++◌, Some, None, pos, refl, ap, sym, ◌∙◌, ◌⊎◌, ⊎_elim, inl, inr, arith}
+use Rattle.std.proofs.Common.{◌≡◌, ◌≢◌, ℕ, Bool, true, false, cond, List, [], ◌∷◌, ◌++◌, Option, Some, None, pos, refl, ap, sym, ◌∙◌, ◌⊎◌, ⊎_elim, inl, inr, arith}
 use Rattle.std.specs.Prelude.{count_by, Contains}
 use Rattle.std.specs.List.{find}
 use Rattle.std.proofs.lemmas.List.Sums.{sum_by-cons}
@@ -97,13 +97,13 @@ module _ {o : Object Request Partition} (r : Run) (ok : RunOk o r) (old : Refuse
   abbrev before : World Request
   before = world_at o r a.request.partition
 
-  abbrev next : Happened Request
-  next = happens o before (call_of a)
+  abbrev happened : Happened Request
+  happened = happens o before (call_of a)
 
   called : (own : Option ℕ) → RefusedOnce (r.appended ++ happening o r own a)
   called own =
-      refused_with next.outcome (messages_by o r own a.request.partition a.member before next.world)
-      (messages_refuse_none o r a.request.partition own a.member before next.world)
+      refused_with happened.outcome (messages_by o r own a.request.partition a.member before happened.world)
+      (messages_refuse_none o r a.request.partition own a.member before happened.world)
 
   pub asked_once : (skips : List CallId) (own : Option ℕ) → RefusedOnce (asked o skips r own a).appended
   asked_once skips own =
