@@ -130,7 +130,7 @@ impl Chart {
                 number,
                 member,
             } => {
-                let text = format!(in alloc; "holds message {number} of {conn}")?;
+                let text = format!(in alloc; "holds message {number} of connection {conn}")?;
                 let lane = self.cast.end(*member);
                 self.note(alloc, line, Look::Note, lane, text.as_str())
             }

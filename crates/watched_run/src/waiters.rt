@@ -80,6 +80,7 @@ impl Notes {
         let mut gone = Vec::new(alloc);
         for (id, at) in self.waiters.iter() {
             if let Some(end) = self.end_of(running, *id, *at) {
+                told.go_on();
                 told.push(end)?;
                 gone.push(*id)?;
             }
