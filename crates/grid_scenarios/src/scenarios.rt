@@ -510,6 +510,7 @@ const WAITING: &[(&str, u8)] = &[
     ("near_client_beside_a_waiter", 0),
     ("refusals_of_the_session", 0),
     ("further_bytes_and_pieces", 0),
+    ("bad_timeouts_and_nobody_who_serves", 0),
     ("random_01", 0),
     ("random_02", 0),
     ("random_03", 0),
