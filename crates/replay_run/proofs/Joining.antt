@@ -81,6 +81,11 @@ module _ (lists : List (List ListedWaiter)) (r : Run) (w : Waiter) (h : HasWaite
     fit = among_both (λ x. CallFits x.request.call) h.fit fits;
   }
 
+-- by its deadline
+pub joined_at : (lists : List (List ListedWaiter)) (member : ℕ) (request : Request) (deadline other : Option ℕ) → deadline ≡ other
+    → with_list lists member request.partition (list_at lists member request.partition ++ record { request = request; deadline = deadline } ∷ []) ≡ with_list lists member request.partition (list_at lists member request.partition ++ record { request = request; deadline = other } ∷ [])
+joined_at lists member request deadline other = ap (λ d. with_list lists member request.partition (list_at lists member request.partition ++ record { request = request; deadline = d } ∷ []))
+
 -- The grid of the code, once a waiter has joined its list: its table has the call, which was counted.
 pub record HasJoined {V : Type 0} {T : V → Type 0} (grid new : Grid V T) (w : Waiter) : Type 0 where
   pub env : new.env ≡ grid.env

@@ -163,3 +163,7 @@ module _ {V : Type 0} {T : V → Type 0} {form : FormOf V T} {settings : Setting
 pub lists_members : {V : Type 0} {T : V → Type 0} {form : FormOf V T} {settings : Settings} (old grid : Grid V T) (r : Run) (member n : ℕ) (written text : List ℕ) → HasServed form settings old grid r None (λ skips. served_in (partition_object settings) skips r member (numbers_below n)) written text
     → IsBetween form settings old r None → grid.members ≡ old.members
 lists_members {settings = settings} old grid r member n written text did between = did.between.holds.members ∙ (served_in_kept (partition_object settings) did.skips r member (numbers_below n)).members ∙ sym between.holds.members
+
+-- what becomes of it, as the code tells it
+pub may_as : {V : Type 0} {T : V → Type 0} {form : FormOf V T} {settings : Settings} {grid : Grid V T} {r : Run} {at : Spot} {own : Option ℕ} {turn other : Turn} {w : Waiter} → turn ≡ other → MayLeave form settings grid r at own turn w → MayLeave form settings grid r at own other w
+may_as {form = form} {settings = settings} {grid = grid} {r = r} {at = at} {own = own} {w = w} same = subst (λ t. MayLeave form settings grid r at own t w) same

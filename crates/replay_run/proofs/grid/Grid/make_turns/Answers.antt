@@ -25,8 +25,8 @@ next_turn-requires-clause-stands g c =
 
 -- it leaves
 
-pub make_turn-requires : goal.make_turn-requires
-make_turn-requires g c =
+pub make_turn-requires-clause-stands : goal.make_turn-requires-clause-stands
+make_turn-requires-clause-stands g c =
     let settings = c.requires.stands.0 in
     let r = c.requires.stands.1 in
     let own = c.args.own in

@@ -1,0 +1,28 @@
+use Rattle.std.proofs.Common.{◌≡◌, ◌∙◌, ◌++◌, List, ℕ, ℤ, pos, Some, ap, sym, w32, w64, refl, rules}
+use mir.Val.{SFits}
+use Rattle.std.proofs.lemmas.Int.{to_z-of_z}
+use Rattle.std.proofs.lemmas.Result.{on_ok_weaker}
+use Rattle.grid_base.specs.Refusals.{code_of, version_of}
+use Rattle.grid_base.specs.declared.calls.Request.{Request}
+use Rattle.grid_base.specs.declared.refusal.PartitionRefused.{PartitionRefused}
+use Rattle.grid_base.specs.declared.refusal.PartitionRefused.TheVariants.{PartitionLost, WrongTarget, Migrating}
+use Rattle.replica_node.specs.Calls.{refused_as}
+use Rattle.replay_run.specs.Runs.{Appended, refused_at}
+use Rattle.replay_run.specs.WorldCalls.{refusals, texts_of}
+use Rattle.replay_run.proofs.grid.Grid.refuse_waiter.Goals as goal
+
+-- by its number and its version
+named : (line : ℕ) (request : Request) (why : PartitionRefused) → refusals line request (Some (record { code = pos (code_of why); version = version_of why })) ≡ refused_at line request (refused_as why)
+named line request (PartitionLost version) = refl
+named line request (WrongTarget version) = refl
+named line request (Migrating version) = refl
+
+told : (line : ℕ) (request : Request) (why : PartitionRefused) (code : ℤ) (version : ℕ) → code ≡ pos (code_of why) → version ≡ version_of why → refusals line request (Some (record { code = code; version = version })) ≡ refused_at line request (refused_as why)
+told line request why code version numbers versions = (λ i. refusals line request (Some (record { code = numbers i; version = versions i }))) ∙ named line request why
+
+pub returns-clause-text : goal.returns-clause-text
+returns-clause-text g c =
+    let fits : SFits w64 c.args.request.now.correlation = search rules in
+    on_ok_weaker c.push_refusal.result
+    (λ e. e ∙ ap (λ (ms : List Appended). c.args.out.now.items ++ texts_of ms) (told c.args.self.now.lines c.args.request.now c.args.why _ _ c.code.ensures c.version.ensures))
+    (c.push_refusal.ensures c.args.request.now refl (sym (to_z-of_z w64 c.args.request.now.correlation fits)))
