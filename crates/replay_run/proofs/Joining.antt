@@ -1,8 +1,9 @@
 -- A waiting call arrives: it joins the list of its member and partition, and the grid follows.
-use Rattle.std.proofs.Common.{◌≡◌, ◌≢◌, ℕ, ℤ, ◌+◌, ◌<◌, ◌==◌, true, false, cond, ◌&&◌, true≢false, List, [], ◌∷◌, ◌++◌, length, map, filter, Option, Some, Contains, refl, ap, sym, ◌∙◌, subst, ⊎_elim, append-nil, arith, length-append}
+use Rattle.std.proofs.Common.{◌≡◌, ◌≢◌, ℕ, ℤ, ◌+◌, ◌<◌, ◌==◌, true, false, cond, ◌&&◌, true≢false, List, [], ◌∷◌, ◌++◌, length, map, filter, Option, Some, Contains, Result, OnOk, refl, ap, sym, ◌∙◌, subst, ⊎_elim, append-nil, arith, length-append}
 use Rattle.std.proofs.lemmas.Bool.{cases_Bool, eq-eqb}
 use Rattle.std.proofs.lemmas.List.{length-set, map-append, get_or-set_same, get_or-set_other}
 use Rattle.std.proofs.lemmas.List.Elements.{filter-append}
+use Rattle.std.proofs.lemmas.Result.{on_ok_weaker}
 use Rattle.grid_base.specs.Limits.{CallFits}
 use Rattle.grid_base.specs.declared.calls.Request.{Request}
 use Rattle.partition_protocol.proofs.Lists.{In, in_cases, in_contains, contains_in}
@@ -158,6 +159,12 @@ module _ {V : Type 0} {T : V → Type 0} {form : FormOf V T} {settings : Setting
         counting = counting_by new.connections after.connections (waits r w) (by_waiting settings r member request timeout did.skips) request.id.conn (request.id.number + 1) did.counts (served_kept (partition_object settings) did.skips (waits r w) own request.partition member).connections joined_count;
         added = did.added;
       }
+
+  pub wait_handled : {A E : Type 0} (result : Result A E) → AreListening grid.listeners.items r (Some request.id.conn) → (after : Grid V T) (written text : List ℕ)
+      → (IsBetween form settings new (waits r (waiter_at r member request timeout)) (Some request.id.conn)
+        → OnOk result (HasServed form settings new after (waits r (waiter_at r member request timeout)) (Some request.id.conn) (by_turns settings (waits r (waiter_at r member request timeout)) (Some request.id.conn) request.partition member) written text))
+      → OnOk result (HasHandledCall form settings after r request.id.conn (request.id.number + 1) (by_waiting settings r member request timeout) written text)
+  wait_handled result are after written text turns = on_ok_weaker result (has_waited after written text) (turns (joined_between (Some request.id.conn) are))
 
 -- or one meets a full partition
 pub waiting_full : (settings : Settings) (r : Run) (member : ℕ) (request : Request) (timeout : ℤ) → GivesUpSo (waits r (waiter_at r member request timeout)) (by_turns settings (waits r (waiter_at r member request timeout)) (Some request.id.conn) request.partition member)

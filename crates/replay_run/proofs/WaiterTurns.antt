@@ -147,7 +147,7 @@ module _ {V : Type 0} {T : V → Type 0} {form : FormOf V T} {settings : Setting
   turned_room room = often_room (partition_object settings) did.on.skips r own p member number p 0 room
 
   -- Nobody was left to be taken out.
-  pub turned_still : (taken : Grid V T) → taken ≡ record grid { waiters = taken.waiters } → Holds form settings taken (turned_so_far old r own p member grid number written text did) → HasTurned form settings old taken r own p member number written text
+  abbrev pub turned_still : (taken : Grid V T) → taken ≡ record grid { waiters = taken.waiters } → Holds form settings taken (turned_so_far old r own p member grid number written text did) → HasTurned form settings old taken r own p member number written text
   turned_still taken rest holds = record {
     on = record {
       skips = did.on.skips;

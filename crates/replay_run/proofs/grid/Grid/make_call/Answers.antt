@@ -104,7 +104,7 @@ returns-clause-ok g c = λ settings r w may.
     let of_run : AreOfRun grid.connections c.as_slice.result.now (record { line = grid.lines; partition = at.partition; member = at.member; known = known; own = own }) r all =
     record { line = sym may.holds.lines; connections = may.holds.table.connections; stand = λ here there. may.listeners.each at.member here (ap (λ (ls : List Listeners). slice_get ls at.member) (sym c.as_slice.ensures.value) ∙ there) } in
     late_grid grid r own at request w may _ old called c.append_reached.new.world (late_there grid r own at request w may c.from.result c.from.ensures old read) grid.lines now known may.holds.lines
-    (late_moment grid r own at request w may c.from-2.result c.from-2.ensures now c.index.ensures) knew c.in_ok-reception.reception did.0 c.args.out.now.items c.append_reached.new.out.items c.call.new.out.items
+    (late_moment grid r own at request w may c.from-2.result c.from-2.ensures now c.index.ensures) knew c.in_ok-reception.reception did.0 c.args.out.now.items c.call.new.out.items c.append_reached.new.out.items
     (record {
       env = refl;
       lines = refl;

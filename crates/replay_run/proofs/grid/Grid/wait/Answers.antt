@@ -1,9 +1,8 @@
 use Rattle.std.proofs.Common.{◌≡◌, ◌≤◌, ◌∙◌, ◌<◌, Some, refl, ap, sym, subst, arith}
-use Rattle.std.proofs.lemmas.Result.{on_ok_weaker}
 use Rattle.wait_sets.specs.WaitSets.{deadline_of}
 use Rattle.replay_run.specs.Runs.{moment_of, waits, waiter_at}
 use Rattle.replay_run.proofs.Asking.{moment_within, moment_there}
-use Rattle.replay_run.proofs.Joining.{place_there, joined_at, wait_room, joined_between, has_waited, waiting_full}
+use Rattle.replay_run.proofs.Joining.{place_there, joined_at, wait_room, joined_between, wait_handled, waiting_full}
 use Rattle.replay_run.proofs.Tallies.{tally_room}
 use Rattle.replay_run.proofs.grid.Grid.wait.Goals as goal
 
@@ -67,22 +66,21 @@ returns-clause-ok g c = λ settings r between next count.
     let member = c.args.member in
     let within = subst (λ n. member < n) between.holds.members c.requires.member in
     let moment = moment_there grid r between.holds member c.from.result c.requires.member c.from.ensures c.index.result.now c.index.ensures in
-    let joined = record {
-      env = refl;
-      lines = refl;
-      members = refl;
-      links = refl;
-      moments = refl;
-      connections = c.in_ok-arrive.ensures.ok;
-      tally = c.count.ensures;
-      waiters = c.in_ok-add.ensures.ok ∙ joined_at grid.waiters member request c.deadline_of-deadline.result (deadline_of (moment_of r member) c.args.timeout) (c.deadline_of-deadline.ensures ∙ ap (λ m. deadline_of m c.args.timeout) moment);
-      listeners = refl;
-      reopened = refl;
-      worlds = refl;
-    } in
-    on_ok_weaker c.make_turns.result
-    (λ did. has_waited grid r between.run between.holds member request c.args.timeout next within c.requires.limits _ joined count c.make_turns.new.self c.args.out.now.items c.make_turns.new.out.items did)
-    (c.make_turns.ensures.ok settings (waits r (waiter_at r member request c.args.timeout)) (joined_between grid r between.run between.holds member request c.args.timeout next within c.requires.limits _ joined count (Some request.id.conn) between.listeners))
+    wait_handled grid r between.run between.holds member request c.args.timeout next within c.requires.limits (record c.args.self.now { connections = c.arrive.new.self; tally = c.count.new.self; waiters = c.add.new.self })
+    (record {
+          env = refl;
+          lines = refl;
+          members = refl;
+          links = refl;
+          moments = refl;
+          connections = c.in_ok-arrive.ensures.ok;
+          tally = c.count.ensures;
+          waiters = c.in_ok-add.ensures.ok ∙ joined_at grid.waiters member request c.deadline_of-deadline.result (deadline_of (moment_of r member) c.args.timeout) (c.deadline_of-deadline.ensures ∙ ap (λ m. deadline_of m c.args.timeout) moment);
+          listeners = refl;
+          reopened = refl;
+          worlds = refl;
+        })
+    count c.make_turns.result between.listeners c.make_turns.new.self c.args.out.now.items c.make_turns.new.out.items (c.make_turns.ensures.ok settings (waits r (waiter_at r member request c.args.timeout)))
 
 pub returns-clause-full : goal.returns-clause-full
 returns-clause-full g c = λ settings r between next count fails.
@@ -93,7 +91,7 @@ returns-clause-full g c = λ settings r between next count fails.
     let moment = moment_there grid r between.holds member c.from.result c.requires.member c.from.ensures c.index.result.now c.index.ensures in
     waiting_full settings r member request c.args.timeout
     (c.make_turns.ensures.full settings (waits r (waiter_at r member request c.args.timeout))
-      (joined_between grid r between.run between.holds member request c.args.timeout next within c.requires.limits _
+      (joined_between grid r between.run between.holds member request c.args.timeout next within c.requires.limits (record c.args.self.now { connections = c.arrive.new.self; tally = c.count.new.self; waiters = c.add.new.self })
         (record {
           env = refl;
           lines = refl;
