@@ -15,7 +15,7 @@ use Rattle.script_lang.specs.Lines.{line_of, is_end}
 use Rattle.script_lang.specs.declared.line.Line.{Line}
 use Rattle.script_lang.specs.declared.line.Line.TheVariants.{Grid, OpenConn, Arrive, Rebalance, Near, NearGet, NearFeed, Comment}
 use Rattle.script_lang.specs.declared.refusal.LineWhy.{LineWhy}
-use Rattle.replay_run.specs.Runs.{Run, Connection, Appended, connection_of, takes_bytes, can_open, next_line, opened}
+use Rattle.replay_run.specs.Runs.{Run, Connection, Appended, connection_of, takes_bytes, can_open, next_line, opened, bytes_arrived}
 use Rattle.script_run.specs.Runs.{ScriptRun, Look, Unmade, Hit, Miss, begun, can_begin, is_near_connection, look, asked_line}
 use Rattle.script_run.specs.NearClients.{opening_of, get_sent}
 use Rattle.script_run.specs.AfterLines as script
@@ -23,7 +23,6 @@ use Rattle.script_run.specs.Printing.{brought, look_text}
 use Rattle.script_run.specs.Printing as script_text
 use Rattle.replay_run.specs.AfterLines.{after_line}
 use Rattle.replay_run.specs.Printing.{ok_text, nothing_text, line_text, does_nothing, outcome_text, appended_text, new_messages, line_messages, line_close, line_dump, line_links, entry_text, printed_by}
-use Rattle.replay_run.proofs.Midway.{on_bytes}
 use Rattle.rebalance.specs.declared.Step.{Step}
 use Rattle.replay_run.specs.Rebalancing.{is_moving_at, stepped, stepped_all, steps_in}
 use Rattle.replay_run.specs.RebalancingTexts.{end_text, ran_text, ran_texts}
@@ -118,6 +117,9 @@ unopened r c member false = refl
 
 abbrev takes_none : Object Request Partition → Run → Option Connection → Bool
 takes_none o r found = elim found [ None ↦ true | Some c ↦ not (takes_bytes o r c) ]
+
+abbrev on_bytes : Object Request Partition → List CallId → Run → List ℕ → Option Connection → Run
+on_bytes o skips r bytes found = elim found [ None ↦ next_line r | Some c ↦ bytes_arrived o skips r c bytes ]
 
 untaken : (o : Object Request Partition) (skips : List CallId) (r : Run) (bytes : List ℕ) (found : Option Connection) → takes_none o r found ≡ true → (on_bytes o skips r bytes found).appended ≡ r.appended
 untaken o skips r bytes None e = refl
