@@ -103,8 +103,8 @@ same_messages settings s k r line next same = refl
 same_grid_text : (settings : Settings) (s k : List CallId) (r : Run) (line : Line) (next : Run) → SameSteps settings s k r line → grid_text.line_text settings s r line next ≡ grid_text.line_text settings k r line next
 same_grid_text settings s k r line next same =
     let o = partition_object settings in
-    let behind = line_close next line ++ line_dump o next line ++ line_links settings next line ++ flat_map (entry_text next.lines) (printed_by o next line) in
-    ap (λ messages. cond (does_nothing o r line) (nothing_text next.lines) (outcome_text settings r line next ++ messages ++ behind)) (same_messages settings s k r line next same)
+    ap (λ messages. cond (does_nothing o r line) (nothing_text next.lines) (outcome_text settings r line next ++ messages ++ line_close next line ++ line_dump o next line ++ line_links settings next line ++ flat_map (entry_text next.lines) (printed_by o next line)))
+    (same_messages settings s k r line next same)
 
 same_look : (settings : Settings) (s k : List CallId) (r : Run) (c : ℕ) (key : List ℕ) (next : Run) (found : Look) → look_text settings s r c key next found ≡ look_text settings k r c key next found
 same_look settings s k r c key next Unmade = refl
