@@ -373,7 +373,7 @@ module _ {V : Type 0} {T : V → Type 0} {form : FormOf V T} {settings : Setting
         let to_now : stepped_all o both r steps ≡ now = sym (g.alike did.skips both (λ a i. sym (alike_first r steps_on its_step g h did.skips one.skips once did.own one.own a i))) in
         let front : ran_texts o both r steps ≡ ran_texts o did.skips r steps = sym (ran_alike o r steps did.skips both (λ a i. sym (alike_first r steps_on its_step g h did.skips one.skips once did.own one.own a i))) in
         let its : ran_text o both (stepped_all o both r steps) step ≡ ran_text o one.skips now step =
-            (λ i. flat_map appended_text (new_messages (to_now i) (same i)) ++ end_text (to_now i).lines step.partition (is_moving_at o (same i) step.partition)) in
+        (λ i. flat_map appended_text (new_messages (to_now i) (same i)) ++ end_text (to_now i).lines step.partition (is_moving_at o (same i) step.partition)) in
         record {
           skips = both;
           own = subst (λ (x : Run). AreAmong (new_arrivals r x) both) (sym (stepped_more o both r steps step)) (both_among r steps_on its_step g h did.skips one.skips once did.own one.own);

@@ -55,4 +55,4 @@ returns-clause-ok g c = λ settings r amid.
     let on = (c.in_ok-take.ensures.ok settings r amid).on in
     let now = takes o on.skips r p event in
     (so_further c.take.new.self c.deliver_first.new.self r (λ s. takes o s r p event) (flows o p) (takes_goes o r p event refl) (λ x. flowed_goes o x p most_deliveries) c.args.out.now.items c.take.new.out.items on c.deliver_first.new.out.items
-      (c.in_ok-deliver_first.ensures.ok settings now on.on.amid).on).0
+    (c.in_ok-deliver_first.ensures.ok settings now on.on.amid).on).0

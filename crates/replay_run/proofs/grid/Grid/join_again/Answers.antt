@@ -23,7 +23,7 @@ returns-clause-ok g c = λ settings r amid.
     let o = partition_object settings in
     on_ok_weaker c.join.result
     (so_all c.join.new.self r (λ s. joined o s r c.args.partition c.args.from) (λ s. rejoined o s r c.args.partition c.args.from Handover) c.args.out.now.items c.join.new.out.items
-      (λ s. sym (rejoined_done o s r c.args.partition c.args.from (sym (c.is_moving.ensures settings r amid) ∙ c.if-is_moving.false))))
+    (λ s. sym (rejoined_done o s r c.args.partition c.args.from (sym (c.is_moving.ensures settings r amid) ∙ c.if-is_moving.false))))
     (c.join.ensures.ok settings r amid)
 
 pub returns-clause-full : goal.returns-clause-full

@@ -18,7 +18,7 @@ returns-in-Handover-clause-ok g c = λ settings r amid.
     let o = partition_object settings in
     on_ok_weaker c.join_again.result
     (so_all c.join_again.new.self r (λ s. rejoined o s r c.args.partition c.args.from Handover) (λ s. rejoined o s r c.args.partition c.args.from c.args.kind) c.args.out.now.items c.join_again.new.out.items
-      (λ s. sym (ap (rejoined o s r c.args.partition c.args.from) c.in-Handover.is)))
+    (λ s. sym (ap (rejoined o s r c.args.partition c.args.from) c.in-Handover.is)))
     (c.join_again.ensures.ok settings r amid)
 
 pub returns-in-Handover-clause-full : goal.returns-in-Handover-clause-full

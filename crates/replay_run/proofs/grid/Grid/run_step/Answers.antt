@@ -50,7 +50,7 @@ returns-in_err-turn_on-clause-full g c = λ settings r amid was.
     let begun = begins o r step on.skips in
     let why = handed_on c.from_residual-in_err-turn_on.result c.in_err-turn_on.field-0.0 InFlight c.from_residual-in_err-turn_on.ensures.1 was in
     ends_after o r step (gives_up_after c.take.new.self c.take.new.self r (begins o r step) (turns_of o step) (begins_goes o r step) (λ x. turned_on_goes o x step.partition most_turns) c.args.out.now.items c.take.new.out.items on
-      (c.in_err-turn_on.ensures.full settings begun on.on.amid (ap Err why)) (λ s. turned_on_run s begun step.partition most_turns on.on.amid.run))
+    (c.in_err-turn_on.ensures.full settings begun on.on.amid (ap Err why)) (λ s. turned_on_run s begun step.partition most_turns on.on.amid.run))
 
 pub rejoin-requires-clause-stands : goal.rejoin-requires-clause-stands
 rejoin-requires-clause-stands g c =

@@ -47,7 +47,7 @@ returns-in_err-run_told-clause-full g c = λ settings r amid was.
     let did = c.loop-place.invariant settings r amid in
     up_as r (λ s. stepped_all o s r (take i steps ++ step ∷ drop (i + 1) steps)) (λ s. stepped_all o s r steps) (λ s. sym (ap (λ all. stepped_all o s r all) split))
     (steps_end r c.loop-place.self c.loop-place.self (take i steps) step c.args.out.now.items c.loop-place.out.items did (drop (i + 1) steps)
-      (c.in_err-run_told.ensures.full settings (stepped_all o did.skips r (take i steps)) did.amid (ap Err why)))
+    (c.in_err-run_told.ensures.full settings (stepped_all o did.skips r (take i steps)) did.amid (ap Err why)))
 
 pub loop-place-preserved : goal.loop-place-preserved
 loop-place-preserved g c = λ settings r amid.

@@ -46,7 +46,7 @@ returns-in_err-resend_first-clause-full g c = λ settings r amid was.
     let now = takes o told.skips r p (Resend r.members) in
     let why = handed_on c.from_residual-in_err-resend_first.result c.in_err-resend_first.field-0.0 InFlight c.from_residual-in_err-resend_first.ensures.1 was in
     ends_later o r p (ends_again o r p (gives_up_after c.take.new.self c.take.new.self r (resent o r p) (again o p) (takes_goes o r p (Resend r.members) refl) (λ x. first_goes o x p) c.args.out.now.items c.take.new.out.items told
-      (c.in_err-resend_first.ensures.full settings now told.on.amid (ap Err why)) (λ s. first_run s now p told.on.amid.run)))
+    (c.in_err-resend_first.ensures.full settings now told.on.amid (ap Err why)) (λ s. first_run s now p told.on.amid.run)))
 
 pub deliver_first-requires-clause-stands : goal.deliver_first-requires-clause-stands
 deliver_first-requires-clause-stands g c =
@@ -76,7 +76,7 @@ returns-in_err-deliver_first-clause-full g c = λ settings r amid was.
     let mid = again o p (resent o r p sent.0.skips) sent.0.skips in
     let why = handed_on c.from_residual-in_err-deliver_first.result c.in_err-deliver_first.field-0.0 InFlight c.from_residual-in_err-deliver_first.ensures.1 was in
     ends_later o r p (gives_up_after c.resend_first.new.self c.resend_first.new.self r (sent_again o r p) (flows o p) (sent_goes o r p) (λ x. flowed_goes o x p most_deliveries) c.args.out.now.items c.resend_first.new.out.items sent.0
-      (c.in_err-deliver_first.ensures.full settings mid sent.0.on.amid (ap Err why)) (λ s. flowed_run s mid p most_deliveries sent.0.on.amid.run))
+    (c.in_err-deliver_first.ensures.full settings mid sent.0.on.amid (ap Err why)) (λ s. flowed_run s mid p most_deliveries sent.0.on.amid.run))
 
 pub take-requires-2-clause-stands : goal.take-requires-2-clause-stands
 take-requires-2-clause-stands g c =
