@@ -51,7 +51,7 @@ returns-clause-ok g c = λ settings r between next count.
 
 pub returns-in_err-admit-clause-full : goal.returns-in_err-admit-clause-full
 returns-in_err-admit-clause-full g c = λ settings r between next count fails.
-    let why = handed_on c.from_residual-in_err-admit.result c.in_err-admit.field-0.0 InFlight c.from_residual-in_err-admit.ensures.1 fails in
+    let why = handed_on c.from_residual.result c.in_err-admit.field-0.0 InFlight c.from_residual.ensures.1 fails in
     admits_none settings r c.args.member c.args.request (c.admit.ensures.full settings r between.holds (c.in_err-admit.was ∙ ap Err why))
 
 pub returns-clause-full : goal.returns-clause-full
