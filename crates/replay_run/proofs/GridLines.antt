@@ -16,7 +16,7 @@ use Rattle.listeners.specs.declared.listeners.Listeners.{Listeners}
 use Rattle.call_engine.specs.Calls.{Settings}
 use Rattle.call_engine.specs.Env.{settings_of}
 use Rattle.call_engine.specs.Objects.{partition_object}
-use Rattle.replay_run.specs.Runs.{Run, Connection, Appended, partitions, is_open, served_in, forsaken, is_connection, connection_of, fault_on, messages_on, with_bytes, took_bytes, opened, next_line, clock_set, can_open, takes_bytes}
+use Rattle.replay_run.specs.Runs.{Run, Connection, Appended, partitions, is_open as stays_open, served_in, forsaken, is_connection, connection_of, fault_on, messages_on, with_bytes, took_bytes, opened, next_line, clock_set, can_open, takes_bytes}
 use Rattle.wait_sets.specs.declared.waiter.Waiter.{Waiter as ListedWaiter}
 use Rattle.partition_protocol.specs.Service.{numbers_below}
 use Rattle.replay_run.specs.WaiterCalls.{IsBetween, HasServed}
@@ -450,16 +450,16 @@ module _ {V : Type 0} {T : V → Type 0} {form : FormOf V T} {settings : Setting
 
   -- what becomes of the lists of those who wait
   pub record AreLeft (waiters : List (List ListedWaiter)) : Type 0 where
-    pub if_open : is_open (Some (with_bytes k bytes)) ≡ true → waiters ≡ handled.waiters
-    pub if_closed : is_open (Some (with_bytes k bytes)) ≡ false → waiters ≡ map (dropped k.conn) handled.waiters
+    pub if_open : stays_open (Some (with_bytes k bytes)) ≡ true → waiters ≡ handled.waiters
+    pub if_closed : stays_open (Some (with_bytes k bytes)) ≡ false → waiters ≡ map (dropped k.conn) handled.waiters
 
-  its_open : is_open (connection_of did.now k.conn) ≡ is_open (Some (with_bytes k bytes))
-  its_open = ap is_open did.midway.may.there
+  its_open : stays_open (connection_of did.now k.conn) ≡ stays_open (Some (with_bytes k bytes))
+  its_open = ap stays_open did.midway.may.there
 
   closing_waiters : (waiters : List (List ListedWaiter)) → AreLeft waiters → HasWaiters waiters closing
-  closing_waiters waiters left = go (is_open (Some (with_bytes k bytes))) refl
+  closing_waiters waiters left = go (stays_open (Some (with_bytes k bytes))) refl
     where
-      go : (b : Bool) → is_open (Some (with_bytes k bytes)) ≡ b → HasWaiters waiters closing
+      go : (b : Bool) → stays_open (Some (with_bytes k bytes)) ≡ b → HasWaiters waiters closing
       go true e = subst (HasWaiters waiters) (sym (forsaken_open did.now k.conn (its_open ∙ e))) (subst (λ ls. HasWaiters ls did.now) (sym (left.if_open e)) did.holds.waiters)
       go false e =
           subst (λ ls. HasWaiters ls closing) (sym (left.if_closed e))
