@@ -33,7 +33,7 @@ use Rattle.replay_run.specs.Printing.{ok_text, nothing_text, words_of, done_word
 use Rattle.replay_run.specs.Rebalancing.{stepped, stepped_all, rebalanced, steps_in, plan_in, is_moving_at}
 use Rattle.replay_run.specs.RebalancingTexts.{kind_word, step_text, plan_text, end_text, ran_text, ran_texts}
 use Rattle.replay_run.specs.WorldCalls.{is_quiet}
-use Rattle.replay_run.proofs.Growing.{Grows, stepped_goes, stepped_all_goes}
+use Rattle.replay_run.proofs.Growing.{stepped_goes, stepped_all_goes}
 use Rattle.replay_run.proofs.LineTexts.{new_more}
 use Rattle.script_run.specs.Outputs.{sent_to, bytes_to}
 use Rattle.script_run.specs.Reading.{Tells}

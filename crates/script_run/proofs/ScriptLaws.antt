@@ -1,20 +1,15 @@
 -- What holds of the grid's runs holds of those of scripts, whose grid runs lines of its own.
 use Rattle.std.proofs.Common.{◌≡◌, ℕ, cond, List, [], ◌∷◌, ◌++◌, map, refl, ap, sym, ◌∙◌, subst}
 use Rattle.std.specs.List.{flat_map}
-use Rattle.grid_base.specs.Objects.{Object}
 use Rattle.grid_base.specs.declared.names.CallId.{CallId}
-use Rattle.grid_base.specs.declared.calls.Request.{Request}
-use Rattle.object_store.specs.Partitions.{Partition}
 use Rattle.partition_protocol.proofs.Lists.{In, in_right, contains_in}
 use Rattle.partition_protocol.proofs.RowFacts.{false_or_not}
-use Rattle.rebalance.specs.declared.Step.{Step}
 use Rattle.call_engine.specs.Calls.{Settings}
 use Rattle.call_engine.specs.Objects.{partition_object}
 use Rattle.script_lang.specs.declared.line.Line.{Line}
 use Rattle.script_lang.specs.declared.line.Line.TheVariants.{Arrive, Rebalance, Near, NearGet, NearFeed}
 use Rattle.replay_run.specs.Runs.{Run, next_line, is_skipped}
 use Rattle.replay_run.specs.Appending.{new_messages}
-use Rattle.replay_run.specs.AfterLines as grid
 use Rattle.replay_run.specs.Printing as grid_text
 use Rattle.replay_run.specs.Printing.{nothing_text, does_nothing, outcome_text, line_messages, line_close, line_dump, line_links, entry_text, printed_by}
 use Rattle.replay_run.specs.Rebalancing.{stepped_all, steps_in}
