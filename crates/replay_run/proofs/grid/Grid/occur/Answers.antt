@@ -29,7 +29,7 @@ pub step-requires : goal.step-requires
 step-requires g c = (
   events_at c.args.partition c.requires.stands.1.events,
   comes_in c.args.self.now c.requires.stands.1 c.requires.stands.2.holds c.args.partition c.from.result c.requires.placed c.from.ensures c.index_mut-world.result.now c.index_mut-world.ensures.value (event_of c.args.event) c.requires.unasked
-  (event_room c.args.self.now c.requires.stands.1 c.requires.stands.2.holds c.args.partition c.from.result c.requires.placed c.from.ensures c.index_mut-world.result.now c.index_mut-world.ensures.value c.requires.stands.3),
+      (event_room c.args.self.now c.requires.stands.1 c.requires.stands.2.holds c.args.partition c.from.result c.requires.placed c.from.ensures c.index_mut-world.result.now c.index_mut-world.ensures.value c.requires.stands.3),
 )
 
 pub append_reached-requires : goal.append_reached-requires

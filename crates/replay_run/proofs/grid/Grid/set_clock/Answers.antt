@@ -26,9 +26,9 @@ make_turns_of-requires-clause-stands g c =
     let r = may.run in
     let s = may.stands in
     let grid = c.args.self.now in
-    let clock = has_clock grid c.count.new.self c.args.number c.args.member c.args.moment _ c.count.ensures.grid (λ i. set grid.moments.items (c.from.ensures i) c.args.moment) in
-    (
-      may.settings, clock_set r c.args.member c.args.moment,
+    let clock = has_clock grid c.count.new.self c.args.number c.args.member c.args.moment _ c.count.ensures.grid (λ i. set grid.moments.items (c.from.ensures i) c.args.moment) in (
+      may.settings,
+      clock_set r c.args.member c.args.moment,
       clocked_between grid c.count.new.self r c.args.number c.args.member c.args.moment s may.next may.within clock,
       λ p. stands_room grid r s (few_lines grid c.args.number (Clock c.args.member c.args.moment) may r s) p 0 (omega arith),
     )
