@@ -65,6 +65,8 @@ pub mod GivingUp
 pub mod Flowing
 pub mod Serving
 pub mod Staying
+pub mod ByMachine
+pub mod MachineLines
 pub mod Leaving
 pub mod LateCalls
 pub mod NewCalls

@@ -109,6 +109,13 @@ module _ (o : Object Request Partition) where
   still_only A r next members backups moments events fewer only w i over =
       only w (fewer w i) (ap is_over (sym (fate_as r next w members backups (ap (events_at w.request.partition) events) (ap (λ ms. unwrap_or (slice_get ms w.member) 0) moments))) ∙ over)
 
+  -- whoever comes to wait may have a turn
+  pub waits_only : (r : Run) (w : Waiter) → Only o Nobody r → Only o (And Nobody w.request.partition w.member) (waits r w)
+  waits_only r w only v i over = ⊎_elim
+      (λ j. absurd (only v j (ap is_over (sym (fate_as r (waits r w) v refl refl refl refl)) ∙ over)))
+      (λ j. ⊎_elim (λ same. inr (ap (λ (x : Waiter). x.request.partition) (sym same), ap (λ (x : Waiter). x.member) (sym same))) (λ z. absurd z) j)
+      (in_cases v r.waiters (w ∷ []) i)
+
   module _ (law : IsLawful o) where
     fate_beside : (r next : Run) (w : Waiter) (event : Event Request) → 1 ≤ r.members → next.members ≡ r.members → next.backups ≡ r.backups → next.moments ≡ r.moments
         → events_at w.request.partition next.events ≡ events_at w.request.partition r.events ++ event ∷ [] → (IsAt event w.member → ⊥) → fate_now o next w ≡ fate_now o r w
@@ -121,7 +128,7 @@ module _ (o : Object Request Partition) where
         ∙ every_other_event_is_idle o (grid_terms (λ x. false)) p r.members r.backups before event (moment_of r w.member) (as_machine w) some law away
 
     -- an event of a partition gives turns to those there whose member it is at
-    event_only : (A : ℕ → ℕ → Type 0) (p : ℕ) (r next : Run) (one : At) → 1 ≤ r.members → next.members ≡ r.members → next.backups ≡ r.backups → next.moments ≡ r.moments → next.events ≡ r.events ++ one ∷ []
+    pub event_only : (A : ℕ → ℕ → Type 0) (p : ℕ) (r next : Run) (one : At) → 1 ≤ r.members → next.members ≡ r.members → next.backups ≡ r.backups → next.moments ≡ r.moments → next.events ≡ r.events ++ one ∷ []
         → one.partition ≡ p → ((w : Waiter) → In w next.waiters → In w r.waiters) → ((k : ℕ) → IsAt one.event k → A p k) → Only o A r → Only o A next
     event_only A p r next one some members backups moments events here fewer at only w i over = ⊎_elim there elsewhere (number_cases w.request.partition p)
       where
@@ -258,11 +265,7 @@ module _ (o : Object Request Partition) where
           (made_only Nobody own request.partition k.member r a some refl refl (λ w i over. absurd (only w i over)))
       handled_nobody r k (Wait request timeout) some only =
           let w = waiter_at r k.member request timeout in
-          served_only Nobody (Some request.id.conn) request.partition k.member (waits r w) some
-          (λ v i over. ⊎_elim
-          (λ j. absurd (only v j (ap is_over (sym (fate_as r (waits r w) v refl refl refl refl)) ∙ over)))
-          (λ j. ⊎_elim (λ same. inr (ap (λ (x : Waiter). x.request.partition) (sym same), ap (λ (x : Waiter). x.member) (sym same))) (λ z. absurd z) j)
-          (in_cases v r.waiters (w ∷ []) i))
+          served_only Nobody (Some request.id.conn) request.partition k.member (waits r w) some (waits_only r w only)
 
       handled_all_nobody : (r : Run) (k : Connection) (items : List Item) → IsQuiet r → Leaving o Nobody (handled_all o skips r k items)
       handled_all_nobody r k [] h = h.1
@@ -272,7 +275,7 @@ module _ (o : Object Request Partition) where
           (λ only. handled_all_nobody then k items (subst (λ n. 1 ≤ n) (sym (handled_come o skips r k item).members) h.0, handled_nobody r k item h.0 only))
           h.1
 
-      forsaken_nobody : (r : Run) (c : ℕ) → Leaving o Nobody r → Leaving o Nobody (forsaken r c)
+      pub forsaken_nobody : (r : Run) (c : ℕ) → Leaving o Nobody r → Leaving o Nobody (forsaken r c)
       forsaken_nobody r c h =
           forsaken_keeps (Leaving o Nobody)
           (λ x w i k. ⊎_elim (λ full. inl full) (λ only. inr (still_only Nobody x (leaves x w) refl refl refl (append-nil x.events) (λ v j. (in_without x w v j).0) only)) k)

@@ -1,5 +1,6 @@
 pub mod AfterLines
 pub mod Appending
+pub mod ByMachine
 pub mod Changes
 pub mod Counts
 pub mod Dumps

@@ -1,5 +1,6 @@
 //! What holds of every run of a script's lines.
 
+ghost use Rattle.replay_run.specs.ByMachine.{EveryPartitionGoesByItsMachine};
 ghost use Rattle.replay_run.specs.Counts.{EveryCallCountsOnce};
 ghost use Rattle.replay_run.specs.Linearizability.{EveryRunIsLinearizable};
 ghost use Rattle.replay_run.specs.SkippedCalls.{EverySkippedCallIsTold, EveryRunThatTellsOfNoSkipHasNone};
@@ -32,4 +33,10 @@ pub fn every_call_counts_once()
 /// serves, and it is neither ready nor due.
 pub fn every_waiter_stays()
     ensures { EveryWaiterStays }
+{}
+
+/// Each partition, with those who wait there, goes by the machine of calls that wait, so all that is proved of that
+/// machine holds of it: what has happened is what its lines say, and so are who waits, and the moments of the members.
+pub fn every_partition_goes_by_its_machine()
+    ensures { EveryPartitionGoesByItsMachine }
 {}
