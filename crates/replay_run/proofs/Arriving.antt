@@ -391,14 +391,14 @@ one_less r w ok i = go r.waiters ok.once i
     go (v ∷ vs) once (inl e) =
         let gone : is_other w v ≡ false = ap not (subst (λ (x : Waiter). is_waiter w.request.id x ≡ true) (sym e) itself) in
         let stay = others vs (λ u j. false_or_not (is_waiter w.request.id u) (λ s.
-            (let id = same_call u.request.id w.request.id s in
-            once.0 (waiter_name u) (contains_in (waiter_name u) (map waiter_name vs) (in_map waiter_name vs u j)) (ap id_name id ∙ ap waiter_name (sym e))))) in
+        (let id = same_call u.request.id w.request.id s in
+        once.0 (waiter_name u) (contains_in (waiter_name u) (map waiter_name vs) (in_map waiter_name vs u j)) (ap id_name id ∙ ap waiter_name (sym e))))) in
         rw (gone, stay) (omega arith)
     go (v ∷ vs) once (inr j) =
         let rest = go vs once.1 j in
         let stays : is_other w v ≡ true = ap not (false_or_not (is_waiter w.request.id v) (λ s.
-            (let id = same_call v.request.id w.request.id s in
-            once.0 (waiter_name w) (contains_in (waiter_name w) (map waiter_name vs) (in_map waiter_name vs w j)) (ap id_name (sym id))))) in
+        (let id = same_call v.request.id w.request.id s in
+        once.0 (waiter_name w) (contains_in (waiter_name w) (map waiter_name vs) (in_map waiter_name vs w j)) (ap id_name (sym id))))) in
         rw stays (omega (arith, rest))
 
 pub waiters_without : (r : Run) (w : Waiter) → WaitersOk r → WaitersOk (without r w)

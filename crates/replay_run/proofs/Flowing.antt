@@ -73,8 +73,7 @@ module _ {V : Type 0} {T : V → Type 0} {form : FormOf V T} {settings : Setting
         → (c : HasGoneOnSo form settings new r (λ s. then (first s) s) written text) × (then (first c.skips) c.skips ≡ then (first a.skips) b.skips)
     so_further text b =
         let once : ArrivalsOk (then (first a.skips) b.skips) = (run_ok b.on.amid.run).of_arrivals in
-        let same : then (first (a.skips ++ b.skips)) (a.skips ++ b.skips) ≡ then (first a.skips) b.skips = both_go r first then g h a.skips b.skips once a.own b.own in
-        (
+        let same : then (first (a.skips ++ b.skips)) (a.skips ++ b.skips) ≡ then (first a.skips) b.skips = both_go r first then g h a.skips b.skips once a.own b.own in (
           record {
             skips = a.skips ++ b.skips;
             own = both_among r first then g h a.skips b.skips once a.own b.own;
@@ -195,7 +194,7 @@ module _ {V : Type 0} {T : V → Type 0} {form : FormOf V T} {settings : Setting
           let rest = most - suc number in
           let e : number + suc rest ≡ most = omega (arith, more) in
           let step = gives_up_first so_far (λ s. takes o s so_far p (delivery_on l)) (λ x s. flowed o s x p rest) (takes_goes o so_far p (delivery_on l) refl) (λ x. flowed_goes o x p rest)
-              (subst (λ v. GivesUpSo so_far (λ s. takes o s so_far p v)) is full) in
+          (subst (λ v. GivesUpSo so_far (λ s. takes o s so_far p v)) is full) in
           let its = up_as so_far (λ s. flowed o s (takes o s so_far p (delivery_on l)) p rest) (λ s. flowed o s so_far p (suc rest)) (λ s. sym (flowed_some o s so_far p rest l next)) step in
           let whole = gives_up_after grid grid r (λ s. flowed o s r p number) (λ x s. flowed o s x p (suc rest)) (flowed_goes o r p number) (λ x. flowed_goes o x p (suc rest)) written mid did.on its (λ s. flowed_run s so_far p (suc rest) did.on.on.amid.run) in
           up_as r (λ s. flowed o s (flowed o s r p number) p (suc rest)) (λ s. flowed o s r p most) (λ s. sym (flowed_parts o s r p number (suc rest) most e)) whole
@@ -231,12 +230,12 @@ module _ (o : Object Request Partition) where
   flowed_in_ends : (r : Run) (most n m : ℕ) → n ≤ m → flows_up_to r most n → flows_up_to r most m
   flowed_in_ends r most = stays_on (flows_up_to r most)
       (λ k full. up_as r (λ s. flowed o s (flowed_in o s r most (numbers_below k)) k most) (λ s. flowed_in o s r most (numbers_below (suc k))) (λ s. sym (flowed_in_more o s r most k))
-          (gives_up_first r (λ s. flowed_in o s r most (numbers_below k)) (λ x s. flowed o s x k most) (flowed_in_goes o r most (numbers_below k)) (λ x. flowed_goes o x k most) full))
+      (gives_up_first r (λ s. flowed_in o s r most (numbers_below k)) (λ x s. flowed o s x k most) (flowed_in_goes o r most (numbers_below k)) (λ x. flowed_goes o x k most) full))
 
   takes_in_ends : (r : Run) (event : Event Request) → asked_by event ≡ [] → (n m : ℕ) → n ≤ m → takes_up_to r event n → takes_up_to r event m
   takes_in_ends r event quiet = stays_on (takes_up_to r event)
       (λ k full. up_as r (λ s. takes o s (takes_in o s r event (numbers_below k)) k event) (λ s. takes_in o s r event (numbers_below (suc k))) (λ s. sym (takes_in_more o s r event k))
-          (gives_up_first r (λ s. takes_in o s r event (numbers_below k)) (λ x s. takes o s x k event) (takes_in_goes o r event (numbers_below k) quiet) (λ x. takes_goes o x k event quiet) full))
+      (gives_up_first r (λ s. takes_in o s r event (numbers_below k)) (λ x s. takes o s x k event) (takes_in_goes o r event (numbers_below k) quiet) (λ x. takes_goes o x k event quiet) full))
 
   -- The partition that comes next has the room that it had.
 
@@ -272,7 +271,7 @@ module _ {V : Type 0} {T : V → Type 0} {form : FormOf V T} {settings : Setting
         let last = flowed o b.on.skips flowed_by n most in
         let whole = so_further grid new r (λ s. flowed_in o s r most (numbers_below n)) (λ x s. flowed o s x n most) (flowed_in_goes o r most (numbers_below n)) (λ x. flowed_goes o x n most) written mid a.on text b.on in
         let all = so_as new r (λ s. flowed o s (flowed_in o s r most (numbers_below n)) n most) (λ s. flowed_in o s r most (numbers_below (n + 1))) written text whole.0
-            (sym (ap (λ k. flowed_in o whole.0.skips r most (numbers_below k)) (add-one n) ∙ flowed_in_more o whole.0.skips r most n)) in
+        (sym (ap (λ k. flowed_in o whole.0.skips r most (numbers_below k)) (add-one n) ∙ flowed_in_more o whole.0.skips r most n)) in
         let to_mid = ((flowed_in_goes o r most (numbers_below n)).grows a.on.skips).events in
         let to_last = ((flowed_goes o flowed_by n most).grows b.on.skips).events in
         let to_end = ((flowed_in_goes o r most (numbers_below (n + 1))).grows all.0.skips).events in
@@ -311,7 +310,7 @@ module _ {V : Type 0} {T : V → Type 0} {form : FormOf V T} {settings : Setting
           let o = partition_object settings in
           let whole = so_further grid new r (λ s. takes_in o s r event (numbers_below n)) (λ x s. takes o s x n event) (takes_in_goes o r event (numbers_below n) quiet) (λ x. takes_goes o x n event quiet) written mid a text b.on in
           (so_as new r (λ s. takes o s (takes_in o s r event (numbers_below n)) n event) (λ s. takes_in o s r event (numbers_below (n + 1))) written text whole.0
-            (sym (ap (λ k. takes_in o whole.0.skips r event (numbers_below k)) (add-one n) ∙ takes_in_more o whole.0.skips r event n))).0
+          (sym (ap (λ k. takes_in o whole.0.skips r event (numbers_below k)) (add-one n) ∙ takes_in_more o whole.0.skips r event n))).0
 
       -- or it meets its partition full
       pub take_ends : (m : ℕ) → n < m → GivesUpSo taken_so_far (λ skips. takes (partition_object settings) skips taken_so_far n event) → GivesUpSo r (λ skips. takes_in (partition_object settings) skips r event (numbers_below m))

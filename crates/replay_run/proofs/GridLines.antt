@@ -272,9 +272,9 @@ module _ {V : Type 0} {T : V → Type 0} {form : FormOf V T} {settings : Setting
       let ms = more.0 in
       let line = Clock member moment in
       let its_text : line_text settings did.skips r line next ≡ ok_text (r.lines + 1) ++ texts_of ms =
-          text_with settings did.skips r next line ms refl refl (sym more.1)
-          ∙ ap (λ n. ok_text n ++ texts_of ms ++ [] ++ [] ++ [] ++ []) kept.lines
-          ∙ alone_with (ok_text (r.lines + 1)) (texts_of ms) in
+      text_with settings did.skips r next line ms refl refl (sym more.1)
+      ∙ ap (λ n. ok_text n ++ texts_of ms ++ [] ++ [] ++ [] ++ []) kept.lines
+      ∙ alone_with (ok_text (r.lines + 1)) (texts_of ms) in
       record {
         skips = did.skips;
         of_line = did.among;

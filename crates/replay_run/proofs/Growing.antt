@@ -286,7 +286,7 @@ module _ (o : Object Request Partition) where
   pub handled_goes : (r : Run) (k : Connection) (item : Item) → GoesBy r (λ s. handled o s r k item)
   handled_goes r k (Reply bytes) = goes_on r (told r k.conn bytes) (goes_quietly r (told r k.conn bytes) refl refl (own_answer r.lines k.conn bytes ∷ [], refl) (λ e. e))
   handled_goes r k (Wait request timeout) = begins_goes r k.member request timeout
-  handled_goes r k (Register registration) = 
+  handled_goes r k (Register registration) =
       let next = registers o r k.conn k.member registration in
       goes_on r next (goes_quietly r next refl refl (registers_come o r k.conn k.member registration).appended (λ e. e))
   handled_goes r k (Asks request) = calls_goes r k.member request

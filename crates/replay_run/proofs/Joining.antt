@@ -162,7 +162,7 @@ module _ {V : Type 0} {T : V → Type 0} {form : FormOf V T} {settings : Setting
 
   pub wait_handled : {A E : Type 0} (result : Result A E) → AreListening grid.listeners.items r (Some request.id.conn) → (after : Grid V T) (written text : List ℕ)
       → (IsBetween form settings new (waits r (waiter_at r member request timeout)) (Some request.id.conn)
-        → OnOk result (HasServed form settings new after (waits r (waiter_at r member request timeout)) (Some request.id.conn) (by_turns settings (waits r (waiter_at r member request timeout)) (Some request.id.conn) request.partition member) written text))
+      → OnOk result (HasServed form settings new after (waits r (waiter_at r member request timeout)) (Some request.id.conn) (by_turns settings (waits r (waiter_at r member request timeout)) (Some request.id.conn) request.partition member) written text))
       → OnOk result (HasHandledCall form settings after r request.id.conn (request.id.number + 1) (by_waiting settings r member request timeout) written text)
   wait_handled result are after written text turns = on_ok_weaker result (has_waited after written text) (turns (joined_between (Some request.id.conn) are))
 

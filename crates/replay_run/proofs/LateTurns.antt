@@ -126,7 +126,7 @@ module _ {V : Type 0} {T : V → Type 0} {form : FormOf V T} {settings : Setting
         (record { size = m.listeners.size; each = m.listeners.each }) coded_low grid.connections (late_table grid r its m.run m.there m.holds) new old called world there known knew reception added written text
         (subst (λ l. IsAfter grid new l request.partition grid.connections world (going_out r own (waiting called at.member))) at_line after) out
         (call_said settings called (without r its) own (ending r its) line known (sym at_line) written added mid text began
-          (λ events. subst (λ q. IsAppended (grid_meaning settings) KeepsAll RequestFits called events (record { line = line; partition = q; member = at.member; known = known; own = own }) r (listening r own at.member) mid text) (sym m.partition) (wrote events)))
+        (λ events. subst (λ q. IsAppended (grid_meaning settings) KeepsAll RequestFits called events (record { line = line; partition = q; member = at.member; known = known; own = own }) r (listening r own at.member) mid text) (sym m.partition) (wrote events)))
         (late_tally grid r its m.run m.there m.holds new.tally reception counted) m.holds.tally.refused m.holds.tally.memory
         (came_so settings (ending r its) line at.member now request at_line refl at_moment refl old called (events_at request.partition r.events) added reception did)
 

@@ -55,7 +55,7 @@ module _ {V : Type 0} {T : V → Type 0} {form : FormOf V T} {settings : Setting
   pub made_grid : Became settings old called (events_at a.request.partition r.events) (arrival_to a.made a.member a.now a.request) added reception → HasMade form settings new r own a written text
   made_grid did = ⊎_elim
       (λ d. call_ran grid r ok h own a may are low table come_table new called world known knew reception added written text after out wrote tally rows shortages
-        (subst (λ w. IsCalledSo settings w called (events_at a.request.partition r.events) a added reception) same_world (ran_as settings old called (events_at a.request.partition r.events) a added reception d)))
+      (subst (λ w. IsCalledSo settings w called (events_at a.request.partition r.events) a added reception) same_world (ran_as settings old called (events_at a.request.partition r.events) a added reception d)))
       (λ d. call_skipped grid r ok h own a may are low table come_table new called world known knew reception added written text after out wrote tally rows shortages
-        (subst (λ w. IsSkippedSo settings w called (events_at a.request.partition r.events) a added reception) same_world (missed_as settings old called (events_at a.request.partition r.events) a added reception d)))
+      (subst (λ w. IsSkippedSo settings w called (events_at a.request.partition r.events) a added reception) same_world (missed_as settings old called (events_at a.request.partition r.events) a added reception d)))
       did

@@ -160,7 +160,7 @@ module _ {o : Object Request Partition} (r : Run) (is : IsRun o r) (k : Connecti
         let mid = handled_all o both taken k (done ++ item ∷ []) in
         let last = handled_all o both mid k rest in
         let whole : handled_all o both taken k (done ++ item ∷ rest) ≡ last =
-            handled_all-append o both taken k done (item ∷ rest) ∙ ap (λ (x : Run). handled_all o both x k rest) (sym (handled_all-append o both taken k done (item ∷ []))) in
+        handled_all-append o both taken k done (item ∷ rest) ∙ ap (λ (x : Run). handled_all o both x k rest) (sym (handled_all-append o both taken k done (item ∷ []))) in
         subst (λ (x : Run). AreAmong (new_arrivals r x) both) (sym whole)
         (among_more taken mid last both ((handled_all_goes o taken k (done ++ item ∷ [])).grows both) ((handled_all_goes o mid k rest).grows both) (among_both done item skips own once_made of_done of_item))
 

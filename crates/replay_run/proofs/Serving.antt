@@ -109,8 +109,7 @@ module _ {V : Type 0} {T : V → Type 0} {form : FormOf V T} {settings : Setting
         let once : ArrivalsOk last = (run_ok b.between.run).of_arrivals in
         let both = a.skips ++ b.skips in
         let same : then (first both) both ≡ last = both_go r first then g h a.skips b.skips once a.among b.among in
-        let more = ((h now).grows b.skips).appended in
-        (
+        let more = ((h now).grows b.skips).appended in (
           record {
             skips = both;
             among = both_among r first then g h a.skips b.skips once a.among b.among;
@@ -234,7 +233,7 @@ module _ {V : Type 0} {T : V → Type 0} {form : FormOf V T} {settings : Setting
           let step = up_as now (by_leaving settings now own w) (one_turn settings own p member now) (λ s. sym (ap (turn_of o s now own) next)) b in
           let its = gives_up_first now (one_turn settings own p member now) (so_often settings own p member rest) (turn_goes o now own (next_in_turn o now p member)) (λ x. so_often_goes o own p member rest x) step in
           let whole = gives_up_then r (so_often settings own p member number r) (so_often settings own p member (suc rest)) (so_often_goes o own p member number r) (λ x. so_often_goes o own p member (suc rest) x) did.on.skips did.on.among its
-              (λ s. so_often_keeps o s p (IsRun o) (run_turns s p) own member (suc rest) now did.on.between.run) in
+          (λ s. so_often_keeps o s p (IsRun o) (run_turns s p) own member (suc rest) now did.on.between.run) in
           up_as r (λ s. so_often settings own p member (suc rest) (so_often settings own p member number r s) s) (by_turns settings r own p member) (λ s. sym (often_parts o s own p member r number (suc rest) (length r.waiters) e)) whole
 
     -- Nobody has a turn.
@@ -281,7 +280,7 @@ module _ {V : Type 0} {T : V → Type 0} {form : FormOf V T} {settings : Setting
         let o = partition_object settings in
         let whole = served_further None old grid new r (by_lists settings r member n) (its_list settings member n) (served_in_goes o r member (numbers_below n)) (λ x. served_goes o x None n member) written mid did text b in
         (served_as None old new r (λ s. its_list settings member n (by_lists settings r member n s) s) (by_lists settings r member (n + 1)) written text whole.0
-          (sym (ap (λ k. served_in o whole.0.skips r member (numbers_below k)) (add-one n) ∙ served_in_more o whole.0.skips r member n))).0
+        (sym (ap (λ k. served_in o whole.0.skips r member (numbers_below k)) (add-one n) ∙ served_in_more o whole.0.skips r member n))).0
 
     -- or one meets its partition full
     pub list_full : (m : ℕ) → n < m → GivesUpSo served_so_far (by_turns settings served_so_far None n member) → GivesUpSo r (by_lists settings r member m)
@@ -291,7 +290,7 @@ module _ {V : Type 0} {T : V → Type 0} {form : FormOf V T} {settings : Setting
         let next : GivesUpSo r (by_lists settings r member (suc n)) = up_as r (λ s. its_list settings member n (by_lists settings r member n s) s) (by_lists settings r member (suc n)) (λ s. sym (served_in_more o s r member n)) whole in
         stays_on (λ k. GivesUpSo r (by_lists settings r member k))
         (λ k up. up_as r (λ s. by_turns settings (by_lists settings r member k s) None k member s) (by_lists settings r member (suc k)) (λ s. sym (served_in_more o s r member k))
-          (gives_up_first r (by_lists settings r member k) (λ x. by_turns settings x None k member) (served_in_goes o r member (numbers_below k)) (λ x. served_goes o x None k member) up))
+        (gives_up_first r (by_lists settings r member k) (λ x. by_turns settings x None k member) (served_in_goes o r member (numbers_below k)) (λ x. served_goes o x None k member) up))
         (suc n) m (omega (arith, l)) next
 
   pub lists_at : (grid : Grid V T) (n m : ℕ) (written text : List ℕ) → n ≡ m → HasServed form settings old grid r None (by_lists settings r member n) written text → HasServed form settings old grid r None (by_lists settings r member m) written text

@@ -267,7 +267,7 @@ module _ (r : Run) (w : Waiter) (ok : WaitersOk r) (there : In w r.waiters) (eve
   found_itself (v ∷ vs) once (inl e) = let here : is_waiter w.request.id v ≡ true = subst (λ (x : Waiter). is_waiter w.request.id x ≡ true) (sym e) (same_call_refl w.request.id) in rw here (ap Some e)
   found_itself (v ∷ vs) once (inr i) =
       let apart : is_waiter w.request.id v ≡ false = false_or_not (is_waiter w.request.id v) (λ s.
-          once.0 (waiter_name w) (contains_in (waiter_name w) (map waiter_name vs) (in_map waiter_name vs w i)) (ap id_name (sym (same_call v.request.id w.request.id s)))) in
+      once.0 (waiter_name w) (contains_in (waiter_name w) (map waiter_name vs) (in_map waiter_name vs w i)) (ap id_name (sym (same_call v.request.id w.request.id s)))) in
       rw apart (found_itself vs once.1 i)
 
   none_arrived : arrival_of r w.request.id ≡ None

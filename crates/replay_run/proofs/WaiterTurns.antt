@@ -40,10 +40,10 @@ module _ (o : Object Request Partition) (skips : List CallId) where
   within_turns : (p q n : ℕ) → KeepsTurns o skips p (AreWithin q n)
   within_turns p q n = by_endings o skips p (AreWithin q n) (λ x h. h)
       (λ x w events appended i made here h.
-        (let one = ended_few x w events appended q made in
-        let less = fewer w x.waiters i in
-        let come = length-append x.arrivals (ending x w ∷ []) in
-        omega (arith, one, less, come, h)))
+      (let one = ended_few x w events appended q made in
+      let less = fewer w x.waiters i in
+      let come = length-append x.arrivals (ending x w ∷ []) in
+      omega (arith, one, less, come, h)))
 
   pub often_room : (r : Run) (own : Option ℕ) (p member n q most : ℕ) → HasRoomAt r q most → HasRoomAt (served_so_often o skips own p member n r) q most
   often_room r own p member n q most room =
@@ -130,7 +130,7 @@ module _ (o : Object Request Partition) (skips : List CallId) (r : Run) (own : O
       let here : waits_at member p w ≡ true = (λ i. eq-eqb w.member member has.at_member i && eq-eqb w.request.partition p has.in_partition i) in
       let before = ap length (h.listed member p within low) ∙ length-map (filter (waits_at member p) r.waiters) as_listed in
       let now = ap length (after.listed member p (subst (λ n. member < n) (sym members_then) within) low) ∙ length-map (filter (waits_at member p) (leaves_so o skips r own w (fate_now o r w)).waiters) as_listed
-          ∙ ap (λ ws. length (filter (waits_at member p) ws)) left_then in
+      ∙ ap (λ ws. length (filter (waits_at member p) ws)) left_then in
       let less = fewer_passing (waits_at member p) w here r.waiters has.there in
       omega (arith, before, now, less)
 

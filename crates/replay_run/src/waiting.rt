@@ -6,7 +6,6 @@ ghost use Rattle.grid_base.specs.Limits.{CallFits};
 ghost use Rattle.partition_world.specs.Events.{event_of};
 ghost use Rattle.call_engine.specs.Calls.{Settings};
 ghost use Rattle.call_engine.specs.Objects.{partition_object};
-
 ghost use Rattle.replay_run.specs.Runs.{Run, Waiter as RunWaiter, partitions, refused_at, stirred_by, served_in};
 ghost use Rattle.replay_run.specs.ScriptRuns.{IsRun, IsNext};
 ghost use Rattle.replay_run.specs.Tallies.{tallied_later};
@@ -155,8 +154,11 @@ impl Grid {
     {
         match turn {
             Turn::Call(request) => self.make_call(alloc, at, own, request, out),
-            Turn::Refusal(request, why) => Ok(self.refuse_waiter(alloc, &request, why, out)?),
-            Turn::Silence(_) => Ok(()),
+            Turn::Refusal(request, why) => Ok(self.refuse_waiter(alloc, request, why, out)?),
+            Turn::Silence(request) => {
+                drop(request);
+                Ok(())
+            }
         }
     }
 
@@ -164,14 +166,14 @@ impl Grid {
     fn refuse_waiter(
         &mut self,
         alloc: Global,
-        request: &Request,
+        request: Request,
         why: PartitionRefused,
         out: &mut Vec<u8>,
     ) -> Result<(), Memory>
         requires refused { self.old.tally.refused < self.old.tally.arrived }
         requires memory { self.old.tally.memory < self.old.tally.arrived }
         ensures grid { self.new ≡ record self.old { tally = tallied_later WasRefused self.old.tally } }
-        ensures text { OnOk result (out.new.items ≡ out.old.items ++ texts_of (refused_at self.old.lines request.now (refused_as why))) }
+        ensures text { OnOk result (out.new.items ≡ out.old.items ++ texts_of (refused_at self.old.lines request (refused_as why))) }
     {
         self.tally.count_later(Reception::Refused);
         let to = Caller {

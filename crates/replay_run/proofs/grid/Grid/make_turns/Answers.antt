@@ -53,7 +53,7 @@ loop-turn-preserved g c = λ settings r between.
     let may = may_leave c.loop-turn.self c.next_turn.new.self c.next_turn.ensures.rest now own at c.in-Some.turn taken.0 did.1.on.between (subst (λ n. at.member < n) (sym same) c.requires.member) c.requires.partition taken.1 taken.2 taken.3 in (
       did.0 + 1,
       one_turned c.args.self.now r own at.partition at.member c.loop-turn.self did.0 c.args.out.now.items c.loop-turn.out.items did.1 taken.0 taken.1 c.make_turn.new.self c.make_turn.new.out.items
-      (served_since c.loop-turn.self c.next_turn.new.self c.next_turn.ensures.rest now own c.make_turn.new.self _ c.loop-turn.out.items c.make_turn.new.out.items (c.in_ok-make_turn.ensures.ok settings now taken.0 may)),
+          (served_since c.loop-turn.self c.next_turn.new.self c.next_turn.ensures.rest now own c.make_turn.new.self _ c.loop-turn.out.items c.make_turn.new.out.items (c.in_ok-make_turn.ensures.ok settings now taken.0 may)),
     )
 
 pub loop-turn-smaller : goal.loop-turn-smaller

@@ -22,7 +22,8 @@ told line request why code version numbers versions = (λ i. refusals line reque
 
 pub returns-clause-text : goal.returns-clause-text
 returns-clause-text g c =
-    let fits : SFits w64 c.args.request.now.correlation = search rules in
+    let fits : SFits w64 c.args.request.correlation = search rules in
+    let whole : SFits w32 c.code.result = search rules in
     on_ok_weaker c.push_refusal.result
-    (λ e. e ∙ ap (λ (ms : List Appended). c.args.out.now.items ++ texts_of ms) (told c.args.self.now.lines c.args.request.now c.args.why _ _ c.code.ensures c.version.ensures))
-    (c.push_refusal.ensures c.args.request.now refl (sym (to_z-of_z w64 c.args.request.now.correlation fits)))
+    (λ e. e ∙ ap (λ (ms : List Appended). c.args.out.now.items ++ texts_of ms) (told c.args.self.now.lines c.args.request c.args.why _ _ (to_z-of_z w32 c.code.result whole ∙ c.code.ensures) c.version.ensures))
+    (c.push_refusal.ensures c.args.request refl (sym (to_z-of_z w64 c.args.request.correlation fits)))

@@ -68,18 +68,18 @@ returns-clause-ok g c = λ settings r between next count.
     let moment = moment_there grid r between.holds member c.from.result c.requires.member c.from.ensures c.index.result.now c.index.ensures in
     wait_handled grid r between.run between.holds member request c.args.timeout next within c.requires.limits (record c.args.self.now { connections = c.arrive.new.self; tally = c.count.new.self; waiters = c.add.new.self })
     (record {
-          env = refl;
-          lines = refl;
-          members = refl;
-          links = refl;
-          moments = refl;
-          connections = c.in_ok-arrive.ensures.ok;
-          tally = c.count.ensures;
-          waiters = c.in_ok-add.ensures.ok ∙ joined_at grid.waiters member request c.deadline_of-deadline.result (deadline_of (moment_of r member) c.args.timeout) (c.deadline_of-deadline.ensures ∙ ap (λ m. deadline_of m c.args.timeout) moment);
-          listeners = refl;
-          reopened = refl;
-          worlds = refl;
-        })
+      env = refl;
+      lines = refl;
+      members = refl;
+      links = refl;
+      moments = refl;
+      connections = c.in_ok-arrive.ensures.ok;
+      tally = c.count.ensures;
+      waiters = c.in_ok-add.ensures.ok ∙ joined_at grid.waiters member request c.deadline_of-deadline.result (deadline_of (moment_of r member) c.args.timeout) (c.deadline_of-deadline.ensures ∙ ap (λ m. deadline_of m c.args.timeout) moment);
+      listeners = refl;
+      reopened = refl;
+      worlds = refl;
+    })
     count c.make_turns.result between.listeners c.make_turns.new.self c.args.out.now.items c.make_turns.new.out.items (c.make_turns.ensures.ok settings (waits r (waiter_at r member request c.args.timeout)))
 
 pub returns-clause-full : goal.returns-clause-full
@@ -91,19 +91,19 @@ returns-clause-full g c = λ settings r between next count fails.
     let moment = moment_there grid r between.holds member c.from.result c.requires.member c.from.ensures c.index.result.now c.index.ensures in
     waiting_full settings r member request c.args.timeout
     (c.make_turns.ensures.full settings (waits r (waiter_at r member request c.args.timeout))
-      (joined_between grid r between.run between.holds member request c.args.timeout next within c.requires.limits (record c.args.self.now { connections = c.arrive.new.self; tally = c.count.new.self; waiters = c.add.new.self })
-        (record {
-          env = refl;
-          lines = refl;
-          members = refl;
-          links = refl;
-          moments = refl;
-          connections = c.in_ok-arrive.ensures.ok;
-          tally = c.count.ensures;
-          waiters = c.in_ok-add.ensures.ok ∙ joined_at grid.waiters member request c.deadline_of-deadline.result (deadline_of (moment_of r member) c.args.timeout) (c.deadline_of-deadline.ensures ∙ ap (λ m. deadline_of m c.args.timeout) moment);
-          listeners = refl;
-          reopened = refl;
-          worlds = refl;
-        })
-        count (Some request.id.conn) between.listeners)
-      fails)
+    (joined_between grid r between.run between.holds member request c.args.timeout next within c.requires.limits (record c.args.self.now { connections = c.arrive.new.self; tally = c.count.new.self; waiters = c.add.new.self })
+    (record {
+      env = refl;
+      lines = refl;
+      members = refl;
+      links = refl;
+      moments = refl;
+      connections = c.in_ok-arrive.ensures.ok;
+      tally = c.count.ensures;
+      waiters = c.in_ok-add.ensures.ok ∙ joined_at grid.waiters member request c.deadline_of-deadline.result (deadline_of (moment_of r member) c.args.timeout) (c.deadline_of-deadline.ensures ∙ ap (λ m. deadline_of m c.args.timeout) moment);
+      listeners = refl;
+      reopened = refl;
+      worlds = refl;
+    })
+    count (Some request.id.conn) between.listeners)
+    fails)
