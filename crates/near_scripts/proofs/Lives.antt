@@ -22,7 +22,7 @@ use Rattle.session_core.specs.declared.item.Item.{Item}
 use Rattle.session_core.specs.declared.item.Item.TheVariants.{Call as Asks, Wait, Register, Reply}
 use Rattle.script_lang.specs.declared.line.Line.{Line}
 use Rattle.script_lang.specs.declared.line.Line.TheVariants as line
-use Rattle.replay_run.specs.Runs.{Run, At, Connection, Arrival, Waiter, Appended, events_at, world_at, is_full, is_skipped, refusal, arrived, asked, asks, given_up, happening, arrival_at, call_of, waiter_at, waits, without, ending, served, served_in, forsaken, occurred, meets_full, takes, takes_in, delivery_on, flowed, calls, begins_to_wait, handled_all, takes_bytes, took_bytes, items_by, connection_of, can_open, opened, next_line, clock_set, bytes_arrived, event_by, lives, partitions}
+use Rattle.replay_run.specs.Runs.{Run, At, Connection, Arrival, Waiter, Appended, events_at, world_at, is_full, is_skipped, refusal, arrived, asked, asks, given_up, happening, arrival_at, call_of, waiter_at, waits, without, ending, served, forsaken, occurred, meets_full, takes, takes_in, delivery_on, flowed, calls, begins_to_wait, handled_all, takes_bytes, took_bytes, items_by, connection_of, can_open, opened, next_line, clock_set, bytes_arrived, event_by, lives, partitions}
 use Rattle.replay_run.specs.Rebalancing.{service_at, is_moving_at, most_deliveries, most_turns, event_begun, first_resends, turned, turned_on, joined, rejoined, stepped, stepped_all, steps_in}
 use Rattle.replay_run.specs.AfterLines.{after_event, after_line}
 use Rattle.replay_run.proofs.Turns.{KeepsTurns, IsMade, by_endings, served_keeps, takes_keeps, forsaken_keeps}

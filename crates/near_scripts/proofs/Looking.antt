@@ -27,7 +27,7 @@ use Rattle.grid_client.specs.Nears.{Value, hit}
 use Rattle.grid_client.specs.Calls.{correlation_of, asked_call}
 use Rattle.request_codecs.specs.Requests.{request_bytes}
 use Rattle.grid_client.specs.States.{asking, opening_look_up, get_of, looked}
-use Rattle.replay_run.specs.Runs.{Run, Connection, Arrival, connection_of, is_connection, is_open, lives, takes_bytes, took_bytes, with_bytes, items_by, served, forsaken, calls, handled_all, bytes_arrived, next_line, world_at, is_full, arrival_at, arrived, asked, asks, given_up}
+use Rattle.replay_run.specs.Runs.{Run, Connection, Arrival, connection_of, is_connection, is_open, lives, takes_bytes, took_bytes, with_bytes, items_by, forsaken, calls, handled_all, bytes_arrived, next_line, world_at, is_full, arrival_at, asks}
 use Rattle.replay_run.specs.AfterLines.{after_line}
 use Rattle.replay_run.specs.Appending.{new_messages}
 use Rattle.replay_run.proofs.Lines.{handled_all_come}

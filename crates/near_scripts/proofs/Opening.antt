@@ -30,7 +30,7 @@ use Rattle.script_lang.specs.declared.line.Line.TheVariants.{Arrive}
 use Rattle.grid_client.specs.Nears.{new_near as new_cache}
 use Rattle.grid_client.specs.States.{first_number}
 use Rattle.replay_run.specs.ScriptRuns.{home}
-use Rattle.replay_run.specs.Runs.{Run, Connection, Arrival, Waiter, connection_of, messages_on, lives, is_open, takes_bytes, took_bytes, with_bytes, items_by, forsaken, handled_all, next_line, bytes_arrived, events_at, partitions}
+use Rattle.replay_run.specs.Runs.{Run, Connection, Arrival, connection_of, messages_on, lives, is_open, takes_bytes, took_bytes, with_bytes, items_by, forsaken, handled_all, next_line, bytes_arrived, events_at, partitions}
 use Rattle.replay_run.specs.AfterLines.{after_line}
 use Rattle.replay_run.specs.Appending.{new_messages}
 use Rattle.replay_run.proofs.RunFacts.{RunOk, ArrivalsOk, WaitersOk, asked_of, is_of}
