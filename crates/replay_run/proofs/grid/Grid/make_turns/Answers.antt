@@ -25,8 +25,8 @@ next_turn-requires-clause-stands g c =
 
 -- it leaves
 
-pub make_turn-requires-clause-stands : goal.make_turn-requires-clause-stands
-make_turn-requires-clause-stands g c =
+pub make_turn-requires : goal.make_turn-requires
+make_turn-requires g c =
     let settings = c.requires.stands.0 in
     let r = c.requires.stands.1 in
     let own = c.args.own in
@@ -34,13 +34,16 @@ make_turn-requires-clause-stands g c =
     let did = c.loop-turn.invariant settings r c.requires.stands.2 in
     let now = turned_so_far c.args.self.now r own at.partition at.member c.loop-turn.self did.0 c.args.out.now.items c.loop-turn.out.items did.1 in
     let taken = c.in-Some.ensures.taken settings now did.1.on.between.run did.1.on.between.holds in
-    let same = members_still c.args.self.now c.loop-turn.self r own at.partition at.member did.0 c.args.out.now.items c.loop-turn.out.items did.1 c.requires.stands.2 in (
-      settings,
-      now,
-      taken.0,
-      may_leave c.loop-turn.self c.next_turn.new.self c.next_turn.ensures.rest now own at c.in-Some.turn taken.0 did.1.on.between (subst (λ n. at.member < n) (sym same) c.requires.member) c.requires.partition taken.1 taken.2 taken.3,
-      turned_room c.args.self.now c.loop-turn.self r own at.partition at.member did.0 c.args.out.now.items c.loop-turn.out.items did.1 c.requires.stands.3,
-    )
+    let same = members_still c.args.self.now c.loop-turn.self r own at.partition at.member did.0 c.args.out.now.items c.loop-turn.out.items did.1 c.requires.stands.2 in
+    record {
+      stands = (
+        settings,
+        now,
+        taken.0,
+        may_leave c.loop-turn.self c.next_turn.new.self c.next_turn.ensures.rest now own at c.in-Some.turn taken.0 did.1.on.between (subst (λ n. at.member < n) (sym same) c.requires.member) c.requires.partition taken.1 taken.2 taken.3,
+        turned_room c.args.self.now c.loop-turn.self r own at.partition at.member did.0 c.args.out.now.items c.loop-turn.out.items did.1 c.requires.stands.3,
+      );
+    }
 
 pub loop-turn-preserved : goal.loop-turn-preserved
 loop-turn-preserved g c = λ settings r between.

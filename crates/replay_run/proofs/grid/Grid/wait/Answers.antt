@@ -1,4 +1,6 @@
-use Rattle.std.proofs.Common.{◌≡◌, ◌≤◌, ◌∙◌, ◌<◌, Some, refl, ap, sym, subst, arith}
+use Rattle.std.proofs.Common.{◌≡◌, ◌≤◌, ◌∙◌, ◌<◌, Some, refl, ap, sym, subst, w64, rules, arith}
+use mir.Val.{SFits}
+use Rattle.std.proofs.lemmas.Int.{to_z-of_z}
 use Rattle.wait_sets.specs.WaitSets.{deadline_of}
 use Rattle.replay_run.specs.Runs.{moment_of, waits, waiter_at}
 use Rattle.replay_run.proofs.Asking.{moment_within, moment_there}
@@ -37,6 +39,7 @@ make_turns-requires-clause-stands g c =
     let next = c.requires.stands.3 in
     let request = c.args.request in
     let member = c.args.member in
+    let fits : SFits w64 c.args.timeout = search rules in
     let moment = moment_there grid r between.holds member c.from.result c.requires.member c.from.ensures c.index.result.now c.index.ensures in (
       settings,
       waits r (waiter_at r member request c.args.timeout),
@@ -49,7 +52,7 @@ make_turns-requires-clause-stands g c =
             moments = refl;
             connections = c.in_ok-arrive.ensures.ok;
             tally = c.count.ensures;
-            waiters = c.in_ok-add.ensures.ok ∙ joined_at grid.waiters member request c.deadline_of-deadline.result (deadline_of (moment_of r member) c.args.timeout) (c.deadline_of-deadline.ensures ∙ ap (λ m. deadline_of m c.args.timeout) moment);
+            waiters = c.in_ok-add.ensures.ok ∙ joined_at grid.waiters member request c.deadline_of-deadline.result (deadline_of (moment_of r member) c.args.timeout) (c.deadline_of-deadline.ensures ∙ (λ i. deadline_of (moment i) (to_z-of_z w64 c.args.timeout fits i)));
             listeners = refl;
             reopened = refl;
             worlds = refl;
@@ -65,6 +68,7 @@ returns-clause-ok g c = λ settings r between next count.
     let request = c.args.request in
     let member = c.args.member in
     let within = subst (λ n. member < n) between.holds.members c.requires.member in
+    let fits : SFits w64 c.args.timeout = search rules in
     let moment = moment_there grid r between.holds member c.from.result c.requires.member c.from.ensures c.index.result.now c.index.ensures in
     wait_handled grid r between.run between.holds member request c.args.timeout next within c.requires.limits (record c.args.self.now { connections = c.arrive.new.self; tally = c.count.new.self; waiters = c.add.new.self })
     (record {
@@ -75,7 +79,7 @@ returns-clause-ok g c = λ settings r between next count.
       moments = refl;
       connections = c.in_ok-arrive.ensures.ok;
       tally = c.count.ensures;
-      waiters = c.in_ok-add.ensures.ok ∙ joined_at grid.waiters member request c.deadline_of-deadline.result (deadline_of (moment_of r member) c.args.timeout) (c.deadline_of-deadline.ensures ∙ ap (λ m. deadline_of m c.args.timeout) moment);
+      waiters = c.in_ok-add.ensures.ok ∙ joined_at grid.waiters member request c.deadline_of-deadline.result (deadline_of (moment_of r member) c.args.timeout) (c.deadline_of-deadline.ensures ∙ (λ i. deadline_of (moment i) (to_z-of_z w64 c.args.timeout fits i)));
       listeners = refl;
       reopened = refl;
       worlds = refl;
@@ -88,6 +92,7 @@ returns-clause-full g c = λ settings r between next count fails.
     let request = c.args.request in
     let member = c.args.member in
     let within = subst (λ n. member < n) between.holds.members c.requires.member in
+    let fits : SFits w64 c.args.timeout = search rules in
     let moment = moment_there grid r between.holds member c.from.result c.requires.member c.from.ensures c.index.result.now c.index.ensures in
     waiting_full settings r member request c.args.timeout
     (c.make_turns.ensures.full settings (waits r (waiter_at r member request c.args.timeout))
@@ -100,7 +105,7 @@ returns-clause-full g c = λ settings r between next count fails.
       moments = refl;
       connections = c.in_ok-arrive.ensures.ok;
       tally = c.count.ensures;
-      waiters = c.in_ok-add.ensures.ok ∙ joined_at grid.waiters member request c.deadline_of-deadline.result (deadline_of (moment_of r member) c.args.timeout) (c.deadline_of-deadline.ensures ∙ ap (λ m. deadline_of m c.args.timeout) moment);
+      waiters = c.in_ok-add.ensures.ok ∙ joined_at grid.waiters member request c.deadline_of-deadline.result (deadline_of (moment_of r member) c.args.timeout) (c.deadline_of-deadline.ensures ∙ (λ i. deadline_of (moment i) (to_z-of_z w64 c.args.timeout fits i)));
       listeners = refl;
       reopened = refl;
       worlds = refl;
