@@ -1,4 +1,4 @@
-use Rattle.std.proofs.Common.{◌∙◌, Err, ap, sym, refl, arith}
+use Rattle.std.proofs.Common.{◌∙◌, Err, ap, sym, refl, map, arith}
 use Rattle.script_lang.specs.declared.line.Line.TheVariants.{Arrive}
 use Rattle.replay_run.specs.declared.run_end.RunEnd.TheVariants.{InFlight}
 use Rattle.replay_run.proofs.Asking.{handed_on}
@@ -65,9 +65,9 @@ forget_closed-requires g c =
     let within = heard_within r c.args.conn its.connection its.there c.args.bytes.now c.in-Some-2.fed.items.items begun.brings c.handle_all.new.self c.count.new.out.items c.handle_all.new.out.items did in
     omega (arith, within, its.to, c.handle_all.new.self.listeners.ok.0)
 
--- Its connection has closed, and those who wait on it have left.
-pub returns-then-is_some-clause-ok : goal.returns-then-is_some-clause-ok
-returns-then-is_some-clause-ok g c = λ settings r s.
+-- Where its connection has closed, those who wait on it leave.
+pub returns-clause-ok : goal.returns-clause-ok
+returns-clause-ok g c = λ settings r s.
     let line = Arrive c.args.conn c.args.bytes.now in
     let at_line = next_number c.args.self.now c.args.number line c.requires r s in
     let begun = has_begun c.args.self.now r s c.args.conn c.in-Some.member (sym (c.open_member.ensures _ r s) ∙ c.in-Some.is) c.args.bytes.now c.in_ok-fed.field-0 c.in_ok-fed.ensures.gives
@@ -77,22 +77,15 @@ returns-then-is_some-clause-ok g c = λ settings r s.
     let are = c.forget_closed.ensures did.now (with_bytes its.connection c.args.bytes.now)
     (now_there r c.args.conn its.connection its.there c.args.bytes.now c.in-Some-2.fed.items.items begun.brings c.handle_all.new.self c.count.new.out.items c.handle_all.new.out.items did) its.to begun.closed
     (heard_on r c.args.conn its.connection its.there c.args.bytes.now c.in-Some-2.fed.items.items begun.brings c.handle_all.new.self c.count.new.out.items c.handle_all.new.out.items did) in
-    let left = all_left r c.args.conn its.connection its.there c.args.bytes.now c.in-Some-2.fed.items.items begun.brings c.handle_all.new.self c.count.new.out.items c.handle_all.new.out.items did c.in-Some-2.fed.closed begun.closed c.drop_conn.new.waiters (sym c.is_some.ensures ∙ c.if-is_some.true) (c.drop_conn.ensures ∙ ap (λ n. map (dropped n) c.handle_all.new.self.waiters) (sym its.numbered)) in
-    bytes_line r c.args.conn its.connection its.there c.args.bytes.now c.in-Some-2.fed.items.items begun.brings c.handle_all.new.self c.count.new.out.items c.handle_all.new.out.items did its.takes
-    c.in-Some-2.fed.closed c.args.number c.args.out.now.items c.push_close.new.out.items c.forget_closed.new.listeners c.drop_conn.new.waiters _ refl are left s.small s.few s.bounded s.reached c.requires.read.2 c.in_ok-count.ensures.text at_line c.requires.within begun.closed c.in_ok-push_close.ensures
-
--- It is open.
-pub returns-else-is_some-clause-ok : goal.returns-else-is_some-clause-ok
-returns-else-is_some-clause-ok g c = λ settings r s.
-    let line = Arrive c.args.conn c.args.bytes.now in
-    let at_line = next_number c.args.self.now c.args.number line c.requires r s in
-    let begun = has_begun c.args.self.now r s c.args.conn c.in-Some.member (sym (c.open_member.ensures _ r s) ∙ c.in-Some.is) c.args.bytes.now c.in_ok-fed.field-0 c.in_ok-fed.ensures.gives
-    c.count.new.self c.args.number c.count.new.out.items c.in-Some-2.fed c.feed.new.self at_line c.in-Some-2.is c.in_ok-fed.ensures.stands c.count.ensures.grid in
-    let its = begun.open_there in
-    let did = c.in_ok-handle_all.ensures.ok settings r its.connection c.args.bytes.now begun.brings its.numbered its.to begun.none_handled in
-    let are = c.forget_closed.ensures did.now (with_bytes its.connection c.args.bytes.now)
-    (now_there r c.args.conn its.connection its.there c.args.bytes.now c.in-Some-2.fed.items.items begun.brings c.handle_all.new.self c.count.new.out.items c.handle_all.new.out.items did) its.to begun.closed
-    (heard_on r c.args.conn its.connection its.there c.args.bytes.now c.in-Some-2.fed.items.items begun.brings c.handle_all.new.self c.count.new.out.items c.handle_all.new.out.items did) in
-    let left = none_left r c.args.conn its.connection its.there c.args.bytes.now c.in-Some-2.fed.items.items begun.brings c.handle_all.new.self c.count.new.out.items c.handle_all.new.out.items did c.in-Some-2.fed.closed begun.closed c.handle_all.new.self.waiters (sym c.is_some.ensures ∙ c.if-is_some.false) refl in
-    bytes_line r c.args.conn its.connection its.there c.args.bytes.now c.in-Some-2.fed.items.items begun.brings c.handle_all.new.self c.count.new.out.items c.handle_all.new.out.items did its.takes
-    c.in-Some-2.fed.closed c.args.number c.args.out.now.items c.push_close.new.out.items c.forget_closed.new.listeners c.handle_all.new.self.waiters _ refl are left s.small s.few s.bounded s.reached c.requires.read.2 c.in_ok-count.ensures.text at_line c.requires.within begun.closed c.in_ok-push_close.ensures
+    elim c.if-is_some.branch [
+      | goal.then-is_some w ↦
+          bytes_line r c.args.conn its.connection its.there c.args.bytes.now c.in-Some-2.fed.items.items begun.brings c.handle_all.new.self c.count.new.out.items c.handle_all.new.out.items did its.takes
+          c.in-Some-2.fed.closed c.args.number c.args.out.now.items c.push_close.new.out.items c.forget_closed.new.listeners w.drop_conn.new.self _ w.self-is are
+          (all_left r c.args.conn its.connection its.there c.args.bytes.now c.in-Some-2.fed.items.items begun.brings c.handle_all.new.self c.count.new.out.items c.handle_all.new.out.items did c.in-Some-2.fed.closed begun.closed w.drop_conn.new.self (sym c.is_some.ensures ∙ w.if-is_some.true) (w.drop_conn.ensures ∙ ap (λ n. map (dropped n) c.handle_all.new.self.waiters) (sym its.numbered)))
+          s.small s.few s.bounded s.reached c.requires.read.2 c.in_ok-count.ensures.text at_line c.requires.within begun.closed c.in_ok-push_close.ensures
+      | goal.else-is_some w ↦
+          bytes_line r c.args.conn its.connection its.there c.args.bytes.now c.in-Some-2.fed.items.items begun.brings c.handle_all.new.self c.count.new.out.items c.handle_all.new.out.items did its.takes
+          c.in-Some-2.fed.closed c.args.number c.args.out.now.items c.push_close.new.out.items c.forget_closed.new.listeners c.handle_all.new.self.waiters _ w.self-is are
+          (none_left r c.args.conn its.connection its.there c.args.bytes.now c.in-Some-2.fed.items.items begun.brings c.handle_all.new.self c.count.new.out.items c.handle_all.new.out.items did c.in-Some-2.fed.closed begun.closed c.handle_all.new.self.waiters (sym c.is_some.ensures ∙ w.if-is_some.false) refl)
+          s.small s.few s.bounded s.reached c.requires.read.2 c.in_ok-count.ensures.text at_line c.requires.within begun.closed c.in_ok-push_close.ensures
+    ]
