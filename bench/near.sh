@@ -1,14 +1,19 @@
 #!/usr/bin/env bash
-# Times look-ups of a near client whose cache is full, with `grid replay`: `hits` of keys that it keeps, in an order that
-# isn't that of their last use, and `misses` of keys that it doesn't, whose answers it is handed after every 100 look-ups, so
-# that each takes the place of the entry that wasn't used for longest. Run it from the repository's top, after `rt run` in
-# crates/grid has built the program: bench/near.sh [ENTRIES..]. GRID names another program, and RUNS says how often each
-# script runs; the fastest run counts. What the script takes that only fills the cache is subtracted.
+# What a look-up of a near client costs whose cache is full, with `grid replay`: `hits` of keys that it keeps, in an order
+# that isn't that of their last use, and `misses` of keys that it doesn't, whose answers it is handed after every 100
+# look-ups, so that each takes the place of the entry that wasn't used for longest. Run it from the repository's top, after
+# `rt run` in crates/grid has built the program: bench/near.sh [ENTRIES..]. GRID names another program.
+#
+# Two scripts fill the same cache and then make FEW and MANY look-ups, and what they differ in is what the look-ups cost, by
+# processor time. RUNS says how often the two run, by turns; the fastest run of each counts. With BY=instructions valgrind
+# counts the instructions of one run each, which don't vary, nor hang on what else the machine does.
 set -euo pipefail
 
 GRID=${GRID:-crates/grid/out/grid}
-RUNS=${RUNS:-5}
-LOOKUPS=${LOOKUPS:-50000}
+RUNS=${RUNS:-7}
+FEW=${FEW:-5000}
+MANY=${MANY:-95000}
+BY=${BY:-time}
 if [ ! -x "$GRID" ]; then
     echo "no program at $GRID: build it with 'cd crates/grid && rt run', or set GRID" >&2
     exit 1
@@ -53,32 +58,49 @@ print("end")
 PY
 }
 
-# The seconds of the fastest of several runs of a script.
-seconds_of() {
-    local best=
+# Runs the program on a script, and gives the microseconds of processor time that it took.
+microseconds_of() {
+    local TIMEFORMAT='%U %S'
+    { time "$GRID" replay < "$1" > "$DIR/transcript"; } 2> "$DIR/time" || { echo "$1 ended badly" >&2; exit 1; }
+    awk '{ printf "%d\n", ($1 + $2) * 1000000 }' "$DIR/time"
+}
+
+# The microseconds of the fastest of several runs of each of two scripts, by turns.
+times_of() {
+    local few= many= taken
     for _ in $(seq "$RUNS"); do
-        local start=$EPOCHREALTIME status=0
-        "$GRID" replay < "$1" > "$DIR/transcript" || status=$?
-        local end=$EPOCHREALTIME
-        if [ "$status" != 0 ]; then
-            echo "$1 ended with status $status" >&2
-            exit 1
-        fi
-        best=$(awk -v from="$start" -v to="$end" -v best="$best" \
-            'BEGIN { taken = to - from; printf "%.6f", (best == "" || taken < best) ? taken : best }')
+        taken=$(microseconds_of "$1")
+        few=$((few == 0 || taken < few ? taken : few))
+        taken=$(microseconds_of "$2")
+        many=$((many == 0 || taken < many ? taken : many))
     done
-    echo "$best"
+    echo "$few $many"
+}
+
+# The instructions of a run of a script.
+instructions_of() {
+    valgrind --tool=callgrind --callgrind-out-file=/dev/null "$GRID" replay < "$1" 2>&1 > "$DIR/transcript" |
+        awk '/Collected/ { print $NF }'
 }
 
 [ $# -gt 0 ] || set -- 10 1000 100000
-printf '%8s %10s %10s %16s\n' look-ups entries seconds look-ups/second
+case $BY in
+    time) printf '%8s %10s %20s %16s\n' look-ups entries nanoseconds/look-up look-ups/second ;;
+    instructions) printf '%8s %10s %20s\n' look-ups entries instructions/look-up ;;
+    *) echo "BY is time or instructions" >&2; exit 1 ;;
+esac
 for entries in "$@"; do
-    write_script fill "$entries" 0 > "$DIR/fill"
-    filling=$(seconds_of "$DIR/fill")
     for kind in hits misses; do
-        write_script "$kind" "$entries" "$LOOKUPS" > "$DIR/$kind"
-        seconds=$(seconds_of "$DIR/$kind")
-        awk -v k="$kind" -v e="$entries" -v l="$LOOKUPS" -v s="$seconds" -v f="$filling" \
-            'BEGIN { taken = s - f; printf "%8s %10d %10.3f %16.0f\n", k, e, taken, (taken > 0 ? l / taken : 0) }'
+        write_script "$kind" "$entries" "$FEW" > "$DIR/few"
+        write_script "$kind" "$entries" "$MANY" > "$DIR/many"
+        if [ "$BY" = time ]; then
+            read -r few many < <(times_of "$DIR/few" "$DIR/many")
+            awk -v k="$kind" -v e="$entries" -v n="$((MANY - FEW))" -v t="$((many - few))" \
+                'BEGIN { printf "%8s %10d %20.0f %16.0f\n", k, e, 1000 * t / n, (t > 0 ? n * 1000000 / t : 0) }'
+        else
+            few=$(instructions_of "$DIR/few") many=$(instructions_of "$DIR/many")
+            awk -v k="$kind" -v e="$entries" -v n="$((MANY - FEW))" -v t="$((many - few))" \
+                'BEGIN { printf "%8s %10d %20.0f\n", k, e, t / n }'
+        fi
     done
 done

@@ -36,7 +36,7 @@ use Rattle.grid_base.specs.Errors.{want_of_memory}
 use Rattle.grid_base.specs.Limits.{CallFits}
 use Rattle.session_core.specs.declared.item.Item.{Item}
 use Rattle.session_core.specs.declared.item.Item.TheVariants.{Call as Asks, Wait}
-use Rattle.replay_run.specs.Runs.{Run, Connection, Arrival, Appended, partitions, connection_of, messages_on, takes_bytes, took_bytes, told, refusal, refused_by, call_of, arrival_at, items_by, asked, handled_all, event_by, events_at, world_at, is_full, meets_full, served, occurred, takes, takes_in, goes_out, version_known, adopted_since, messages_at, events_to, rows_known, registers}
+use Rattle.replay_run.specs.Runs.{Run, Connection, Arrival, Appended, partitions, connection_of, messages_on, takes_bytes, took_bytes, told, refusal, refused_by, call_of, arrival_at, items_by, asked, handled_all, event_by, events_at, world_at, is_full, meets_full, occurred, takes, takes_in, goes_out, version_known, adopted_since, messages_at, events_to, rows_known, registers}
 use Rattle.replay_run.specs.Printing.{appended_text, new_messages, outcome_at, deliveries}
 use Rattle.replay_run.specs.Endings.{AreAmong, new_arrivals}
 use Rattle.replay_run.specs.ScriptRuns.{IsRun, IsMidway}
@@ -260,10 +260,6 @@ pub record GivesUpSo (r : Run) (onward : Onward) : Type 0 where
   pub skips : List CallId
   pub own : AreAmong (new_arrivals r (onward skips)) skips
   pub full : (onward skips).full ≡ true
-
--- Those who wait at a member, in a partition, had their turns.
-abbrev pub serving : Settings → Run → Option ℕ → ℕ → ℕ → Onward
-serving settings r own p member skips = served (partition_object settings) skips r own p member
 
 -- The event has happened, and what it appended was printed; those whom it stirs are still to have their turns.
 pub record HasOccurred {V : Type 0} {T : V → Type 0} (form : FormOf V T) (settings : Settings) (new : Grid V T) (r : Run) (p : ℕ) (event : Event Request) (happened : Happened) (written text : List ℕ) : Type 0 where

@@ -102,7 +102,7 @@ pub(crate) fn push_refusal(
     push_appended(alloc, out, to.line, to.conn, error.as_slice())
 }
 
-/// What a call of a request meets at a member: its moment there, and the line at which it arrives.
+/// What a call of a request meets at a member: its moment there, and the line at which it is made.
 #[derive(Clone, Copy)]
 pub(crate) struct Arriving {
     pub(crate) line: u32,

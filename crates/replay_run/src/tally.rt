@@ -3,7 +3,7 @@
 ghost use Rattle.std.specs.Prelude.{◌≡◌, ◌+◌, ◌<◌, ◌≤◌, ◌^◌};
 ghost use Rattle.replay_run.specs.Tallies.{no_tally, tallied, tallied_later};
 
-/// What became of a call as it arrived.
+/// What became of a call as it arrived, or as it had waited.
 #[derive(Clone, Copy)]
 pub(crate) enum Reception {
     /// It is an event of its partition that refuses nothing.

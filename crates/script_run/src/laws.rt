@@ -13,8 +13,8 @@ pub fn every_run_is_linearizable()
     ensures { EveryRunIsLinearizable }
 {}
 
-/// A call that finds no memory is refused with error 10, on its connection and at the line at which it arrived, unless
-/// the run is given up.
+/// A call that doesn't wait and finds no memory is refused with error 10, on its connection and at its line, unless the
+/// run is given up. No call that finds none makes an event.
 pub fn every_skipped_call_is_told()
     ensures { EverySkippedCallIsTold }
 {}

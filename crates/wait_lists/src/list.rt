@@ -1,4 +1,4 @@
-ghost use Rattle.std.specs.Prelude.{◌≡◌, ◌↔◌, [], ◌∷◌, ◌++◌, not, filter, take, position, option_to_list, IsNone, IsTrue, OnOk, OnErr};
+ghost use Rattle.std.specs.Prelude.{◌≡◌, ◌<◌, ◌≤◌, ◌+◌, ◌↔◌, [], ◌∷◌, ◌++◌, not, filter, length, take, position, option_to_list, IsNone, IsTrue, OnOk, OnErr};
 ghost use Rattle.call_engine.specs.Env.{settings_of};
 ghost use Rattle.wait_sets.specs.Boxes.{boxed};
 ghost use Rattle.wait_sets.specs.WaitSets.{is_its_turn, NoneIsDue, is_of};
@@ -11,6 +11,14 @@ use std::alloc::Global;
 use std::marker::Model;
 use wait_sets::laws::every_look_says_who_is_undue;
 use wait_sets::{WaitSet, Waiter};
+
+/// So many at the front aren't due, once the one at that place has left: those that weren't before, and those before it.
+fn undue_without(undue: usize, place: usize) -> usize
+    ensures among { place < undue → result + 1 ≡ undue }
+    ensures behind { undue ≤ place → result ≡ place }
+{
+    if place < undue { undue - 1 } else { place }
+}
 
 /// The waiters of one member of one partition, and how many of them weren't due at the last look.
 #[derive(Debug, Drop)]
@@ -71,7 +79,8 @@ impl WaitList {
 
     /// How many at the front are known not to be due at that moment.
     fn known_undue(&self, now: Moment) -> usize
-        ensures { NoneIsDue now (take result self.now) }
+        ensures few { result ≤ length self.now }
+        ensures none { NoneIsDue now (take result self.now) }
     {
         if self.looked == Some(now) {
             self.undue
@@ -97,7 +106,7 @@ impl WaitList {
             return None;
         };
         let waiter = self.set.take(place);
-        self.undue = place;
+        self.undue = undue_without(undue, place);
         self.looked = Some(now);
         Some(waiter)
     }

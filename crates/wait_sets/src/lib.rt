@@ -8,7 +8,7 @@
 //! them is asked (`specs/Runs.antt`). `WaitSet::next_from` looks at each run once, and at the deadlines of those alone of
 //! whom it isn't known that they aren't due; a newcomer is looked at alone (`Waiter::is_its_turn`).
 //!
-//! Built ahead: no program keeps such sets yet. They are for the calls that wait for a lock, for room or for an element.
+//! `wait_lists` keeps such sets for the grid of a script, whose calls wait for a lock, for room or for an element.
 #![tactic(auto)]
 
 pub mod laws;

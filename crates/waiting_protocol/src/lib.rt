@@ -8,8 +8,8 @@
 //! The functions here and in `laws` compute nothing. Their contracts are what holds of every run, for any calls, any object
 //! and any test of readiness.
 //!
-//! Built ahead: no program runs it yet. It is for the calls that wait for a lock, for room or for an element, and
-//! docs/WAITING.md says its rule in words.
+//! The runs of scripts go by it, partition by partition (`replay_run`): calls wait there for a lock, for room or for an
+//! element, and docs/WAITING.md says the rule in words.
 #![tactic(auto)]
 
 pub mod laws;
