@@ -24,6 +24,12 @@ pub(crate) fn appends(line: &Line) -> bool
             | Line::Near { .. }
             | Line::NearGet { .. }
             | Line::NearFeed { .. }
+            | Line::Masters
+            | Line::Told { .. }
+            | Line::MasterDeliver { .. }
+            | Line::MasterLose { .. }
+            | Line::MasterResend { .. }
+            | Line::MasterFlow { .. }
             | Line::Comment
             | Line::End
     )
