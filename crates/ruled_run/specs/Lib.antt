@@ -1,1 +1,9 @@
--- filled below
+pub mod Runs
+pub mod AfterLines
+pub mod Printing
+pub mod Standing
+pub mod Laws
+pub mod Written
+pub mod Answers
+pub mod Grids
+pub mod Steps

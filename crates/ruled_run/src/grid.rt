@@ -1,3 +1,14 @@
+ghost use Rattle.std.specs.Prelude.{◌≡◌, ℕ, ◌≤◌, true, false, [], length, map, is_some, Some, slice_get, IfOk, OnOk, IsErrOf};
+ghost use Rattle.call_engine.specs.Calls.{Settings};
+ghost use Rattle.master_log.specs.declared.masters.Masters.{Masters as MastersOf};
+ghost use Rattle.master_log.specs.Standing.{StandsFor, size_of};
+ghost use Rattle.replay_run.specs.Runs.{partitions, is_open, connection_of};
+ghost use Rattle.replay_run.specs.Grids.{boxed};
+ghost use Rattle.replay_run.specs.WorldCalls.{open_member_in};
+ghost use Rattle.replay_run.specs.declared.run_end.RunEnd.TheVariants as RunEnds;
+ghost use Rattle.ruled_run.specs.Runs.{RuledRun, begun, has_masters};
+ghost use Rattle.ruled_run.specs.Grids.{Stands, MayRun, HasRun, IsGivenUp};
+
 use crate::decisions::decision_by;
 use entry_processors::Processor;
 use grid_base::{MemberId, Memory, PARTITIONS, PartitionId};
@@ -15,6 +26,20 @@ pub struct RuledGrid {
     pub(crate) masters: Vec<Masters>,
 }
 
+/// The masters of each partition, as they begin.
+fn opening_masters(alloc: Global, members: u8) -> Result<Vec<Masters>, Memory>
+    requires some { 1 ≤ members }
+    requires most { members ≤ 8 }
+    ensures count { IfOk result (λ all. length all.items ≡ partitions) }
+    ensures each { IfOk result (λ all. (p : ℕ) (masters : MastersOf) → slice_get all.items p ≡ Some masters → (size_of masters ≡ members) × StandsFor masters []) }
+{
+    let mut masters = Vec::with_capacity(alloc, usize::from(PARTITIONS))?;
+    for _ in 0..PARTITIONS {
+        masters.push(Masters::new(alloc, members)?)?;
+    }
+    Ok(masters)
+}
+
 impl RuledGrid {
     /// The grid after a script's first line, whose entries are processed by these processors, and whose queues have this
     /// capacity. It has no masters. Costs its partitions, and in each of them its members and the links between them.
@@ -24,7 +49,11 @@ impl RuledGrid {
         backups: u8,
         capacity: u32,
         processors: Vec<Box<dyn Processor>>,
-    ) -> Result<RuledGrid, Memory> {
+    ) -> Result<RuledGrid, Memory>
+        requires some { 1 ≤ members }
+        requires most { members ≤ 8 }
+        ensures { IfOk result (λ all. Stands form (record { forms = map form processors.items; capacity = capacity }) all (begun members backups)) }
+    {
         Ok(RuledGrid {
             grid: Grid::new(alloc, members, backups, capacity, processors)?,
             masters: Vec::new(alloc),
@@ -32,22 +61,31 @@ impl RuledGrid {
     }
 
     /// How many members the grid has.
-    pub fn members(&self) -> u8 {
+    pub fn members(&self) -> u8
+        ensures { (settings : Settings) (s : RuledRun) → Stands (boxed form) settings self.now s → result ≡ s.run.members }
+    {
         self.grid.members()
     }
 
     /// How many lines were run, the first among them.
-    pub fn lines(&self) -> u32 {
+    pub fn lines(&self) -> u32
+        ensures { (settings : Settings) (s : RuledRun) → Stands (boxed form) settings self.now s → result ≡ s.run.lines }
+    {
         self.grid.lines()
     }
 
     /// Whether a connection was opened, and no fault closed it.
-    pub fn is_open(&self, conn: u32) -> bool {
+    pub fn is_open(&self, conn: u32) -> bool
+        ensures { (settings : Settings) (s : RuledRun) → Stands (boxed form) settings self.now s → result ≡ is_open (connection_of s.run conn) }
+    {
         self.grid.is_open(conn)
     }
 
     /// Whether bytes can arrive on a connection: it is open, and its member hasn't crashed.
-    pub fn takes_bytes(&self, conn: u32) -> bool {
+    pub fn takes_bytes(&self, conn: u32) -> bool
+        requires { (settings : Settings) × (s : RuledRun) × Stands (boxed form) settings self.now s }
+        ensures { (settings : Settings) (s : RuledRun) → Stands (boxed form) settings self.now s → result ≡ is_some (open_member_in settings s.run conn) }
+    {
         self.grid.takes_bytes(conn)
     }
 
@@ -64,7 +102,11 @@ impl RuledGrid {
         number: u32,
         line: &Line,
         out: &mut Vec<u8>,
-    ) -> Result<(), RunEnd> {
+    ) -> Result<(), RunEnd>
+        requires { MayRun (boxed form) self.old number line.now }
+        ensures ok { (settings : Settings) (s : RuledRun) → Stands (boxed form) settings self.old s → OnOk result (HasRun (boxed form) settings self.new s line.now out.old.items out.new.items) }
+        ensures full { (settings : Settings) (s : RuledRun) → Stands (boxed form) settings self.old s → IsErrOf result RunEnds.InFlight → IsGivenUp settings s line.now }
+    {
         if self.masters.is_empty() {
             self.run_unruled(alloc, number, line, out)
         } else {
@@ -79,7 +121,12 @@ impl RuledGrid {
         number: u32,
         line: &Line,
         out: &mut Vec<u8>,
-    ) -> Result<(), RunEnd> {
+    ) -> Result<(), RunEnd>
+        requires may { MayRun (boxed form) self.old number line.now }
+        requires none { (s : RuledRun) (settings : Settings) → Stands (boxed form) settings self.old s → has_masters s ≡ false }
+        ensures ok { (settings : Settings) (s : RuledRun) → Stands (boxed form) settings self.old s → OnOk result (HasRun (boxed form) settings self.new s line.now out.old.items out.new.items) }
+        ensures full { (settings : Settings) (s : RuledRun) → Stands (boxed form) settings self.old s → IsErrOf result RunEnds.InFlight → IsGivenUp settings s line.now }
+    {
         match line {
             Line::Masters if number == 2 => self.begin_masters(alloc, number, out),
             _ => self.grid.run_line(alloc, number, line, out),
@@ -94,10 +141,7 @@ impl RuledGrid {
         number: u32,
         out: &mut Vec<u8>,
     ) -> Result<(), RunEnd> {
-        self.masters.reserve(usize::from(PARTITIONS))?;
-        for _ in 0..PARTITIONS {
-            self.masters.push(Masters::new(alloc, self.grid.members())?)?;
-        }
+        self.masters = opening_masters(alloc, self.grid.members())?;
         self.count(alloc, number)?;
         Ok(push_ok(out, number)?)
     }
@@ -109,7 +153,12 @@ impl RuledGrid {
         number: u32,
         line: &Line,
         out: &mut Vec<u8>,
-    ) -> Result<(), RunEnd> {
+    ) -> Result<(), RunEnd>
+        requires may { MayRun (boxed form) self.old number line.now }
+        requires some { (s : RuledRun) (settings : Settings) → Stands (boxed form) settings self.old s → has_masters s ≡ true }
+        ensures ok { (settings : Settings) (s : RuledRun) → Stands (boxed form) settings self.old s → OnOk result (HasRun (boxed form) settings self.new s line.now out.old.items out.new.items) }
+        ensures full { (settings : Settings) (s : RuledRun) → Stands (boxed form) settings self.old s → IsErrOf result RunEnds.InFlight → IsGivenUp settings s line.now }
+    {
         if let Some((partition, decision)) = self.proposal_of(alloc, line)? {
             return self.run_proposal(alloc, number, partition, &decision, out);
         }
