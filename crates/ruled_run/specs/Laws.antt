@@ -1,5 +1,6 @@
 -- What holds of every run of a script's lines, with masters or without.
 use Rattle.std.specs.Prelude.{◌≡◌, ℕ, ◌<◌, ◌≤◌, true, false, List, ◌++◌, map, filter}
+use Rattle.grid_base.specs.declared.calls.Request.{Request}
 use Rattle.grid_base.specs.declared.names.CallId.{CallId}
 use Rattle.call_engine.specs.Calls.{Settings}
 use Rattle.call_engine.specs.Objects.{partition_object}
@@ -36,7 +37,7 @@ EveryRunIsRuled = (settings : Settings) (members backups : ℕ) (skips : List Ca
 -- The events that the partition's service took are its published list, in order; and the service alone over that list comes to the partition's row, move and detected members.
 pub record ServesAsPublished (settings : Settings) (s : RuledRun) (p : ℕ) : Type 0 where
   pub listed : filter (is_of_service s.run.members) (events_at p s.run.events) ≡ map (event_of s.run.members) (masters_at s p).published
-  pub service : all_decided p s.run.members s.run.backups (start p s.run.members s.run.backups).service (masters_at s p).published ≡ (world_at (partition_object settings) s.run p).service
+  pub service : all_decided p s.run.members s.run.backups (start {C = Request} p s.run.members s.run.backups).service (masters_at s p).published ≡ (world_at (partition_object settings) s.run p).service
 
 abbrev pub EveryServiceServesAsPublished : Type 0
 EveryServiceServesAsPublished = (settings : Settings) (members backups : ℕ) (skips : List CallId) (lines : List Line) → 1 ≤ members → members ≤ 8

@@ -3,6 +3,7 @@ pub mod AfterLines
 pub mod Printing
 pub mod Standing
 pub mod Laws
+pub mod Examples
 pub mod Written
 pub mod Answers
 pub mod Grids

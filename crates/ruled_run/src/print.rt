@@ -45,11 +45,7 @@ fn push_proposed(out: &mut Vec<u8>, line: u32, number: u32) -> Result<(), Memory
 }
 
 /// Appends what came of a proposal.
-pub(crate) fn push_proposal(
-    out: &mut Vec<u8>,
-    line: u32,
-    proposal: Proposal,
-) -> Result<(), Memory>
+pub(crate) fn push_proposal(out: &mut Vec<u8>, line: u32, proposal: Proposal) -> Result<(), Memory>
     ensures { OnOk result (out.new.items ≡ out.old.items ++ words_line line (master_words (answer_of proposal))) }
 {
     match proposal {

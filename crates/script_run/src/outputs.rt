@@ -25,11 +25,8 @@ pub(crate) fn appends(line: &Line) -> bool
             | Line::NearGet { .. }
             | Line::NearFeed { .. }
             | Line::Masters
-            | Line::Told { .. }
-            | Line::MasterDeliver { .. }
             | Line::MasterLose { .. }
             | Line::MasterResend { .. }
-            | Line::MasterFlow { .. }
             | Line::Comment
             | Line::End
     )
