@@ -1,5 +1,5 @@
 -- The run of a grid with masters is a run: each event of a partition is taken as the grid takes it, and none is a call.
-use Rattle.std.proofs.Common.{◌≡◌, ℕ, zero, suc, ◌≤◌, Bool, true, false, not, ◌&&◌, ◌==◌, cond, List, [], ◌∷◌, ◌++◌, map, Option, Some, None, is_some, option_map, slice_set, refl}
+use Rattle.std.proofs.Common.{◌≡◌, ℕ, zero, suc, ◌≤◌, Bool, true, false, not, ◌&&◌, ◌==◌, cond, List, [], ◌∷◌, ◌++◌, map, Option, Some, None, is_some, option_map, slice_set, refl, arith}
 use Rattle.grid_base.specs.Objects.{Object}
 use Rattle.grid_base.specs.declared.names.CallId.{CallId}
 use Rattle.grid_base.specs.declared.calls.Request.{Request}
@@ -21,6 +21,13 @@ use Rattle.replay_run.specs.Runs.{Run, At, partitions, world_at, takes, delivery
 use Rattle.replay_run.specs.ScriptRuns.{IsRun, grid_begun, line_counted, run_given_up}
 use Rattle.replay_run.proofs.EventRuns.{takes_run}
 use Rattle.replay_run.proofs.Lines.{IsNoCall, events_are_no_calls, line_run}
+use Rattle.call_engine.specs.Calls.{Settings}
+use Rattle.call_engine.specs.Objects.{partition_object}
+use Rattle.replay_run.proofs.CallKinds.{one_kind, kinds_of_all}
+use Rattle.replay_run.proofs.Linear.{linear}
+use Rattle.replay_run.proofs.RunFacts.{RunOk}
+use Rattle.replay_run.proofs.RunsOfLines.{run_ok}
+use Rattle.ruled_run.specs.Laws.{ruled_with, EveryRuledRunIsARun, EveryRunIsLinearizable, EveryCallCountsOnce}
 use Rattle.ruled_run.specs.Runs.{RuledRun, begun, has_masters, opening_masters, masters_at, ruled_at, takes_each, meets_full_link, given_up, goes, goes_in, link_to_member, flowed, flowed_in, link_between, handing_over, flowed_between, counted}
 use Rattle.ruled_run.specs.AfterLines.{by_grid, unruled, Asked, as_asked, asked_at, asked_in_all, by_partition, by_all, ruled_line, after_line, after_lines}
 
@@ -170,3 +177,22 @@ module _ {o : Object Request Partition} (skips : List CallId) (s : RuledRun) (is
 pub ruled_runs : {o : Object Request Partition} (skips : List CallId) (s : RuledRun) (ls : List ScriptLine) → IsRun o s.run → IsRun o (after_lines o skips s ls).run
 ruled_runs skips s [] is = is
 ruled_runs {o} skips s (l ∷ ls) is = ruled_runs skips (after_line o skips s l) ls (ruled_run skips s is l)
+
+-- laws
+
+-- each run of a script's lines is a run
+pub law_run : (settings : Settings) (members backups : ℕ) (skips : List CallId) (ls : List ScriptLine) → 1 ≤ members → IsRun (partition_object settings) (ruled_with settings members backups skips ls).run
+law_run settings members backups skips ls some = ruled_runs skips (begun members backups) ls (grid_begun members backups some)
+
+pub every_ruled_run_is_a_run : EveryRuledRunIsARun
+every_ruled_run_is_a_run = law_run
+
+pub every_run_is_linearizable : EveryRunIsLinearizable
+every_run_is_linearizable settings members backups skips ls some =
+    linear settings (ruled_with settings members backups skips ls).run (run_ok (law_run settings members backups skips ls some))
+
+pub every_call_counts_once : EveryCallCountsOnce
+every_call_counts_once settings members backups skips ls some =
+    let r = (ruled_with settings members backups skips ls).run in
+    let ok : RunOk (partition_object settings) r = run_ok (law_run settings members backups skips ls some) in
+    record { kinds = λ a there. one_kind (partition_object settings) r ok a; all = let all = kinds_of_all (partition_object settings) r ok in omega (arith, all) }

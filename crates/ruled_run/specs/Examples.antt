@@ -1,5 +1,6 @@
 -- Worked examples, which the definitions compute: what lines print behind `grid 3 1 10` and `masters`.
 use Rattle.std.specs.Prelude.{◌≡◌, ℕ, List, [], ◌∷◌, ◌++◌, codes, decimal, refl}
+use Rattle.std.specs.Fmt.{digits}
 use Rattle.call_engine.specs.Calls.{Settings}
 use Rattle.call_engine.specs.Objects.{partition_object}
 use Rattle.script_lang.specs.declared.line.Line.{Line}
@@ -35,16 +36,19 @@ they_come_once = refl
 -- a move is stored at both others, and its row is made as the second answer comes
 
 a_move_is_proposed : prints (Masters ∷ []) (Move 5 2 1) ≡ words_line 3 (proposed 1)
+unfolding digits
 a_move_is_proposed = refl
 
 abbrev pub stored : List Line
 stored = Masters ∷ Move 5 2 1 ∷ MasterDeliver 5 0 1 0 ∷ MasterDeliver 5 0 2 0 ∷ MasterDeliver 5 1 0 0 ∷ []
 
 it_is_published : prints stored (MasterDeliver 5 2 0 0) ≡ words_line 7 (codes "took counted") ++ words_line 7 (published 5 1) ++ words_line 7 (row 2)
+unfolding digits
 it_is_published = refl
 
 -- a flow publishes too
 it_is_published_in_a_flow : prints (Masters ∷ Move 5 2 1 ∷ []) (MasterFlow 5 9) ≡ words_line 4 (codes "flow " ++ decimal 4) ++ words_line 4 (published 5 1) ++ words_line 4 (row 2)
+unfolding digits
 it_is_published_in_a_flow = refl
 
 -- the next master gathers the move, and publishes it
@@ -52,6 +56,7 @@ abbrev pub taken_over : List Line
 taken_over = Masters ∷ Move 5 2 1 ∷ MasterDeliver 5 0 1 0 ∷ Crash 0 ∷ Told 1 0 ∷ MasterDeliver 5 1 2 0 ∷ MasterDeliver 5 2 1 0 ∷ MasterDeliver 5 1 2 0 ∷ []
 
 it_survives : prints taken_over (MasterDeliver 5 2 1 0) ≡ words_line 10 (codes "took counted") ++ words_line 10 (published 5 1) ++ words_line 10 (row 2)
+unfolding digits
 it_survives = refl
 
 nothing_is_rebalanced : prints (Masters ∷ []) (Rebalance 0) ≡ words_line 3 (codes "nothing")

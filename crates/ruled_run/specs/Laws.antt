@@ -10,6 +10,7 @@ use Rattle.masters_world.specs.Decisions.{event_of, is_of_service, all_decided}
 use Rattle.masters_world.specs.Claims.{GoesUp}
 use Rattle.script_lang.specs.declared.line.Line.{Line}
 use Rattle.replay_run.specs.Runs.{partitions, events_at, world_at}
+use Rattle.replay_run.specs.Counts.{CountsOnce}
 use Rattle.replay_run.specs.Linearizability.{IsLinearizable}
 use Rattle.replay_run.specs.ScriptRuns.{IsRun}
 use Rattle.ruled_run.specs.Runs.{RuledRun, has_masters, masters_at}
@@ -28,6 +29,10 @@ EveryRuledRunIsARun = (settings : Settings) (members backups : ℕ) (skips : Lis
 abbrev pub EveryRunIsLinearizable : Type 0
 EveryRunIsLinearizable = (settings : Settings) (members backups : ℕ) (skips : List CallId) (lines : List Line) → 1 ≤ members
     → IsLinearizable settings (ruled_with settings members backups skips lines).run
+
+abbrev pub EveryCallCountsOnce : Type 0
+EveryCallCountsOnce = (settings : Settings) (members backups : ℕ) (skips : List CallId) (lines : List Line) → 1 ≤ members
+    → CountsOnce settings (ruled_with settings members backups skips lines).run
 
 -- with masters, in each partition, unless the run was given up: as that may come between a publication and its event
 abbrev pub EveryRunIsRuled : Type 0

@@ -11,9 +11,11 @@
 mod decisions;
 mod flows;
 mod grid;
+mod laws;
 mod lines;
 mod looking;
 mod print;
 mod publishing;
 
 pub use grid::RuledGrid;
+pub use laws::{every_call_counts_once, every_ruled_run_is_a_run, every_run_is_linearizable};
