@@ -1,1 +1,3 @@
 pub mod RuledRuns
+pub mod Natural
+pub mod Extending
