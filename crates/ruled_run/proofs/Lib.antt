@@ -1,3 +1,4 @@
 pub mod RuledRuns
 pub mod Natural
+pub mod WrittenMasters
 pub mod Extending

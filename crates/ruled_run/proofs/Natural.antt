@@ -171,8 +171,8 @@ module _ {D E : Type 0} (f : D → E) where
       go : (k : Member D) → going_on size m (member_by k) ≡ step_by (going_on size m k)
       go k = ap (λ b. cond (not b && was_told_of_lower m k) (record { member = gatherer m (member_by k); sent = to_each (Ask m) (peers size m k); outcome = Done }) (quiet (member_by k) Done)) (master_same k.role)
           ∙ cond_same step_by (begins m k) (record { member = gatherer m k; sent = to_each (Ask m) (peers size m k); outcome = Done }) (quiet k Done)
-              (record { member = gatherer m (member_by k); sent = to_each (Ask m) (peers size m k); outcome = Done }) (quiet (member_by k) Done)
-              (ap (λ ss. record { member = gatherer m (member_by k); sent = ss; outcome = Done }) (each_same (Ask m) (peers size m k))) refl
+          (record { member = gatherer m (member_by k); sent = to_each (Ask m) (peers size m k); outcome = Done }) (quiet (member_by k) Done)
+          (ap (λ ss. record { member = gatherer m (member_by k); sent = ss; outcome = Done }) (each_same (Ask m) (peers size m k))) refl
 
   taking_same : (m from : ℕ) (x : Message D) (n : Member D) → taking m from (message_by x) (member_by n) ≡ step_by (taking m from x n)
   taking_same m from (Store t l) n =
@@ -180,21 +180,21 @@ module _ {D E : Type 0} (f : D → E) where
       ap (λ k. cond (nat_lt t n.seen) (quiet (member_by n) Other) (record { member = with_log t k (member_by n); sent = record { to = from; message = Stored t (length k) } ∷ []; outcome = StoreTaken })) (longer_same n.log l)
       ∙ ap (λ c. cond (nat_lt t n.seen) (quiet (member_by n) Other) (record { member = with_log t (map f kept) (member_by n); sent = record { to = from; message = Stored t c } ∷ []; outcome = StoreTaken })) (size_same kept)
       ∙ cond_same step_by (nat_lt t n.seen) (quiet n Other) (record { member = with_log t kept n; sent = record { to = from; message = Stored t (length kept) } ∷ []; outcome = StoreTaken })
-          (quiet (member_by n) Other) (record { member = with_log t (map f kept) (member_by n); sent = record { to = from; message = Stored t (length kept) } ∷ []; outcome = StoreTaken }) refl refl
+      (quiet (member_by n) Other) (record { member = with_log t (map f kept) (member_by n); sent = record { to = from; message = Stored t (length kept) } ∷ []; outcome = StoreTaken }) refl refl
   taking_same m from (Stored t c) n =
       ap (λ b. cond (b && (t == m)) (quiet (with_role (Serving (with_count from c (counts_of (role_by n.role)))) (member_by n)) Counted) (quiet (member_by n) Stale)) (serving_same n.role)
       ∙ ap (λ cs. cond (is_serving n.role && (t == m)) (quiet (with_role (Serving (with_count from c cs)) (member_by n)) Counted) (quiet (member_by n) Stale)) (counts_same n.role)
       ∙ cond_same step_by (is_serving n.role && (t == m)) (quiet (with_role (Serving (with_count from c (counts_of n.role))) n) Counted) (quiet n Stale)
-          (quiet (with_role (Serving (with_count from c (counts_of n.role))) (member_by n)) Counted) (quiet (member_by n) Stale) refl refl
+      (quiet (with_role (Serving (with_count from c (counts_of n.role))) (member_by n)) Counted) (quiet (member_by n) Stale) refl refl
   taking_same m from (Ask t) n =
       cond_same step_by (nat_lt t n.seen) (quiet n Other) (record { member = with_seen t n; sent = record { to = from; message = Tell t n.log } ∷ []; outcome = Asked })
-          (quiet (member_by n) Other) (record { member = with_seen t (member_by n); sent = record { to = from; message = Tell t (map f n.log) } ∷ []; outcome = Asked }) refl refl
+      (quiet (member_by n) Other) (record { member = with_seen t (member_by n); sent = record { to = from; message = Tell t (map f n.log) } ∷ []; outcome = Asked }) refl refl
   taking_same m from (Tell t l) n =
       ap (λ b. cond (b && (t == m)) (quiet (with_role (Gathering (with_tell from (map f l) (tells_of (role_by n.role)))) (member_by n)) TellKept) (quiet (member_by n) Stale)) (gathering_same n.role)
       ∙ ap (λ ks. cond (is_gathering n.role && (t == m)) (quiet (with_role (Gathering ks) (member_by n)) TellKept) (quiet (member_by n) Stale))
-          (ap (λ ks. with_tell from (map f l) ks) (tells_same n.role) ∙ tell_same from l (tells_of n.role))
+      (ap (λ ks. with_tell from (map f l) ks) (tells_same n.role) ∙ tell_same from l (tells_of n.role))
       ∙ cond_same step_by (is_gathering n.role && (t == m)) (quiet (with_role (Gathering (with_tell from l (tells_of n.role))) n) TellKept) (quiet n Stale)
-          (quiet (with_role (Gathering (map told_by (with_tell from l (tells_of n.role)))) (member_by n)) TellKept) (quiet (member_by n) Stale) refl refl
+      (quiet (with_role (Gathering (map told_by (with_tell from l (tells_of n.role)))) (member_by n)) TellKept) (quiet (member_by n) Stale) refl refl
 
   proposing_same : (size m : ℕ) (d : D) (n : Member D) → proposing size m (f d) (member_by n) ≡ step_by (proposing size m d n)
   proposing_same size m d n =
@@ -212,15 +212,15 @@ module _ {D E : Type 0} (f : D → E) where
   again_same size m n = go n.role
     where
       go : (r : Role D) → cond (is_gathering (role_by r)) (to_each (Ask m) (filter (λ p. not (has_told (tells_of (role_by r)) p)) (peers size m n)))
-              (cond (is_serving (role_by r) && nat_lt 0 (m + length (map f n.log))) (to_each (Store m (map f n.log)) (filter (λ p. not (has_stored (length (map f n.log)) (counts_of (role_by r)) p)) (peers size m n))) [])
+          (cond (is_serving (role_by r) && nat_lt 0 (m + length (map f n.log))) (to_each (Store m (map f n.log)) (filter (λ p. not (has_stored (length (map f n.log)) (counts_of (role_by r)) p)) (peers size m n))) [])
           ≡ map sent_by (cond (is_gathering r) (to_each (Ask m) (filter (λ p. not (has_told (tells_of r) p)) (peers size m n)))
-              (cond (is_serving r && nat_lt 0 (m + length n.log)) (to_each (Store m n.log) (filter (λ p. not (has_stored (length n.log) (counts_of r) p)) (peers size m n))) []))
+          (cond (is_serving r && nat_lt 0 (m + length n.log)) (to_each (Store m n.log) (filter (λ p. not (has_stored (length n.log) (counts_of r) p)) (peers size m n))) []))
       go Following = refl
       go (Gathering ks) = ap (λ ps. to_each (Ask m) ps) (untold_same ks (peers size m n)) ∙ each_same (Ask m) (filter (λ p. not (has_told ks p)) (peers size m n))
       go (Serving cs) =
           ap (λ c. cond (nat_lt 0 (m + c)) (to_each (Store m (map f n.log)) (filter (λ p. not (has_stored c cs p)) (peers size m n))) []) (size_same n.log)
           ∙ cond_same (λ x. map sent_by x) (nat_lt 0 (m + length n.log)) (to_each (Store m n.log) (filter (λ p. not (has_stored (length n.log) cs p)) (peers size m n))) []
-              (to_each (Store m (map f n.log)) (filter (λ p. not (has_stored (length n.log) cs p)) (peers size m n))) [] (each_same (Store m n.log) (filter (λ p. not (has_stored (length n.log) cs p)) (peers size m n))) refl
+          (to_each (Store m (map f n.log)) (filter (λ p. not (has_stored (length n.log) cs p)) (peers size m n))) [] (each_same (Store m n.log) (filter (λ p. not (has_stored (length n.log) cs p)) (peers size m n))) refl
 
   -- the machine
 
@@ -247,7 +247,7 @@ module _ {D E : Type 0} (f : D → E) where
       ap (λ b. cond b (served (server (member_by n))) (masters_by w)) (gathered_same w.size m n)
       ∙ ap (λ s. cond (is_gathered w.size m n) (served s) (masters_by w)) (server_same n)
       ∙ cond_same masters_by (is_gathered w.size m n) (sending (with_member w m k) m (storing w.size m k)) w (served (member_by k)) (masters_by w)
-          (ap (λ v. sending v m (storing w.size m (member_by k))) (with_member_same w m k) ∙ ap (λ ss. sending (masters_by (with_member w m k)) m ss) (storing_same w.size m k) ∙ sending_same (with_member w m k) m (storing w.size m k)) refl
+      (ap (λ v. sending v m (storing w.size m (member_by k))) (with_member_same w m k) ∙ ap (λ ss. sending (masters_by (with_member w m k)) m ss) (storing_same w.size m k) ∙ sending_same (with_member w m k) m (storing w.size m k)) refl
 
   publishing_at_same : (w : Masters D) (m : ℕ) (n : Member D) → publishing_at (masters_by w) m (member_by n) ≡ masters_by (publishing_at w m n)
   publishing_at_same w m n =
@@ -310,8 +310,8 @@ module _ {D E : Type 0} (f : D → E) where
       ap (λ c. cond (is_ahead (masters_by w) (map f n.log)) (refused (masters_by w) (RefusedBusy c)) (cond (nat_le most_decisions c) (refused (masters_by w) RefusedFull) put')) (size_same n.log)
       ∙ ap (λ b. cond b (refused (masters_by w) (RefusedBusy (length n.log))) (cond (nat_le most_decisions (length n.log)) (refused (masters_by w) RefusedFull) put')) (ahead_same w n.log)
       ∙ cond_same happened_by (is_ahead w n.log) (refused w (RefusedBusy (length n.log))) full (refused (masters_by w) (RefusedBusy (length n.log))) (cond (nat_le most_decisions (length n.log)) (refused (masters_by w) RefusedFull) put') refl
-          (cond_same happened_by (nat_le most_decisions (length n.log)) (refused w RefusedFull) put (refused (masters_by w) RefusedFull) put' refl
-              (ap (λ s. stepped (masters_by w) m s) (proposing_same w.size m d n) ∙ stepped_same w m (proposing w.size m d n)))
+      (cond_same happened_by (nat_le most_decisions (length n.log)) (refused w RefusedFull) put (refused (masters_by w) RefusedFull) put' refl
+      (ap (λ s. stepped (masters_by w) m s) (proposing_same w.size m d n) ∙ stepped_same w m (proposing w.size m d n)))
 
   empty_same : (ss : List (Sent D)) → is_empty (map sent_by ss) ≡ is_empty ss
   empty_same [] = refl
@@ -395,7 +395,7 @@ module _ {D E : Type 0} (f : D → E) where
   pending_same w =
       ap (λ b. b || list_any (λ (p : Packet E). is_ahead (masters_by w) (log_of p.message)) (map packet_by w.packets)) (one_same (is_pending_member (masters_by w)) (is_pending_member w) (pending_member_same w) (numbers_below w.size))
       ∙ ap (λ b. list_any (is_pending_member w) (numbers_below w.size) || b)
-          (any_same packet_by (λ p. is_ahead (masters_by w) (log_of p.message)) (λ p. is_ahead w (log_of p.message)) (λ p. ap (λ l. is_ahead (masters_by w) l) (log_same p.message) ∙ ahead_same w (log_of p.message)) w.packets)
+      (any_same packet_by (λ p. is_ahead (masters_by w) (log_of p.message)) (λ p. is_ahead w (log_of p.message)) (λ p. ap (λ l. is_ahead (masters_by w) l) (log_same p.message) ∙ ahead_same w (log_of p.message)) w.packets)
 
   -- how many messages are on a link
   pub flight_same : (w : Masters D) (a b : ℕ) → length (link a b (masters_by w).packets) ≡ length (link a b w.packets)
