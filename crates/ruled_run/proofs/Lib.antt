@@ -2,3 +2,4 @@ pub mod RuledRuns
 pub mod Natural
 pub mod WrittenMasters
 pub mod Extending
+pub mod Going
