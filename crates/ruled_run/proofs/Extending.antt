@@ -4,7 +4,7 @@ use Rattle.grid_base.specs.Objects.{Object}
 use Rattle.grid_base.specs.declared.names.CallId.{CallId}
 use Rattle.grid_base.specs.declared.calls.Request.{Request}
 use Rattle.object_store.specs.Partitions.{Partition}
-use Rattle.partition_protocol.specs.Events.{Event, Call}
+use Rattle.partition_protocol.specs.Events.{Event, Call, Deliver, Lose, Repeat, Resend, Crash, Detect, BeginMove, BeginJoin, BeginHandover, Advance, Reopen}
 use Rattle.partition_protocol.proofs.Lists.{set_get_same, set_get_other, on_cond}
 use Rattle.partition_protocol.proofs.RowFacts.{number_same}
 use Rattle.masters_protocol.specs.Machine.{Masters}
@@ -40,9 +40,31 @@ past_same xs = ap (λ ys. past xs ys) (sym (append-nil xs)) ∙ past_append xs [
 
 asks_nothing : (j : Ruled Request) (e : Event Request) → IsCall e → masters_after j (Asks e) ≡ j.masters
 asks_nothing j (Call m conn number call now) is = refl
+asks_nothing j (Deliver a b i) is = absurd is
+asks_nothing j (Lose a b i) is = absurd is
+asks_nothing j (Repeat a b i) is = absurd is
+asks_nothing j (Resend end) is = absurd is
+asks_nothing j (Crash m) is = absurd is
+asks_nothing j (Detect m) is = absurd is
+asks_nothing j (BeginMove a b) is = absurd is
+asks_nothing j (BeginJoin m) is = absurd is
+asks_nothing j (BeginHandover a b) is = absurd is
+asks_nothing j Advance is = absurd is
+asks_nothing j Reopen is = absurd is
 
 happens_alone : (j : Ruled Request) (e : Event Request) → IsCall e → events_by j (Asks e) ≡ e ∷ []
 happens_alone j (Call m conn number call now) is = ap (λ ds. Call m conn number call now ∷ map (event_of j.world.members) ds) (past_same j.masters.published)
+happens_alone j (Deliver a b i) is = absurd is
+happens_alone j (Lose a b i) is = absurd is
+happens_alone j (Repeat a b i) is = absurd is
+happens_alone j (Resend end) is = absurd is
+happens_alone j (Crash m) is = absurd is
+happens_alone j (Detect m) is = absurd is
+happens_alone j (BeginMove a b) is = absurd is
+happens_alone j (BeginJoin m) is = absurd is
+happens_alone j (BeginHandover a b) is = absurd is
+happens_alone j Advance is = absurd is
+happens_alone j Reopen is = absurd is
 
 abbrev pub asking : List (Event Request) → List (Line Request)
 asking es = map (λ e. Asks e) es

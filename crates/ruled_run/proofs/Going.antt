@@ -54,19 +54,17 @@ masters_set s r p w low = ap (λ m. unwrap_or m (masters.start r.members)) (set_
 -- what is asked for in a partition: it stands for its lines, that one, and the calls that had turns behind it
 pub goes_here : (o : Object Request Partition) (skips : List CallId) (s : RuledRun) (p : ℕ) (l : Line Request) (lines : List (Line Request)) → IsOfLines o s p lines → p < length s.masters
     → length (events_by (ruled_at o s p) l) ≤ 1 → (goes o skips s p l).run.full ≡ false → (calls : List (Event Request)) × IsOfLines o (goes o skips s p l) p (lines ++ l ∷ asking calls)
-goes_here o skips s p l lines of low few goes_on = go (meets_full_link j.masters (asked_by j l)) refl
+goes_here o skips s p l lines of low few goes_on = go (meets_full_link (masters_at s p) (asked_by (ruled_at o s p) l)) refl
   where
-    abbrev j : Ruled Request
-    j = ruled_at o s p
-
-    abbrev next : RuledRun
-    next = record { run = takes_each o skips s.run p (events_by j l); masters = slice_set s.masters p (masters_after j l) }
-
-    go : (b : Bool) → meets_full_link j.masters (asked_by j l) ≡ b → (calls : List (Event Request)) × IsOfLines o (goes o skips s p l) p (lines ++ l ∷ asking calls)
+    go : (b : Bool) → meets_full_link (masters_at s p) (asked_by (ruled_at o s p) l) ≡ b → (calls : List (Event Request)) × IsOfLines o (goes o skips s p l) p (lines ++ l ∷ asking calls)
     go true is =
+        let j = ruled_at o s p in
+        let next : RuledRun = record { run = takes_each o skips s.run p (events_by j l); masters = slice_set s.masters p (masters_after j l) } in
         let up : goes o skips s p l ≡ ruled.given_up s = ap (λ b. cond b (ruled.given_up s) next) is in
         absurd (true≢false (sym (ap (λ (x : RuledRun). x.run.full) up) ∙ goes_on))
     go false is =
+        let j = ruled_at o s p in
+        let next : RuledRun = record { run = takes_each o skips s.run p (events_by j l); masters = slice_set s.masters p (masters_after j l) } in
         let on : goes o skips s p l ≡ next = ap (λ b. cond b (ruled.given_up s) next) is in
         let took = one_taken o skips s.run p (events_by j l) few (sym (ap (λ (x : RuledRun). x.run.full) on) ∙ goes_on) in
         let here = at_lines o s p lines of in

@@ -83,6 +83,14 @@ line_quiet j (MasterResend m) q = tt
 pub events_quiet : (j : Ruled Request) (l : Line Request) → AsksNoCall l → AreQuiet (events_by j l)
 events_quiet j l q = both_quiet (at_once j l) (map (event_of j.world.members) (published_by j l)) (line_quiet j l q) (published_quiet j.world.members (published_by j l))
 
+-- a flow of one delivery more, where this is the link that comes first
+
+abbrev pub flowed_on : Object Request Partition → List CallId → RuledRun → ℕ → ℕ → Option Link → RuledRun
+flowed_on o skips s p most next = elim next [ None ↦ s | Some l ↦ flowed o skips (goes o skips s p (Asks (delivery_on l))) p most ]
+
+abbrev pub between_on : Object Request Partition → List CallId → RuledRun → ℕ → ℕ → Option Link → RuledRun
+between_on o skips s p most next = elim next [ None ↦ s | Some l ↦ flowed_between o skips (goes o skips s p (handing_over l)) p most ]
+
 -- What holds of the grid's run after each event that is no call, and as it is given up, holds after what is asked for in partitions.
 module _ (o : Object Request Partition) (skips : List CallId) (P : Run → Type 0)
     (up : (r : Run) → P r → P (grid.given_up r)) (step : (r : Run) (p : ℕ) (e : Event Request) → asked_by e ≡ [] → P r → P (takes o skips r p e)) where
@@ -109,7 +117,7 @@ module _ (o : Object Request Partition) (skips : List CallId) (P : Run → Type 
   flowed_keeps s p (suc most) h = go (link_to_member (world_at o s.run p)) (λ l. flowed_keeps (goes o skips s p (Asks (delivery_on l))) p most (goes_keeps s p (Asks (delivery_on l)) refl h))
     where
       go : (next : Option Link) → ((l : Link) → P (flowed o skips (goes o skips s p (Asks (delivery_on l))) p most).run)
-          → P (elim next [ None ↦ s | Some l ↦ flowed o skips (goes o skips s p (Asks (delivery_on l))) p most ]).run
+          → P (flowed_on o skips s p most next).run
       go None f = h
       go (Some l) f = f l
 
@@ -122,7 +130,7 @@ module _ (o : Object Request Partition) (skips : List CallId) (P : Run → Type 
   between_keeps s p (suc most) h = go (link_between (masters_at s p)) (λ l. between_keeps (goes o skips s p (handing_over l)) p most (goes_keeps s p (handing_over l) tt h))
     where
       go : (next : Option Link) → ((l : Link) → P (flowed_between o skips (goes o skips s p (handing_over l)) p most).run)
-          → P (elim next [ None ↦ s | Some l ↦ flowed_between o skips (goes o skips s p (handing_over l)) p most ]).run
+          → P (between_on o skips s p most next).run
       go None f = h
       go (Some l) f = f l
 
