@@ -130,6 +130,6 @@ extended o s next p lines l calls of are same backups by here =
     record {
       masters = ap (λ f. (after o f (lines ++ l ∷ asking calls)).masters) begun ∙ ap (λ (x : Ruled Request). x.masters) (after_append o first lines (l ∷ asking calls)) ∙ calls_ask_nothing o k calls are ∙ sym by;
       happened = ap (λ f. events o f (lines ++ l ∷ asking calls)) begun ∙ events_append o first lines (l ∷ asking calls)
-          ∙ ap (λ es. events o first lines ++ events_by j l ++ es) (calls_happen o k calls are)
-          ∙ ap (λ es. es ++ events_by j l ++ calls) of.happened ∙ sym (append_assoc (events_at p s.run.events) (events_by j l) calls) ∙ sym here;
+          ∙ ap (λ es. events o first lines ++ (events_by j l ++ es)) (calls_happen o k calls are)
+          ∙ ap (λ es. es ++ (events_by j l ++ calls)) of.happened ∙ sym (append_assoc (events_at p s.run.events) (events_by j l) calls) ∙ sym here;
     }
