@@ -11,7 +11,7 @@ use Rattle.call_engine.specs.Objects.{partition_object}
 use Rattle.script_lang.specs.Limits.{most_lines}
 use Rattle.script_lang.specs.Lines.{IsWithin}
 use Rattle.script_lang.specs.declared.line.Line.{Line as ScriptLine}
-use Rattle.script_lang.specs.declared.line.Line.TheVariants.{Grid as Begin, OpenConn, Arrive, Clock, Deliver, Lose, Repeat, Flow, FlowAll, Resend, Crash, Detect, Move, Join, Handover, Advance, Reopen, Rebalance, Dump, Links, Trail, Near, NearGet, NearFeed, Comment, End}
+use Rattle.script_lang.specs.declared.line.Line.TheVariants.{Grid as Begin, OpenConn, Arrive, Clock, Deliver, Lose, Repeat, Flow, FlowAll, Resend, Crash, Detect, Move, Join, Handover, Advance, Reopen, Rebalance, Dump, Links, Trail, Near, NearGet, NearFeed, Masters, Told, MasterDeliver, MasterLose, MasterResend, MasterFlow, Comment, End}
 use Rattle.replay_run.specs.declared.events.Fate.{Fate}
 use Rattle.replay_run.specs.declared.events.Fate.TheVariants as fate
 use Rattle.replay_run.specs.declared.grid.Grid.{Grid}
@@ -152,6 +152,12 @@ module _ (settings : Settings) (r : Run) where
   of_event (Near c name capacity) e same = absurd cc
   of_event (NearGet c key) e same = absurd cc
   of_event (NearFeed c most) e same = absurd cc
+  of_event Masters e same = absurd cc
+  of_event (Told member crashed) e same = absurd cc
+  of_event (MasterDeliver p from to place) e same = absurd cc
+  of_event (MasterLose p from to place) e same = absurd cc
+  of_event (MasterResend p member) e same = absurd cc
+  of_event (MasterFlow p most) e same = absurd cc
   of_event Comment e same = absurd cc
   of_event End e same = absurd cc
 

@@ -36,7 +36,7 @@ use Rattle.replay_run.specs.Runs.{Run, Connection, Arrival, Waiter, Appended, At
 use Rattle.replay_run.specs.Shelves.{grid_meaning}
 use Rattle.partition_world.specs.declared.Link.{Link}
 use Rattle.script_lang.specs.declared.line.Line.{Line}
-use Rattle.script_lang.specs.declared.line.Line.TheVariants.{Grid, OpenConn, Arrive, Flow, FlowAll, Crash, Detect, Rebalance, Dump, Links, Trail, Near, NearGet, NearFeed, End}
+use Rattle.script_lang.specs.declared.line.Line.TheVariants.{Grid, OpenConn, Arrive, Flow, FlowAll, Crash, Detect, Rebalance, Dump, Links, Trail, Near, NearGet, NearFeed, Masters, Told, MasterDeliver, MasterLose, MasterResend, MasterFlow, End}
 use Rattle.frame_codec.specs.declared.malformed.Malformed.{Malformed}
 use Rattle.frame_codec.specs.declared.malformed.Why.{Why}
 use Rattle.frame_codec.specs.declared.malformed.Why.TheVariants.{Prefix, TooShort, TooLong, BadFragment, OpenFragments, ManyFrames, LongMessage, ShortStart, Spent}
@@ -237,7 +237,7 @@ outcome_at o r p event = (happens o (world_at o r p) event).outcome
 abbrev pub words_line : ℕ → List ℕ → List ℕ
 words_line line words = number line ++ words ++ line_end
 
--- whether a line's condition is false, where it is no event's; the grid by itself has no near clients
+-- whether a line's condition is false, where it is no event's; the grid by itself has no near clients, and no masters
 abbrev pub does_nothing : {State : Type 0} → Object Request State → Run → Line → Bool
 does_nothing o before (Grid members backups capacity) = true
 does_nothing o before (OpenConn c member) = not (can_open o before c member)
@@ -245,6 +245,11 @@ does_nothing o before (Arrive c bytes) = elim (connection_of before c) [ None �
 does_nothing o before (Near c name capacity) = true
 does_nothing o before (NearGet c key) = true
 does_nothing o before (NearFeed c most) = true
+does_nothing o before Masters = true
+does_nothing o before (Told member crashed) = true
+does_nothing o before (MasterDeliver p from to place) = true
+does_nothing o before (MasterLose p from to place) = true
+does_nothing o before (MasterResend p member) = true
 does_nothing o before line = false
 
 -- the entries that a line prints: those of a partition's trail, or at the end those of all trails
@@ -317,6 +322,7 @@ outcome_text settings before (Trail p) after = trail_text after.lines (length (t
 outcome_text settings before (Links p) after = links_text after.lines (in_flight settings after p)
 outcome_text settings before (Flow p most) after = flow_text after.lines (deliveries before after)
 outcome_text settings before (FlowAll most) after = flow_text after.lines (deliveries before after)
+outcome_text settings before (MasterFlow p most) after = flow_text after.lines 0
 outcome_text settings before (Crash member) after = fate_text settings before after.lines (event.Crash member)
 outcome_text settings before (Detect member) after = fate_text settings before after.lines (event.Detect member)
 outcome_text settings before (Rebalance most) after = plan_text after.lines (plan_in (partition_object settings) (next_line before))

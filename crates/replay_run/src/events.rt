@@ -172,7 +172,9 @@ impl Grid {
 
     /// Runs an event of a partition that is no call, and appends what it does at the member that it reaches; then those
     /// whom it stirs have their turns. A full partition takes no event but a loss. After an error the grid is given up.
-    pub(crate) fn take(
+    ///
+    /// A line is taken apart so: it is counted as a comment is, and then its events are taken one by one.
+    pub fn take(
         &mut self,
         alloc: Global,
         partition: PartitionId,

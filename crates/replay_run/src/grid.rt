@@ -2,7 +2,7 @@ ghost use Rattle.std.specs.Prelude.{◌≡◌, ℕ, true, false, ◌+◌, ◌-�
 ghost use Rattle.call_engine.specs.Calls.{Settings};
 ghost use Rattle.call_engine.specs.Objects.{partition_object};
 ghost use Rattle.replay_run.specs.Runs.{Run, partitions, begun, lives, is_open, connection_of};
-ghost use Rattle.replay_run.specs.Printing.{ok_text, nothing_text};
+ghost use Rattle.replay_run.specs.Printing.{ok_text, nothing_text, flow_text};
 ghost use Rattle.replay_run.specs.Grids.{boxed, AreListening, Stands, MayRun, HasRun, IsGivenUp};
 ghost use Rattle.replay_run.specs.WorldCalls.{is_quiet, open_member_in};
 ghost use Rattle.replay_run.specs.declared.run_end.RunEnd.TheVariants as RunEnds;
@@ -10,6 +10,7 @@ ghost use Rattle.replay_run.specs.declared.run_end.RunEnd.TheVariants as RunEnds
 use crate::connections::Connections;
 use crate::events::{Fate, event_by};
 use crate::links::links_of;
+use crate::outcomes::push_flow;
 use crate::print::{push_nothing, push_ok};
 use crate::reopened::Reopened;
 use crate::run_end::RunEnd;
@@ -131,7 +132,8 @@ impl Grid {
     /// partitions cost a constant for each. The lines `dump` and `links` cost sorting and printing what their member keeps
     /// of the partition, and printing the messages in flight. The line `rebalance` costs a pass over the partitions' rows, and
     /// then the events of its steps. The line `trail` costs the entries of its partition's history,
-    /// and the line `end` those of all. Lines of near clients do nothing here.
+    /// and the line `end` those of all. Lines of near clients, and of
+    /// masters, do nothing here.
     pub fn run_line(
         &mut self,
         alloc: Global,
@@ -186,6 +188,7 @@ impl Grid {
             Line::Links { partition } => self.push_links(alloc, number, *partition, out),
             Line::Trail { partition } => self.trail(alloc, number, *partition, out),
             Line::Comment => self.count(number, out),
+            Line::MasterFlow { .. } => self.flow_nothing(number, out),
             Line::End => self.end(alloc, number, out),
             _ => self.pass(number, out),
         }
@@ -198,6 +201,15 @@ impl Grid {
     {
         self.lines = number;
         push_ok(out, number)
+    }
+
+    /// `mflow P K` finds no message: without masters there are none between them.
+    fn flow_nothing(&mut self, number: u32, out: &mut Vec<u8>) -> Result<(), Memory>
+        ensures grid { self.new ≡ record self.old { lines = number } }
+        ensures text { OnOk result (out.new.items ≡ out.old.items ++ flow_text number 0) }
+    {
+        self.lines = number;
+        push_flow(out, number, 0)
     }
 
     /// Counts a line whose condition is false.

@@ -29,6 +29,7 @@ pub use laws::{
     every_call_counts_once, every_partition_goes_by_its_machine, every_run_is_linearizable,
     every_run_that_tells_of_no_skip_has_none, every_skipped_call_is_told, every_waiter_stays,
 };
-pub use outcomes::{done_word, push_fate, push_happened};
+pub use links::MOST_IN_FLIGHT;
+pub use outcomes::{done_word, push_fate, push_flow, push_happened};
 pub use print::{push_nothing, push_number, push_ok, push_text};
 pub use run_end::RunEnd;

@@ -15,7 +15,7 @@ use partition_world::{Link, Records, World};
 use std::alloc::Global;
 
 /// A partition with so many messages on one link takes no event but a loss.
-pub(crate) const MOST_IN_FLIGHT: usize = 65_400;
+pub const MOST_IN_FLIGHT: usize = 65_400;
 
 /// Adds the links from one end to each of so many.
 fn push_links_from(links: &mut Vec<Link>, from: u8, ends: u8) -> Result<(), Memory>

@@ -108,7 +108,7 @@ pub fn push_fate(out: &mut Vec<u8>, line: u32, happened: Happened) -> Result<(),
 }
 
 /// Appends the outcome of a line that delivered so many messages.
-pub(crate) fn push_flow(out: &mut Vec<u8>, line: u32, deliveries: u32) -> Result<(), Memory>
+pub fn push_flow(out: &mut Vec<u8>, line: u32, deliveries: u32) -> Result<(), Memory>
     ensures { OnOk result (out.new.items ≡ out.old.items ++ flow_text line deliveries) }
 {
     push_number(out, u64::from(line))?;

@@ -3,7 +3,7 @@ use Rattle.std.specs.Prelude.{◌≡◌, ℕ, true, false, List, [], ◌∷◌, 
 use Rattle.hex.specs.Hex.{decode_pairs}
 use Rattle.script_lang.specs.Lines.{line_of}
 use Rattle.script_lang.specs.declared.line.Line.{Line}
-use Rattle.script_lang.specs.declared.line.Line.TheVariants.{Grid, OpenConn, Arrive, Clock, Deliver, Lose, Repeat, Flow, FlowAll, Resend, Crash, Detect, Move, Join, Handover, Advance, Reopen, Rebalance, Dump, Links, Trail, Near, NearGet, NearFeed, Comment, End}
+use Rattle.script_lang.specs.declared.line.Line.TheVariants.{Grid, OpenConn, Arrive, Clock, Deliver, Lose, Repeat, Flow, FlowAll, Resend, Crash, Detect, Move, Join, Handover, Advance, Reopen, Rebalance, Dump, Links, Trail, Near, NearGet, NearFeed, Masters, Told, MasterDeliver, MasterLose, MasterResend, MasterFlow, Comment, End}
 use Rattle.script_lang.specs.declared.refusal.LineWhy.{LineWhy}
 use Rattle.script_lang.specs.declared.refusal.LineWhy.TheVariants.{Word, NoGrid, Count, Number, Hex}
 

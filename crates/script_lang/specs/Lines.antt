@@ -9,7 +9,7 @@ use Rattle.script_lang.specs.declared.keywords.Keyword.TheVariants as Keywords
 use Rattle.script_lang.specs.declared.reading.Value.{Value}
 use Rattle.script_lang.specs.declared.reading.Value.TheVariants as Values
 use Rattle.script_lang.specs.declared.line.Line.{Line}
-use Rattle.script_lang.specs.declared.line.Line.TheVariants.{Grid, OpenConn, Arrive, Clock, Deliver, Lose, Repeat, Flow, FlowAll, Resend, Crash, Detect, Move, Join, Handover, Advance, Reopen, Rebalance, Dump, Links, Trail, Near, NearGet, NearFeed, Comment, End}
+use Rattle.script_lang.specs.declared.line.Line.TheVariants.{Grid, OpenConn, Arrive, Clock, Deliver, Lose, Repeat, Flow, FlowAll, Resend, Crash, Detect, Move, Join, Handover, Advance, Reopen, Rebalance, Dump, Links, Trail, Near, NearGet, NearFeed, Masters, Told, MasterDeliver, MasterLose, MasterResend, MasterFlow, Comment, End}
 use Rattle.script_lang.specs.declared.refusal.LineWhy.{LineWhy}
 use Rattle.script_lang.specs.declared.refusal.LineWhy.TheVariants.{Word, NoGrid, Count, Number, Hex, NoEnd}
 
@@ -37,7 +37,9 @@ keywords =
     ∷ named (codes "join") Keywords.Join ∷ named (codes "handover") Keywords.Handover ∷ named (codes "advance") Keywords.Advance
     ∷ named (codes "reopen") Keywords.Reopen ∷ named (codes "rebalance") Keywords.Rebalance ∷ named (codes "dump") Keywords.Dump
     ∷ named (codes "links") Keywords.Links ∷ named (codes "trail") Keywords.Trail ∷ named (codes "near") Keywords.Near ∷ named (codes "nearget") Keywords.NearGet
-    ∷ named (codes "nearfeed") Keywords.NearFeed ∷ named (codes "end") Keywords.End ∷ []
+    ∷ named (codes "nearfeed") Keywords.NearFeed ∷ named (codes "masters") Keywords.Masters ∷ named (codes "told") Keywords.Told
+    ∷ named (codes "mdeliver") Keywords.MasterDeliver ∷ named (codes "mlose") Keywords.MasterLose ∷ named (codes "mresend") Keywords.MasterResend
+    ∷ named (codes "mflow") Keywords.MasterFlow ∷ named (codes "end") Keywords.End ∷ []
 
 abbrev pub keyword_of : List ℕ → Option Keyword
 keyword_of word = option_map (λ (entry : Named). entry.keyword) (find (λ (entry : Named). are_same entry.word word) keywords)
@@ -67,6 +69,12 @@ fields_of Keywords.Trail = Partition ∷ []
 fields_of Keywords.Near = Connection ∷ HexField ∷ Entries ∷ []
 fields_of Keywords.NearGet = Connection ∷ HexField ∷ []
 fields_of Keywords.NearFeed = Connection ∷ Amount ∷ []
+fields_of Keywords.Masters = []
+fields_of Keywords.Told = Member ∷ Member ∷ []
+fields_of Keywords.MasterDeliver = Partition ∷ LinkEnd ∷ LinkEnd ∷ Place ∷ []
+fields_of Keywords.MasterLose = Partition ∷ LinkEnd ∷ LinkEnd ∷ Place ∷ []
+fields_of Keywords.MasterResend = Partition ∷ Member ∷ []
+fields_of Keywords.MasterFlow = Partition ∷ Deliveries ∷ []
 fields_of Keywords.End = []
 
 -- the least and the greatest number that a field has
@@ -143,6 +151,12 @@ line_with Keywords.Trail (Values.Number partition ∷ []) = Ok (Trail partition)
 line_with Keywords.Near (Values.Number conn ∷ Values.Bytes name ∷ Values.Number capacity ∷ []) = Ok (Near conn name capacity)
 line_with Keywords.NearGet (Values.Number conn ∷ Values.Bytes key ∷ []) = Ok (NearGet conn key)
 line_with Keywords.NearFeed (Values.Number conn ∷ Values.Number most ∷ []) = Ok (NearFeed conn most)
+line_with Keywords.Masters [] = Ok Masters
+line_with Keywords.Told (Values.Number member ∷ Values.Number crashed ∷ []) = Ok (Told member crashed)
+line_with Keywords.MasterDeliver (Values.Number partition ∷ Values.Number from ∷ Values.Number to ∷ Values.Number place ∷ []) = Ok (MasterDeliver partition from to place)
+line_with Keywords.MasterLose (Values.Number partition ∷ Values.Number from ∷ Values.Number to ∷ Values.Number place ∷ []) = Ok (MasterLose partition from to place)
+line_with Keywords.MasterResend (Values.Number partition ∷ Values.Number member ∷ []) = Ok (MasterResend partition member)
+line_with Keywords.MasterFlow (Values.Number partition ∷ Values.Number most ∷ []) = Ok (MasterFlow partition most)
 line_with Keywords.End [] = Ok End
 line_with keyword values = Err Count
 
@@ -209,6 +223,12 @@ IsWithin members size (Trail partition) = partition ≤ 270
 IsWithin members size (Near conn name capacity) = (conn ≤ 63) × (1 ≤ length name) × (2 * length name ≤ size) × (1 ≤ capacity) × (capacity ≤ 100000)
 IsWithin members size (NearGet conn key) = (conn ≤ 63) × (1 ≤ length key) × (2 * length key ≤ size)
 IsWithin members size (NearFeed conn most) = (conn ≤ 63) × (1 ≤ most) × (most ≤ 1000000)
+IsWithin members size Masters = Unit {0}
+IsWithin members size (Told member crashed) = (member < members) × (crashed < members)
+IsWithin members size (MasterDeliver partition from to place) = (partition ≤ 270) × (from ≤ members) × (to ≤ members) × (place ≤ 18446744073709551615)
+IsWithin members size (MasterLose partition from to place) = (partition ≤ 270) × (from ≤ members) × (to ≤ members) × (place ≤ 18446744073709551615)
+IsWithin members size (MasterResend partition member) = (partition ≤ 270) × (member < members)
+IsWithin members size (MasterFlow partition most) = (partition ≤ 270) × (1 ≤ most) × (most ≤ 1000)
 IsWithin members size Comment = Unit {0}
 IsWithin members size End = Unit {0}
 

@@ -5,7 +5,7 @@ use Rattle.hex.specs.Hex.{encode_lower, IsBytes}
 use Rattle.script_lang.specs.Words.{space}
 use Rattle.script_lang.specs.Lines.{IsWithin, line_of}
 use Rattle.script_lang.specs.declared.line.Line.{Line}
-use Rattle.script_lang.specs.declared.line.Line.TheVariants.{Grid, OpenConn, Arrive, Clock, Deliver, Lose, Repeat, Flow, FlowAll, Resend, Crash, Detect, Move, Join, Handover, Advance, Reopen, Rebalance, Dump, Links, Trail, Near, NearGet, NearFeed, Comment, End}
+use Rattle.script_lang.specs.declared.line.Line.TheVariants.{Grid, OpenConn, Arrive, Clock, Deliver, Lose, Repeat, Flow, FlowAll, Resend, Crash, Detect, Move, Join, Handover, Advance, Reopen, Rebalance, Dump, Links, Trail, Near, NearGet, NearFeed, Masters, Told, MasterDeliver, MasterLose, MasterResend, MasterFlow, Comment, End}
 
 abbrev pub spelled_words : Line → List (List ℕ)
 spelled_words (Grid members backups capacity) = codes "grid" ∷ decimal members ∷ decimal backups ∷ decimal capacity ∷ []
@@ -32,6 +32,12 @@ spelled_words (Trail partition) = codes "trail" ∷ decimal partition ∷ []
 spelled_words (Near conn name capacity) = codes "near" ∷ decimal conn ∷ encode_lower name ∷ decimal capacity ∷ []
 spelled_words (NearGet conn key) = codes "nearget" ∷ decimal conn ∷ encode_lower key ∷ []
 spelled_words (NearFeed conn most) = codes "nearfeed" ∷ decimal conn ∷ decimal most ∷ []
+spelled_words Masters = codes "masters" ∷ []
+spelled_words (Told member crashed) = codes "told" ∷ decimal member ∷ decimal crashed ∷ []
+spelled_words (MasterDeliver partition from to place) = codes "mdeliver" ∷ decimal partition ∷ decimal from ∷ decimal to ∷ decimal place ∷ []
+spelled_words (MasterLose partition from to place) = codes "mlose" ∷ decimal partition ∷ decimal from ∷ decimal to ∷ decimal place ∷ []
+spelled_words (MasterResend partition member) = codes "mresend" ∷ decimal partition ∷ decimal member ∷ []
+spelled_words (MasterFlow partition most) = codes "mflow" ∷ decimal partition ∷ decimal most ∷ []
 spelled_words Comment = codes "#" ∷ []
 spelled_words End = codes "end" ∷ []
 

@@ -29,11 +29,17 @@ pub(crate) enum Keyword {
     Near,
     NearGet,
     NearFeed,
+    Masters,
+    Told,
+    MasterDeliver,
+    MasterLose,
+    MasterResend,
+    MasterFlow,
     End,
 }
 
 /// How each line begins.
-const KEYWORDS: [(&str, Keyword); 24] = [
+const KEYWORDS: [(&str, Keyword); 30] = [
     ("grid", Keyword::Grid),
     ("open", Keyword::Open),
     ("bytes", Keyword::Bytes),
@@ -57,6 +63,12 @@ const KEYWORDS: [(&str, Keyword); 24] = [
     ("near", Keyword::Near),
     ("nearget", Keyword::NearGet),
     ("nearfeed", Keyword::NearFeed),
+    ("masters", Keyword::Masters),
+    ("told", Keyword::Told),
+    ("mdeliver", Keyword::MasterDeliver),
+    ("mlose", Keyword::MasterLose),
+    ("mresend", Keyword::MasterResend),
+    ("mflow", Keyword::MasterFlow),
     ("end", Keyword::End),
 ];
 
@@ -80,7 +92,11 @@ impl Keyword {
             Keyword::Open => &[Field::Connection, Field::Member],
             Keyword::Bytes | Keyword::NearGet => &[Field::Connection, Field::Hex],
             Keyword::Clock => &[Field::Member, Field::Moment],
-            Keyword::Deliver | Keyword::Lose | Keyword::Repeat => {
+            Keyword::Deliver
+            | Keyword::Lose
+            | Keyword::Repeat
+            | Keyword::MasterDeliver
+            | Keyword::MasterLose => {
                 &[
                     Field::Partition,
                     Field::LinkEnd,
@@ -92,14 +108,18 @@ impl Keyword {
             Keyword::Resend => &[Field::Partition, Field::LinkEnd],
             Keyword::Crash | Keyword::Detect => &[Field::Member],
             Keyword::Move | Keyword::Handover => &[Field::Partition, Field::Member, Field::Member],
-            Keyword::Join | Keyword::Dump => &[Field::Partition, Field::Member],
+            Keyword::Join | Keyword::Dump | Keyword::MasterResend => {
+                &[Field::Partition, Field::Member]
+            }
             Keyword::Advance | Keyword::Reopen | Keyword::Links | Keyword::Trail => {
                 &[Field::Partition]
             }
             Keyword::Rebalance => &[Field::Steps],
             Keyword::Near => &[Field::Connection, Field::Hex, Field::Entries],
             Keyword::NearFeed => &[Field::Connection, Field::Amount],
-            Keyword::End => &[],
+            Keyword::Told => &[Field::Member, Field::Member],
+            Keyword::MasterFlow => &[Field::Partition, Field::Deliveries],
+            Keyword::Masters | Keyword::End => &[],
         }
     }
 

@@ -128,6 +128,37 @@ pub enum Line {
         conn: u32,
         most: u32,
     },
+    /// The table service runs on the members from here on, where this is the second line.
+    Masters,
+    /// A member is told that another has crashed.
+    Told {
+        member: MemberId,
+        crashed: MemberId,
+    },
+    /// Delivers the message at a place of a partition's link from one master to another.
+    MasterDeliver {
+        partition: PartitionId,
+        from: u8,
+        to: u8,
+        place: usize,
+    },
+    /// Takes the message at a place of a link between masters away undelivered.
+    MasterLose {
+        partition: PartitionId,
+        from: u8,
+        to: u8,
+        place: usize,
+    },
+    /// A master asks or stores again.
+    MasterResend {
+        partition: PartitionId,
+        member: MemberId,
+    },
+    /// Delivers up to so many messages between a partition's masters.
+    MasterFlow {
+        partition: PartitionId,
+        most: u32,
+    },
     Comment,
     End,
 }

@@ -52,6 +52,18 @@ fn read_values(
     Ok(values)
 }
 
+/// The line that a keyword alone is.
+fn line_with_none(keyword: Keyword) -> Result<Line, LineWhy>
+    requires { Fit 255 (fields_of keyword) [] }
+    ensures { result ≡ line_of_values keyword [] }
+{
+    match keyword {
+        Keyword::Masters => Ok(Line::Masters),
+        Keyword::End => Ok(Line::End),
+        _ => Err(LineWhy::Count),
+    }
+}
+
 /// The line that a keyword and a number are.
 fn line_with_one(keyword: Keyword, number: u64) -> Result<Line, LineWhy>
     requires { Fit 255 (fields_of keyword) (Values.Number number ∷ []) }
@@ -113,6 +125,18 @@ fn line_with_two(keyword: Keyword, first: u64, second: u64) -> Result<Line, Line
         }),
         (Keyword::NearFeed, conn, most) => Ok(Line::NearFeed {
             conn: conn as u32,
+            most: most as u32,
+        }),
+        (Keyword::Told, member, crashed) => Ok(Line::Told {
+            member: member as MemberId,
+            crashed: crashed as MemberId,
+        }),
+        (Keyword::MasterResend, partition, member) => Ok(Line::MasterResend {
+            partition: partition as PartitionId,
+            member: member as MemberId,
+        }),
+        (Keyword::MasterFlow, partition, most) => Ok(Line::MasterFlow {
+            partition: partition as PartitionId,
             most: most as u32,
         }),
         _ => Err(LineWhy::Count),
@@ -177,6 +201,18 @@ fn line_of_link(
             to,
             place,
         }),
+        Keyword::MasterDeliver => Ok(Line::MasterDeliver {
+            partition,
+            from,
+            to,
+            place,
+        }),
+        Keyword::MasterLose => Ok(Line::MasterLose {
+            partition,
+            from,
+            to,
+            place,
+        }),
         _ => Err(LineWhy::Count),
     }
 }
@@ -202,8 +238,7 @@ fn line_with(keyword: Keyword, values: Values) -> Result<Line, LineWhy>
 {
     let mut values = values.into_iter();
     match (values.next(), values.next(), values.next(), values.next()) {
-        // Only `end` is a word alone.
-        (None, ..) => Ok(Line::End),
+        (None, ..) => line_with_none(keyword),
         (Some(Value::Number(one)), None, ..) => line_with_one(keyword, one),
         (Some(Value::Number(one)), Some(Value::Number(two)), None, _) => {
             line_with_two(keyword, one, two)

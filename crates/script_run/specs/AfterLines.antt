@@ -4,12 +4,12 @@ use Rattle.grid_base.specs.declared.names.CallId.{CallId}
 use Rattle.call_engine.specs.Calls.{Settings}
 use Rattle.call_engine.specs.Objects.{partition_object}
 use Rattle.script_lang.specs.declared.line.Line.{Line}
-use Rattle.replay_run.specs.AfterLines as grid
 use Rattle.replay_run.specs.Appending.{new_messages}
 use Rattle.replay_run.specs.Runs.{Appended}
+use Rattle.ruled_run.specs.AfterLines as ruled
 use Rattle.script_run.specs.NearClients.{NearClient}
 use Rattle.script_run.specs.Outputs.{sent_to}
-use Rattle.script_run.specs.Runs.{ScriptRun, grid_line, nears_by}
+use Rattle.script_run.specs.Runs.{ScriptRun, ruled_of, grid_line, nears_by}
 
 -- what was appended to the connection is yet to be read
 abbrev pub noting : List Appended → NearClient → NearClient
@@ -18,8 +18,8 @@ noting messages n = record n { unread = n.unread ++ sent_to n.conn messages }
 -- The grid runs a line, and each near connection's output grows by what that appends.
 abbrev pub played : Settings → List CallId → ScriptRun → Line → ScriptRun
 played settings skips s line =
-    let next = grid.after_line (partition_object settings) skips s.run line in
-    record { run = next; nears = map (noting (new_messages s.run next)) s.nears }
+    let next = ruled.after_line (partition_object settings) skips (ruled_of s) line in
+    record { run = next.run; masters = next.masters; nears = map (noting (new_messages s.run next.run)) s.nears }
 
 -- A line is something to the near clients, and something to the grid.
 abbrev pub after_line : Settings → List CallId → ScriptRun → Line → ScriptRun

@@ -13,13 +13,13 @@ use Rattle.script_lang.specs.declared.line.Line.{Line}
 use Rattle.script_lang.specs.declared.line.Line.TheVariants.{Arrive, Comment}
 use Rattle.replay_run.specs.Runs.{Run, Connection, connection_of}
 use Rattle.replay_run.specs.Grids.{FormOf, most_arriving}
-use Rattle.replay_run.specs.Printing as grid_text
-use Rattle.replay_run.specs.Grids as grid
-use Rattle.replay_run.specs.Skips.{AreOfLine}
+use Rattle.ruled_run.specs.Printing as ruled_text
+use Rattle.ruled_run.specs.Grids as ruled
+use Rattle.ruled_run.specs.Grids.{AreOfLine}
 use Rattle.script_run.specs.declared.client.NearClient.{NearClient as KeptClient}
 use Rattle.script_run.specs.declared.grid.ScriptGrid.{ScriptGrid}
 use Rattle.script_run.specs.NearClients.{NearClient}
-use Rattle.script_run.specs.Runs.{ScriptRun, grid_line, is_silent}
+use Rattle.script_run.specs.Runs.{ScriptRun, ruled_of, grid_line, is_silent}
 use Rattle.script_run.specs.AfterLines.{played, after_line}
 use Rattle.script_run.specs.Printing.{line_text, brought}
 
@@ -61,7 +61,7 @@ AreSpoken spoken r = (c : ℕ) → c ≤ 63 → slice_get spoken c ≡ Some (has
 
 -- The grid is that of the run, and so are the near clients.
 pub record Goes {V : Type 0} {T : V → Type 0} (form : FormOf V T) (settings : Settings) (all : ScriptGrid V T) (s : ScriptRun) : Type 0 where
-  pub grid : grid.Stands form settings all.grid s.run
+  pub grid : ruled.Stands form settings all.grid (ruled_of s)
   pub nears : AreNear all.nears.items s.nears
 
 -- between two lines
@@ -81,14 +81,14 @@ pub record MayRun {V : Type 0} {T : V → Type 0} (form : FormOf V T) (all : Scr
 -- The line ran: the grid and the near clients stand for the run after it, and its text was added. Its calls were skipped that found no memory.
 pub record HasRun {V : Type 0} {T : V → Type 0} (form : FormOf V T) (settings : Settings) (new : ScriptGrid V T) (s : ScriptRun) (line : Line) (written text : List ℕ) : Type 0 where
   pub skips : List CallId
-  pub of_line : AreOfLine (partition_object settings) s.run (grid_line (partition_object settings) s line) skips
+  pub of_line : AreOfLine settings (ruled_of s) (grid_line (partition_object settings) s line) skips
   pub stands : Stands form settings new (after_line settings skips s line)
   pub added : text ≡ written ++ line_text settings skips s line (after_line settings skips s line)
 
 -- The run is given up at the line, of whose calls these found no memory: an event met a full partition.
 pub record IsGivenUp (settings : Settings) (s : ScriptRun) (line : Line) : Type 0 where
   pub skips : List CallId
-  pub of_line : AreOfLine (partition_object settings) s.run (grid_line (partition_object settings) s line) skips
+  pub of_line : AreOfLine settings (ruled_of s) (grid_line (partition_object settings) s line) skips
   pub full : (after_line settings skips s line).run.full ≡ true
 
 -- what the grid runs at a line
@@ -105,14 +105,14 @@ pub record MayPlay {V : Type 0} {T : V → Type 0} (form : FormOf V T) (all : Sc
 -- The grid ran it, and the near clients have its output to read.
 pub record HasPlayed {V : Type 0} {T : V → Type 0} (form : FormOf V T) (settings : Settings) (new : ScriptGrid V T) (s : ScriptRun) (line : Line) (written text : List ℕ) : Type 0 where
   pub skips : List CallId
-  pub of_line : AreOfLine (partition_object settings) s.run line skips
+  pub of_line : AreOfLine settings (ruled_of s) line skips
   pub goes : Goes form settings new (played settings skips s line)
-  pub added : text ≡ written ++ grid_text.line_text settings skips s.run line (played settings skips s line).run
+  pub added : text ≡ written ++ ruled_text.line_text settings skips (ruled_of s) line (ruled_of (played settings skips s line))
 
 -- The run was given up at it.
 pub record IsGivenUpAt (settings : Settings) (s : ScriptRun) (line : Line) : Type 0 where
   pub skips : List CallId
-  pub of_line : AreOfLine (partition_object settings) s.run line skips
+  pub of_line : AreOfLine settings (ruled_of s) line skips
   pub full : (played settings skips s line).run.full ≡ true
 
 -- A line at which nothing happens on the grid was counted, and this text was added.
@@ -123,7 +123,7 @@ pub record HasCounted {V : Type 0} {T : V → Type 0} (form : FormOf V T) (setti
 -- What a near client sends arrived on its connection, and what that brings was added.
 pub record HasSent {V : Type 0} {T : V → Type 0} (form : FormOf V T) (settings : Settings) (new : ScriptGrid V T) (s : ScriptRun) (c : ℕ) (bytes written text : List ℕ) : Type 0 where
   pub skips : List CallId
-  pub of_line : AreOfLine (partition_object settings) s.run (Arrive c bytes) skips
+  pub of_line : AreOfLine settings (ruled_of s) (Arrive c bytes) skips
   pub stands : Stands form settings new (played settings skips s (Arrive c bytes))
   pub added : text ≡ written ++ brought settings skips s.run c bytes (played settings skips s (Arrive c bytes)).run
 

@@ -4,11 +4,11 @@ use Rattle.grid_base.specs.declared.names.CallId.{CallId}
 use Rattle.call_engine.specs.Calls.{Settings}
 use Rattle.call_engine.specs.Objects.{partition_object}
 use Rattle.script_lang.specs.declared.line.Line.{Line}
-use Rattle.replay_run.specs.AfterLines as grid
+use Rattle.ruled_run.specs.AfterLines as ruled
 use Rattle.replay_run.specs.Linearizability.{IsLinearizable}
 use Rattle.replay_run.specs.SkippedCalls.{TellsOfSkips, TellsOfNoSkip}
 use Rattle.replay_run.specs.Counts.{CountsOnce}
-use Rattle.script_run.specs.Runs.{ScriptRun, begun, grid_line}
+use Rattle.script_run.specs.Runs.{ScriptRun, begun, ruled_of, grid_line}
 use Rattle.script_run.specs.AfterLines.{after_line, after_lines}
 
 -- the run of these lines after the first, where these calls found no memory
@@ -23,7 +23,7 @@ grid_lines settings skips s (line ∷ lines) = grid_line (partition_object setti
 -- To the grid, near clients are clients whose bytes arrive.
 abbrev pub EveryRunIsTheGrids : Type 0
 EveryRunIsTheGrids = (settings : Settings) (skips : List CallId) (s : ScriptRun) (lines : List Line)
-    → (after_lines settings skips s lines).run ≡ grid.after_lines (partition_object settings) skips s.run (grid_lines settings skips s lines)
+    → ruled_of (after_lines settings skips s lines) ≡ ruled.after_lines (partition_object settings) skips (ruled_of s) (grid_lines settings skips s lines)
 
 -- whatever the processors, the queues' capacity, the lines after the first, and the calls that find no memory
 

@@ -13,9 +13,9 @@ use Rattle.script_lang.specs.declared.line.Line.TheVariants.{Arrive, Near, NearG
 use Rattle.replay_run.specs.Dumps.{number, value_text}
 use Rattle.replay_run.specs.Runs.{Run}
 use Rattle.replay_run.specs.Printing.{ok_text, nothing_text, words_line, does_nothing, line_messages, line_close}
-use Rattle.replay_run.specs.Printing as grid
+use Rattle.ruled_run.specs.Printing as ruled
 use Rattle.script_run.specs.NearClients.{NearClient, opening_of, get_sent, piece, told}
-use Rattle.script_run.specs.Runs.{ScriptRun, Look, Unmade, Hit, Miss, near_of, is_near_connection, can_begin, look}
+use Rattle.script_run.specs.Runs.{ScriptRun, ruled_of, Look, Unmade, Hit, Miss, near_of, is_near_connection, can_begin, look}
 
 -- what bytes bring that a near client sends: the messages that they append, and their connection's close, if they showed a fault; nothing, where they can't arrive
 abbrev pub brought : Settings → List CallId → Run → ℕ → List ℕ → Run → List ℕ
@@ -53,5 +53,5 @@ abbrev pub line_text : Settings → List CallId → ScriptRun → Line → Scrip
 line_text settings skips s (Near c name capacity) next = if can_begin s c name then ok_text next.run.lines ++ brought settings skips s.run c (opening_of c name) next.run else nothing_text next.run.lines
 line_text settings skips s (NearGet c key) next = look_text settings skips s.run c key next.run (look (partition_object settings) s c key)
 line_text settings skips s (NearFeed c most) next = fed_text next.run.lines most (near_of s c)
-line_text settings skips s (Arrive c bytes) next = if is_near_connection s c then nothing_text next.run.lines else grid.line_text settings skips s.run (Arrive c bytes) next.run
-line_text settings skips s line next = grid.line_text settings skips s.run line next.run
+line_text settings skips s (Arrive c bytes) next = if is_near_connection s c then nothing_text next.run.lines else ruled.line_text settings skips (ruled_of s) (Arrive c bytes) (ruled_of next)
+line_text settings skips s line next = ruled.line_text settings skips (ruled_of s) line (ruled_of next)

@@ -10,16 +10,24 @@ use Rattle.script_lang.specs.declared.line.Line.{Line}
 use Rattle.script_lang.specs.declared.line.Line.TheVariants.{Arrive, Near, NearGet, NearFeed, Comment}
 use Rattle.replay_run.specs.Runs.{Run, Connection, connection_of, is_open, takes_bytes}
 use Rattle.replay_run.specs.Runs as grid
+use Rattle.masters_protocol.specs.Machine.{Masters}
+use Rattle.masters_world.specs.Decisions.{Decision}
+use Rattle.ruled_run.specs.Runs.{RuledRun}
 use Rattle.script_run.specs.NearClients.{NearClient, is_near, opening_of, new_near, value_kept, used, get_sent, missed, fed}
 
--- the run of the grid, and the near clients in the order in which they came
+-- the run of the grid; the masters of its partitions, where its table service runs on its members; and the near clients in the order in which they came
 pub record ScriptRun : Type 0 where
   pub run : Run
+  pub masters : List (Masters Decision)
   pub nears : List NearClient
 
 -- after the first line
 abbrev pub begun : ℕ → ℕ → ScriptRun
-begun members backups = record { run = grid.begun members backups; nears = [] }
+begun members backups = record { run = grid.begun members backups; masters = []; nears = [] }
+
+-- the grid, with its masters
+abbrev pub ruled_of : ScriptRun → RuledRun
+ruled_of s = record { run = s.run; masters = s.masters }
 
 -- the client of a near connection
 abbrev pub near_of : ScriptRun → ℕ → Option NearClient

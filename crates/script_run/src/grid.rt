@@ -14,7 +14,8 @@ use crate::client::{NearClient, note_all};
 use crate::outputs::appends;
 use entry_processors::Processor;
 use grid_base::Memory;
-use replay_run::{Grid, RunEnd, push_nothing};
+use replay_run::{RunEnd, push_nothing};
+use ruled_run::RuledGrid;
 use script_lang::Line;
 use std::alloc::Global;
 
@@ -24,7 +25,7 @@ const CONNECTIONS: usize = 64;
 /// A script's grid, and the near clients of its connections.
 #[derive(Drop)]
 pub struct ScriptGrid {
-    pub(crate) grid: Grid,
+    pub(crate) grid: RuledGrid,
     /// In the order in which they came.
     pub(crate) nears: Vec<NearClient>,
     /// Whether a byte has arrived on each connection.
@@ -46,7 +47,7 @@ impl ScriptGrid {
         ensures { IfOk result (λ all. Stands form (record { forms = map form processors.items; capacity = capacity }) all (begun members backups)) }
     {
         Ok(ScriptGrid {
-            grid: Grid::new(alloc, members, backups, capacity, processors)?,
+            grid: RuledGrid::new(alloc, members, backups, capacity, processors)?,
             nears: Vec::new(alloc),
             spoken: vec![in alloc; false; CONNECTIONS]?,
         })

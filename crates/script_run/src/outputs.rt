@@ -24,6 +24,9 @@ pub(crate) fn appends(line: &Line) -> bool
             | Line::Near { .. }
             | Line::NearGet { .. }
             | Line::NearFeed { .. }
+            | Line::Masters
+            | Line::MasterLose { .. }
+            | Line::MasterResend { .. }
             | Line::Comment
             | Line::End
     )

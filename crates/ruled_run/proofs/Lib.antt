@@ -1,0 +1,5 @@
+pub mod RuledRuns
+pub mod Natural
+pub mod WrittenMasters
+pub mod Extending
+pub mod Going
