@@ -1,5 +1,5 @@
 -- A line that is taken apart, in a grid: it is counted as a comment is, each of its events finds room, and behind the last one the grid stands as between two lines.
-use Rattle.std.proofs.Common.{◌≡◌, ℕ, ◌+◌, ◌<◌, ◌≤◌, true≢false, List, ap, sym, ◌∙◌, subst, arith}
+use Rattle.std.proofs.Common.{◌≡◌, ℕ, ◌+◌, ◌≤◌, true≢false, List, ap, sym, ◌∙◌, subst, arith}
 use Rattle.std.specs.List.{find}
 use Rattle.call_engine.specs.Calls.{Settings}
 use Rattle.script_lang.specs.Limits.{most_lines}
