@@ -3,3 +3,12 @@ pub mod Natural
 pub mod WrittenMasters
 pub mod Extending
 pub mod Going
+pub mod RuledGrowing
+pub mod KeptLines
+pub mod OwnLines
+pub mod Continuing
+pub mod RuleLemmas
+pub mod RuledLaws
+pub mod RuledSkips
+pub mod RuledWaiters
+pub mod QuietGoing
