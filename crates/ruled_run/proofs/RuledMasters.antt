@@ -15,7 +15,7 @@ use Rattle.masters_protocol.specs.Members.{Member, Outcome}
 use Rattle.masters_protocol.specs.Machine as masters
 use Rattle.masters_protocol.specs.Machine.{master, pending}
 use Rattle.masters_world.specs.Decisions.{Decision, event_of}
-use Rattle.masters_world.specs.Machine.{Ruled, Line, Asks, start, proposals, asked_by, masters_say, masters_after, published_by, events_by, at_once, after, asked}
+use Rattle.masters_world.specs.Machine.{Ruled, Line, Asks, start, proposals, asked_by, masters_say, masters_after, published_by, events_by, after}
 use Rattle.masters_world.specs.Machine as ruled
 use Rattle.master_wire.specs.declared.decision.Decision.{Decision as Written}
 use Rattle.master_wire.specs.declared.decision.Decision.TheVariants as written
