@@ -96,14 +96,13 @@ fn push_came(out: &mut String, came: Outcome<'_>) -> Result<(), Memory> {
             out.push_str("refused: ")?;
             out.push_str(refused_words(came.rest))
         }
-        "took" => match took_of(came.rest) {
+        _ => match took_of(came.rest) {
             Some(took) => {
                 out.push_str("the message is ")?;
                 out.push_str(took_words(took))
             }
-            None => out.push_str("nothing"),
+            None => out.push_str("nothing came of it"),
         },
-        _ => out.push_str("nothing: the crash was known"),
     }
 }
 
