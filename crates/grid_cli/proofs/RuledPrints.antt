@@ -1,5 +1,5 @@
 -- Each message that a line appends stands in the line's text, where the grid has masters too.
-use Rattle.std.proofs.Common.{◌≡◌, ℕ, zero, suc, ◌+◌, Bool, true, false, ◌==◌, cond, List, [], ◌∷◌, ◌++◌, length, Option, Some, None, refl, ◌⊎◌, ⊎_elim, inl, inr}
+use Rattle.std.proofs.Common.{ℕ, zero, suc, ◌+◌, Bool, true, false, ◌==◌, cond, List, [], ◌∷◌, ◌++◌, length, Option, Some, None, refl, ◌⊎◌, ⊎_elim, inl, inr}
 use Rattle.std.specs.List.{flat_map}
 use Rattle.grid_base.specs.Objects.{Object}
 use Rattle.grid_base.specs.declared.names.CallId.{CallId}
@@ -15,7 +15,7 @@ use Rattle.call_engine.specs.Objects.{partition_object}
 use Rattle.masters_world.specs.Machine.{Line, Asks, Told, at_once, published_by}
 use Rattle.script_lang.specs.declared.line.Line.{Line as ScriptLine}
 use Rattle.script_lang.specs.declared.line.Line.TheVariants as line
-use Rattle.replay_run.specs.Runs.{Run, Appended, partitions}
+use Rattle.replay_run.specs.Runs.{Appended, partitions}
 use Rattle.replay_run.specs.Appending.{appended_text, new_messages}
 use Rattle.replay_run.specs.Printing.{ok_text, flow_text, words_line, deliveries}
 use Rattle.ruled_run.specs.Runs.{RuledRun, opening_masters, has_masters, masters_at, ruled_at, goes, goes_in, flowed, flowed_in, link_between, handing_over, flowed_between, counted}
