@@ -162,8 +162,8 @@ fn published_in(line: Outcome<'_>) -> Option<(PartitionId, u32)> {
 }
 
 impl Notes {
-    /// Whether a line is told by what masters made of it. Of a line to the table service that is what it is without them,
-    /// where it happened at once.
+    /// Whether a line is told by what masters made of it. A loss on a link to the table service, and its sending again, are
+    /// told as without masters where they happened.
     fn is_told_by_masters(&self, line: &Line, table: u8, came: Outcome<'_>) -> bool {
         if is_of_masters(line) {
             return true;
