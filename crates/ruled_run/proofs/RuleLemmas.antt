@@ -1,5 +1,5 @@
 -- The masters of the code stand for those of the run after each step: what is asked for in a partition, a line that is the grid's own, and a line in each partition.
-use Rattle.std.proofs.Common.{◌≡◌, ◌≢◌, ℕ, zero, suc, ◌<◌, ◌≤◌, ◌==◌, Bool, true, false, List, [], ◌∷◌, ◌++◌, length, replicate, Option, Some, None, slice_get, unwrap_or, get_or, refl, ap, sym, ◌∙◌, subst, ⊎_elim, append-nil, append_assoc, arith}
+use Rattle.std.proofs.Common.{◌≡◌, ◌≢◌, ℕ, ◌<◌, ◌≤◌, true, false, List, [], ◌∷◌, ◌++◌, length, Some, None, slice_get, unwrap_or, refl, ap, sym, ◌∙◌, subst, ⊎_elim, append-nil, append_assoc, arith}
 use Rattle.std.proofs.lemmas.Option.{slice_get-get_or}
 use Rattle.std.proofs.Math.ListN.{length-replicate, get_or-replicate}
 use Rattle.grid_base.specs.Objects.{Object}
@@ -16,16 +16,15 @@ use Rattle.master_log.specs.Standing.{StandsFor, size_of}
 use Rattle.masters_world.specs.Decisions.{Decision}
 use Rattle.masters_world.specs.Machine.{Ruled, Line, start, asked_by, events_by, after, asked}
 use Rattle.script_lang.specs.declared.line.Line.{Line as ScriptLine}
-use Rattle.replay_run.specs.Runs.{Run, partitions, events_at, event_by, next_line}
-use Rattle.replay_run.specs.AfterLines as grid
-use Rattle.ruled_run.specs.Runs.{RuledRun, are_some, has_masters, opening_masters, masters_at, ruled_at, goes, goes_in, counted}
+use Rattle.replay_run.specs.Runs.{partitions, events_at, event_by}
+use Rattle.ruled_run.specs.Runs.{RuledRun, are_some, has_masters, opening_masters, ruled_at, goes, goes_in, counted}
 use Rattle.ruled_run.specs.AfterLines.{by_grid}
 use Rattle.ruled_run.specs.Standing.{IsOfLines}
 use Rattle.ruled_run.specs.Grids.{AreMasters, HasMastersAt, Rules}
 use Rattle.ruled_run.specs.Written.{written_events}
 use Rattle.ruled_run.proofs.Extending.{calls_add_nothing, asked_append, asking}
 use Rattle.ruled_run.proofs.OwnLines.{IsPlain, own_calls}
-use Rattle.ruled_run.proofs.Going.{at_lines, single_at, Stays, CallsCome, LineComes, no_calls, calls_extend, line_extends, goes_count, goes_kept, goes_elsewhere, goes_comes, through, through_count, through_kept, line_came}
+use Rattle.ruled_run.proofs.Going.{at_lines, single_at, CallsCome, LineComes, no_calls, calls_extend, line_extends, goes_count, goes_kept, goes_elsewhere, goes_comes, through, through_count, through_kept, line_came}
 
 -- there are masters, or none, as there were
 some_alike : (xs ys : List (masters.Masters Decision)) → length xs ≡ length ys → are_some xs ≡ are_some ys
@@ -175,10 +174,11 @@ module _ (settings : Settings) where
 
 -- masters as they begin, where nothing has happened
 
-pub opening_at : (n p : ℕ) → p < partitions → slice_get (opening_masters n) p ≡ Some (masters.start n)
+pub opening_at : (n p : ℕ) → p < partitions → slice_get (opening_masters n) p ≡ Some (masters.start {D = Decision} n)
 opening_at n p low =
-    let size = length-replicate partitions (masters.start n) in
-    slice_get-get_or (opening_masters n) p (masters.start n) (subst (λ k. p < k) (sym size) low) ∙ ap Some (get_or-replicate partitions p (masters.start n) (masters.start n) low)
+    let first : masters.Masters Decision = masters.start n in
+    let size : length (opening_masters n) ≡ partitions = length-replicate partitions first in
+    slice_get-get_or (opening_masters n) p first (subst (λ k. p < k) (sym size) low) ∙ ap Some (get_or-replicate partitions p first first low)
 
 pub opening_of_lines : {State : Type 0} (o : Object Request State) (s : RuledRun) (p : ℕ) → p < partitions → s.masters ≡ opening_masters s.run.members → s.run.events ≡ [] → IsOfLines o s p []
 opening_of_lines o s p low opens none = record {
@@ -189,7 +189,8 @@ opening_of_lines o s p low opens none = record {
 pub opening_rules : (settings : Settings) (all : List Masters) (s : RuledRun) → s.masters ≡ opening_masters s.run.members → s.run.events ≡ [] → length all ≡ partitions → s.run.members ≤ 8
     → ((p : ℕ) → p < partitions → (kept : Masters) × (slice_get all p ≡ Some kept) × (size_of kept ≡ s.run.members) × StandsFor kept []) → Rules settings all s
 opening_rules settings all s opens none count most each =
-    let whole : length s.masters ≡ partitions = ap length opens ∙ length-replicate partitions (masters.start s.run.members) in
+    let first : masters.Masters Decision = masters.start s.run.members in
+    let whole : length s.masters ≡ partitions = ap length opens ∙ length-replicate partitions first in
     record {
       count = count ∙ sym whole;
       ruled = λ is. whole;
