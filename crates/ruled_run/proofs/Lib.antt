@@ -3,3 +3,7 @@ pub mod Natural
 pub mod WrittenMasters
 pub mod Extending
 pub mod Going
+pub mod RuledGrowing
+pub mod SkippedTexts
+pub mod KeptLines
+pub mod KeptEvents
