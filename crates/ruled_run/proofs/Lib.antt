@@ -7,3 +7,10 @@ pub mod RuledGrowing
 pub mod SkippedTexts
 pub mod KeptLines
 pub mod KeptEvents
+pub mod OwnLines
+pub mod Continuing
+pub mod RuleLemmas
+pub mod RuledLaws
+pub mod RuledSkips
+pub mod RuledWaiters
+pub mod QuietGoing
