@@ -14,3 +14,10 @@ pub mod RuledLaws
 pub mod RuledSkips
 pub mod RuledWaiters
 pub mod QuietGoing
+pub mod AskedLines
+pub mod KeptMasters
+pub mod MastersLinks
+pub mod MastersCalls
+pub mod ServiceLinks
+pub mod Following
+pub mod RuledMasters
