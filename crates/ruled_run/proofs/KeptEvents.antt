@@ -90,6 +90,72 @@ abbrev IsAskedFor : (ℕ → Type 0) → (Event Request → Type 0) → Option A
 IsAskedFor Here Q None = Unit {0}
 IsAskedFor Here Q (Some a) = Here a.partition × AsksFor Q a.line
 
+-- What holds of a run with its masters after each such line of one partition holds after a line of a script: if it holds as the line is counted, as it is the grid's own, and as masters begin.
+module _ (o : Object Request Partition) (skips : List CallId) (Here : ℕ → Type 0) (everywhere : (p : ℕ) → In p (numbers_below partitions) → Here p) (Q : Event Request → Type 0) (decided : (n : ℕ) (d : Decision) → Q (event_of n d))
+    (R : RuledRun → Type 0) (on : (s : RuledRun) (p : ℕ) (l : Line Request) → Here p → AsksFor Q l → R s → R (goes o skips s p l)) where
+  pub goes_in_keeps : (s : RuledRun) (l : Line Request) (ps : List ℕ) → ((p : ℕ) → In p ps → Here p) → AsksFor Q l → R s → R (goes_in o skips s l ps)
+  goes_in_keeps s l [] here q h = h
+  goes_in_keeps s l (p ∷ ps) here q h = goes_in_keeps (goes o skips s p l) l ps (λ n i. here n (inr i)) q (on s p l (here p (inl refl)) q h)
+
+  pub flowed_keeps : (s : RuledRun) (p most : ℕ) → Here p → R s → R (flowed o skips s p most)
+  flowed_keeps s p zero here h = h
+  flowed_keeps s p (suc most) here h =
+      go (link_to_member (world_at o s.run p)) (λ l. flowed_keeps (goes o skips s p (Asks (delivery_on l))) p most here (on s p (Asks (delivery_on l)) here (delivered Q decided l) h))
+    where
+      go : (next : Option Link) → ((l : Link) → R (flowed o skips (goes o skips s p (Asks (delivery_on l))) p most)) → R (flowed_on o skips s p most next)
+      go None f = h
+      go (Some l) f = f l
+
+  pub flowed_in_keeps : (s : RuledRun) (most : ℕ) (ps : List ℕ) → ((p : ℕ) → In p ps → Here p) → R s → R (flowed_in o skips s most ps)
+  flowed_in_keeps s most [] here h = h
+  flowed_in_keeps s most (p ∷ ps) here h = flowed_in_keeps (flowed o skips s p most) most ps (λ n i. here n (inr i)) (flowed_keeps s p most (here p (inl refl)) h)
+
+  pub between_keeps : (s : RuledRun) (p most : ℕ) → Here p → R s → R (flowed_between o skips s p most)
+  between_keeps s p zero here h = h
+  between_keeps s p (suc most) here h = go (link_between (masters_at s p)) (λ l. between_keeps (goes o skips s p (handing_over l)) p most here (on s p (handing_over l) here tt h))
+    where
+      go : (next : Option Link) → ((l : Link) → R (flowed_between o skips (goes o skips s p (handing_over l)) p most)) → R (between_on o skips s p most next)
+      go None f = h
+      go (Some l) f = f l
+
+  -- lines
+
+  partition_keeps : (s : RuledRun) (l : ScriptLine) (a : Option Asked) → IsAskedFor Here Q a → R (counted s) → R (by_grid o skips s l) → R (by_partition o skips s l a)
+  partition_keeps s l None q now own = own
+  partition_keeps s l (Some a) (here, q) now own = on (counted s) a.partition a.line here q now
+
+  all_keeps : (s : RuledRun) (l : Line Request) → AsksFor Q l → R (counted s) → R (goes_in o skips (counted s) l (numbers_below partitions))
+  all_keeps s l q now = goes_in_keeps (counted s) l (numbers_below partitions) everywhere q now
+
+  event_asked : (e : Option At) → IsEventFor Here Q e → IsAskedFor Here Q (option_map as_asked e)
+  event_asked None q = tt
+  event_asked (Some e) q = q
+
+  ruled_line_keeps : (s : RuledRun) (l : ScriptLine) → IsFor Here Q l → R (counted s) → R (by_grid o skips s l) → R (ruled_line o skips s l)
+  ruled_line_keeps s line.Masters q now own = now
+  ruled_line_keeps s (line.Rebalance most) q now own = now
+  ruled_line_keeps s (line.Flow p most) q now own = flowed_keeps (counted s) p most q now
+  ruled_line_keeps s (line.FlowAll most) q now own = flowed_in_keeps (counted s) most (numbers_below partitions) everywhere now
+  ruled_line_keeps s (line.MasterFlow p most) q now own = between_keeps (counted s) p most q now
+  ruled_line_keeps s (line.Told m x) q now own = all_keeps s (Told m x) tt now
+  ruled_line_keeps s (line.Crash m) q now own = all_keeps s (Asks (Crash m)) q now
+  ruled_line_keeps s (line.Detect m) q now own = all_keeps s (Asks (Detect m)) (decided 0 (decision.Detect m)) now
+  ruled_line_keeps s (line.MasterDeliver p from to place) q now own = on (counted s) p (MasterDeliver from to place) q tt now
+  ruled_line_keeps s (line.MasterLose p from to place) q now own = on (counted s) p (MasterLose from to place) q tt now
+  ruled_line_keeps s (line.MasterResend p member) q now own = on (counted s) p (MasterResend member) q tt now
+  ruled_line_keeps s l q now own = partition_keeps s l (option_map as_asked (event_by l)) (event_asked (event_by l) q) now own
+
+  abbrev opening : RuledRun → RuledRun
+  opening s = record (counted s) { masters = opening_masters s.run.members }
+
+  unruled_keeps : (s : RuledRun) (l : ScriptLine) → R (opening s) → R (by_grid o skips s l) → R (unruled o skips s l)
+  unruled_keeps s line.Masters opens own = on_if R (s.run.lines == 1) (opening s) (by_grid o skips s line.Masters) opens own
+  unruled_keeps s l opens own = own
+
+  pub ruled_keeps : (s : RuledRun) (l : ScriptLine) → IsFor Here Q l → R (counted s) → R (opening s) → R (by_grid o skips s l) → R (after_line o skips s l)
+  ruled_keeps s l q now opens own = on_if R (has_masters s) (ruled_line o skips s l) (unruled o skips s l) (ruled_line_keeps s l q now own) (unruled_keeps s l opens own)
+
+-- What each event of that kind keeps of the grid's run.
 module _ (o : Object Request Partition) (skips : List CallId) (Here : ℕ → Type 0) (everywhere : (p : ℕ) → In p (numbers_below partitions) → Here p) (Q : Event Request → Type 0) (decided : (n : ℕ) (d : Decision) → Q (event_of n d))
     (P : Run → Type 0) (up : (r : Run) → P r → P (grid.given_up r)) (step : (r : Run) (p : ℕ) (e : Event Request) → Here p → Q e → P r → P (takes o skips r p e)) where
   abbrev Of : RuledRun → Type 0
@@ -105,61 +171,5 @@ module _ (o : Object Request Partition) (skips : List CallId) (Here : ℕ → Ty
       on_if Of (meets_full_link j.masters (ruled.asked_by j l)) (given_up s) (record { run = takes_each o skips s.run p (events_by j l); masters = slice_set s.masters p (ruled.masters_after j l) })
       (up s.run h) (each_keeps s.run p (events_by j l) here (events_all Q decided j l q) h)
 
-  pub goes_in_keeps : (s : RuledRun) (l : Line Request) (ps : List ℕ) → ((p : ℕ) → In p ps → Here p) → AsksFor Q l → P s.run → P (goes_in o skips s l ps).run
-  goes_in_keeps s l [] here q h = h
-  goes_in_keeps s l (p ∷ ps) here q h = goes_in_keeps (goes o skips s p l) l ps (λ n i. here n (inr i)) q (goes_keeps s p l (here p (inl refl)) q h)
-
-  pub flowed_keeps : (s : RuledRun) (p most : ℕ) → Here p → P s.run → P (flowed o skips s p most).run
-  flowed_keeps s p zero here h = h
-  flowed_keeps s p (suc most) here h =
-      go (link_to_member (world_at o s.run p)) (λ l. flowed_keeps (goes o skips s p (Asks (delivery_on l))) p most here (goes_keeps s p (Asks (delivery_on l)) here (delivered Q decided l) h))
-    where
-      go : (next : Option Link) → ((l : Link) → P (flowed o skips (goes o skips s p (Asks (delivery_on l))) p most).run) → P (flowed_on o skips s p most next).run
-      go None f = h
-      go (Some l) f = f l
-
-  pub flowed_in_keeps : (s : RuledRun) (most : ℕ) (ps : List ℕ) → ((p : ℕ) → In p ps → Here p) → P s.run → P (flowed_in o skips s most ps).run
-  flowed_in_keeps s most [] here h = h
-  flowed_in_keeps s most (p ∷ ps) here h = flowed_in_keeps (flowed o skips s p most) most ps (λ n i. here n (inr i)) (flowed_keeps s p most (here p (inl refl)) h)
-
-  pub between_keeps : (s : RuledRun) (p most : ℕ) → Here p → P s.run → P (flowed_between o skips s p most).run
-  between_keeps s p zero here h = h
-  between_keeps s p (suc most) here h = go (link_between (masters_at s p)) (λ l. between_keeps (goes o skips s p (handing_over l)) p most here (goes_keeps s p (handing_over l) here tt h))
-    where
-      go : (next : Option Link) → ((l : Link) → P (flowed_between o skips (goes o skips s p (handing_over l)) p most).run) → P (between_on o skips s p most next).run
-      go None f = h
-      go (Some l) f = f l
-
-  -- lines: as they are counted, and as they are the grid's own
-
-  partition_keeps : (s : RuledRun) (l : ScriptLine) (a : Option Asked) → IsAskedFor Here Q a → P (next_line s.run) → P (alone.after_line o skips s.run l) → P (by_partition o skips s l a).run
-  partition_keeps s l None q now own = own
-  partition_keeps s l (Some a) (here, q) now own = goes_keeps (counted s) a.partition a.line here q now
-
-  all_keeps : (s : RuledRun) (l : Line Request) → AsksFor Q l → P (next_line s.run) → P (goes_in o skips (counted s) l (numbers_below partitions)).run
-  all_keeps s l q now = goes_in_keeps (counted s) l (numbers_below partitions) everywhere q now
-
-  event_asked : (e : Option At) → IsEventFor Here Q e → IsAskedFor Here Q (option_map as_asked e)
-  event_asked None q = tt
-  event_asked (Some e) q = q
-
-  ruled_line_keeps : (s : RuledRun) (l : ScriptLine) → IsFor Here Q l → P (next_line s.run) → P (alone.after_line o skips s.run l) → P (ruled_line o skips s l).run
-  ruled_line_keeps s line.Masters q now own = now
-  ruled_line_keeps s (line.Rebalance most) q now own = now
-  ruled_line_keeps s (line.Flow p most) q now own = flowed_keeps (counted s) p most q now
-  ruled_line_keeps s (line.FlowAll most) q now own = flowed_in_keeps (counted s) most (numbers_below partitions) everywhere now
-  ruled_line_keeps s (line.MasterFlow p most) q now own = between_keeps (counted s) p most q now
-  ruled_line_keeps s (line.Told m x) q now own = all_keeps s (Told m x) tt now
-  ruled_line_keeps s (line.Crash m) q now own = all_keeps s (Asks (Crash m)) q now
-  ruled_line_keeps s (line.Detect m) q now own = all_keeps s (Asks (Detect m)) (decided 0 (decision.Detect m)) now
-  ruled_line_keeps s (line.MasterDeliver p from to place) q now own = goes_keeps (counted s) p (MasterDeliver from to place) q tt now
-  ruled_line_keeps s (line.MasterLose p from to place) q now own = goes_keeps (counted s) p (MasterLose from to place) q tt now
-  ruled_line_keeps s (line.MasterResend p member) q now own = goes_keeps (counted s) p (MasterResend member) q tt now
-  ruled_line_keeps s l q now own = partition_keeps s l (option_map as_asked (event_by l)) (event_asked (event_by l) q) now own
-
-  unruled_keeps : (s : RuledRun) (l : ScriptLine) → P (next_line s.run) → P (alone.after_line o skips s.run l) → P (unruled o skips s l).run
-  unruled_keeps s line.Masters now own = on_if Of (s.run.lines == 1) (record (counted s) { masters = opening_masters s.run.members }) (by_grid o skips s line.Masters) now own
-  unruled_keeps s l now own = own
-
   pub event_line_keeps : (s : RuledRun) (l : ScriptLine) → IsFor Here Q l → P (next_line s.run) → P (alone.after_line o skips s.run l) → P (after_line o skips s l).run
-  event_line_keeps s l q now own = on_if Of (has_masters s) (ruled_line o skips s l) (unruled o skips s l) (ruled_line_keeps s l q now own) (unruled_keeps s l now own)
+  event_line_keeps s l q now own = ruled_keeps o skips Here everywhere Q decided Of goes_keeps s l q now now own

@@ -21,3 +21,5 @@ pub mod MastersCalls
 pub mod ServiceLinks
 pub mod Following
 pub mod RuledMasters
+pub mod Coming
+pub mod FewEvents
