@@ -3,3 +3,10 @@ pub mod Natural
 pub mod WrittenMasters
 pub mod Extending
 pub mod Going
+pub mod AskedLines
+pub mod KeptMasters
+pub mod MastersLinks
+pub mod MastersCalls
+pub mod ServiceLinks
+pub mod Following
+pub mod RuledMasters
