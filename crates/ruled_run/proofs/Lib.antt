@@ -10,3 +10,15 @@ pub mod MastersCalls
 pub mod ServiceLinks
 pub mod Following
 pub mod RuledMasters
+pub mod RuledGrowing
+pub mod KeptLines
+pub mod OwnLines
+pub mod Continuing
+pub mod RuleLemmas
+pub mod RuledLaws
+pub mod RuledSkips
+pub mod RuledWaiters
+pub mod QuietGoing
+pub mod Proposing
+pub mod MastersAsked
+pub mod Publishing

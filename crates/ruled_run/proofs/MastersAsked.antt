@@ -63,7 +63,7 @@ pub have_asked : {V : Type 0} {T : V → Type 0} (form : FormOf V T) (settings :
 have_asked form settings old new s p l amid there kept next read same set free later e its answer ran before was =
     let are = they_are settings old.masters.items s p there kept read in
     let w = masters_at s p in
-    let so = asked_so settings kept next s p l e answer are its ran in
+    let so = asked_so are l e answer its ran in
     record {
       placed = there.placed;
       grid = subst (λ x. grid.IsAmid form settings x s.run) (sym same) amid.grid;
@@ -79,7 +79,7 @@ have_asked form settings old new s p l amid there kept next read same set free l
       there = ap (λ ms. slice_get ms p) set ∙ set_get_same old.masters.items p next kept read;
       lines = are.lines;
       of_lines = are.of_lines;
-      size = so.1.0;
+      size = so.1;
       stands = so.0;
     }
   where
@@ -93,4 +93,4 @@ pub so_answered : (settings : Settings) (all : List Masters) (s : RuledRun) (p :
     (e : masters.Event Decision) → asked_by (ruled_at (partition_object settings) s p) l ≡ e ∷ [] → (answer : Outcome)
     → HasRun kept next (written_events (asked (partition_object settings) (start p s.run.members s.run.backups) (they_are settings all s p there kept read).lines)) (written_event e) answer
     → masters_say (masters_at s p) (asked_by (ruled_at (partition_object settings) s p) l) ≡ answer ∷ []
-so_answered settings all s p l there kept next read e its answer ran = (asked_so settings kept next s p l e answer (they_are settings all s p there kept read) its ran).1.1
+so_answered settings all s p l there kept next read e its answer ran = (asked_so (they_are settings all s p there kept read) l e answer its ran).2
