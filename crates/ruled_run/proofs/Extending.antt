@@ -16,6 +16,7 @@ use Rattle.replay_run.proofs.Turns.{KeepsTurns, by_endings, served_keeps, served
 use Rattle.replay_run.proofs.EventRuns.{events_at-append, takes_here}
 use Rattle.ruled_run.specs.Runs.{RuledRun, masters_at}
 use Rattle.ruled_run.specs.Standing.{IsOfLines}
+use Rattle.ruled_run.proofs.AskedLines.{asked_append}
 
 -- calls alone
 
@@ -169,10 +170,6 @@ extended_by_calls o s next p lines calls of are same backups by here =
     }
 
 -- Nothing is asked of the masters by calls.
-
-pub asked_append : {State : Type 0} (o : Object Request State) (j : Ruled Request) (ls ms : List (Line Request)) → asked o j (ls ++ ms) ≡ asked o j ls ++ asked o (after o j ls) ms
-asked_append o j [] ms = refl
-asked_append o j (l ∷ ls) ms = ap (λ es. asked_by j l ++ es) (asked_append o (ruled.goes o j l) ls ms) ∙ sym (append_assoc (asked_by j l) (asked o (ruled.goes o j l) ls) (asked o (after o (ruled.goes o j l) ls) ms))
 
 call_asks : (j : Ruled Request) (e : Event Request) → IsCall e → asked_by j (Asks e) ≡ []
 call_asks j (Call m conn number call now) is = refl

@@ -16,7 +16,8 @@ use Rattle.masters_world.proofs.Crashes.{crash_publishes}
 use Rattle.replay_run.specs.Runs.{takes, takes_in}
 use Rattle.ruled_run.specs.Runs.{RuledRun, masters_at, ruled_at, meets_full_link, takes_each, given_up, goes, goes_in}
 use Rattle.ruled_run.specs.Written.{written_event, written_events}
-use Rattle.ruled_run.proofs.Extending.{past_same, asked_append}
+use Rattle.ruled_run.proofs.AskedLines.{asked_more}
+use Rattle.ruled_run.proofs.Extending.{past_same}
 
 -- the masters as they are, set
 pub masters_themselves : (s : RuledRun) (p : ℕ) → p < length s.masters → slice_set s.masters p (masters_at s p) ≡ s.masters
@@ -60,4 +61,4 @@ crash_run o skips s m (p ∷ ps) =
 -- what the masters were asked then
 pub asked_crash : {State : Type 0} (o : Object Request State) (j : Ruled Request) (lines : List (Line Request)) (m : ℕ)
     → written_events (asked o j (lines ++ Asks (Crash m) ∷ [])) ≡ written_events (asked o j lines) ++ masters.Crash m ∷ []
-asked_crash o j lines m = ap written_events (asked_append o j lines (Asks (Crash m) ∷ [])) ∙ map-append written_event (asked o j lines) (masters.Crash m ∷ [])
+asked_crash o j lines m = ap written_events (asked_more o j lines (Asks (Crash m))) ∙ map-append written_event (asked o j lines) (masters.Crash m ∷ [])

@@ -22,7 +22,8 @@ use Rattle.ruled_run.specs.AfterLines.{by_grid}
 use Rattle.ruled_run.specs.Standing.{IsOfLines}
 use Rattle.ruled_run.specs.Grids.{AreMasters, HasMastersAt, Rules}
 use Rattle.ruled_run.specs.Written.{written_events}
-use Rattle.ruled_run.proofs.Extending.{calls_add_nothing, asked_append, asking}
+use Rattle.ruled_run.proofs.AskedLines.{asked_more}
+use Rattle.ruled_run.proofs.Extending.{calls_add_nothing, asking}
 use Rattle.ruled_run.proofs.OwnLines.{IsPlain, own_calls}
 use Rattle.ruled_run.proofs.Going.{at_lines, single_at, CallsCome, LineComes, no_calls, calls_extend, line_extends, goes_count, goes_kept, goes_elsewhere, goes_comes, through, through_count, through_kept, line_came}
 
@@ -64,7 +65,7 @@ module _ (settings : Settings) where
       let first : Ruled Request = start p s.run.members s.run.backups in
       let whole : lines ++ l ∷ asking h.calls ≡ (lines ++ l ∷ []) ++ asking h.calls = sym (append_assoc lines (l ∷ []) (asking h.calls)) in
       let same : asked_of next p (lines ++ l ∷ asking h.calls) ≡ asked_of s p (lines ++ l ∷ []) =
-          asked_still s next p h.members h.backups (lines ++ l ∷ asking h.calls) ∙ ap (asked o first) whole ∙ calls_add_nothing o first (lines ++ l ∷ []) h.calls h.are in
+      asked_still s next p h.members h.backups (lines ++ l ∷ asking h.calls) ∙ ap (asked o first) whole ∙ calls_add_nothing o first (lines ++ l ∷ []) h.calls h.are in
       record {
         lines = lines ++ l ∷ asking h.calls;
         of_lines = line_extends o s next p l h lines of;
@@ -133,7 +134,7 @@ module _ (settings : Settings) where
   asked_nothing s p l lines of none =
       let first : Ruled Request = start p s.run.members s.run.backups in
       let here : asked_by (after o first lines) l ≡ [] = ap (λ (j : Ruled Request). asked_by j l) (sym (at_lines o s p lines of)) ∙ none in
-      asked_append o first lines (l ∷ []) ∙ ap (λ es. asked o first lines ++ (es ++ [])) here ∙ append-nil (asked o first lines)
+      asked_more o first lines l ∙ ap (λ es. asked o first lines ++ es) here ∙ append-nil (asked o first lines)
 
   pub quiet_rules : (all : List Masters) (skips : List CallId) (s : RuledRun) (p : ℕ) (l : Line Request) → has_masters s ≡ true → p < partitions → asked_by (ruled_at o s p) l ≡ [] → (goes o skips s p l).run.full ≡ false
       → Rules settings all s → Rules settings all (goes o skips s p l)
