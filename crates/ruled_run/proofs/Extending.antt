@@ -1,23 +1,22 @@
 -- A line of a partition extends the lines for which it stands: by itself, and by the calls that had their turns behind it. Other partitions stay.
-use Rattle.std.proofs.Common.{◌≡◌, ◌≢◌, ℕ, Bool, true, false, cond, ◌+◌, ◌<◌, ◌≤◌, List, [], ◌∷◌, ◌++◌, map, filter, length, Option, Some, None, slice_get, slice_set, unwrap_or, refl, ap, sym, ◌∙◌, subst, ⊎_elim, ◌⊎◌, inl, inr, append_assoc, append-nil, arith}
+use Rattle.std.proofs.Common.{◌≡◌, ℕ, Bool, true, false, cond, List, [], ◌∷◌, ◌++◌, map, Option, refl, ap, sym, ◌∙◌, subst, inl, inr, append_assoc, append-nil}
 use Rattle.grid_base.specs.Objects.{Object}
 use Rattle.grid_base.specs.declared.names.CallId.{CallId}
 use Rattle.grid_base.specs.declared.calls.Request.{Request}
 use Rattle.object_store.specs.Partitions.{Partition}
 use Rattle.partition_protocol.specs.Events.{Event, Call, Deliver, Lose, Repeat, Resend, Crash, Detect, BeginMove, BeginJoin, BeginHandover, Advance, Reopen}
-use Rattle.partition_protocol.proofs.Lists.{set_get_same, set_get_other, on_cond}
 use Rattle.partition_protocol.proofs.RowFacts.{number_same}
-use Rattle.masters_protocol.specs.Machine.{Masters}
-use Rattle.masters_world.specs.Decisions.{Decision, event_of}
-use Rattle.masters_world.specs.Machine.{Ruled, Line, Asks, start, past, at_once, masters_after, published_by, events_by, after, events}
+use Rattle.masters_world.specs.Decisions.{event_of}
+use Rattle.masters_world.specs.Machine.{Ruled, Line, Asks, start, past, asked_by, masters_after, events_by, after, asked, events}
 use Rattle.masters_world.specs.Machine as ruled
 use Rattle.masters_world.proofs.Lists.{past_append}
 use Rattle.masters_world.proofs.Theorem.{after_append, events_append}
-use Rattle.replay_run.specs.Runs.{Run, At, Arrival, Waiter, is_at, events_at, world_at, meets_full, call_of, ending, occurred, served, served_at, takes, stirred_by}
-use Rattle.replay_run.proofs.Turns.{KeepsTurns, by_endings, served_keeps, IsMade, its_event}
+use Rattle.replay_run.specs.Runs.{Run, At, Arrival, is_at, events_at, world_at, meets_full, arrived, without, ending, given_up, occurred, served, served_at, takes, stirred_by}
+use Rattle.replay_run.proofs.Turns.{KeepsTurns, by_endings, served_keeps, served_at_keeps, IsMade, its_event}
 use Rattle.replay_run.proofs.EventRuns.{events_at-append, takes_here}
-use Rattle.ruled_run.specs.Runs.{RuledRun, masters_at, ruled_at}
+use Rattle.ruled_run.specs.Runs.{RuledRun, masters_at}
 use Rattle.ruled_run.specs.Standing.{IsOfLines}
+use Rattle.ruled_run.proofs.AskedLines.{asked_append}
 
 -- calls alone
 
@@ -35,7 +34,7 @@ both_calls (e ∷ es) fs (c, h) k = (c, both_calls es fs h k)
 
 -- They ask the masters nothing, and happen at once.
 
-past_same : {X : Type 0} (xs : List X) → past xs xs ≡ []
+pub past_same : {X : Type 0} (xs : List X) → past xs xs ≡ []
 past_same xs = ap (λ ys. past xs ys) (sym (append-nil xs)) ∙ past_append xs []
 
 asks_nothing : (j : Ruled Request) (e : Event Request) → IsCall e → masters_after j (Asks e) ≡ j.masters
@@ -77,14 +76,16 @@ pub calls_happen : {State : Type 0} (o : Object Request State) (j : Ruled Reques
 calls_happen o j [] are = refl
 calls_happen o j (e ∷ es) (is, are) = ap (λ xs. xs ++ events o (ruled.goes o j (Asks e)) (asking es)) (happens_alone j e is) ∙ ap (λ xs. e ∷ xs) (calls_happen o (ruled.goes o j (Asks e)) es are)
 
--- After the turns of a list the events of its partition are those before, and then calls.
+-- After the turns of lists the events of a partition are those before, and then calls.
 
-pub record HasCalls (p : ℕ) (before : List (Event Request)) (x : Run) : Type 0 where
+pub record HasCalls (r : Run) (p : ℕ) (before : List (Event Request)) (x : Run) : Type 0 where
   pub calls : List (Event Request)
   pub are : AreCalls calls
   pub here : events_at p x.events ≡ before ++ calls
+  pub members : x.members ≡ r.members
+  pub backups : x.backups ≡ r.backups
 
-made_calls : (a : Arrival) (p : ℕ) (made : List At) → IsMade a made → AreCalls (events_at p made)
+pub made_calls : (a : Arrival) (p : ℕ) (made : List At) → IsMade a made → AreCalls (events_at p made)
 made_calls a p made (inl e) = subst (λ es. AreCalls (events_at p es)) (sym e) tt
 made_calls a p made (inr e) = subst (λ es. AreCalls (events_at p es)) (sym e) (go (is_at p (its_event a)))
   where
@@ -92,29 +93,49 @@ made_calls a p made (inr e) = subst (λ es. AreCalls (events_at p es)) (sym e) (
     go true = (tt, tt)
     go false = tt
 
-module _ (o : Object Request Partition) (skips : List CallId) (p : ℕ) (before : List (Event Request)) where
-  calls_turns : KeepsTurns o skips p (HasCalls p before)
-  calls_turns = by_endings o skips p (HasCalls p before) (λ x h. record { calls = h.calls; are = h.are; here = h.here })
-      (λ x w made appended i is here h. record {
-        calls = h.calls ++ events_at p made;
-        are = both_calls h.calls (events_at p made) h.are (made_calls (ending x w) p made is);
-        here = events_at-append p x.events made ∙ ap (λ es. es ++ events_at p made) h.here ∙ append_assoc before h.calls (events_at p made);
-      })
+module _ (r : Run) (p : ℕ) (before : List (Event Request)) where
+  -- nothing that matters has changed
+  pub calls_still : (x next : Run) → next.events ≡ x.events → next.members ≡ x.members → next.backups ≡ x.backups → HasCalls r p before x → HasCalls r p before next
+  calls_still x next events members backups h = record { calls = h.calls; are = h.are; here = ap (events_at p) events ∙ h.here; members = members ∙ h.members; backups = backups ∙ h.backups }
 
-  served_at_calls : (r : Run) (stirred : Option ℕ) → HasCalls p before r → HasCalls p before (served_at o skips r p stirred)
-  served_at_calls r None h = h
-  served_at_calls r (Some member) h = served_keeps o skips p (HasCalls p before) calls_turns r None member h
+  -- a call more, or none
+  pub calls_made : (x next : Run) (a : Arrival) (made : List At) → IsMade a made → next.events ≡ x.events ++ made → next.members ≡ x.members → next.backups ≡ x.backups → HasCalls r p before x → HasCalls r p before next
+  calls_made x next a made is events members backups h = record {
+    calls = h.calls ++ events_at p made;
+    are = both_calls h.calls (events_at p made) h.are (made_calls a p made is);
+    here = ap (events_at p) events ∙ events_at-append p x.events made ∙ ap (λ es. es ++ events_at p made) h.here ∙ append_assoc before h.calls (events_at p made);
+    members = members ∙ h.members;
+    backups = backups ∙ h.backups;
+  }
+
+  module _ (o : Object Request Partition) (skips : List CallId) where
+    pub calls_turns : (q : ℕ) → KeepsTurns o skips q (HasCalls r p before)
+    calls_turns q = by_endings o skips q (HasCalls r p before) (λ x h. calls_still x (given_up x) refl refl refl h)
+        (λ x w made appended i is here h. calls_made x (arrived (without x w) (ending x w) made appended) (ending x w) made is refl refl refl h)
+
+    pub served_calls : (x : Run) (own : Option ℕ) (q member : ℕ) → HasCalls r p before x → HasCalls r p before (served o skips x own q member)
+    served_calls x own q member h = served_keeps o skips q (HasCalls r p before) (calls_turns q) x own member h
+
+    pub served_at_calls : (x : Run) (q : ℕ) (stirred : Option ℕ) → HasCalls r p before x → HasCalls r p before (served_at o skips x q stirred)
+    served_at_calls x q stirred h = served_at_keeps o skips q (HasCalls r p before) (calls_turns q) x stirred h
 
 -- the event itself comes before them
 own_event : (p : ℕ) (e : Event Request) → events_at p (record { partition = p; event = e } ∷ []) ≡ e ∷ []
 own_event p e = let same : is_at p (record { partition = p; event = e }) ≡ true = number_same p p refl in rw same refl
 
-pub takes_calls : (o : Object Request Partition) (skips : List CallId) (r : Run) (p : ℕ) (e : Event Request) → meets_full (world_at o r p) e ≡ false → HasCalls p (events_at p r.events ++ e ∷ []) (takes o skips r p e)
+pub takes_calls : (o : Object Request Partition) (skips : List CallId) (r : Run) (p : ℕ) (e : Event Request) → meets_full (world_at o r p) e ≡ false → HasCalls r p (events_at p r.events ++ e ∷ []) (takes o skips r p e)
 takes_calls o skips r p e free =
     let one : At = record { partition = p; event = e } in
-    subst (HasCalls p (events_at p r.events ++ e ∷ [])) (sym (takes_here o skips r p e free))
-    (served_at_calls o skips p (events_at p r.events ++ e ∷ []) (occurred o r p e) (stirred_by e)
-    (record { calls = []; are = tt; here = events_at-append p r.events (one ∷ []) ∙ ap (λ es. events_at p r.events ++ es) (own_event p e) ∙ sym (append-nil (events_at p r.events ++ e ∷ [])) }))
+    let before = events_at p r.events ++ e ∷ [] in
+    subst (HasCalls r p before) (sym (takes_here o skips r p e free))
+    (served_at_calls r p before o skips (occurred o r p e) p (stirred_by e)
+    (record {
+      calls = [];
+      are = tt;
+      here = events_at-append p r.events (one ∷ []) ∙ ap (λ es. events_at p r.events ++ es) (own_event p e) ∙ sym (append-nil before);
+      members = refl;
+      backups = refl;
+    }))
 
 -- Of a partition that stands for these lines, one more and the calls behind it are what has happened by then.
 pub extended : {State : Type 0} (o : Object Request State) (s next : RuledRun) (p : ℕ) (lines : List (Line Request)) (l : Line Request) (calls : List (Event Request)) → IsOfLines o s p lines → AreCalls calls
@@ -133,3 +154,40 @@ extended o s next p lines l calls of are same backups by here =
           ∙ ap (λ es. events o first lines ++ (events_by j l ++ es)) (calls_happen o k calls are)
           ∙ ap (λ es. es ++ (events_by j l ++ calls)) of.happened ∙ sym (append_assoc (events_at p s.run.events) (events_by j l) calls) ∙ sym here;
     }
+
+-- So are calls alone.
+pub extended_by_calls : {State : Type 0} (o : Object Request State) (s next : RuledRun) (p : ℕ) (lines : List (Line Request)) (calls : List (Event Request)) → IsOfLines o s p lines → AreCalls calls
+    → next.run.members ≡ s.run.members → next.run.backups ≡ s.run.backups → masters_at next p ≡ masters_at s p → events_at p next.run.events ≡ events_at p s.run.events ++ calls
+    → IsOfLines o next p (lines ++ asking calls)
+extended_by_calls o s next p lines calls of are same backups by here =
+    let first : Ruled Request = start p s.run.members s.run.backups in
+    let j = after o first lines in
+    let begun : start p next.run.members next.run.backups ≡ first = ap (λ n. start p n next.run.backups) same ∙ ap (λ b. start p s.run.members b) backups in
+    record {
+      masters = ap (λ f. (after o f (lines ++ asking calls)).masters) begun ∙ ap (λ (x : Ruled Request). x.masters) (after_append o first lines (asking calls)) ∙ calls_ask_nothing o j calls are ∙ of.masters ∙ sym by;
+      happened = ap (λ f. events o f (lines ++ asking calls)) begun ∙ events_append o first lines (asking calls) ∙ ap (λ es. events o first lines ++ es) (calls_happen o j calls are)
+          ∙ ap (λ es. es ++ calls) of.happened ∙ sym here;
+    }
+
+-- Nothing is asked of the masters by calls.
+
+call_asks : (j : Ruled Request) (e : Event Request) → IsCall e → asked_by j (Asks e) ≡ []
+call_asks j (Call m conn number call now) is = refl
+call_asks j (Deliver a b i) is = absurd is
+call_asks j (Lose a b i) is = absurd is
+call_asks j (Repeat a b i) is = absurd is
+call_asks j (Resend end) is = absurd is
+call_asks j (Crash m) is = absurd is
+call_asks j (Detect m) is = absurd is
+call_asks j (BeginMove a b) is = absurd is
+call_asks j (BeginJoin m) is = absurd is
+call_asks j (BeginHandover a b) is = absurd is
+call_asks j Advance is = absurd is
+call_asks j Reopen is = absurd is
+
+calls_asked : {State : Type 0} (o : Object Request State) (j : Ruled Request) (es : List (Event Request)) → AreCalls es → asked o j (asking es) ≡ []
+calls_asked o j [] are = refl
+calls_asked o j (e ∷ es) (is, are) = ap (λ xs. xs ++ asked o (ruled.goes o j (Asks e)) (asking es)) (call_asks j e is) ∙ calls_asked o (ruled.goes o j (Asks e)) es are
+
+pub calls_add_nothing : {State : Type 0} (o : Object Request State) (j : Ruled Request) (ls : List (Line Request)) (es : List (Event Request)) → AreCalls es → asked o j (ls ++ asking es) ≡ asked o j ls
+calls_add_nothing o j ls es are = asked_append o j ls (asking es) ∙ ap (λ xs. asked o j ls ++ xs) (calls_asked o (after o j ls) es are) ∙ append-nil (asked o j ls)

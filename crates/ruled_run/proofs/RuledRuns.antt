@@ -18,6 +18,7 @@ use Rattle.script_lang.specs.declared.line.Line.{Line as ScriptLine}
 use Rattle.script_lang.specs.declared.line.Line.TheVariants as line
 use Rattle.replay_run.specs.Runs as grid
 use Rattle.replay_run.specs.Runs.{Run, At, partitions, world_at, takes, delivery_on, next_line, event_by}
+use Rattle.replay_run.specs.AfterLines as alone
 use Rattle.replay_run.specs.ScriptRuns.{IsRun, grid_begun, line_counted, run_given_up}
 use Rattle.replay_run.proofs.EventRuns.{takes_run}
 use Rattle.replay_run.proofs.Lines.{IsNoCall, events_are_no_calls, line_run}
@@ -46,7 +47,7 @@ pub both_quiet : (es fs : List (Event Request)) → AreQuiet es → AreQuiet fs 
 both_quiet [] fs h k = k
 both_quiet (e ∷ es) fs (q, h) k = (q, both_quiet es fs h k)
 
-decision_quiet : (n : ℕ) (d : Decision) → asked_by (event_of {C = Request} n d) ≡ []
+pub decision_quiet : (n : ℕ) (d : Decision) → asked_by (event_of {C = Request} n d) ≡ []
 decision_quiet n (decision.Detect m) = refl
 decision_quiet n (decision.BeginMove from to) = refl
 decision_quiet n (decision.BeginJoin to) = refl
@@ -91,7 +92,23 @@ flowed_on o skips s p most next = elim next [ None ↦ s | Some l ↦ flowed o s
 abbrev pub between_on : Object Request Partition → List CallId → RuledRun → ℕ → ℕ → Option Link → RuledRun
 between_on o skips s p most next = elim next [ None ↦ s | Some l ↦ flowed_between o skips (goes o skips s p (handing_over l)) p most ]
 
--- What holds of the grid's run after each event that is no call, and as it is given up, holds after what is asked for in partitions.
+-- what a line asks for in one partition is no call
+
+abbrev pub IsQuietAsked : Option Asked → Type 0
+IsQuietAsked None = Unit {0}
+IsQuietAsked (Some a) = AsksNoCall a.line
+
+as_asked_quiet : (e : Option At) → IsNoCall e → IsQuietAsked (option_map as_asked e)
+as_asked_quiet None q = tt
+as_asked_quiet (Some e) q = q
+
+pub asked_quiet : (l : ScriptLine) → IsQuietAsked (asked_at l)
+asked_quiet (line.MasterDeliver p from to place) = tt
+asked_quiet (line.MasterLose p from to place) = tt
+asked_quiet (line.MasterResend p member) = tt
+asked_quiet l = as_asked_quiet (event_by l) (events_are_no_calls l)
+
+-- What holds of the grid's run after each event that is no call, and as it is given up, holds after what is asked for in partitions; and after a line, if it holds as that is counted, and as the grid alone runs it.
 module _ (o : Object Request Partition) (skips : List CallId) (P : Run → Type 0)
     (up : (r : Run) → P r → P (grid.given_up r)) (step : (r : Run) (p : ℕ) (e : Event Request) → asked_by e ≡ [] → P r → P (takes o skips r p e)) where
   pub each_keeps : (r : Run) (p : ℕ) (es : List (Event Request)) → AreQuiet es → P r → P (takes_each o skips r p es)
@@ -134,53 +151,39 @@ module _ (o : Object Request Partition) (skips : List CallId) (P : Run → Type 
       go None f = h
       go (Some l) f = f l
 
--- lines
+  -- what a line asks for in one partition, or in each, once it is counted
 
-abbrev IsQuietAsked : Option Asked → Type 0
-IsQuietAsked None = Unit {0}
-IsQuietAsked (Some a) = AsksNoCall a.line
+  partition_keeps : (s : RuledRun) (l : ScriptLine) (a : Option Asked) → IsQuietAsked a → P (next_line s.run) → P (alone.after_line o skips s.run l) → P (by_partition o skips s l a).run
+  partition_keeps s l None q now own = own
+  partition_keeps s l (Some a) q now own = goes_keeps (counted s) a.partition a.line q now
 
-as_asked_quiet : (e : Option At) → IsNoCall e → IsQuietAsked (option_map as_asked e)
-as_asked_quiet None q = tt
-as_asked_quiet (Some e) q = q
+  all_keeps : (s : RuledRun) (l : Line Request) → AsksNoCall l → P (next_line s.run) → P (goes_in o skips (counted s) l (numbers_below partitions)).run
+  all_keeps s l q now = goes_in_keeps (counted s) l (numbers_below partitions) q now
 
-asked_quiet : (l : ScriptLine) → IsQuietAsked (asked_at l)
-asked_quiet (line.MasterDeliver p from to place) = tt
-asked_quiet (line.MasterLose p from to place) = tt
-asked_quiet (line.MasterResend p member) = tt
-asked_quiet l = as_asked_quiet (event_by l) (events_are_no_calls l)
+  -- a line: as it is counted, and as it is the grid's own
 
-module _ {o : Object Request Partition} (skips : List CallId) (s : RuledRun) (is : IsRun o s.run) where
-  now : IsRun o (counted s).run
-  now = line_counted s.run is
+  ruled_line_keeps : (s : RuledRun) (l : ScriptLine) → P (next_line s.run) → P (alone.after_line o skips s.run l) → P (ruled_line o skips s l).run
+  ruled_line_keeps s line.Masters now own = now
+  ruled_line_keeps s (line.Rebalance most) now own = now
+  ruled_line_keeps s (line.Flow p most) now own = flowed_keeps (counted s) p most now
+  ruled_line_keeps s (line.FlowAll most) now own = flowed_in_keeps (counted s) most (numbers_below partitions) now
+  ruled_line_keeps s (line.MasterFlow p most) now own = between_keeps (counted s) p most now
+  ruled_line_keeps s (line.Told m x) now own = all_keeps s (Told m x) tt now
+  ruled_line_keeps s (line.Crash m) now own = all_keeps s (Asks (Crash m)) refl now
+  ruled_line_keeps s (line.Detect m) now own = all_keeps s (Asks (Detect m)) refl now
+  ruled_line_keeps s l now own = partition_keeps s l (asked_at l) (asked_quiet l) now own
 
-  step : (r : Run) (p : ℕ) (e : Event Request) → asked_by e ≡ [] → IsRun o r → IsRun o (takes o skips r p e)
-  step r p e quiet h = takes_run skips r p e h quiet
+  unruled_keeps : (s : RuledRun) (l : ScriptLine) → P (next_line s.run) → P (alone.after_line o skips s.run l) → P (unruled o skips s l).run
+  unruled_keeps s line.Masters now own = on_if Of (s.run.lines == 1) (record (counted s) { masters = opening_masters s.run.members }) (by_grid o skips s line.Masters) now own
+  unruled_keeps s l now own = own
 
-  partition_run : (l : ScriptLine) (a : Option Asked) → IsQuietAsked a → IsRun o (by_partition o skips s l a).run
-  partition_run l None q = line_run skips s.run is l
-  partition_run l (Some a) q = goes_keeps o skips (IsRun o) run_given_up step (counted s) a.partition a.line q now
+  pub line_keeps : (s : RuledRun) (l : ScriptLine) → P (next_line s.run) → P (alone.after_line o skips s.run l) → P (after_line o skips s l).run
+  line_keeps s l now own = on_if Of (has_masters s) (ruled_line o skips s l) (unruled o skips s l) (ruled_line_keeps s l now own) (unruled_keeps s l now own)
 
-  all_run : (l : Line Request) → AsksNoCall l → IsRun o (goes_in o skips (counted s) l (numbers_below partitions)).run
-  all_run l q = goes_in_keeps o skips (IsRun o) run_given_up step (counted s) l (numbers_below partitions) q now
+-- So a ruled run is a run.
 
-  pub ruled_line_run : (l : ScriptLine) → IsRun o (ruled_line o skips s l).run
-  ruled_line_run line.Masters = now
-  ruled_line_run (line.Rebalance most) = now
-  ruled_line_run (line.Flow p most) = flowed_keeps o skips (IsRun o) run_given_up step (counted s) p most now
-  ruled_line_run (line.FlowAll most) = flowed_in_keeps o skips (IsRun o) run_given_up step (counted s) most (numbers_below partitions) now
-  ruled_line_run (line.MasterFlow p most) = between_keeps o skips (IsRun o) run_given_up step (counted s) p most now
-  ruled_line_run (line.Told m x) = all_run (Told m x) tt
-  ruled_line_run (line.Crash m) = all_run (Asks (Crash m)) refl
-  ruled_line_run (line.Detect m) = all_run (Asks (Detect m)) refl
-  ruled_line_run l = partition_run l (asked_at l) (asked_quiet l)
-
-  unruled_run : (l : ScriptLine) → IsRun o (unruled o skips s l).run
-  unruled_run line.Masters = on_if (λ (x : RuledRun). IsRun o x.run) (s.run.lines == 1) (record (counted s) { masters = opening_masters s.run.members }) (by_grid o skips s line.Masters) now (line_run skips s.run is line.Masters)
-  unruled_run l = line_run skips s.run is l
-
-  pub ruled_run : (l : ScriptLine) → IsRun o (after_line o skips s l).run
-  ruled_run l = on_if (λ (x : RuledRun). IsRun o x.run) (has_masters s) (ruled_line o skips s l) (unruled o skips s l) (ruled_line_run l) (unruled_run l)
+pub ruled_run : {o : Object Request Partition} (skips : List CallId) (s : RuledRun) → IsRun o s.run → (l : ScriptLine) → IsRun o (after_line o skips s l).run
+ruled_run {o} skips s is l = line_keeps o skips (IsRun o) run_given_up (λ r p e quiet h. takes_run skips r p e h quiet) s l (line_counted s.run is) (line_run skips s.run is l)
 
 pub ruled_runs : {o : Object Request Partition} (skips : List CallId) (s : RuledRun) (ls : List ScriptLine) → IsRun o s.run → IsRun o (after_lines o skips s ls).run
 ruled_runs skips s [] is = is

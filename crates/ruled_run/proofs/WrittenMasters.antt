@@ -5,7 +5,7 @@ use Rattle.masters_world.specs.Decisions.{Decision}
 use Rattle.ruled_run.specs.Written.{as_written, written_event, written_events}
 use Rattle.ruled_run.proofs.Natural.{masters_by, event_by, natural}
 
-written_so : (e : Event Decision) → written_event e ≡ event_by as_written e
+pub written_so : (e : Event Decision) → written_event e ≡ event_by as_written e
 written_so (Told m x) = refl
 written_so (Crash m) = refl
 written_so (Propose d) = refl

@@ -18,4 +18,9 @@ mod print;
 mod publishing;
 
 pub use grid::RuledGrid;
-pub use laws::{every_call_counts_once, every_ruled_run_is_a_run, every_run_is_linearizable};
+pub use laws::{
+    every_call_counts_once, every_mastership_agrees, every_mastership_is_sound,
+    every_published_list_grows, every_ruled_run_is_a_run, every_run_is_linearizable,
+    every_run_is_ruled, every_run_that_tells_of_no_skip_has_none,
+    every_service_serves_as_published, every_skipped_call_is_told, every_waiter_stays,
+};
