@@ -21,4 +21,4 @@ pub mod RuledWaiters
 pub mod QuietGoing
 pub mod Proposing
 pub mod MastersAsked
-pub mod Publishing
+pub mod PublishedEvents
