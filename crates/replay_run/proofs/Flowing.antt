@@ -1,5 +1,5 @@
 -- A run that goes on by several steps, each by skips of its own, and the grid that follows it.
-use Rattle.std.proofs.Common.{◌≡◌, ℕ, zero, suc, ◌+◌, ◌-◌, ◌≤◌, ◌<◌, true≢false, true, false, cond, List, [], ◌∷◌, ◌++◌, length, drop, count_by, Option, Some, None, refl, ap, sym, ◌∙◌, subst, inl, inr, append-nil, append_assoc, add-one, arith}
+use Rattle.std.proofs.Common.{◌≡◌, ℕ, zero, suc, ◌+◌, ◌-◌, ◌≤◌, ◌<◌, true≢false, false, cond, List, [], ◌∷◌, ◌++◌, length, drop, count_by, Option, Some, None, refl, ap, sym, ◌∙◌, subst, inl, inr, append-nil, append_assoc, add-one, arith}
 use Rattle.std.proofs.lemmas.List.Sums.{sum_by-append, sum_by-cons}
 use Rattle.std.proofs.Math.Seq.{drop-append_seam}
 use Rattle.grid_base.specs.Objects.{Object}

@@ -1,5 +1,5 @@
 -- A line that is taken apart, in a grid: it is counted as a comment is, each of its events finds room, and behind the last one the grid stands as between two lines.
-use Rattle.std.proofs.Common.{◌≡◌, ℕ, ◌+◌, ◌≤◌, true≢false, List, ap, sym, ◌∙◌, subst, arith}
+use Rattle.std.proofs.Common.{ℕ, ◌+◌, ◌<◌, ◌≤◌, true≢false, List, ap, sym, ◌∙◌, subst, arith}
 use Rattle.std.specs.List.{find}
 use Rattle.call_engine.specs.Calls.{Settings}
 use Rattle.script_lang.specs.Limits.{most_lines}
@@ -14,15 +14,15 @@ use Rattle.replay_run.proofs.Bounds.{kept_small}
 use Rattle.replay_run.proofs.EventLines.{stands_room}
 use Rattle.replay_run.proofs.TakenApart.{TakesFew, room_after}
 
+-- It may be counted as a comment is.
+pub comment_may_run : {V : Type 0} {T : V → Type 0} {form : FormOf V T} (grid : Grid V T) (number : ℕ) (line : Line) → MayRun form grid number line → MayRun form grid number Comment
+comment_may_run grid number line may = record { settings = may.settings; run = may.run; stands = may.stands; read = tt; next = may.next; within = may.within }
+
 module _ {V : Type 0} {T : V → Type 0} {form : FormOf V T} {settings : Settings} where
   pub stands_amid : (grid : Grid V T) (r : Run) → Stands form settings grid r → IsAmid form settings grid r
   stands_amid grid r s = record { run = s.run; holds = s.holds; listeners = s.listeners; settled = s.settled }
 
   -- It is counted.
-
-  pub comment_may_run : (grid : Grid V T) (number : ℕ) (line : Line) → MayRun form grid number line → MayRun form grid number Comment
-  comment_may_run grid number line may = record { settings = may.settings; run = may.run; stands = may.stands; read = tt; next = may.next; within = may.within }
-
   pub comment_ran : (new : Grid V T) (r : Run) (written text : List ℕ) → HasRun form settings new r Comment written text → IsAmid form settings new (next_line r)
   comment_ran new r written text ran = stands_amid new (next_line r) ran.stands
 

@@ -91,7 +91,7 @@ module _ (o : Object Request Partition) (skips : List CallId) (n : ℕ) where
   pub goes_come : (s : RuledRun) (p : ℕ) (l : Line Request) → AllHaveCome n s → AllHaveCome n (goes o skips s p l)
   goes_come s p l h = on_if (AllHaveCome n) (is_held_up o skips s p l) (given_up s) (asked_run o skips s p l) (record { members = h.members; each = h.each }) (asked_come s p l h)
 
-  counted_come : (s : RuledRun) → AllHaveCome n s → AllHaveCome n (counted s)
+  pub counted_come : (s : RuledRun) → AllHaveCome n s → AllHaveCome n (counted s)
   counted_come s h = record { members = h.members; each = h.each }
 
   opening_come : (s : RuledRun) → AllHaveCome n s → AllHaveCome n (record (counted s) { masters = opening_masters s.run.members })
@@ -126,13 +126,13 @@ begun_come members backups = record { members = refl; each = λ p. at_start memb
 
 -- of a ruled run too
 pub ruled_come : {State : Type 0} (o : Object Request State) (s : RuledRun) → IsRuled o s → AllHaveCome s.run.members s
-ruled_come o s is = record { members = refl; each = λ p. by (nat_lt p partitions) refl }
+ruled_come o s is = record { members = refl; each = λ p. by p (nat_lt p partitions) refl }
   where
-    by : {p : ℕ} (b : Bool) → nat_lt p partitions ≡ b → HaveCome s.run.members (masters_at s p)
-    by {p} true low =
+    by : (p : ℕ) (b : Bool) → nat_lt p partitions ≡ b → HaveCome s.run.members (masters_at s p)
+    by p true low =
         let of = is.stands p (less p partitions low) in
         record { events = asked o (start p s.run.members s.run.backups) (is.lines p (less p partitions low)); is = masters_go o (start p s.run.members s.run.backups) (is.lines p (less p partitions low)) ∙ of.masters }
-    by {p} false high =
+    by p false high =
         let many = not_less p partitions high in
         let whole = is.count in
         let none : slice_get s.masters p ≡ None = beyond s.masters p (omega (arith, many, whole)) in

@@ -123,17 +123,16 @@ module _ (o : Object Request Partition) (skips : List CallId) where
   flowed_in-append s most [] qs = refl
   flowed_in-append s most (p ∷ ps) qs = flowed_in-append (flowed o skips s p most) most ps qs
 
-  pub flowed_in_few : (s : RuledRun) (most k : ℕ) → TakesFew most 0 s.run (flowed_in o skips s most (numbers_below k)).run
-  flowed_in_few s most k = flows_in_order now most turn k
-    where
-      now : ℕ → Run
-      now k = (flowed_in o skips s most (numbers_below k)).run
+  abbrev flowed_so_far : RuledRun → ℕ → ℕ → Run
+  flowed_so_far s most k = (flowed_in o skips s most (numbers_below k)).run
 
-      unfolding now
-      turn : (k : ℕ) → TakesFewIn k most 0 (now k) (now (suc k))
-      turn k =
-          let mid = flowed_in o skips s most (numbers_below k) in
-          subst (λ (x : RuledRun). TakesFewIn k most 0 mid.run x.run) (sym (flowed_in-append s most (numbers_below k) (k ∷ []))) (flowed_few mid k most)
+  one_more_few : (s : RuledRun) (most k : ℕ) → TakesFewIn k most 0 (flowed_so_far s most k) (flowed_so_far s most (suc k))
+  one_more_few s most k =
+      let mid = flowed_in o skips s most (numbers_below k) in
+      subst (λ (x : RuledRun). TakesFewIn k most 0 mid.run x.run) (sym (flowed_in-append s most (numbers_below k) (k ∷ []))) (flowed_few mid k most)
+
+  pub flowed_in_few : (s : RuledRun) (most k : ℕ) → TakesFew most 0 s.run (flowed_in o skips s most (numbers_below k)).run
+  flowed_in_few s most k = flows_in_order (flowed_so_far s most) most (one_more_few s most) k
 
   -- lines
 

@@ -94,8 +94,8 @@ module _ (s : RuledRun) (first : List CallId → RuledRun) (then : RuledRun → 
     fed = λ k e i. ⊎_elim (λ j. g.by.fed k e j) (λ j. (h (first k)).by.fed k e j) (in_cases e (g.by.grows k).events.0 ((h (first k)).by.grows k).events.0 i);
   }
 
-  unfolding both_go
   pub and_then : RuledGoesBy s (λ k. then (first k) k)
+  unfolding both_go
   and_then = record { by = both_go; alike = both_alike }
 
 module _ (o : Object Request Partition) where

@@ -113,7 +113,7 @@ module _ {settings : Settings} {kept : Masters} {s : RuledRun} {p : ℕ} (are : 
 
 -- what is published by a line, once its event has run
 
-module _ {settings : Settings} {s : RuledRun} {p : ℕ} {lines : List (Line Request)} (of : IsOfLines (partition_object settings) s p lines) (l : Line Request)
+module _ (settings : Settings) {s : RuledRun} {p : ℕ} {lines : List (Line Request)} (of : IsOfLines (partition_object settings) s p lines) (l : Line Request)
     {new : Masters} (size : size_of new ≡ s.run.members) (stands : StandsFor new (asked_of settings s p (lines ++ l ∷ []))) where
   then_stand : StandForLines (partition_object settings) p s.run.members s.run.backups (lines ++ l ∷ []) new
   then_stand = record { size = size; stands = stands }
