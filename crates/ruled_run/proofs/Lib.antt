@@ -25,6 +25,7 @@ pub mod Coming
 pub mod FewEvents
 pub mod Proposing
 pub mod MastersAsked
+pub mod PublishedEvents
 pub mod Publishing
 pub mod Composing
 pub mod LineParts
