@@ -26,7 +26,6 @@ pub mod FewEvents
 pub mod Proposing
 pub mod MastersAsked
 pub mod PublishedEvents
-pub mod Publishing
 pub mod Composing
 pub mod LineParts
 pub mod AtOnce
