@@ -19,3 +19,14 @@ pub mod MastersCalls
 pub mod ServiceLinks
 pub mod Following
 pub mod RuledMasters
+pub mod SkippedTexts
+pub mod KeptEvents
+pub mod Coming
+pub mod FewEvents
+pub mod Proposing
+pub mod MastersAsked
+pub mod PublishedEvents
+pub mod Composing
+pub mod LineParts
+pub mod AtOnce
+pub mod Loops

@@ -1,5 +1,5 @@
 -- In the midst of a line: what the masters of a partition are asked, and what then happens to it.
-use Rattle.std.specs.Prelude.{◌≡◌, ◌≢◌, ℕ, ◌<◌, true, false, List, [], ◌∷◌, ◌++◌, map, length, Some, slice_get}
+use Rattle.std.specs.Prelude.{◌≡◌, ◌≢◌, ℕ, ◌<◌, ◌≤◌, true, false, List, [], ◌∷◌, ◌++◌, map, length, Some, slice_get}
 use Rattle.grid_base.specs.declared.names.CallId.{CallId}
 use Rattle.grid_base.specs.declared.calls.Request.{Request}
 use Rattle.call_engine.specs.Calls.{Settings}
@@ -40,6 +40,16 @@ pub record MayAsk {V : Type 0} {T : V → Type 0} (form : FormOf V T) (all : Rul
   pub placed : p < partitions
   pub room : HasRoomAt run.run p 1
 
+-- The decision is the one that this event of a partition proposes, as the code keeps it.
+abbrev pub Proposes : Settings → RuledRun → ℕ → Event Request → Written → Type 0
+Proposes settings s p e kept = map as_written (proposals (ruled_at (partition_object settings) s p) e) ≡ kept ∷ []
+
+-- Masters are there, a partition may have one event more, and an event of it proposes the decision.
+pub record MayPropose {V : Type 0} {T : V → Type 0} (form : FormOf V T) (all : RuledGrid V T) (p : ℕ) (kept : Written) : Type 0 where
+  pub may : MayAsk form all p
+  pub event : Event Request
+  pub proposes : Proposes may.settings may.run p event kept
+
 -- what a run goes on to, and what is printed by that, by the calls that find no memory
 
 abbrev pub Onward : Type 0
@@ -72,19 +82,18 @@ pub record HasAsked {V : Type 0} {T : V → Type 0} (form : FormOf V T) (setting
   pub on : HasGoneOn form settings new s (going settings s p l) (following settings s p l) written text
   pub outcome : masters_say (masters_at s p) (asked_by (ruled_at (partition_object settings) s p) l) ≡ answer ∷ []
 
--- The decision is the one that this event of a partition proposes, as the code keeps it.
-abbrev pub Proposes : Settings → RuledRun → ℕ → Event Request → Written → Type 0
-Proposes settings s p e kept = map as_written (proposals (ruled_at (partition_object settings) s p) e) ≡ kept ∷ []
-
--- It is the one that this line proposes, to the masters of this partition.
+-- The decision is the one that this line proposes, to the masters of this partition.
 abbrev pub ProposesAt : {V : Type 0} {T : V → Type 0} → FormOf V T → RuledGrid V T → ScriptLine → ℕ → Written → Type 0
 ProposesAt form all line p kept = (settings : Settings) (s : RuledRun) → Stands form settings all s
     → (e : Event Request) × (event_by line ≡ Some (record { partition = p; event = e })) × Proposes settings s p e kept
 
 -- The masters of a partition were asked what a line asks them, so nothing happens at once, and what was published is still to happen; so many decisions had been published before.
 pub record HasAskedMasters {V : Type 0} {T : V → Type 0} (form : FormOf V T) (settings : Settings) (all : RuledGrid V T) (s : RuledRun) (p : ℕ) (l : Line Request) (before : ℕ) : Type 0 where
+  pub placed : p < partitions
   pub grid : grid.IsAmid form settings all.grid s.run
-  pub ruled : has_masters s ≡ true
+  pub count : length all.masters.items ≡ length s.masters
+  pub whole : length s.masters ≡ partitions
+  pub most : s.run.members ≤ 8
   pub others : (q : ℕ) → q < partitions → q ≢ p → HasMastersAt settings all.masters.items s q
   pub goes : meets_full_link (masters_at s p) (asked_by (ruled_at (partition_object settings) s p) l) ≡ false
   pub later : at_once (ruled_at (partition_object settings) s p) l ≡ []

@@ -17,7 +17,7 @@ ghost use Rattle.replay_run.specs.WorldCalls.{HasRoomAt, GivesUpSo};
 ghost use Rattle.replay_run.specs.declared.run_end.RunEnd.TheVariants as RunEnds;
 ghost use Rattle.ruled_run.specs.Runs.{RuledRun, masters_at, has_full_link};
 ghost use Rattle.ruled_run.specs.Answers.{answer_of};
-ghost use Rattle.ruled_run.specs.Steps.{IsAmid, MayAsk, HasGoneOn, GivesUp, going, following, HasAsked, Proposes, HasAskedMasters, HasTaken};
+ghost use Rattle.ruled_run.specs.Steps.{IsAmid, MayAsk, MayPropose, HasGoneOn, GivesUp, going, following, HasAsked, Proposes, HasAskedMasters, HasTaken};
 
 use crate::decisions::event_of;
 use crate::grid::RuledGrid;
@@ -125,7 +125,7 @@ impl RuledGrid {
         decision: &Decision,
         out: &mut Vec<u8>,
     ) -> Result<Proposal, RunEnd>
-        requires { MayAsk (boxed form) self.old partition }
+        requires { MayPropose (boxed form) self.old partition decision.now }
         // The decision is the one that an event of the partition proposes.
         ensures ok { (settings : Settings) (s : RuledRun) (e : ProtocolEvent Call) → IsAmid (boxed form) settings self.old s → Proposes settings s partition e decision.now
             → IfOk result (λ proposal. HasAsked (boxed form) settings self.new s partition (Asks e) (answer_of proposal) out.old.items out.new.items) }
@@ -197,7 +197,7 @@ impl RuledGrid {
         ensures ok { (settings : Settings) (s : RuledRun) → IsAmid (boxed form) settings self.old s → IfOk result (λ done. HasAsked (boxed form) settings self.new s partition (MasterResend member) (done_if done) [] []) }
         ensures full { (settings : Settings) (s : RuledRun) → IsAmid (boxed form) settings self.old s → IsErrOf result RunEnds.InFlight → GivesUp s (going settings s partition (MasterResend member)) }
     {
-        self.find_room(partition)?;
+        self.find_room(partition)?; // also where nothing is sent again
         Ok(self.masters[usize::from(partition)].resend(alloc, member)?)
     }
 }
