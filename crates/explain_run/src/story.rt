@@ -105,6 +105,10 @@ fn partition_of(line: &Line) -> Option<PartitionId> {
         | Line::Handover { partition, .. }
         | Line::Advance { partition }
         | Line::Reopen { partition }
+        | Line::MasterDeliver { partition, .. }
+        | Line::MasterLose { partition, .. }
+        | Line::MasterResend { partition, .. }
+        | Line::MasterFlow { partition, .. }
         | Line::Dump { partition, .. }
         | Line::Links { partition }
         | Line::Trail { partition } => Some(*partition),

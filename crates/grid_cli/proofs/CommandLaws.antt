@@ -1,5 +1,5 @@
 -- What a replay writes tells histories: a transcript that ends at the line `end` closes with those of its run.
-use Rattle.std.proofs.Common.{◌≡◌, ℕ, zero, suc, ◌+◌, ◌≤◌, Bool, true, false, List, [], ◌∷◌, ◌++◌, length, take, drop, Option, Some, None, Result, Ok, Err, refl, ap, sym, ◌∙◌, subst, arith, ◌⊎◌, inl, inr, ⊎_elim, append-nil, append_assoc}
+use Rattle.std.proofs.Common.{◌≡◌, ℕ, zero, suc, ◌+◌, ◌≤◌, Bool, true, false, cond, List, [], ◌∷◌, ◌++◌, length, take, drop, Option, Some, None, Result, Ok, Err, refl, ap, sym, ◌∙◌, subst, arith, ◌⊎◌, inl, inr, ⊎_elim, append-nil, append_assoc}
 use Rattle.std.specs.List.{flat_map}
 use Rattle.grid_base.specs.declared.names.CallId.{CallId}
 use Rattle.script_lang.specs.Lines.{line_of, is_end, IsWithin}
@@ -17,7 +17,12 @@ use Rattle.call_engine.specs.Objects.{partition_object}
 use Rattle.replay_run.specs.Runs.{Run, next_line}
 use Rattle.replay_run.specs.Printing.{ok_text, appended_text, entry_text, all_entries}
 use Rattle.replay_run.specs.Printing as grid
-use Rattle.script_run.specs.Runs.{ScriptRun, begun}
+use Rattle.ruled_run.specs.Runs.{RuledRun, has_masters}
+use Rattle.ruled_run.specs.AfterLines.{unruled, ruled_line}
+use Rattle.ruled_run.specs.AfterLines as ruled
+use Rattle.ruled_run.specs.Printing.{ruled_text, unruled_text}
+use Rattle.ruled_run.specs.Printing as told
+use Rattle.script_run.specs.Runs.{ScriptRun, begun, ruled_of}
 use Rattle.script_run.specs.AfterLines.{after_line, after_lines}
 use Rattle.script_run.specs.Printing.{line_text}
 use Rattle.replay_run.specs.Linearizability.{IsLinearizable}
@@ -62,9 +67,17 @@ end_is : (line : Line) → is_end line ≡ true → line ≡ End
 end_is End e = refl
 end_is line e = absurd (cc e)
 
+-- with masters too
+ruled_closes : (s : Settings) (skips : List CallId) (r : RuledRun) → let next = ruled.after_line (partition_object s) skips r End in ClosesWith s next.run (told.line_text s skips r End next)
+ruled_closes s skips r = go (has_masters r)
+  where
+    go : (b : Bool) → let next = cond b (ruled_line (partition_object s) skips r End) (unruled (partition_object s) skips r End) in ClosesWith s next.run (cond b (ruled_text s skips r End next) (unruled_text s skips r End next))
+    go true = ([], closing_text s skips r.run)
+    go false = ([], closing_text s skips r.run)
+
 last_closes : (s : Settings) (skips : List CallId) (r : ScriptRun) (line : Line) → line ≡ End
     → ClosesWith s (after_line s skips r line).run (line_text s skips r line (after_line s skips r line))
-last_closes s skips r line is = subst (λ l. ClosesWith s (after_line s skips r l).run (line_text s skips r l (after_line s skips r l))) (sym is) ([], closing_text s skips r.run)
+last_closes s skips r line is = subst (λ l. ClosesWith s (after_line s skips r l).run (line_text s skips r l (after_line s skips r l))) (sym is) (ruled_closes s skips (ruled_of r))
 
 -- a text before one that closes
 closes_after : (s : Settings) (r : Run) (before text : List ℕ) → ClosesWith s r text → ClosesWith s r (before ++ text)

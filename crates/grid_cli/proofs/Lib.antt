@@ -9,6 +9,9 @@ pub mod ReplaySteps
 pub mod ReplayEnds
 pub mod ReplayRuns
 pub mod CommandLaws
+pub mod Parts
+pub mod GridPrints
+pub mod RuledPrints
 pub mod PrintedRuns
 pub mod SkippedCalls
 pub mod NearHits

@@ -14,7 +14,7 @@ use Rattle.script_lang.specs.declared.line.Line.TheVariants.{Grid, Comment}
 use Rattle.script_lang.specs.declared.refusal.LineWhy.{LineWhy}
 use Rattle.script_lang.proofs.Ranges.{IsWithin-words_of}
 use Rattle.replay_run.specs.Runs.{Run}
-use Rattle.script_run.specs.Runs.{ScriptRun, begun, grid_line}
+use Rattle.script_run.specs.Runs.{ScriptRun, begun, ruled_of, grid_line}
 use Rattle.script_run.specs.AfterLines.{after_line, after_lines}
 use Rattle.near_scripts.specs.HitsStand.{HitsStand, AreLines}
 use Rattle.near_scripts.proofs.Theorem.{every_hit_of_a_script_stands}
@@ -129,7 +129,7 @@ are_run s skips r (text ∷ texts) some short = by (λ next more. are_run s skip
     }
     by go (Ok line) read =
         let next = after_line s skips r line in
-        let same : next.run.members ≡ r.run.members = members_stay (partition_object s) skips r.run (grid_line (partition_object s) r line) in
+        let same : next.run.members ≡ r.run.members = members_stay (partition_object s) skips (ruled_of r) (grid_line (partition_object s) r line) in
         let rest = go next (subst (λ (n : ℕ). 1 ≤ n) (sym same) some) in
         record {
           lines = line ∷ rest.lines;

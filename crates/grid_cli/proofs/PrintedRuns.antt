@@ -1,36 +1,33 @@
 -- Each message that a line appends stands in the line's text, and each line's text in the transcript.
-use Rattle.std.proofs.Common.{◌≡◌, ℕ, ◌+◌, Bool, true, false, not, cond, if◌then◌else◌, List, [], ◌∷◌, ◌++◌, length, drop, Option, Some, None, Result, Ok, Err, refl, ap, sym, ◌∙◌, subst, ◌⊎◌, ⊎_elim, inl, inr, append_assoc, append-nil}
-use Rattle.std.proofs.Math.Seq.{drop-append_seam}
-use Rattle.std.specs.List.{flat_map}
-use Rattle.grid_base.specs.Objects.{Object}
+use Rattle.std.proofs.Common.{◌≡◌, ℕ, Bool, true, false, cond, if◌then◌else◌, List, [], ◌∷◌, ◌++◌, Option, Result, Ok, Err, refl, ap, sym, ◌∙◌, subst, ◌⊎◌, ⊎_elim, inl, inr, append-nil}
 use Rattle.grid_base.specs.declared.names.CallId.{CallId}
-use Rattle.grid_base.specs.declared.calls.Request.{Request}
-use Rattle.partition_protocol.proofs.Lists.{In, in_cases, in_contains, on_if, cases}
-use Rattle.partition_protocol.proofs.RowFacts.{true_or_not}
+use Rattle.partition_protocol.proofs.Lists.{In, in_contains}
 use Rattle.entry_processors.specs.Processors.{ProcessorForm}
-use Rattle.object_store.specs.Partitions.{Partition}
 use Rattle.call_engine.specs.Calls.{Settings}
 use Rattle.call_engine.specs.Objects.{partition_object}
 use Rattle.script_lang.specs.Lines.{line_of, is_end}
 use Rattle.script_lang.specs.declared.line.Line.{Line}
-use Rattle.script_lang.specs.declared.line.Line.TheVariants.{Grid, OpenConn, Arrive, Rebalance, Near, NearGet, NearFeed, Comment}
+use Rattle.script_lang.specs.declared.line.Line.TheVariants.{Grid, Arrive, Near, NearGet, NearFeed, Comment}
 use Rattle.script_lang.specs.declared.refusal.LineWhy.{LineWhy}
-use Rattle.replay_run.specs.Runs.{Run, Connection, Appended, connection_of, takes_bytes, can_open, next_line, opened, bytes_arrived}
-use Rattle.script_run.specs.Runs.{ScriptRun, Look, Unmade, Hit, Miss, begun, can_begin, is_near_connection, look, asked_line}
+use Rattle.replay_run.specs.Runs.{Appended}
+use Rattle.replay_run.specs.Appending.{appended_text}
+use Rattle.replay_run.specs.Printing.{ok_text, nothing_text}
+use Rattle.ruled_run.specs.Runs.{RuledRun}
+use Rattle.ruled_run.specs.AfterLines as ruled
+use Rattle.ruled_run.specs.Printing as ruled_text
+use Rattle.ruled_run.proofs.KeptLines.{bytes_after, comment_after}
+use Rattle.script_run.specs.Runs.{ScriptRun, Look, Unmade, Hit, Miss, begun, ruled_of, can_begin, is_near_connection, look, asked_line}
 use Rattle.script_run.specs.NearClients.{opening_of, get_sent}
 use Rattle.script_run.specs.AfterLines as script
 use Rattle.script_run.specs.Printing.{brought, look_text}
 use Rattle.script_run.specs.Printing as script_text
-use Rattle.replay_run.specs.AfterLines.{after_line}
-use Rattle.replay_run.specs.Printing.{ok_text, nothing_text, line_text, does_nothing, outcome_text, appended_text, new_messages, line_messages, line_close, line_dump, line_links, entry_text, printed_by}
-use Rattle.rebalance.specs.declared.Step.{Step}
-use Rattle.replay_run.specs.Rebalancing.{is_moving_at, stepped, stepped_all, steps_in}
-use Rattle.replay_run.specs.RebalancingTexts.{end_text, ran_text, ran_texts}
-use Rattle.replay_run.proofs.Growing.{line_grows, stepped_goes, stepped_all_goes}
 use Rattle.grid_cli.specs.Scripts.{lines_of, limit_of}
 use Rattle.grid_cli.specs.Transcripts.{Transcript, Ended, settings, first_line, later_lines, after_first, following, refused, too_long}
 use Rattle.grid_cli.specs.PrintedRuns.{printed_after, printed_by_grid, printed_of, HasPart, EveryMessageIsPrinted}
 use Rattle.grid_cli.specs.declared.status.LimitWhat.{LimitWhat}
+use Rattle.grid_cli.proofs.Parts.{part_left, part_right, behind_outcome}
+use Rattle.grid_cli.proofs.GridPrints.{sent_prints}
+use Rattle.grid_cli.proofs.RuledPrints.{line_shows}
 use Rattle.grid_cli.proofs.Progress.{continued, later_line}
 
 -- the run that is printed after a line that was read
@@ -44,184 +41,47 @@ printed_on o skips r texts line =
 abbrev pub printed_at : Settings → List CallId → ScriptRun → List (List ℕ) → Result Line LineWhy → ScriptRun
 printed_at o skips r texts read = elim read [ Err why ↦ r | Ok line ↦ printed_on o skips r texts line ]
 
--- parts
-
-part_left : (text more part : List ℕ) → HasPart text part → HasPart (text ++ more) part
-part_left text more part (before, behind, e) = (before, behind ++ more, ap (λ t. t ++ more) e ∙ append_assoc (before ++ part) behind more)
-
-part_right : (more text part : List ℕ) → HasPart text part → HasPart (more ++ text) part
-part_right more text part (before, behind, e) =
-    (more ++ before, behind, ap (λ t. more ++ t) e ∙ sym (append_assoc more (before ++ part) behind) ∙ ap (λ t. t ++ behind) (sym (append_assoc more before part)))
-
-part_of_all : (m : Appended) (ms : List Appended) → In m ms → HasPart (flat_map appended_text ms) (appended_text m)
-part_of_all m [] i = absurd i
-part_of_all m (n ∷ ms) (inl e) = ([], flat_map appended_text ms, ap (λ x. appended_text x ++ flat_map appended_text ms) e)
-part_of_all m (n ∷ ms) (inr i) = part_right (appended_text n) (flat_map appended_text ms) (appended_text m) (part_of_all m ms i)
-
--- a line
-
--- the text of a line that does something
-abbrev something_text : Settings → List CallId → Run → Line → Run → List ℕ
-something_text s skips r line next =
-    let o = partition_object s in
-    outcome_text s r line next ++ line_messages s skips r line next ++ line_close next line ++ line_dump o next line ++ line_links s next line ++ flat_map (entry_text next.lines) (printed_by o next line)
-
--- Where a line runs steps, each step's messages stand before its end.
-
-module _ (o : Object Request Partition) (m : Appended) where
-  split_new : (r mid next : Run) (first rest : List Appended) → r.appended ++ first ≡ mid.appended → mid.appended ++ rest ≡ next.appended → In m (new_messages r next) → In m (new_messages r mid) ⊎ In m (new_messages mid next)
-  split_new r mid next first rest one two i =
-      let whole : new_messages r next ≡ first ++ rest = ap (drop (length r.appended)) (sym two ∙ ap (λ ms. ms ++ rest) (sym one) ∙ append_assoc r.appended first rest) ∙ drop-append_seam r.appended (first ++ rest) in
-      let front : new_messages r mid ≡ first = ap (drop (length r.appended)) (sym one) ∙ drop-append_seam r.appended first in
-      let behind : new_messages mid next ≡ rest = ap (drop (length mid.appended)) (sym two) ∙ drop-append_seam mid.appended rest in
-      ⊎_elim (λ j. inl (subst (In m) (sym front) j)) (λ j. inr (subst (In m) (sym behind) j)) (in_cases m first rest (subst (In m) whole i))
-
-  none_new : (r : Run) → In m (new_messages r r) → ⊥
-  none_new r i = subst (In m) (ap (drop (length r.appended)) (sym (append-nil r.appended)) ∙ drop-append_seam r.appended []) i
-
-  steps_print : (skips : List CallId) (r : Run) (steps : List Step) → In m (new_messages r (stepped_all o skips r steps)) → HasPart (ran_texts o skips r steps) (appended_text m)
-  steps_print skips r [] i = absurd (none_new r i)
-  steps_print skips r (step ∷ steps) i =
-      let mid = stepped o skips r step in
-      let one = ((stepped_goes o r step).grows skips).appended in
-      let two = ((stepped_all_goes o mid steps).grows skips).appended in
-      ⊎_elim
-      (λ j. part_left (ran_text o skips r step) (ran_texts o skips mid steps) (appended_text m) (part_left (flat_map appended_text (new_messages r mid)) (end_text r.lines step.partition (is_moving_at o mid step.partition)) (appended_text m) (part_of_all m (new_messages r mid) j)))
-      (λ j. part_right (ran_text o skips r step) (ran_texts o skips mid steps) (appended_text m) (steps_print skips mid steps j))
-      (split_new r mid (stepped_all o skips mid steps) one.0 two.0 one.1 two.1 i)
-
-messages_print : (s : Settings) (skips : List CallId) (r : Run) (line : Line) (m : Appended) → In m (new_messages r (after_line (partition_object s) skips r line)) → HasPart (line_messages s skips r line (after_line (partition_object s) skips r line)) (appended_text m)
-messages_print s skips r (Rebalance most) m i = steps_print (partition_object s) m skips (next_line r) (steps_in (partition_object s) (next_line r) most) i
-messages_print s skips r line m i = part_of_all m (new_messages r (after_line (partition_object s) skips r line)) i
-
-new_is_printed : (s : Settings) (skips : List CallId) (r : Run) (line : Line) (next : Run) (m : Appended) → HasPart (line_messages s skips r line next) (appended_text m) → HasPart (something_text s skips r line next) (appended_text m)
-new_is_printed s skips r line next m i =
-    let o = partition_object s in
-    let outcome = outcome_text s r line next in
-    let messages = line_messages s skips r line next in
-    part_left _ (flat_map (entry_text next.lines) (printed_by o next line)) (appended_text m)
-    (part_left _ (line_links s next line) (appended_text m)
-    (part_left _ (line_dump o next line) (appended_text m)
-    (part_left _ (line_close next line) (appended_text m)
-    (part_right outcome messages (appended_text m) i))))
-
--- A line that does nothing appends nothing.
-
-not_true : (b : Bool) → not b ≡ true → b ≡ false
-not_true false e = refl
-not_true true e = absurd cc
-
-unopened : (r : Run) (c member : ℕ) (opens : Bool) → (cond opens (opened r c member) (next_line r)).appended ≡ r.appended
-unopened r c member true = refl
-unopened r c member false = refl
-
-abbrev takes_none : Object Request Partition → Run → Option Connection → Bool
-takes_none o r found = elim found [ None ↦ true | Some c ↦ not (takes_bytes o r c) ]
-
-abbrev on_bytes : Object Request Partition → List CallId → Run → List ℕ → Option Connection → Run
-on_bytes o skips r bytes found = elim found [ None ↦ next_line r | Some c ↦ bytes_arrived o skips r c bytes ]
-
-untaken : (o : Object Request Partition) (skips : List CallId) (r : Run) (bytes : List ℕ) (found : Option Connection) → takes_none o r found ≡ true → (on_bytes o skips r bytes found).appended ≡ r.appended
-untaken o skips r bytes None e = refl
-untaken o skips r bytes (Some c) e = rw (not_true (takes_bytes o r c) e) refl
-
-appends_nothing : (o : Object Request Partition) (skips : List CallId) (r : Run) (line : Line) → does_nothing o r line ≡ true → (after_line o skips r line).appended ≡ r.appended
-appends_nothing o skips r (Grid members backups capacity) e = refl
-appends_nothing o skips r (OpenConn c member) e = unopened r c member (can_open o r c member)
-appends_nothing o skips r (Arrive c bytes) e = untaken o skips r bytes (connection_of r c) e
-appends_nothing o skips r (Near c name capacity) e = refl
-appends_nothing o skips r (NearGet c key) e = refl
-appends_nothing o skips r (NearFeed c most) e = refl
-appends_nothing o skips r line e = absurd (cc e)
-
-line_prints : (s : Settings) (skips : List CallId) (r : Run) (line : Line) (m : Appended) → let next = after_line (partition_object s) skips r line in
-    In m next.appended → In m r.appended ⊎ HasPart (line_text s skips r line next) (appended_text m)
-line_prints s skips r line m i = ⊎_elim idle (λ free. on_new free (in_cases m r.appended grown.0 (subst (In m) (sym grown.1) i))) (cases (does_nothing o r line))
-  where
-    o : Object Request Partition
-    o = partition_object s
-
-    next : Run
-    next = after_line o skips r line
-
-    grown : (new : List Appended) × (r.appended ++ new ≡ next.appended)
-    grown = (line_grows o skips r line).appended
-
-    idle : does_nothing o r line ≡ true → In m r.appended ⊎ HasPart (line_text s skips r line next) (appended_text m)
-    idle e = inl (subst (In m) (appends_nothing o skips r line e) i)
-
-    new : new_messages r next ≡ grown.0
-    new = ap (drop (length r.appended)) (sym grown.1) ∙ drop-append_seam r.appended grown.0
-
-    on_new : does_nothing o r line ≡ false → In m r.appended ⊎ In m grown.0 → In m r.appended ⊎ HasPart (line_text s skips r line next) (appended_text m)
-    on_new free (inl j) = inl j
-    on_new free (inr j) =
-        let shown : line_text s skips r line next ≡ something_text s skips r line next = ap (λ b. cond b (nothing_text next.lines) (something_text s skips r line next)) free in
-        inr (subst (λ text. HasPart text (appended_text m)) (sym shown) (new_is_printed s skips r line next m (messages_print s skips r line m (subst (In m) (sym new) j))))
-
--- bytes that a near client sends
-
--- what they bring, where they can arrive
-idle_bytes : (b : Bool) (text part : List ℕ) → b ≡ false → HasPart text part → HasPart (cond b [] text) part
-idle_bytes false text part e has = has
-idle_bytes true text part e has = absurd cc
-
-sent_prints : (s : Settings) (skips : List CallId) (r : Run) (c : ℕ) (bytes : List ℕ) (m : Appended) → let next = after_line (partition_object s) skips r (Arrive c bytes) in
-    In m next.appended → In m r.appended ⊎ HasPart (brought s skips r c bytes next) (appended_text m)
-sent_prints s skips r c bytes m i = ⊎_elim idle (λ free. on_new free (in_cases m r.appended grown.0 (subst (In m) (sym grown.1) i))) (cases (does_nothing o r (Arrive c bytes)))
-  where
-    o : Object Request Partition
-    o = partition_object s
-
-    next : Run
-    next = after_line o skips r (Arrive c bytes)
-
-    grown : (new : List Appended) × (r.appended ++ new ≡ next.appended)
-    grown = (line_grows o skips r (Arrive c bytes)).appended
-
-    idle : does_nothing o r (Arrive c bytes) ≡ true → In m r.appended ⊎ HasPart (brought s skips r c bytes next) (appended_text m)
-    idle e = inl (subst (In m) (appends_nothing o skips r (Arrive c bytes) e) i)
-
-    new : new_messages r next ≡ grown.0
-    new = ap (drop (length r.appended)) (sym grown.1) ∙ drop-append_seam r.appended grown.0
-
-    on_new : does_nothing o r (Arrive c bytes) ≡ false → In m r.appended ⊎ In m grown.0 → In m r.appended ⊎ HasPart (brought s skips r c bytes next) (appended_text m)
-    on_new free (inl j) = inl j
-    on_new free (inr j) =
-        inr (idle_bytes (does_nothing o r (Arrive c bytes)) (line_messages s skips r (Arrive c bytes) next ++ line_close next (Arrive c bytes)) (appended_text m) free
-        (part_left _ (line_close next (Arrive c bytes)) (appended_text m) (messages_print s skips r (Arrive c bytes) m (subst (In m) (sym new) j))))
-
 -- a line of a script
 
 abbrev IsShown : Settings → List CallId → ScriptRun → Line → ScriptRun → Appended → Type 0
 IsShown s skips r line next m = In m next.run.appended → In m r.run.appended ⊎ HasPart (script_text.line_text s skips r line next) (appended_text m)
 
-behind_outcome : (before text part : List ℕ) {X : Type 0} → X ⊎ HasPart text part → X ⊎ HasPart (before ++ text) part
-behind_outcome before text part (inl x) = inl x
-behind_outcome before text part (inr has) = inr (part_right before text part has)
+module _ (s : Settings) (skips : List CallId) (r : RuledRun) (m : Appended) where
+  abbrev after : Line → RuledRun
+  after line = ruled.after_line (partition_object s) skips r line
 
-look_prints : (s : Settings) (skips : List CallId) (r : Run) (c : ℕ) (key : List ℕ) (m : Appended) (found : Look) → let next = after_line (partition_object s) skips r (asked_line c key found) in
-    In m next.appended → In m r.appended ⊎ HasPart (look_text s skips r c key next found) (appended_text m)
-look_prints s skips r c key m Unmade i = inl i
-look_prints s skips r c key m (Hit n value) i = inl i
-look_prints s skips r c key m (Miss n) i = behind_outcome _ _ (appended_text m) (sent_prints s skips r c (get_sent n key).request m i)
+  -- with masters too a comment is nothing to the grid, and bytes that a near client sends are the grid's
 
-begin_prints : (s : Settings) (skips : List CallId) (r : Run) (c : ℕ) (name : List ℕ) (m : Appended) (begins : Bool) → let next = after_line (partition_object s) skips r (cond begins (Arrive c (opening_of c name)) Comment) in
-    In m next.appended → In m r.appended ⊎ HasPart (cond begins (ok_text next.lines ++ brought s skips r c (opening_of c name) next) (nothing_text next.lines)) (appended_text m)
-begin_prints s skips r c name m true i = behind_outcome _ _ (appended_text m) (sent_prints s skips r c (opening_of c name) m i)
-begin_prints s skips r c name m false i = inl i
+  comment_prints : (text : List ℕ) → In m (after Comment).run.appended → In m r.run.appended ⊎ HasPart text (appended_text m)
+  comment_prints text i = inl (subst (λ (x : RuledRun). In m x.run.appended) (comment_after (partition_object s) skips r) i)
 
-bytes_print : (s : Settings) (skips : List CallId) (r : Run) (c : ℕ) (bytes : List ℕ) (m : Appended) (near : Bool) → let next = after_line (partition_object s) skips r (cond near Comment (Arrive c bytes)) in
-    In m next.appended → In m r.appended ⊎ HasPart (cond near (nothing_text next.lines) (line_text s skips r (Arrive c bytes) next)) (appended_text m)
-bytes_print s skips r c bytes m true i = inl i
-bytes_print s skips r c bytes m false i = line_prints s skips r (Arrive c bytes) m i
+  bytes_sent : (c : ℕ) (bytes : List ℕ) → let next = after (Arrive c bytes) in In m next.run.appended → In m r.run.appended ⊎ HasPart (brought s skips r.run c bytes next.run) (appended_text m)
+  bytes_sent c bytes =
+      subst (λ (x : RuledRun). In m x.run.appended → In m r.run.appended ⊎ HasPart (brought s skips r.run c bytes x.run) (appended_text m))
+      (sym (bytes_after (partition_object s) skips r c bytes)) (sent_prints s skips r.run c bytes m)
+
+  look_prints : (c : ℕ) (key : List ℕ) (found : Look) → let next = after (asked_line c key found) in
+      In m next.run.appended → In m r.run.appended ⊎ HasPart (look_text s skips r.run c key next.run found) (appended_text m)
+  look_prints c key Unmade i = comment_prints _ i
+  look_prints c key (Hit n value) i = comment_prints _ i
+  look_prints c key (Miss n) i = behind_outcome _ _ (appended_text m) (bytes_sent c (get_sent n key).request i)
+
+  begin_prints : (c : ℕ) (name : List ℕ) (begins : Bool) → let next = after (cond begins (Arrive c (opening_of c name)) Comment) in
+      In m next.run.appended → In m r.run.appended ⊎ HasPart (cond begins (ok_text next.run.lines ++ brought s skips r.run c (opening_of c name) next.run) (nothing_text next.run.lines)) (appended_text m)
+  begin_prints c name true i = behind_outcome _ _ (appended_text m) (bytes_sent c (opening_of c name) i)
+  begin_prints c name false i = comment_prints _ i
+
+  bytes_print : (c : ℕ) (bytes : List ℕ) (near : Bool) → let next = after (cond near Comment (Arrive c bytes)) in
+      In m next.run.appended → In m r.run.appended ⊎ HasPart (cond near (nothing_text next.run.lines) (ruled_text.line_text s skips r (Arrive c bytes) next)) (appended_text m)
+  bytes_print c bytes true i = comment_prints _ i
+  bytes_print c bytes false i = line_shows m s skips r (Arrive c bytes) i
 
 script_prints : (s : Settings) (skips : List CallId) (r : ScriptRun) (line : Line) (m : Appended) → IsShown s skips r line (script.after_line s skips r line) m
-script_prints s skips r (Near c name capacity) m i = begin_prints s skips r.run c name m (can_begin r c name) i
-script_prints s skips r (NearGet c key) m i = look_prints s skips r.run c key m (look (partition_object s) r c key) i
-script_prints s skips r (NearFeed c most) m i = inl i
-script_prints s skips r (Arrive c bytes) m i = bytes_print s skips r.run c bytes m (is_near_connection r c) i
-script_prints s skips r line m i = line_prints s skips r.run line m i
+script_prints s skips r (Near c name capacity) m i = begin_prints s skips (ruled_of r) m c name (can_begin r c name) i
+script_prints s skips r (NearGet c key) m i = look_prints s skips (ruled_of r) m c key (look (partition_object s) r c key) i
+script_prints s skips r (NearFeed c most) m i = comment_prints s skips (ruled_of r) m _ i
+script_prints s skips r (Arrive c bytes) m i = bytes_print s skips (ruled_of r) m c bytes (is_near_connection r c) i
+script_prints s skips r line m i = line_shows m s skips (ruled_of r) line i
 
 -- lines
 

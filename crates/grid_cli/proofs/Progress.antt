@@ -12,13 +12,15 @@ use Rattle.call_engine.specs.Calls.{Settings}
 use Rattle.call_engine.specs.Objects.{partition_object}
 use Rattle.replay_run.specs.Runs.{Arrival, is_skipped}
 use Rattle.replay_run.specs.Printing.{ok_text}
-use Rattle.script_run.specs.Runs.{ScriptRun, begun, grid_line}
+use Rattle.ruled_run.specs.Grids.{AreOfLine}
+use Rattle.ruled_run.proofs.RuledRuns.{ruled_run}
+use Rattle.script_run.specs.Runs.{ScriptRun, begun, ruled_of, grid_line}
 use Rattle.script_run.specs.AfterLines.{after_line}
 use Rattle.script_run.specs.Printing.{line_text}
 use Rattle.script_run.proofs.ScriptLaws.{whole_line_alike, whole_line_grows, text_alike}
 use Rattle.replay_run.specs.Endings.{AreAmong, new_arrivals}
 use Rattle.replay_run.specs.ScriptRuns.{IsRun}
-use Rattle.replay_run.specs.Skips.{AgreeOn, AreOfLine}
+use Rattle.replay_run.specs.Skips.{AgreeOn}
 use Rattle.grid_cli.specs.Transcripts.{Transcript, settings, Ended, TooLong, first_line, later_lines, after_first, following, stopped, refused, limit_text, too_long}
 use Rattle.grid_cli.specs.Statuses.{whole}
 use Rattle.grid_cli.specs.Progress.{IsAt, run_after, run_of, begun_by, capacity_by, capacity_of}
@@ -29,9 +31,9 @@ use Rattle.grid_cli.specs.declared.status.LimitWhat.{LimitWhat}
 use Rattle.grid_cli.specs.declared.status.LimitWhat.TheVariants.{InFlight}
 use Rattle.replay_run.proofs.Fresh.{calls_are_new}
 use Rattle.replay_run.proofs.Growing.{Grows}
-use Rattle.replay_run.proofs.LineCounts.{IsCounted, line_counted}
-use Rattle.replay_run.proofs.Lines.{line_run}
+use Rattle.replay_run.proofs.LineCounts.{IsCounted}
 use Rattle.replay_run.proofs.SkipLaws.{new_of, skipped_by_either, not_skipped, unless_same}
+use Rattle.grid_cli.proofs.Members.{ruled_line_counted}
 
 following-following : (a b : List ℕ) (t : Transcript) → following a (following b t) ≡ following (a ++ b) t
 following-following a b t = ap (λ text. record { text = text; ending = t.ending }) (sym (append_assoc a b t.text))
@@ -77,7 +79,7 @@ run_line o s r text texts line read = ap (λ (x : Result Line LineWhy). elim x [
 
 module _ (forms : List ProcessorForm) (capacity : ℕ) (r : ScriptRun) (skips : List CallId) (done : List (List ℕ)) (written text : List ℕ) (at : IsAt forms capacity r skips done written)
     (line : Line) (read : line_of false r.run.members text ≡ Ok line)
-    (k : List CallId) (of_line : AreOfLine (partition_object (settings forms capacity)) r.run (grid_line (partition_object (settings forms capacity)) r line) k) (next : ScriptRun) (after : after_line (settings forms capacity) k r line ≡ next)
+    (k : List CallId) (of_line : AreOfLine (settings forms capacity) (ruled_of r) (grid_line (partition_object (settings forms capacity)) r line) k) (next : ScriptRun) (after : after_line (settings forms capacity) k r line ≡ next)
     (is : IsRun (partition_object (settings forms capacity)) r.run) where
   abbrev by : Settings
   by = settings forms capacity
@@ -96,10 +98,10 @@ module _ (forms : List ProcessorForm) (capacity : ℕ) (r : ScriptRun) (skips : 
   grows = subst (λ (x : ScriptRun). Grows r.run x.run) after (whole_line_grows by k r line)
 
   next_is : IsRun o next.run
-  next_is = subst (λ (x : ScriptRun). IsRun o x.run) after (line_run k r.run is asked)
+  next_is = subst (λ (x : ScriptRun). IsRun o x.run) after (ruled_run k (ruled_of r) is asked)
 
   counts : IsCounted r.run next.run
-  counts = subst (λ (x : ScriptRun). IsCounted r.run x.run) after (line_counted o k r.run asked)
+  counts = subst (λ (x : ScriptRun). IsCounted r.run x.run) after (ruled_line_counted o k (ruled_of r) asked)
 
   all_arrivals : r.run.arrivals ++ come ≡ next.run.arrivals
   all_arrivals = ap (λ xs. r.run.arrivals ++ xs) (new_of r.run next.run grows.arrivals) ∙ grows.arrivals.1

@@ -16,7 +16,7 @@ use Rattle.entry_processors.specs.Processors.{ProcessorForm}
 use Rattle.object_store.specs.Partitions.{Partition}
 use Rattle.call_engine.specs.Calls.{Settings}
 use Rattle.call_engine.specs.Objects.{partition_object}
-use Rattle.script_run.specs.Runs.{ScriptRun, begun, grid_line}
+use Rattle.script_run.specs.Runs.{ScriptRun, begun, ruled_of, grid_line}
 use Rattle.script_run.specs.AfterLines.{after_line}
 use Rattle.replay_run.specs.Printing.{ok_text}
 use Rattle.replay_run.specs.Grids.{FormOf}
@@ -53,9 +53,9 @@ module _ {V : Type 0} {T : V → Type 0} {form : FormOf V T} {forms : List Proce
           capacity = follows.capacity;
           run = next;
           stands = ran.stands;
-          few = subst (λ n. n ≤ 8) (sym (members_stay o ran.skips r.run (grid_line o r line))) follows.few;
+          few = subst (λ n. n ≤ 8) (sym (members_stay o ran.skips (ruled_of r) (grid_line o r line))) follows.few;
           at = subst (λ t. IsAt forms follows.capacity next (ran.skips ++ skips) (done ++ text ∷ []) (written ++ t)) (sym ran.added)
-              (at_next forms follows.capacity r skips done written text follows.at line read ran.skips ran.of_line next refl follows.stands.goes.grid.run ran.stands.goes.grid.holds.goes_on going);
+              (at_next forms follows.capacity r skips done written text follows.at line read ran.skips ran.of_line next refl follows.stands.goes.grid.grid.run ran.stands.goes.grid.grid.holds.goes_on going);
         },
       )
 
@@ -65,7 +65,7 @@ module _ {V : Type 0} {T : V → Type 0} {form : FormOf V T} {forms : List Proce
       let next : ScriptRun = after_line by ran.skips r line in (
         ran.skips,
         λ limit texts.
-            at_end forms follows.capacity r skips done written text follows.at line read ran.skips ran.of_line next refl follows.stands.goes.grid.run ran.stands.goes.grid.holds.goes_on ending limit texts
+            at_end forms follows.capacity r skips done written text follows.at line read ran.skips ran.of_line next refl follows.stands.goes.grid.grid.run ran.stands.goes.grid.grid.holds.goes_on ending limit texts
             ∙ ap (λ t. whole (written ++ t) Ended) (sym ran.added),
       )
 
@@ -78,7 +78,7 @@ line_given_up {forms = forms} old new skips done written text added number follo
   λ limit texts. (
     number,
     at_given_up forms follows.capacity follows.run skips done written text follows.at line read given.skips given.of_line (after_line (settings forms follows.capacity) given.skips follows.run line) refl
-        follows.stands.goes.grid.run given.full limit texts
+        follows.stands.goes.grid.grid.run given.full limit texts
         ∙ ap (λ n. whole (written ++ limit_text n InFlight) (TooLong n InFlight)) (sym counted)
         ∙ ap (λ t. whole (written ++ t) (TooLong number InFlight)) (sym shown),
   ),

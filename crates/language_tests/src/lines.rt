@@ -104,7 +104,31 @@ const LINES: &[(u8, &str, &str)] = &[
         "nearfeed 7 1000000",
         "Ok(NearFeed { conn: 7, most: 1000000 })",
     ),
+    // lines of masters
+    (3, "masters", "Ok(Masters)"),
+    (3, "told 2 0", "Ok(Told { member: 2, crashed: 0 })"),
+    (
+        3,
+        "mdeliver 270 0 2 18446744073709551615",
+        "Ok(MasterDeliver { partition: 270, from: 0, to: 2, place: 18446744073709551615 })",
+    ),
+    (
+        3,
+        "mlose 1 3 2 0",
+        "Ok(MasterLose { partition: 1, from: 3, to: 2, place: 0 })",
+    ),
+    (
+        3,
+        "mresend 270 2",
+        "Ok(MasterResend { partition: 270, member: 2 })",
+    ),
+    (
+        3,
+        "mflow 270 1000",
+        "Ok(MasterFlow { partition: 270, most: 1000 })",
+    ),
     // the first cause for which a line is refused
+    (0, "masters", "Err(Why(NoGrid))"),
     (1, "", "Err(Why(Word))"),
     (1, "opens 0 0 0", "Err(Why(Word))"),
     (1, "grid 1 0", "Err(Why(NoGrid))"),
@@ -139,6 +163,16 @@ const LINES: &[(u8, &str, &str)] = &[
     (1, "near 0 6d", "Err(Why(Count))"),
     (1, "nearget 0 6", "Err(Why(Hex))"),
     (1, "nearfeed 0 0", "Err(Why(Number))"),
+    (1, "masters 0", "Err(Why(Count))"),
+    (1, "told 0", "Err(Why(Count))"),
+    (3, "told 3 0", "Err(Why(Number))"),
+    (3, "told 0 3", "Err(Why(Number))"),
+    (3, "mdeliver 0 0 1", "Err(Why(Count))"),
+    (3, "mdeliver 0 4 0 0", "Err(Why(Number))"),
+    (3, "mlose 0 0 4 0", "Err(Why(Number))"),
+    (3, "mresend 0 3", "Err(Why(Number))"),
+    (3, "mflow all 1", "Err(Why(Number))"),
+    (3, "mflow 0 1001", "Err(Why(Number))"),
 ];
 
 #[test]

@@ -14,6 +14,7 @@ use Rattle.partition_protocol.proofs.HistorySizes.{part_length}
 use Rattle.script_lang.specs.Limits.{most_lines}
 use Rattle.replay_run.specs.Runs.{Run, Arrival, Reopened, partitions, bytes_of, reopened_at, world_at}
 use Rattle.replay_run.specs.Printing.{printed_from, entries_of, all_entries}
+use Rattle.replay_run.specs.Rebalancing.{most_line_events}
 use Rattle.replay_run.specs.ScriptRuns.{IsRun}
 use Rattle.replay_run.specs.Grids.{IsSmall, IsBounded, most_arriving}
 use Rattle.replay_run.proofs.Bounds.{sum_more, sum_both, messages_in, messages_fewer, arrivals_fewer}
@@ -49,8 +50,8 @@ below_first a b whole is small = omega (arith, is, small)
 pub below_both : (x y a b whole : ℕ) → x ≡ a → y ≡ b → whole ≡ a + b → whole < 2 ^ 128 → x + y < 2 ^ 128
 below_both x y a b whole first second is small = omega (arith, first, second, is, small)
 
--- What four bytes count: as many entries as calls and reopenings, where these are of no more lines than a script may have.
-few_entries : (whole calls resets messages bytes lines : ℕ) → whole ≤ calls + resets → calls ≤ messages → header * messages ≤ bytes → 2 * bytes ≤ most_arriving * lines → resets ≤ lines → lines ≤ most_lines → whole < 2 ^ 32
+-- What four bytes count: as many entries as calls and reopenings, where these are of no more lines than a script may have, and each has few reopenings.
+few_entries : (whole calls resets messages bytes lines : ℕ) → whole ≤ calls + resets → calls ≤ messages → header * messages ≤ bytes → 2 * bytes ≤ most_arriving * lines → resets ≤ most_line_events * lines → lines ≤ most_lines → whole < 2 ^ 32
 few_entries whole calls resets messages bytes lines few come sized small reopened within = omega (arith, few, come, sized, small, reopened, within)
 
 pub field_below : (whole : ℕ) → whole < 2 ^ 32 → whole < 2 ^ 128

@@ -316,7 +316,7 @@ module _ (now : ℕ → Run) (q : ℕ) (elsewhere : (n : ℕ) → q ≢ n → ev
   all_come zero = omega arith
   all_come (suc n) = let before = all_come n in let one = come n in omega (arith, before, one)
 
-  one_turn : (most : ℕ) → ((n : ℕ) → Adds q most (now n) (now (suc n))) → (n : ℕ) → Adds q most (now 0) (now n)
+  pub one_turn : (most : ℕ) → ((n : ℕ) → Adds q most (now n) (now (suc n))) → (n : ℕ) → Adds q most (now 0) (now n)
   one_turn most turn zero = omega arith
   one_turn most turn (suc n) = ⊎_elim
       (λ e. let before = ap length (to_come n (omega (arith, e))) in let its = turn n in let all = all_come n in omega (arith, before, its, all))

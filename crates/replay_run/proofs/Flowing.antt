@@ -1,5 +1,5 @@
 -- A run that goes on by several steps, each by skips of its own, and the grid that follows it.
-use Rattle.std.proofs.Common.{◌≡◌, ℕ, zero, suc, ◌+◌, ◌-◌, ◌≤◌, ◌<◌, true≢false, true, false, cond, List, [], ◌∷◌, ◌++◌, length, drop, count_by, Option, Some, None, refl, ap, sym, ◌∙◌, subst, inl, inr, append-nil, append_assoc, add-one, arith}
+use Rattle.std.proofs.Common.{◌≡◌, ℕ, zero, suc, ◌+◌, ◌-◌, ◌≤◌, ◌<◌, true≢false, false, cond, List, [], ◌∷◌, ◌++◌, length, drop, count_by, Option, Some, None, refl, ap, sym, ◌∙◌, subst, inl, inr, append-nil, append_assoc, add-one, arith}
 use Rattle.std.proofs.lemmas.List.Sums.{sum_by-append, sum_by-cons}
 use Rattle.std.proofs.Math.Seq.{drop-append_seam}
 use Rattle.grid_base.specs.Objects.{Object}
@@ -94,13 +94,13 @@ delivered r = count_by is_delivery r.events
 abbrev one_if_delivery : At → ℕ
 one_if_delivery e = cond (is_delivery e) 1 0
 
-deliveries_are : (r next : Run) (n : ℕ) → IsFrontOf r.events next.events → delivered next ≡ delivered r + n → deliveries r next ≡ n
+pub deliveries_are : (r next : Run) (n : ℕ) → IsFrontOf r.events next.events → delivered next ≡ delivered r + n → deliveries r next ≡ n
 deliveries_are r next n (more, e) counts =
     let whole = ap (count_by is_delivery) (sym e) ∙ sum_by-append one_if_delivery r.events more in
     let new = ap (count_by is_delivery) (ap (drop (length r.events)) (sym e) ∙ drop-append_seam r.events more) in
     omega (arith, whole, new, counts)
 
-deliveries_counted : (r next : Run) → IsFrontOf r.events next.events → delivered next ≡ delivered r + deliveries r next
+pub deliveries_counted : (r next : Run) → IsFrontOf r.events next.events → delivered next ≡ delivered r + deliveries r next
 deliveries_counted r next (more, e) =
     let whole = ap (count_by is_delivery) (sym e) ∙ sum_by-append one_if_delivery r.events more in
     let new = ap (count_by is_delivery) (ap (drop (length r.events)) (sym e) ∙ drop-append_seam r.events more) in
@@ -126,7 +126,7 @@ module _ (o : Object Request Partition) (skips : List CallId) where
       let one = sum_by-cons one_if_delivery its [] in
       omega (arith, more, one)
 
-  took_one : (r : Run) (p : ℕ) (l : Link) → meets_full (world_at o r p) (delivery_on l) ≡ false → delivered (takes o skips r p (delivery_on l)) ≡ delivered r + 1
+  pub took_one : (r : Run) (p : ℕ) (l : Link) → meets_full (world_at o r p) (delivery_on l) ≡ false → delivered (takes o skips r p (delivery_on l)) ≡ delivered r + 1
   took_one r p l free =
       ap delivered (takes_here o skips r p (delivery_on l) free)
       ∙ served_at_keeps o skips p (λ x. delivered x ≡ delivered r + 1) (undelivered_turns p (delivered r + 1)) (occurred o r p (delivery_on l)) (stirred_by (delivery_on l)) (one_occurred r p l)

@@ -1,5 +1,5 @@
 -- The grid after a call, one that arrives or one that waited, which its partition's world ran or which found no memory.
-use Rattle.std.proofs.Common.{◌≡◌, ℕ, ◌+◌, ◌<◌, true, false, cond, List, [], ◌∷◌, ◌++◌, length, count_by, map, pos, Option, None, slice_set, refl, ap, sym, ◌∙◌, subst, ◌⊎◌, ⊎_elim, inl, inr, append-nil, append_assoc}
+use Rattle.std.proofs.Common.{◌≡◌, ℕ, ◌<◌, true, false, cond, List, [], ◌∷◌, ◌++◌, length, count_by, map, pos, Option, None, slice_set, refl, ap, sym, ◌∙◌, subst, ⊎_elim, inl, inr, append-nil, append_assoc}
 use Rattle.std.specs.List.{Contains}
 use Rattle.std.proofs.lemmas.Bool.{eq-eqb}
 use Rattle.grid_base.specs.Names.{is_same_call}

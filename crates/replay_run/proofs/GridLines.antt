@@ -122,7 +122,7 @@ no_skips : (settings : Settings) (r : Run) (line : Line) → AreOfLine (partitio
 no_skips settings r line id there = absurd (in_contains id [] there)
 
 -- an outcome that nothing follows
-alone : (xs : List ℕ) → xs ++ [] ++ [] ++ [] ≡ xs
+pub alone : (xs : List ℕ) → xs ++ [] ++ [] ++ [] ≡ xs
 alone xs = append-nil (xs ++ [] ++ []) ∙ append-nil (xs ++ []) ∙ append-nil xs
 
 -- or its messages alone

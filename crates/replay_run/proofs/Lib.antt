@@ -1,6 +1,7 @@
 pub mod Parts
 pub mod Turns
 pub mod EventRuns
+pub mod TakenApart
 pub mod Rebalanced
 pub mod Counting
 pub mod Releases
@@ -76,6 +77,7 @@ pub mod WaiterTurns
 pub mod NextTurns
 pub mod Taking
 pub mod EventLines
+pub mod LineEnds
 pub mod RebalanceLine
 pub mod LineCases
 pub mod Tallies

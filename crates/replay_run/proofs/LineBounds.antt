@@ -1,10 +1,10 @@
--- A line reopens one partition at most, so that no more are reopened than lines run.
+-- A line reopens one partition at most, so that few are reopened.
 use Rattle.std.proofs.Common.{◌≡◌, ℕ, ◌+◌, ◌≤◌, List, [], ◌∷◌, ◌++◌, length, Option, Some, None, refl, ap, ◌∙◌, arith, append-nil, length-append}
 use Rattle.grid_base.specs.Objects.{Object}
 use Rattle.grid_base.specs.declared.calls.Request.{Request}
 use Rattle.grid_base.specs.declared.names.CallId.{CallId}
 use Rattle.object_store.specs.Partitions.{Partition}
-use Rattle.partition_protocol.specs.Events.{Event, Outcome, RowMadeAt, happens}
+use Rattle.partition_protocol.specs.Events.{Event, Outcome, happens}
 use Rattle.partition_protocol.specs.Events as event
 use Rattle.partition_protocol.specs.Service.{numbers_below}
 use Rattle.partition_protocol.proofs.Lists.{on_if}
@@ -21,14 +21,10 @@ use Rattle.replay_run.proofs.Turns.{KeepsTurns, by_endings, served_keeps, takes_
 use Rattle.replay_run.proofs.EventRuns.{served_in_keeps, takes_in_keeps, flowed_keeps, flowed_in_keeps}
 use Rattle.replay_run.proofs.Rebalanced.{rebalance_keeps}
 use Rattle.replay_run.proofs.Bounds.{line_lines}
+use Rattle.replay_run.proofs.TakenApart.{one_reopening}
 
 abbrev HasReopened : List Reopened → Run → Type 0
 HasReopened known r = r.reopened ≡ known
-
--- An event makes one reopening at most.
-one_reopening : (p line : ℕ) (e : Event Request) (outcome : Outcome) → length (reopening_by p line e outcome) ≤ 1
-one_reopening p line event.Reopen (RowMadeAt version) = omega arith
-one_reopening p line e outcome = omega arith
 
 -- what reopens nothing
 module _ (o : Object Request Partition) (skips : List CallId) (known : List Reopened) where

@@ -1,5 +1,5 @@
 -- A call that is skipped is told of, unless its run is given up; so a run that tells of no skip has none.
-use Rattle.std.proofs.Common.{◌≡◌, true, false, List, [], refl, sym, ◌∙◌, subst, true≢false}
+use Rattle.std.proofs.Common.{◌≡◌, List, [], sym, ◌∙◌, subst, true≢false}
 use Rattle.grid_base.specs.Objects.{Object}
 use Rattle.grid_base.specs.declared.names.CallId.{CallId}
 use Rattle.grid_base.specs.declared.calls.Request.{Request}

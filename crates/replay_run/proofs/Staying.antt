@@ -1,5 +1,5 @@
 -- After each line nobody who waits has a turn: an event gives turns at its own member, in its own partition, and there they are made until none is left.
-use Rattle.std.proofs.Common.{◌≡◌, ◌≢◌, true≢false, ℕ, zero, suc, ◌≤◌, ◌+◌, Bool, true, false, ◌==◌, ◌&&◌, cond, List, [], ◌∷◌, ◌++◌, length, slice_get, pos, Option, Some, None, refl, ap, sym, ◌∙◌, subst, ◌⊎◌, ⊎_elim, inl, inr, arith, append-nil, is_some}
+use Rattle.std.proofs.Common.{◌≡◌, ◌≢◌, true≢false, ℕ, zero, suc, ◌≤◌, Bool, true, false, ◌==◌, ◌&&◌, cond, List, [], ◌∷◌, ◌++◌, length, slice_get, pos, Option, Some, None, refl, ap, sym, ◌∙◌, subst, ◌⊎◌, ⊎_elim, inl, inr, arith, append-nil, is_some}
 use Rattle.std.specs.Option.{unwrap_or}
 use Rattle.std.specs.List.{find}
 use Rattle.grid_base.specs.Errors.{want_of_memory}

@@ -1,5 +1,5 @@
 -- A turn of a list, as the code makes it: there is room for it, whoever has it was there, and one less waits there then.
-use Rattle.std.proofs.Common.{◌≡◌, ℕ, ◌+◌, ◌≤◌, ◌<◌, ◌==◌, Bool, true, false, cond, ◌&&◌, List, [], ◌∷◌, length, map, filter, Option, Some, None, Contains, refl, ap, sym, ◌∙◌, subst, arith, length-append}
+use Rattle.std.proofs.Common.{◌≡◌, ℕ, ◌+◌, ◌≤◌, ◌<◌, ◌==◌, true, ◌&&◌, List, [], ◌∷◌, length, filter, Option, Some, None, ap, sym, ◌∙◌, subst, arith, length-append}
 use Rattle.std.specs.Option.{option_map}
 use Rattle.std.proofs.lemmas.Bool.{eq-eqb}
 use Rattle.std.proofs.lemmas.List.{length-map}
@@ -9,7 +9,7 @@ use Rattle.grid_base.specs.declared.calls.Request.{Request}
 use Rattle.object_store.specs.Partitions.{Partition}
 use Rattle.partition_protocol.specs.Service.{numbers_below}
 use Rattle.partition_protocol.proofs.Lists.{In, contains_in}
-use Rattle.waiting_protocol.specs.Machine.{Fate, is_over}
+use Rattle.waiting_protocol.specs.Machine.{is_over}
 use Rattle.call_engine.specs.Calls.{Settings}
 use Rattle.call_engine.specs.Objects.{partition_object}
 use Rattle.wait_sets.specs.declared.waiter.Waiter.{Waiter as ListedWaiter}
@@ -17,12 +17,12 @@ use Rattle.wait_lists.specs.Lists.{list_at}
 use Rattle.wait_lists.specs.declared.spot.Spot.{Spot}
 use Rattle.wait_lists.specs.declared.turn.Turn.{Turn}
 use Rattle.replay_run.specs.declared.grid.Grid.{Grid}
-use Rattle.replay_run.specs.Runs.{Run, Waiter, partitions, events_at, without, ending, leaves_so, fate_now, is_its_turn, next_in_turn, served, served_in, served_so_often}
+use Rattle.replay_run.specs.Runs.{Run, Waiter, partitions, events_at, without, ending, leaves_so, fate_now, is_its_turn, next_in_turn, served_in, served_so_often}
 use Rattle.replay_run.specs.Tables.{opened_at}
 use Rattle.replay_run.specs.Grids.{FormOf, HasWaiters, Holds, AreListening, as_listed, waits_at}
 use Rattle.replay_run.specs.WorldCalls.{Onward, HasRoomAt}
-use Rattle.replay_run.specs.WaiterCalls.{IsBetween, handled_count, HasServed, HoldsBut, IsTurnOf, MayLeave, by_leaving}
-use Rattle.replay_run.proofs.EventRuns.{Kept, kept_refl, kept_turns, fewer, is_other, ended_few, served_in_keeps, served_in_kept}
+use Rattle.replay_run.specs.WaiterCalls.{IsBetween, handled_count, HasServed, HoldsBut, IsTurnOf, MayLeave}
+use Rattle.replay_run.proofs.EventRuns.{Kept, kept_refl, kept_turns, fewer, ended_few, served_in_keeps, served_in_kept}
 use Rattle.replay_run.proofs.Leaving.{fewer_passing}
 use Rattle.replay_run.proofs.Places.{same_number}
 use Rattle.replay_run.proofs.Serving.{first_holds, second_holds, gone_from, HasTurned, turned_so_far}

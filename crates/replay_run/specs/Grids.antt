@@ -154,10 +154,10 @@ IsSmall r = 2 * bytes_of r ≤ most_arriving * r.lines
 abbrev pub AreFew : Run → Type 0
 AreFew r = (p : ℕ) → length (events_at p r.events) ≤ length r.arrivals + most_line_events * r.lines
 
--- It has no more lines than a script may have, and no more reopenings than lines.
+-- It has no more lines than a script may have, and no more reopenings than 5,014 for each line: a line's own event makes one at most, but a line that is taken apart may reopen many partitions.
 pub record IsBounded (r : Run) : Type 0 where
   pub lines : r.lines ≤ most_lines
-  pub reopenings : length r.reopened ≤ r.lines
+  pub reopenings : length r.reopened ≤ most_line_events * r.lines
 
 -- Each connection is to a member of the grid.
 abbrev pub AreReached : Run → Type 0

@@ -1,5 +1,5 @@
 -- What the code does with calls that wait: the turns of a list, one by one.
-use Rattle.std.specs.Prelude.{◌≡◌, ℕ, ℤ, ◌+◌, ◌<◌, true, false, List, ◌++◌, length, Option, Some, None, option_map, Contains}
+use Rattle.std.specs.Prelude.{◌≡◌, ℕ, ℤ, ◌<◌, true, false, List, ◌++◌, length, Option, Some, None, option_map, Contains}
 use Rattle.grid_base.specs.Limits.{CallFits}
 use Rattle.grid_base.specs.declared.names.CallId.{CallId}
 use Rattle.grid_base.specs.declared.calls.Request.{Request}

@@ -3,7 +3,7 @@ ghost use Rattle.call_engine.specs.Calls.{Settings};
 ghost use Rattle.call_engine.specs.Objects.{partition_object};
 ghost use Rattle.replay_run.specs.Runs.{Run, partitions, begun, lives, is_open, connection_of};
 ghost use Rattle.replay_run.specs.Printing.{ok_text, nothing_text, flow_text};
-ghost use Rattle.replay_run.specs.Grids.{boxed, AreListening, Stands, MayRun, HasRun, IsGivenUp};
+ghost use Rattle.replay_run.specs.Grids.{boxed, AreListening, Holds, Stands, MayRun, HasRun, IsGivenUp};
 ghost use Rattle.replay_run.specs.WorldCalls.{is_quiet, open_member_in};
 ghost use Rattle.replay_run.specs.declared.run_end.RunEnd.TheVariants as RunEnds;
 
@@ -93,16 +93,16 @@ impl Grid {
         })
     }
 
-    /// How many members the grid has.
+    /// How many members the grid has, also in the midst of a line.
     pub fn members(&self) -> u8
-        ensures { (settings : Settings) (r : Run) → Stands (boxed form) settings self.now r → result ≡ r.members }
+        ensures { (settings : Settings) (r : Run) → Holds (boxed form) settings self.now r → result ≡ r.members }
     {
         self.members
     }
 
-    /// How many lines were run, the first among them.
+    /// How many lines were run, the first among them, and one that is being run.
     pub fn lines(&self) -> u32
-        ensures { (settings : Settings) (r : Run) → Stands (boxed form) settings self.now r → result ≡ r.lines }
+        ensures { (settings : Settings) (r : Run) → Holds (boxed form) settings self.now r → result ≡ r.lines }
     {
         self.lines
     }

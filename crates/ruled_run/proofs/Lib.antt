@@ -3,13 +3,6 @@ pub mod Natural
 pub mod WrittenMasters
 pub mod Extending
 pub mod Going
-pub mod AskedLines
-pub mod KeptMasters
-pub mod MastersLinks
-pub mod MastersCalls
-pub mod ServiceLinks
-pub mod Following
-pub mod RuledMasters
 pub mod RuledGrowing
 pub mod KeptLines
 pub mod OwnLines
@@ -19,6 +12,13 @@ pub mod RuledLaws
 pub mod RuledSkips
 pub mod RuledWaiters
 pub mod QuietGoing
+pub mod AskedLines
+pub mod KeptMasters
+pub mod MastersLinks
+pub mod MastersCalls
+pub mod ServiceLinks
+pub mod Following
+pub mod RuledMasters
 pub mod Proposing
 pub mod MastersAsked
 pub mod PublishedEvents

@@ -35,6 +35,28 @@ impl Chart {
         }
     }
 
+    /// Draws what the masters of a partition published, if that is what happened.
+    fn draw_published(
+        &mut self,
+        alloc: Global,
+        line: u32,
+        happening: &Happening,
+    ) -> Result<(), Memory> {
+        match happening {
+            Happening::Published {
+                partition,
+                number,
+                words,
+            } if self.cast.shows(*partition) => {
+                let table = self.cast.table();
+                let words = words.as_str();
+                let text = format!(in alloc; "decision {number} of {partition}: {words}")?;
+                self.note(alloc, line, Look::Note, table, text.as_str())
+            }
+            happening => self.draw_plan(alloc, line, happening),
+        }
+    }
+
     /// Draws what the table service does, if that is what happened.
     fn draw_service(
         &mut self,
@@ -70,7 +92,7 @@ impl Chart {
                 let text = format!(in alloc; "refused: {why}")?;
                 self.note(alloc, line, Look::Bad, table, text.as_str())
             }
-            happening => self.draw_plan(alloc, line, happening),
+            happening => self.draw_published(alloc, line, happening),
         }
     }
 
@@ -89,6 +111,7 @@ impl Chart {
                 self.note(alloc, line, Look::Note, lane, text.as_str())
             }
             Happening::Comment { text } => self.comment(alloc, text.as_str()),
+            Happening::Masters { words } => self.remark(alloc, line, words.as_str()),
             Happening::Nothing { why } => {
                 let text = format!(in alloc; "nothing: {why}")?;
                 self.remark(alloc, line, text.as_str())

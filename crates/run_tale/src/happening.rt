@@ -167,6 +167,16 @@ pub enum Happening {
     Refused {
         why: &'static str,
     },
+    /// What masters do or answer, in words.
+    Masters {
+        words: String,
+    },
+    /// The masters of a partition published the decision of that number, and what came of it.
+    Published {
+        partition: PartitionId,
+        number: u32,
+        words: String,
+    },
     /// So many messages were delivered.
     Flowed {
         count: u32,

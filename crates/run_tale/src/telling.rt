@@ -85,6 +85,25 @@ fn push_table(out: &mut String, happening: &Happening) -> Result<(), Memory> {
         Happening::Begun { partition } => {
             write!(out, "the handover of partition {partition} has begun")
         }
+        happening => push_masters(out, happening),
+    }
+}
+
+/// Appends what masters do, or what they published; or what else a line came to.
+fn push_masters(out: &mut String, happening: &Happening) -> Result<(), Memory> {
+    match happening {
+        Happening::Masters { words } => out.push_str(words.as_str()),
+        Happening::Published {
+            partition,
+            number,
+            words,
+        } => {
+            write!(
+                out,
+                "decision {number} of partition {partition} is published: "
+            )?;
+            out.push_str(words.as_str())
+        }
         happening => push_plan(out, happening),
     }
 }
@@ -323,6 +342,10 @@ impl Place {
         match happening {
             Happening::Row { version, words, .. } => {
                 write!(out, "row {version}: ")?;
+                out.push_str(words.as_str())
+            }
+            Happening::Published { number, words, .. } => {
+                write!(out, "decision {number} is published: ")?;
                 out.push_str(words.as_str())
             }
             Happening::Stepped {

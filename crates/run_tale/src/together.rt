@@ -17,7 +17,9 @@ pub struct LineTold {
 /// The partition in which something happened that may have happened in others alike.
 fn partition_of(happening: &Happening) -> Option<PartitionId> {
     match happening {
-        Happening::Row { partition, .. } => Some(*partition),
+        Happening::Row { partition, .. } | Happening::Published { partition, .. } => {
+            Some(*partition)
+        }
         Happening::Stepped { step, .. } | Happening::NotRun { step } => Some(step.partition),
         Happening::Sent(flight) | Happening::Delivered(flight, _) => Some(flight.partition),
         Happening::SentMore { partition, .. } => Some(*partition),

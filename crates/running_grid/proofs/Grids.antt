@@ -8,7 +8,7 @@ use Rattle.replay_run.specs.Grids.{FormOf}
 use Rattle.script_run.specs.declared.grid.ScriptGrid.{ScriptGrid}
 use Rattle.script_run.specs.Grids.{Stands, MayRun, HasRun as HasRunLine}
 use Rattle.script_run.specs.AfterLines.{after_line}
-use Rattle.script_run.specs.Runs.{ScriptRun, grid_line}
+use Rattle.script_run.specs.Runs.{ScriptRun, ruled_of, grid_line}
 use Rattle.grid_cli.proofs.LineLimits.{within_more}
 use Rattle.grid_cli.proofs.Members.{members_stay}
 use Rattle.call_engine.specs.Calls.{Settings}
@@ -39,7 +39,7 @@ module _ {V : Type 0} {T : V → Type 0} {form : FormOf V T} where
     settings = has.settings;
     run = after_line has.settings ran.skips has.run line;
     stands = ran.stands;
-    same = has.same ∙ sym (members_stay (partition_object has.settings) ran.skips has.run.run (grid_line (partition_object has.settings) has.run line));
+    same = has.same ∙ sym (members_stay (partition_object has.settings) ran.skips (ruled_of has.run) (grid_line (partition_object has.settings) has.run line));
   }
 
   -- The grid that is taken out is the one that stands for the run.

@@ -150,6 +150,38 @@ impl RunningGrid {
         })
     }
 
+    /// The first member to whom a message of a partition is in flight from an end, if there is one.
+    fn first_taker(&self, partition: PartitionId, from: u8) -> Option<MemberId>
+        ensures { IfSome result (λ to. to < self.now.members) }
+    {
+        for to in 0..self.members {
+            if !self.in_flight(partition, Link { from, to }).is_empty() {
+                return Some(to);
+            }
+        }
+        None
+    }
+
+    /// The line that delivers the first message of a partition that is in flight to a member, if there is one.
+    pub fn next_to_member(&self, partition: PartitionId) -> Option<Line>
+        ensures { IfSome result (λ line. IsWithin self.now.members most_line_bytes line) }
+    {
+        if partition >= PARTITIONS {
+            return None;
+        }
+        for from in 0..=self.members {
+            if let Some(to) = self.first_taker(partition, from) {
+                return Some(Line::Deliver {
+                    partition,
+                    from,
+                    to,
+                    place: 0,
+                });
+            }
+        }
+        None
+    }
+
     /// What a member has of a partition, if there are such a member and such a partition.
     pub fn contents(
         &self,

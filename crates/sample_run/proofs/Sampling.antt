@@ -14,7 +14,7 @@ use Rattle.script_lang.specs.Words.{newline, whole_lines}
 use Rattle.script_lang.specs.declared.line.Line.{Line}
 use Rattle.replay_run.specs.declared.grid.Grid.{Grid}
 use Rattle.replay_run.specs.Runs.{Run, begun}
-use Rattle.replay_run.specs.Grids.{FormOf, Stands, MayRun, HasRun, IsGivenUp, most_arriving}
+use Rattle.replay_run.specs.Grids.{FormOf, Holds, Stands, MayRun, HasRun, IsGivenUp, most_arriving}
 use Rattle.sample_run.specs.SampleRuns.{sample_settings, run_of, StopsAt, StopsBehind, IsLater, IsTextOf, StandsAfter, IsNext}
 use Rattle.sample_run.proofs.SkippedRuns.{line_more, arrived_more}
 use Rattle.sample_run.proofs.RunCounts.{lines_members, lines_counted}
@@ -126,10 +126,10 @@ module _ {V : Type 0} {T : V → Type 0} {form : FormOf V T} (grid : Grid V T) (
   first = has_first rest k have.left at have.text
 
   -- its number, where so many lines were run
-  module _ (ran : ℕ) (counted : (r : Run) → Stands form sample_settings grid r → ran ≡ r.lines) where
+  module _ (ran : ℕ) (counted : (r : Run) → Holds form sample_settings grid r → ran ≡ r.lines) where
     pub its_number : ran + 1 ≡ length have.done + 2
     its_number =
-        let its = counted (run_of have.stands.skips have.done) have.stands.stands in
+        let its = counted (run_of have.stands.skips have.done) have.stands.stands.holds in
         let all = count_of have.stands.skips have.done in
         omega (arith, its, all)
 

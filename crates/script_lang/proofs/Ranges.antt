@@ -16,7 +16,7 @@ use Rattle.script_lang.specs.declared.fields.Field.TheVariants.{Hex as HexField}
 use Rattle.script_lang.specs.declared.keywords.Keyword.{Keyword}
 use Rattle.script_lang.specs.declared.keywords.Keyword.TheVariants as Keywords
 use Rattle.script_lang.specs.declared.line.Line.{Line}
-use Rattle.script_lang.specs.declared.line.Line.TheVariants.{Grid, OpenConn, Arrive, Clock, Deliver, Lose, Repeat, Flow, FlowAll, Resend, Crash, Detect, Move, Join, Handover, Advance, Reopen, Rebalance, Dump, Links, Trail, Near, NearGet, NearFeed, End}
+use Rattle.script_lang.specs.declared.line.Line.TheVariants.{Grid, OpenConn, Arrive, Clock, Deliver, Lose, Repeat, Flow, FlowAll, Resend, Crash, Detect, Move, Join, Handover, Advance, Reopen, Rebalance, Dump, Links, Trail, Near, NearGet, NearFeed, Masters, Told, MasterDeliver, MasterLose, MasterResend, MasterFlow, End}
 use Rattle.script_lang.specs.declared.reading.Value.{Value}
 use Rattle.script_lang.specs.declared.reading.Value.TheVariants as Values
 use Rattle.script_lang.specs.declared.refusal.LineWhy.{LineWhy}
@@ -118,6 +118,17 @@ IsWithin-line_with members size Keywords.NearGet (Values.Number conn ∷ Values.
     IsWithin-made members size (NearGet conn key) line e (fit.0.1, sized.1.0.0, sized.1.0.1)
 IsWithin-line_with members size Keywords.NearFeed (Values.Number conn ∷ Values.Number most ∷ []) line some fit sized e =
     IsWithin-made members size (NearFeed conn most) line e (fit.0.1, fit.1.0.0, fit.1.0.1)
+IsWithin-line_with members size Keywords.Masters [] line some fit sized e = IsWithin-made members size Masters line e tt
+IsWithin-line_with members size Keywords.Told (Values.Number member ∷ Values.Number crashed ∷ []) line some fit sized e =
+    IsWithin-made members size (Told member crashed) line e (omega (arith, fit.0.1, some refl), omega (arith, fit.1.0.1, some refl))
+IsWithin-line_with members size Keywords.MasterDeliver (Values.Number partition ∷ Values.Number from ∷ Values.Number to ∷ Values.Number place ∷ []) line some fit sized e =
+    IsWithin-made members size (MasterDeliver partition from to place) line e (fit.0.1, fit.1.0.1, fit.1.1.0.1, fit.1.1.1.0.1)
+IsWithin-line_with members size Keywords.MasterLose (Values.Number partition ∷ Values.Number from ∷ Values.Number to ∷ Values.Number place ∷ []) line some fit sized e =
+    IsWithin-made members size (MasterLose partition from to place) line e (fit.0.1, fit.1.0.1, fit.1.1.0.1, fit.1.1.1.0.1)
+IsWithin-line_with members size Keywords.MasterResend (Values.Number partition ∷ Values.Number member ∷ []) line some fit sized e =
+    IsWithin-made members size (MasterResend partition member) line e (fit.0.1, omega (arith, fit.1.0.1, some refl))
+IsWithin-line_with members size Keywords.MasterFlow (Values.Number partition ∷ Values.Number most ∷ []) line some fit sized e =
+    IsWithin-made members size (MasterFlow partition most) line e (fit.0.1, fit.1.0.0, fit.1.0.1)
 IsWithin-line_with members size Keywords.End [] line some fit sized e = IsWithin-made members size End line e tt
 IsWithin-line_with members size keyword values line some fit sized e = absurd (let no : ◌≡◌ {A = Result Line LineWhy} (Err Count) (Ok line) = e in cc)
 

@@ -1,5 +1,5 @@
 -- A line is read from its spelling.
-use Rattle.std.proofs.Common.{◌≡◌, ℕ, ◌*◌, ◌<◌, ◌≤◌, ◌^◌, ◌==◌, Bool, true, false, not, List, [], ◌∷◌, length, map, Result, Ok, refl, ap, ◌∙◌, arith}
+use Rattle.std.proofs.Common.{◌≡◌, ℕ, ◌<◌, ◌≤◌, ◌^◌, ◌==◌, Bool, true, false, not, List, [], ◌∷◌, length, map, Result, Ok, refl, ap, ◌∙◌, arith}
 use Rattle.std.specs.Prelude.{codes}
 use Rattle.std.specs.Fmt.{decimal}
 use Rattle.std.specs.List.{list_all, join_with_byte}
@@ -12,7 +12,7 @@ use Rattle.script_lang.specs.declared.fields.Field.TheVariants.{Connection, Memb
 use Rattle.script_lang.specs.declared.keywords.Keyword.{Keyword}
 use Rattle.script_lang.specs.declared.keywords.Keyword.TheVariants as Keywords
 use Rattle.script_lang.specs.declared.line.Line.{Line}
-use Rattle.script_lang.specs.declared.line.Line.TheVariants.{Grid, OpenConn, Arrive, Clock, Deliver, Lose, Repeat, Flow, FlowAll, Resend, Crash, Detect, Move, Join, Handover, Advance, Reopen, Rebalance, Dump, Links, Trail, Near, NearGet, NearFeed, Comment, End}
+use Rattle.script_lang.specs.declared.line.Line.TheVariants.{Grid, OpenConn, Arrive, Clock, Deliver, Lose, Repeat, Flow, FlowAll, Resend, Crash, Detect, Move, Join, Handover, Advance, Reopen, Rebalance, Dump, Links, Trail, Near, NearGet, NearFeed, Masters, Told, MasterDeliver, MasterLose, MasterResend, MasterFlow, Comment, End}
 use Rattle.script_lang.specs.declared.reading.Value.{Value}
 use Rattle.script_lang.specs.declared.reading.Value.TheVariants as Values
 use Rattle.script_lang.specs.declared.refusal.LineWhy.{LineWhy}
@@ -168,6 +168,17 @@ read_again members (Near conn name capacity) few brings within = near_again memb
 read_again members (NearGet conn key) few brings within = bytes_again members conn key (codes "nearget") Keywords.NearGet (NearGet conn key) brings within.0 within.1 refl refl refl refl
 read_again members (NearFeed conn most) few brings within =
     numbers_again false members (codes "nearfeed") Keywords.NearFeed (conn ∷ most ∷ []) (NearFeed conn most) refl refl ((tt, omega (arith, within.0), omega arith, within.0), ((tt, omega (arith, within.2), within.1, within.2), tt)) refl refl
+read_again members Masters few brings within = line_of-joined false members (codes "masters") [] Masters refl (IsWord-literal (codes "masters") refl, tt) refl
+read_again members (Told member crashed) few brings within =
+    numbers_again false members (codes "told") Keywords.Told (member ∷ crashed ∷ []) (Told member crashed) refl refl (is_member members member few within.0, (is_member members crashed few within.1, tt)) refl refl
+read_again members (MasterDeliver partition from to place) few brings within =
+    numbers_again false members (codes "mdeliver") Keywords.MasterDeliver (partition ∷ from ∷ to ∷ place ∷ []) (MasterDeliver partition from to place) refl refl (is_partition members partition within.0, (is_end members from few within.1, (is_end members to few within.2, (is_place members place within.3, tt)))) refl refl
+read_again members (MasterLose partition from to place) few brings within =
+    numbers_again false members (codes "mlose") Keywords.MasterLose (partition ∷ from ∷ to ∷ place ∷ []) (MasterLose partition from to place) refl refl (is_partition members partition within.0, (is_end members from few within.1, (is_end members to few within.2, (is_place members place within.3, tt)))) refl refl
+read_again members (MasterResend partition member) few brings within =
+    numbers_again false members (codes "mresend") Keywords.MasterResend (partition ∷ member ∷ []) (MasterResend partition member) refl refl (is_partition members partition within.0, (is_member members member few within.1, tt)) refl refl
+read_again members (MasterFlow partition most) few brings within =
+    numbers_again false members (codes "mflow") Keywords.MasterFlow (partition ∷ most ∷ []) (MasterFlow partition most) refl refl (is_partition members partition within.0, ((tt, omega (arith, within.2), within.1, within.2), tt)) refl refl
 read_again members Comment few brings within = refl
 read_again members End few brings within = line_of-joined false members (codes "end") [] End refl (IsWord-literal (codes "end") refl, tt) refl
 

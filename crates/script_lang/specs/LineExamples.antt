@@ -113,6 +113,24 @@ a_key_is_looked_up = refl
 a_near_cache_is_fed : later_line (codes "nearfeed 0 1000000") ≡ Ok (NearFeed 0 1000000)
 a_near_cache_is_fed = refl
 
+masters_are_made : later_line (codes "masters") ≡ Ok Masters
+masters_are_made = refl
+
+a_member_is_told_of_a_crash : line_of_three (codes "told 2 0") ≡ Ok (Told 2 0)
+a_member_is_told_of_a_crash = refl
+
+a_message_between_masters_is_delivered : line_of_three (codes "mdeliver 270 0 2 7") ≡ Ok (MasterDeliver 270 0 2 7)
+a_message_between_masters_is_delivered = refl
+
+a_message_between_masters_is_lost : line_of_three (codes "mlose 0 3 1 18446744073709551615") ≡ Ok (MasterLose 0 3 1 18446744073709551615)
+a_message_between_masters_is_lost = refl
+
+a_master_sends_again : line_of_three (codes "mresend 270 2") ≡ Ok (MasterResend 270 2)
+a_master_sends_again = refl
+
+masters_flow : later_line (codes "mflow 270 1000") ≡ Ok (MasterFlow 270 1000)
+masters_flow = refl
+
 the_script_ends : later_line (codes "end") ≡ Ok End
 the_script_ends = refl
 
@@ -144,6 +162,9 @@ a_line_begins_with_no_space = refl
 the_first_line_makes_the_grid : first_line (codes "end") ≡ Err NoGrid
 the_first_line_makes_the_grid = refl
 
+masters_come_behind_the_grid : first_line (codes "masters") ≡ Err NoGrid
+masters_come_behind_the_grid = refl
+
 a_grid_is_made_once : later_line (codes "grid 1 0 10") ≡ Err NoGrid
 a_grid_is_made_once = refl
 
@@ -166,6 +187,9 @@ one_space_stands_between_words = refl
 
 a_plan_wants_its_steps : later_line (codes "rebalance") ≡ Err Count
 a_plan_wants_its_steps = refl
+
+masters_stand_alone : later_line (codes "masters 0") ≡ Err Count
+masters_stand_alone = refl
 
 -- then the words from left to right
 
@@ -257,3 +281,12 @@ a_near_cache_has_100000_entries_at_most = refl
 
 a_near_cache_is_fed_a_byte : later_line (codes "nearfeed 0 0") ≡ Err Number
 a_near_cache_is_fed_a_byte = refl
+
+the_service_is_told_of_no_crash : line_of_three (codes "told 3 0") ≡ Err Number
+the_service_is_told_of_no_crash = refl
+
+only_a_member_is_a_master : line_of_three (codes "mresend 0 3") ≡ Err Number
+only_a_member_is_a_master = refl
+
+masters_flow_in_one_partition : later_line (codes "mflow all 1") ≡ Err Number
+masters_flow_in_one_partition = refl

@@ -1,6 +1,6 @@
 //! Lines that deliver many messages: each is delivered as a line of its own, while the grid can run so many.
 
-ghost use Rattle.std.specs.Prelude.{◌≤◌};
+ghost use Rattle.std.specs.Prelude.{◌≤◌, IfSome};
 ghost use Rattle.script_lang.specs.Lines.{IsWithin};
 ghost use Rattle.script_lang.specs.Limits.{most_line_bytes};
 ghost use Rattle.replay_run.specs.Grids.{boxed};
@@ -18,6 +18,18 @@ use std::alloc::Global;
 const KEPT: u32 = 272;
 
 impl Watch {
+    /// The line that a flow delivers the next message of a partition by, if there is one. Where the grid has masters, what is
+    /// in flight to the table service is passed by.
+    fn next_delivery(&self, partition: PartitionId) -> Option<Line>
+        ensures { IfSome result (λ line. IsWithin self.now.running.members most_line_bytes line) }
+    {
+        if self.notes.has_masters {
+            self.running.next_to_member(partition)
+        } else {
+            self.running.next_delivery(partition)
+        }
+    }
+
     /// Whether a delivery can be told by itself.
     fn has_spare(&self) -> bool {
         self.spare() > KEPT
@@ -52,7 +64,7 @@ impl Watch {
         ensures { IsRunning (boxed form) self.new.running }
     {
         for count in 0..most {
-            let Some(line) = self.running.next_delivery(partition) else {
+            let Some(line) = self.next_delivery(partition) else {
                 return Ok(count);
             };
             if !self.has_spare() {

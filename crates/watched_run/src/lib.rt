@@ -7,6 +7,7 @@ mod deliveries;
 mod events;
 mod flows;
 mod history;
+mod masters;
 mod near_notes;
 mod nears;
 mod notes;

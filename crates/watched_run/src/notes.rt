@@ -52,6 +52,8 @@ pub(crate) struct Notes {
     /// The calls that wait, and where.
     pub(crate) waiters: BTreeMap<CallId, WaitsAt>,
     pub(crate) parts: Vec<Part>,
+    /// The table service of each partition runs on the members.
+    pub(crate) has_masters: bool,
 }
 
 impl Notes {
@@ -67,6 +69,7 @@ impl Notes {
             clients: Clients::new(alloc)?,
             waiters: BTreeMap::new(alloc),
             parts,
+            has_masters: false,
         })
     }
 
@@ -221,6 +224,26 @@ impl Notes {
             return Ok(());
         };
         for to in 0..=running.members() {
+            let link = Link { from, to };
+            let count = running.in_flight(partition, link).len();
+            part.sendings.settle(link, count, now)?;
+        }
+        Ok(())
+    }
+
+    /// Notes what is in flight in a partition to the table service, where it took a message that isn't named.
+    pub(crate) fn settle_table(
+        &mut self,
+        running: &RunningGrid,
+        partition: PartitionId,
+        told: &Tale,
+    ) -> Result<(), Memory> {
+        let now = self.now(told);
+        let Some(part) = self.part_mut(partition) else {
+            return Ok(());
+        };
+        let to = running.members();
+        for from in 0..to {
             let link = Link { from, to };
             let count = running.in_flight(partition, link).len();
             part.sendings.settle(link, count, now)?;

@@ -114,6 +114,10 @@ impl Notes {
         told: &mut Tale,
     ) -> Result<(), Memory> {
         let outcome = outcome_of(text);
+        if outcome.word == "nothing" {
+            let why = "the grid has masters";
+            return told.push(Happening::Nothing { why });
+        }
         if outcome.word != "plan" {
             let why = why_no_plan(outcome.rest);
             return told.push(Happening::Refused { why });

@@ -160,6 +160,9 @@ impl Watch {
         let text = as_text(printed.as_slice());
         let running = &self.running;
         let notes = &mut self.notes;
+        if notes.tell_masters(alloc, running, line, text, told)? {
+            return Ok(());
+        }
         match line {
             Line::Arrive { conn, bytes } => {
                 notes.tell_arrival(alloc, running, *conn, bytes.as_slice(), text, told)?;

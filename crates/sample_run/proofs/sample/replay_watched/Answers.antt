@@ -16,7 +16,7 @@ returns-in-None-clause-ends g c =
     let text = later_text number c.as_slice.result.now c.behind_first.result.now (c.as_slice.ensures.value ∙ c.in_ok-script.ensures) c.behind_first.ensures in
     let stands = rw c.in-None.is at (c.in_ok-run_lines.ensures (later_lines number) text) in
     let r = run_of stands.skips (later_lines number) in
-    is_summary c.run_lines.new.grid number c.lines.result c.counts.result stands (c.lines.ensures sample_settings r stands.stands) (c.counts.ensures sample_settings r stands.stands)
+    is_summary c.run_lines.new.grid number c.lines.result c.counts.result stands (c.lines.ensures sample_settings r stands.stands.holds) (c.counts.ensures sample_settings r stands.stands)
 
 pub returns-in-None-clause-certain : goal.returns-in-None-clause-certain
 returns-in-None-clause-certain g c = λ none. is_certain c.args.number _ (returns-in-None-clause-ends g c) none

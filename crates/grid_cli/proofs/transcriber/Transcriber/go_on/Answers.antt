@@ -9,7 +9,7 @@ pub read_line-requires : goal.read_line-requires
 read_line-requires g c = λ later.
     let stands = c.requires.stands in
     let same = c.members.ensures (settings stands.0 stands.1) stands.2 stands.3 in
-    let some = has_members stands.2.run stands.3.goes.grid.run in
+    let some = has_members stands.2.run stands.3.goes.grid.grid.run in
     (omega (arith, same, some), omega (arith, same, stands.5))
 
 pub run_line-requires-clause-may : goal.run_line-requires-clause-may

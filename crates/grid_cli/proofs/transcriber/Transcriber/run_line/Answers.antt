@@ -19,5 +19,5 @@ returns-in-Err-InFlight g c = λ forms skips done written follows text read.
     let may = c.requires.may in
     line_given_up c.args.grid c.args.self.now.stage skips done written text c.push_limit.new.out.items c.args.number follows c.args.line.now read
     (c.in-Err-InFlight.ensures.full (settings forms follows.capacity) follows.run follows.stands (ap Err c.in-Err-InFlight.field-0-is))
-    (may.next ∙ ap (λ n. n + 1) (sym may.stands.goes.grid.holds.lines ∙ follows.stands.goes.grid.holds.lines))
+    (may.next ∙ ap (λ n. n + 1) (sym may.stands.goes.grid.grid.holds.lines ∙ follows.stands.goes.grid.grid.holds.lines))
     (c.in_ok-push_limit-in-Err-InFlight.ensures ∙ ap (λ xs. xs ++ limit_text c.args.number InFlight) c.clear.ensures.items)

@@ -1,4 +1,4 @@
-use Rattle.std.proofs.Common.{◌≡◌, ◌∙◌, Some, List, false, true, slice_get, set, refl, ap, sym, subst, arith}
+use Rattle.std.proofs.Common.{◌≡◌, ◌∙◌, List, false, slice_get, set, refl, ap, sym, arith}
 use Rattle.table_service.specs.Services.{Setup}
 use Rattle.listeners.specs.declared.listeners.Listeners.{Listeners}
 use Rattle.call_engine.specs.Env.{settings_of}

@@ -1,8 +1,7 @@
-use Rattle.std.proofs.Common.{◌≡◌, ◌+◌, ◌<◌, ◌∙◌, Err, ap, sym, subst}
-use Rattle.replay_run.specs.Runs.{partitions}
+use Rattle.std.proofs.Common.{◌+◌, ◌<◌, Err, ap, sym, subst}
 use Rattle.replay_run.specs.declared.run_end.RunEnd.TheVariants.{InFlight}
 use Rattle.replay_run.proofs.Asking.{handed_on}
-use Rattle.replay_run.proofs.Serving.{HasTurned, none_turned, turned_so_far, one_turned, meets_one, all_turned}
+use Rattle.replay_run.proofs.Serving.{none_turned, turned_so_far, one_turned, meets_one, all_turned}
 use Rattle.replay_run.proofs.WaiterTurns.{may_leave, served_since, list_less, members_still, turned_room, turned_still}
 use Rattle.call_engine.specs.Objects.{partition_object}
 use Rattle.replay_run.proofs.grid.Grid.make_turns.Goals as goal

@@ -1,8 +1,8 @@
-use Rattle.std.proofs.Common.{[], ◌+◌, ◌∙◌, ◌++◌, append-nil, ap, sym, refl}
+use Rattle.std.proofs.Common.{◌+◌, ◌∙◌, ◌++◌, ap, sym, refl}
 use Rattle.std.proofs.lemmas.Result.{on_ok_weaker}
-use Rattle.script_lang.specs.declared.line.Line.TheVariants.{Comment}
-use Rattle.replay_run.specs.Printing.{ok_text}
-use Rattle.replay_run.proofs.GridLines.{may_run_as, has_run_as, next_number, counted_line, passed_line}
+use Rattle.script_lang.specs.declared.line.Line.TheVariants.{Comment, MasterFlow}
+use Rattle.replay_run.specs.Printing.{ok_text, flow_text}
+use Rattle.replay_run.proofs.GridLines.{may_run_as, has_run_as, next_number, alone, counted_line, passed_line}
 use Rattle.replay_run.proofs.LineCases.{begins_again}
 use Rattle.replay_run.proofs.grid.Grid.run_quiet_line.Goals as goal
 
@@ -12,8 +12,19 @@ returns-in-Comment g c = λ settings r s.
     on_ok_weaker c.count.result
     (λ e. has_run_as c.in-Comment.is
     (counted_line c.args.self.now c.count.new.self r c.args.number Comment s at_line c.requires.may.within refl c.count.ensures.grid c.args.out.now.items c.count.new.out.items refl refl refl
-    (e ∙ ap (λ n. c.args.out.now.items ++ ok_text n) at_line ∙ ap (λ xs. c.args.out.now.items ++ xs) (sym (append-nil (ok_text (r.lines + 1) ++ [] ++ []) ∙ append-nil (ok_text (r.lines + 1) ++ []) ∙ append-nil (ok_text (r.lines + 1)))))))
+    (e ∙ ap (λ n. c.args.out.now.items ++ ok_text n) at_line ∙ ap (λ xs. c.args.out.now.items ++ xs) (sym (alone (ok_text (r.lines + 1)))))))
     c.count.ensures.text
+
+-- There are no masters whose messages could flow.
+pub returns-in-MasterFlow : goal.returns-in-MasterFlow
+returns-in-MasterFlow g c = λ settings r s.
+    let line = MasterFlow c.in-MasterFlow.partition c.in-MasterFlow.most in
+    let at_line = next_number c.args.self.now c.args.number c.args.line.now c.requires.may r s in
+    on_ok_weaker c.flow_nothing.result
+    (λ e. has_run_as c.in-MasterFlow.is
+    (counted_line c.args.self.now c.flow_nothing.new.self r c.args.number line s at_line c.requires.may.within refl c.flow_nothing.ensures.grid c.args.out.now.items c.flow_nothing.new.out.items refl refl refl
+    (e ∙ ap (λ n. c.args.out.now.items ++ flow_text n 0) at_line ∙ ap (λ xs. c.args.out.now.items ++ xs) (sym (alone (flow_text (r.lines + 1) 0))))))
+    c.flow_nothing.ensures.text
 
 pub open-requires : goal.open-requires
 open-requires g c = may_run_as c.in-OpenConn.is c.requires.may
@@ -47,7 +58,7 @@ pub returns-in_default : goal.returns-in_default
 returns-in_default g c = λ settings r s.
     let line = c.args.line.now in
     let at_line = next_number c.args.self.now c.args.number line c.requires.may r s in
-    let begins = begins_again settings r line c.requires.quiet c.in_default.not-OpenConn c.in_default.not-Dump c.in_default.not-Links c.in_default.not-Trail c.in_default.not-Comment c.in_default.not-End in
+    let begins = begins_again settings r line c.requires.quiet c.in_default.not-OpenConn c.in_default.not-Dump c.in_default.not-Links c.in_default.not-Trail c.in_default.not-MasterFlow c.in_default.not-Comment c.in_default.not-End in
     on_ok_weaker c.pass.result
     (λ e. passed_line c.args.self.now c.pass.new.self r c.args.number line s at_line c.requires.may.within begins.after c.pass.ensures.grid c.args.out.now.items c.pass.new.out.items begins.nothing e)
     c.pass.ensures.text

@@ -1,4 +1,4 @@
-use Rattle.std.proofs.Common.{◌≡◌, ◌≤◌, ◌∙◌, ◌<◌, Some, refl, ap, sym, subst, w64, rules, arith}
+use Rattle.std.proofs.Common.{◌∙◌, ◌<◌, Some, refl, subst, w64, rules, arith}
 use mir.Val.{SFits}
 use Rattle.std.proofs.lemmas.Int.{to_z-of_z}
 use Rattle.wait_sets.specs.WaitSets.{deadline_of}
