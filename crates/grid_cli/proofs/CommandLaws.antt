@@ -177,7 +177,7 @@ lines_close forms skips limit (text ∷ texts) e = by_line (line_of true 0 text)
 
 -- every run of a script's lines
 
-run_of_lines : (o : Settings) (skips : List CallId) (r : ScriptRun) (texts : List (List ℕ)) → (lines : List Line) × (run_after o skips r texts ≡ after_lines o skips r lines)
+pub run_of_lines : (o : Settings) (skips : List CallId) (r : ScriptRun) (texts : List (List ℕ)) → (lines : List Line) × (run_after o skips r texts ≡ after_lines o skips r lines)
 run_of_lines o skips r [] = ([], refl)
 run_of_lines o skips r (text ∷ texts) = by_line (λ next. run_of_lines o skips next texts) (line_of false r.run.members text) refl
   where

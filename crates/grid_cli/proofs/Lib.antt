@@ -15,3 +15,4 @@ pub mod RuledPrints
 pub mod PrintedRuns
 pub mod SkippedCalls
 pub mod NearHits
+pub mod Decisions

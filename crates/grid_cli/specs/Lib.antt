@@ -1,4 +1,5 @@
 pub mod Commands
+pub mod Decisions
 pub mod NearHits
 pub mod PrintedRuns
 pub mod Progress

@@ -3,6 +3,7 @@ ghost use Rattle.grid_edge.specs.Faults.{Rose};
 ghost use Rattle.grid_cli.specs.Statuses.{ReadsAndWrites};
 ghost use Rattle.grid_cli.specs.Commands.{is_replay, PrintsHistories};
 ghost use Rattle.grid_cli.specs.NearHits.{PrintsHits};
+ghost use Rattle.grid_cli.specs.Decisions.{PrintsDecisions};
 
 use crate::replay::run_script;
 use crate::status::Status;
@@ -48,6 +49,10 @@ pub fn replay_command<S: Source, K: Sink>(
     // invalidation named which it has heard; where it has read all that was sent to it of the key, after each answered write
     // of a version that its member knows.
     ensures hits { PrintsHits (map form processors.items) result (S.left script.old) (S.left script.new) (K.taken out.old) (K.taken out.new) }
+    // Where the script's second line has masters run the table service: what the service of each partition did is what its
+    // masters published, in order, and that alone gives the partition's row, whoever was master. What is published stays, no
+    // version of a row is made twice, and no two live members are master of a partition.
+    ensures decisions { PrintsDecisions (map form processors.items) result (S.left script.old) (S.left script.new) (K.taken out.old) (K.taken out.new) }
 {
     if !is_replay_command(words) {
         return Status::Usage;

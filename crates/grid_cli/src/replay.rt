@@ -11,6 +11,7 @@ ghost use Rattle.grid_cli.specs.Transcribing.{Concludes};
 ghost use Rattle.grid_cli.specs.Replays.{HasRead, Takes, StopsIn, ended_line, last_line};
 ghost use Rattle.grid_cli.specs.Commands.{PrintsHistories};
 ghost use Rattle.grid_cli.specs.NearHits.{PrintsHits};
+ghost use Rattle.grid_cli.specs.Decisions.{PrintsDecisions};
 
 use crate::status::{LimitWhat, Status};
 use crate::transcriber::Transcriber;
@@ -189,6 +190,7 @@ pub(crate) fn run_script<S: Source, K: Sink>(
     ensures text { ReadsAndWrites (map form processors.items) result (S.left script.old) (S.left script.new) (K.taken out.old) (K.taken out.new) }
     ensures headline { PrintsHistories (map form processors.items) result (S.left script.old) (S.left script.new) (K.taken out.old) (K.taken out.new) }
     ensures hits { PrintsHits (map form processors.items) result (S.left script.old) (S.left script.new) (K.taken out.old) (K.taken out.new) }
+    ensures decisions { PrintsDecisions (map form processors.items) result (S.left script.old) (S.left script.new) (K.taken out.old) (K.taken out.new) }
     ensures runs { result ≢ Status.Usage }
     ensures doorless { result ≢ Status.DoorFault }
     ensures read_fault { result ≡ Status.ReadFault → Rose (S.faults script.old) (S.faults script.new) }

@@ -3,6 +3,7 @@ ghost use Rattle.std.specs.Prelude.{◌≡◌, ℕ, map, false, true, None, Some
 ghost use Rattle.entry_processors.specs.Forms.{form_of};
 ghost use Rattle.grid_cli.specs.Commands.{PrintsHistories};
 ghost use Rattle.grid_cli.specs.NearHits.{PrintsHits};
+ghost use Rattle.grid_cli.specs.Decisions.{PrintsDecisions};
 ghost use Rattle.grid_server.specs.Commands.{is_serve, sample_of, HasReplayedBy, HasSampledBy, HasEnded};
 ghost use Rattle.grid_server.specs.Serving.{operator, at_doors};
 
@@ -63,6 +64,10 @@ where
     // invalidation named which it has heard; where it has read all that was sent to it of the key, after each answered write
     // of a version that its member knows.
     ensures hits { is_serve words.now ≡ false → sample_of words.now ≡ None → PrintsHits (map form processors.items) result.status (S.left script.old) (S.left script.new) (K.taken out.old) (K.taken out.new) }
+    // Where the script's second line has masters run the table service: what the service of each partition did is what its
+    // masters published, in order, and that alone gives the partition's row, whoever was master. What is published stays, no
+    // version of a row is made twice, and no two live members are master of a partition.
+    ensures decisions { is_serve words.now ≡ false → sample_of words.now ≡ None → PrintsDecisions (map form processors.items) result.status (S.left script.old) (S.left script.new) (K.taken out.old) (K.taken out.new) }
     // The control script was run on the grid that is handed back, in the histories that its pass has seen; and each client that
     // came was answered by these. Where no grid was made, the words, the doors or memory are the cause.
     ensures served { is_serve words.now ≡ true → HasEnded words.now forms.now (C.gives clock.now)

@@ -112,10 +112,10 @@ module _ (settings : Settings) (client : ℕ) (name : List ℕ) (s : Machine) (e
     elsewhere = elsewhere;
   }
 
-  counted : (r : Run) → Goes r → Goes (next_line r)
+  pub counted : (r : Run) → Goes r → Goes (next_line r)
   counted r g = aside r (next_line r) g (record { members = refl; backups = refl; events = refl; connection = λ k e still. (k, e, refl, still); registered = refl; sent = refl }) g.elsewhere
 
-  given : (r : Run) → Goes r → Goes (given_up r)
+  pub given : (r : Run) → Goes r → Goes (given_up r)
   given r g = aside r (given_up r) g (record { members = refl; backups = refl; events = refl; connection = λ k e still. (k, e, refl, still); registered = refl; sent = refl }) g.elsewhere
 
   -- a step of the machine's grid

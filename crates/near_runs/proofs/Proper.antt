@@ -95,10 +95,10 @@ module _ (o : Object Request Partition) where
 
   -- ---- calls that wait
 
-  counted_proper : (r : Run) → StaysProper r → StaysProper (next_line r)
+  pub counted_proper : (r : Run) → StaysProper r → StaysProper (next_line r)
   counted_proper r h = record { events = h.events; waiters = h.waiters }
 
-  stays : (r : Run) → StaysProper r → StaysProper (given_up r)
+  pub stays : (r : Run) → StaysProper r → StaysProper (given_up r)
   stays r h = record { events = h.events; waiters = h.waiters }
 
   unmade_proper : (r : Run) (events : List At) → events ≡ [] → AreProper r → (q : ℕ) (d : Event Request) → Contains (events_at q (r.events ++ events)) d → (q < partitions) × BringsFitting d
@@ -124,7 +124,7 @@ module _ (o : Object Request Partition) where
     served_proper : (r : Run) (own : Option ℕ) (p member : ℕ) → StaysProper r → StaysProper (served o skips r own p member)
     served_proper r own p member h = served_keeps o skips p StaysProper (turns skips p) r own member h
 
-    takes_proper : (p : ℕ) → p < partitions → (r : Run) (e : Event Request) → asked_by e ≡ [] → StaysProper r → StaysProper (takes o skips r p e)
+    pub takes_proper : (p : ℕ) → p < partitions → (r : Run) (e : Event Request) → asked_by e ≡ [] → StaysProper r → StaysProper (takes o skips r p e)
     takes_proper p within r e none h = takes_keeps o skips p StaysProper (turns skips p) r e h (record { events = one_more r p e within (brings_none e none) h.events; waiters = h.waiters })
 
     takes_in_proper : (e : Event Request) → asked_by e ≡ [] → (ps : List ℕ) → ((p : ℕ) → In p ps → p < partitions) → (r : Run) → StaysProper r → StaysProper (takes_in o skips r e ps)

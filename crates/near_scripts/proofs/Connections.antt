@@ -82,10 +82,10 @@ BringsSome (line.Arrive c bytes) = 1 ≤ length bytes
 BringsSome l = Unit {0}
 
 -- what a line leaves where it neither opens a connection nor brings bytes
-record Still (r next : Run) : Type 0 where
-  connections : next.connections ≡ r.connections
-  registered : next.registered ≡ r.registered
-  members : next.members ≡ r.members
+pub record Still (r next : Run) : Type 0 where
+  pub connections : next.connections ≡ r.connections
+  pub registered : next.registered ≡ r.registered
+  pub members : next.members ≡ r.members
 
 module _ (o : Object Request Partition) (skips : List CallId) (r : Run) where
   turns_still : (p : ℕ) → KeepsTurns o skips p (Still r)
@@ -95,7 +95,7 @@ module _ (o : Object Request Partition) (skips : List CallId) (r : Run) where
   served_still : (x : Run) (p member : ℕ) → Still r x → Still r (served o skips x None p member)
   served_still x p member h = served_keeps o skips p (Still r) (turns_still p) x None member h
 
-  takes_still : (x : Run) (p : ℕ) (e : Event Request) → Still r x → Still r (takes o skips x p e)
+  pub takes_still : (x : Run) (p : ℕ) (e : Event Request) → Still r x → Still r (takes o skips x p e)
   takes_still x p e h = takes_keeps o skips p (Still r) (turns_still p) x e h (record { connections = h.connections; registered = h.registered; members = h.members })
 
   counted : Still r (next_line r)
@@ -198,7 +198,7 @@ module _ (o : Object Request Partition) (skips : List CallId) (r : Run) where
 
   -- ---- who listens
 
-  listens_still : (next : Run) → Still r next → NoneListens r → NoneListens next
+  pub listens_still : (next : Run) → Still r next → NoneListens r → NoneListens next
   listens_still next h none c unspoken = ap (filter (is_of c)) h.registered ∙ none c (λ k e. unspoken k (ap (λ ks. find (is_connection c) ks) h.connections ∙ e))
 
   speaks : (before more : List ℕ) → 1 ≤ length more → before ++ more ≡ [] → ⊥

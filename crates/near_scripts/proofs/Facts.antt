@@ -13,7 +13,7 @@ use Rattle.call_engine.specs.Objects.{partition_object}
 use Rattle.near_protocol.specs.Client.{Said}
 use Rattle.replay_run.specs.Runs.{Run, Connection, Appended, connection_of, lives}
 use Rattle.replay_run.specs.ScriptRuns.{IsRun}
-use Rattle.replay_run.specs.Grids.{IsSmall, AreFew, IsBounded}
+use Rattle.replay_run.specs.Grids.{IsSmall, AreFew}
 use Rattle.replay_run.specs.Appending.{new_messages}
 use Rattle.near_runs.specs.Messages.{is_to, sent_to}
 use Rattle.near_runs.specs.Sessions.{HasSent}
@@ -25,7 +25,7 @@ use Rattle.near_runs.specs.Pieces.{AllMean}
 use Rattle.near_runs.specs.Feeds.{all_said}
 use Rattle.near_runs.specs.Lines.{WaitElsewhere}
 use Rattle.near_runs.specs.Modest.{StaysProper}
-use Rattle.script_lang.specs.Limits.{most_line_bytes}
+use Rattle.script_lang.specs.Limits.{most_lines, most_line_bytes}
 use Rattle.grid_client.specs.Nears.{Near, hit}
 use Rattle.script_run.specs.NearClients.{NearClient, map_name, value_kept}
 use Rattle.script_run.specs.Outputs.{sent_to as bytes_sent_to}
@@ -41,7 +41,7 @@ pub record Stands (settings : Settings) (r : Run) : Type 0 where
   pub run : IsRun (partition_object settings) r
   pub small : IsSmall r
   pub few : AreFew r
-  pub bounded : IsBounded r
+  pub lines : r.lines ≤ most_lines
   pub together : CrashTogether (partition_object settings) r
   pub listens : NoneListens r
   pub proper : StaysProper r

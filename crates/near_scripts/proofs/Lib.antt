@@ -5,6 +5,7 @@ mod Patterns
 mod Names
 mod Sizes
 mod Facts
+mod RuledLines
 mod Standing
 mod Others
 mod Feeding

@@ -30,7 +30,7 @@ use Rattle.replay_run.proofs.EventRuns.{served_in_keeps, takes_in_full, flowed_k
 
 -- ---- of one event
 
-abbrev is_crash : Event Request → Bool
+abbrev pub is_crash : Event Request → Bool
 is_crash (Crash m) = true
 is_crash e = false
 
@@ -102,7 +102,7 @@ module _ (o : Object Request Partition) where
       by false = ap (λ es. (run o (start q r.members r.backups) es).crashed) (append-nil (events_at q r.events))
 
   -- nobody crashes
-  abbrev Calm : Run → Run → Type 0
+  abbrev pub Calm : Run → Run → Type 0
   Calm r next = (q : ℕ) → crashed_at next q ≡ crashed_at r q
 
   calm_event : (r : Run) (p : ℕ) (e : Event Request) → is_crash e ≡ false → (q : ℕ) → (run o (start q r.members r.backups) (events_at q (r.events ++ record { partition = p; event = e } ∷ []))).crashed ≡ crashed_at r q
@@ -133,7 +133,7 @@ module _ (o : Object Request Partition) (skips : List CallId) where
   served_calm : (r x : Run) (own : Option ℕ) (p member : ℕ) → Calm o r x → Calm o r (served o skips x own p member)
   served_calm r x own p member h = served_keeps o skips p (Calm o r) (calm_turns r p) x own member h
 
-  takes_calm : (r x : Run) (p : ℕ) (e : Event Request) → is_crash e ≡ false → Calm o r x → Calm o r (takes o skips x p e)
+  pub takes_calm : (r x : Run) (p : ℕ) (e : Event Request) → is_crash e ≡ false → Calm o r x → Calm o r (takes o skips x p e)
   takes_calm r x p e quiet h = takes_keeps o skips p (Calm o r) (calm_turns r p) x e h (λ q. calm_event o x p e quiet q ∙ h q)
 
   -- ---- calls
@@ -260,7 +260,7 @@ in_below (suc n) k l = by (nat_lt k n) refl (λ less. in_below n k less)
 
 module _ (o : Object Request Partition) (skips : List CallId) (r : Run) where
   -- Nobody crashed, or one member did in all partitions.
-  abbrev Shift : Run → Type 0
+  abbrev pub Shift : Run → Type 0
   Shift next = Calm o r next ⊎ ((m : ℕ) × ((q : ℕ) → q < partitions → crashed_at o next q ≡ fallen r.members m (crashed_at o r q)))
 
   arrives : (c : ℕ) (bytes : List ℕ) (found : Option Connection) → Calm o r (elim found [ None ↦ next_line r | Some k ↦ bytes_arrived o skips r k bytes ])
@@ -270,11 +270,11 @@ module _ (o : Object Request Partition) (skips : List CallId) (r : Run) where
       on_if (Calm o r) (takes_bytes o r k) (forsaken all k.conn) (next_line r)
       (forsaken_keeps (Calm o r) (λ x w i h. ended_calm o r x w [] [] (inl refl) h) k.conn all (handled_calm o skips (items_by k bytes) (took_bytes r k bytes) k)) (λ q. refl)
 
-  abbrev quiet_at : Option At → Type 0
+  abbrev pub quiet_at : Option At → Type 0
   quiet_at None = Unit {0}
   quiet_at (Some e) = is_crash e.event ≡ false
 
-  quiet_line : (l : Line) → quiet_at (event_by l)
+  pub quiet_line : (l : Line) → quiet_at (event_by l)
   quiet_line (line.Deliver partition from to place) = refl
   quiet_line (line.Lose partition from to place) = refl
   quiet_line (line.Repeat partition from to place) = refl
@@ -290,23 +290,30 @@ module _ (o : Object Request Partition) (skips : List CallId) (r : Run) where
   by_event None quiet = λ q. refl
   by_event (Some e) quiet = takes_calm o skips r (next_line r) e.partition e.event quiet (λ q. refl)
 
-  shifts : (l : Line) → (after_line o skips r l).full ≡ false → Shift (after_line o skips r l)
-  shifts (line.OpenConn c member) going = inl (on_if (Calm o r) (can_open o r c member) (opened r c member) (next_line r) (λ q. refl) (λ q. refl))
-  shifts (line.Arrive c bytes) going = inl (arrives c bytes (connection_of r c))
-  shifts (line.Clock member moment) going = inl (served_in_keeps o skips (Calm o r) member (λ x p h. served_calm o skips r x None p member h) (clock_set r member moment) (numbers_below partitions) (λ q. refl))
-  shifts (line.Flow partition most) going = inl (flow_calm o skips r partition (next_line r) most (λ q. refl))
-  shifts (line.FlowAll most) going = inl (flowed_in_keeps o skips (Calm o r) (λ y p l k. takes_calm o skips r y p (delivery_on l) refl k) (next_line r) most (numbers_below partitions) (λ q. refl))
-  shifts (line.Crash member) going = inr (member, all)
-    where
-      all : (q : ℕ) → q < partitions → crashed_at o (takes_in o skips (next_line r) (Crash member) (numbers_below partitions)) q ≡ fallen r.members member (crashed_at o r q)
-      all q few = ⊎_elim (λ e. e) (λ z. absurd (z.0 (in_below partitions q few))) (crash_in o skips member (numbers_below partitions) (next_line r) going q)
-  shifts (line.Detect member) going = inl (detects (numbers_below partitions) (next_line r) (λ q. refl))
+  abbrev pub IsNoCrash : Line → Type 0
+  IsNoCrash (line.Crash member) = ⊥
+  IsNoCrash l = Unit {0}
+
+  pub calm_line : (l : Line) → IsNoCrash l → Calm o r (after_line o skips r l)
+  calm_line (line.OpenConn c member) no = on_if (Calm o r) (can_open o r c member) (opened r c member) (next_line r) (λ q. refl) (λ q. refl)
+  calm_line (line.Arrive c bytes) no = arrives c bytes (connection_of r c)
+  calm_line (line.Clock member moment) no = served_in_keeps o skips (Calm o r) member (λ x p h. served_calm o skips r x None p member h) (clock_set r member moment) (numbers_below partitions) (λ q. refl)
+  calm_line (line.Flow partition most) no = flow_calm o skips r partition (next_line r) most (λ q. refl)
+  calm_line (line.FlowAll most) no = flowed_in_keeps o skips (Calm o r) (λ y p l k. takes_calm o skips r y p (delivery_on l) refl k) (next_line r) most (numbers_below partitions) (λ q. refl)
+  calm_line (line.Crash member) no = absurd no
+  calm_line (line.Detect member) no = detects (numbers_below partitions) (next_line r) (λ q. refl)
     where
       detects : (ps : List ℕ) (x : Run) → Calm o r x → Calm o r (takes_in o skips x (Detect member) ps)
       detects [] x h = h
       detects (p ∷ ps) x h = detects ps (takes o skips x p (Detect member)) (takes_calm o skips r x p (Detect member) refl h)
-  shifts (line.Rebalance most) going = inl (steps_calm o skips r (next_line r) (steps_in o (next_line r) most) (λ q. refl))
-  shifts l going = inl (by_event (event_by l) (quiet_line l))
+  calm_line (line.Rebalance most) no = steps_calm o skips r (next_line r) (steps_in o (next_line r) most) (λ q. refl)
+  calm_line l no = by_event (event_by l) (quiet_line l)
+
+  pub crash_line : (member : ℕ) → (after_line o skips r (line.Crash member)).full ≡ false → Shift (after_line o skips r (line.Crash member))
+  crash_line member going = inr (member, all)
+    where
+      all : (q : ℕ) → q < partitions → crashed_at o (takes_in o skips (next_line r) (Crash member) (numbers_below partitions)) q ≡ fallen r.members member (crashed_at o r q)
+      all q few = ⊎_elim (λ e. e) (λ z. absurd (z.0 (in_below partitions q few))) (crash_in o skips member (numbers_below partitions) (next_line r) going q)
 
 -- ---- members crash together
 
@@ -316,10 +323,10 @@ CrashTogether o r = (p : ℕ) → p < partitions → crashed_at o r p ≡ crashe
 first_one : 0 < partitions
 first_one = omega arith
 
-pub line_together : (o : Object Request Partition) (skips : List CallId) (r : Run) (l : Line) → (after_line o skips r l).full ≡ false → CrashTogether o r → CrashTogether o (after_line o skips r l)
-line_together o skips r l going together p few = by (shifts o skips r l going)
+pub still_together : (o : Object Request Partition) (skips : List CallId) (r next : Run) → Shift o skips r next → CrashTogether o r → CrashTogether o next
+still_together o skips r next shift together p few = by shift
   where
-    by : Shift o skips r (after_line o skips r l) → crashed_at o (after_line o skips r l) p ≡ crashed_at o (after_line o skips r l) 0
+    by : Shift o skips r next → crashed_at o next p ≡ crashed_at o next 0
     by (inl calm) = calm p ∙ together p few ∙ sym (calm 0)
     by (inr (m, all)) = all p few ∙ ap (fallen r.members m) (together p few) ∙ sym (all 0 first_one)
 
@@ -328,8 +335,8 @@ lives_alike o r together p few m =
     ap (λ n. nat_lt m n && not (is_among (crashed_at o r p) m)) (its_members o r p ∙ sym (its_members o r 0)) ∙ ap (λ cs. nat_lt m (world_at o r 0).members && not (is_among cs m)) (together p few)
 
 -- A member that has crashed stays so.
-pub stays_dead : (o : Object Request Partition) (skips : List CallId) (r : Run) (l : Line) (m : ℕ) → (after_line o skips r l).members ≡ r.members → (after_line o skips r l).full ≡ false → lives o r m ≡ false → lives o (after_line o skips r l) m ≡ false
-stays_dead o skips r l m members going dead = is_so (after_line o skips r l) members (by (shifts o skips r l going))
+pub still_dead : (o : Object Request Partition) (skips : List CallId) (r next : Run) (m : ℕ) → next.members ≡ r.members → Shift o skips r next → lives o r m ≡ false → lives o next m ≡ false
+still_dead o skips r next m members shift dead = is_so members (by shift)
   where
     alive : List ℕ → Bool
     alive cs = nat_lt m r.members && not (is_among cs m)
@@ -337,8 +344,8 @@ stays_dead o skips r l m members going dead = is_so (after_line o skips r l) mem
     was : alive (crashed_at o r 0) ≡ false
     was = ap (λ n. nat_lt m n && not (is_among (crashed_at o r 0) m)) (sym (its_members o r 0)) ∙ dead
 
-    is_so : (next : Run) → next.members ≡ r.members → alive (crashed_at o next 0) ≡ false → lives o next m ≡ false
-    is_so next same is = ap (λ n. nat_lt m n && not (is_among (crashed_at o next 0) m)) (its_members o next 0 ∙ same) ∙ is
+    is_so : next.members ≡ r.members → alive (crashed_at o next 0) ≡ false → lives o next m ≡ false
+    is_so same is = ap (λ n. nat_lt m n && not (is_among (crashed_at o next 0) m)) (its_members o next 0 ∙ same) ∙ is
 
     more : (k : ℕ) (cs : List ℕ) → alive cs ≡ false → alive (fallen r.members k cs) ≡ false
     more k cs gone = on (nat_lt k r.members && not (is_among cs k))
@@ -352,6 +359,6 @@ stays_dead o skips r l m members going dead = is_so (after_line o skips r l) mem
         on true = with_one (nat_lt m r.members) (m == k) (is_among cs m) gone
         on false = gone
 
-    by : Shift o skips r (after_line o skips r l) → alive (crashed_at o (after_line o skips r l) 0) ≡ false
+    by : Shift o skips r next → alive (crashed_at o next 0) ≡ false
     by (inl calm) = ap alive (calm 0) ∙ was
     by (inr (k, all)) = ap alive (all 0 first_one) ∙ more k (crashed_at o r 0) was

@@ -1,47 +1,70 @@
 -- A near client goes on at a line of others.
-use Rattle.std.proofs.Common.{◌≡◌, ℕ, false, List, ◌++◌, ap, sym, ◌∙◌, subst, inl, inr, append_assoc, arith}
+use Rattle.std.proofs.Common.{◌≡◌, ℕ, false, List, ◌++◌, refl, ap, sym, ◌∙◌, subst, inl, inr, append_assoc, arith}
 use Rattle.grid_base.specs.declared.names.CallId.{CallId}
 use Rattle.call_engine.specs.Calls.{Settings}
 use Rattle.call_engine.specs.Objects.{partition_object}
 use Rattle.script_lang.specs.declared.line.Line.{Line}
 use Rattle.script_lang.specs.declared.line.Line.TheVariants as line
 use Rattle.replay_run.specs.Runs.{Run}
-use Rattle.replay_run.specs.AfterLines.{after_line}
+use Rattle.replay_run.specs.AfterLines as alone
 use Rattle.replay_run.specs.Appending.{new_messages}
 use Rattle.replay_run.proofs.Growing.{line_grows}
-use Rattle.replay_run.proofs.Bounds.{line_lines}
+use Rattle.ruled_run.specs.Runs.{RuledRun}
+use Rattle.ruled_run.specs.AfterLines.{after_line}
+use Rattle.ruled_run.proofs.KeptLines.{line_lines}
+use Rattle.ruled_run.proofs.RuledGrowing.{ruled_line_grows}
+use Rattle.ruled_run.proofs.RuledRuns.{line_keeps}
 use Rattle.near_runs.specs.Messages.{sent_to}
 use Rattle.near_runs.specs.Clients.{GoesWith}
-use Rattle.near_runs.specs.Lines.{IsOthers, WaitElsewhere}
+use Rattle.near_runs.specs.Following.{Machine}
+use Rattle.near_runs.specs.Lines.{IsOthers, WaitElsewhere, GoesOn}
+use Rattle.near_runs.specs.NearRuns.{IsNearRun}
 use Rattle.near_runs.proofs.Sent.{sent_to-append}
-use Rattle.near_runs.proofs.Lines.{every_other_line_is_followed}
+use Rattle.near_runs.proofs.Lines.{counted, given, event_on, every_other_line_is_followed}
+use Rattle.near_protocol.specs.Client.{Said}
 use Rattle.script_run.specs.NearClients.{NearClient}
 use Rattle.script_run.specs.AfterLines.{noting}
-use Rattle.near_scripts.proofs.Lives.{stays_dead}
-use Rattle.near_scripts.proofs.Connections.{IsApart, keeps_connection, keeps_members}
+use Rattle.near_scripts.proofs.Connections.{IsApart}
+use Rattle.near_scripts.proofs.RuledLines.{still_connected, stays_dead}
 use Rattle.near_scripts.proofs.Facts.{IsLive, IsDead, Goes, Appends, read_more}
 
 apart_too : (c : ℕ) (l : Line) → IsOthers c l → IsApart c l
 apart_too c (line.Arrive k bytes) others = others
 apart_too c l others = tt
 
-pub line_appends : (settings : Settings) (skips : List CallId) (r : Run) (l : Line) → Appends r (after_line (partition_object settings) skips r l)
+-- of the grid by itself
+pub line_appends : (settings : Settings) (skips : List CallId) (r : Run) (l : Line) → Appends r (alone.after_line (partition_object settings) skips r l)
 line_appends settings skips r l = let front = (line_grows (partition_object settings) skips r l).appended in record { more = front.0; are = sym front.1 }
 
-module _ (settings : Settings) (skips : List CallId) (r : Run) (l : Line) (n : NearClient) (others : IsOthers n.conn l) where
+-- and with masters
+ruled_appends : (settings : Settings) (skips : List CallId) (s : RuledRun) (l : Line) → Appends s.run (after_line (partition_object settings) skips s l).run
+ruled_appends settings skips s l = let front = (ruled_line_grows (partition_object settings) skips s l).appended in record { more = front.0; are = sym front.1 }
+
+-- The machine goes on: each event that happens with masters is one that it follows.
+followed : (settings : Settings) (client : ℕ) (name : List ℕ) (s : RuledRun) (machine : Machine) (earlier : List (List ℕ)) (heard : List (Said (List ℕ))) (skips : List CallId) (l : Line)
+    → IsNearRun settings client name s.run machine earlier heard → WaitElsewhere machine.conn s.run → IsOthers machine.conn l → GoesOn settings client name machine earlier heard (after_line (partition_object settings) skips s l).run
+followed settings client name s machine earlier heard skips l run elsewhere others =
+    let here : GoesOn settings client name machine earlier heard s.run = record { machine = machine; run = run; conn = refl; idle = refl; number = refl; elsewhere = elsewhere } in
+    line_keeps (partition_object settings) skips (GoesOn settings client name machine earlier heard) (given settings client name machine earlier heard) (λ r p e quiet h. event_on settings client name machine earlier heard skips r p e quiet h) s l
+    (counted settings client name machine earlier heard s.run here) (every_other_line_is_followed settings client name s.run machine earlier heard skips l run elsewhere others)
+
+module _ (settings : Settings) (skips : List CallId) (s : RuledRun) (l : Line) (n : NearClient) (others : IsOthers n.conn l) where
+  abbrev r : Run
+  r = s.run
+
   abbrev next : Run
-  next = after_line (partition_object settings) skips r l
+  next = (after_line (partition_object settings) skips s l).run
 
   abbrev after : NearClient
   after = noting (new_messages r next) n
 
   live_on : IsLive settings r n → IsLive settings next after
   live_on a =
-      let g = every_other_line_is_followed settings a.client a.name r a.machine a.earlier a.heard skips l a.run
+      let g = followed settings a.client a.name s a.machine a.earlier a.heard skips l a.run
       (subst (λ (c : ℕ). WaitElsewhere c r) (sym a.conn) a.elsewhere) (subst (λ (c : ℕ). IsOthers c l) (sym a.conn) others)
       in
-      let adds = line_appends settings skips r l in
-      let lines = line_lines (partition_object settings) skips r l in
+      let adds = ruled_appends settings skips s l in
+      let lines = line_lines (partition_object settings) skips s l in
       let few = a.few in
       let same = g.number in
       record {
@@ -58,7 +81,7 @@ module _ (settings : Settings) (skips : List CallId) (r : Run) (l : Line) (n : N
         one = record { uuid = a.one.uuid; connections = a.one.connections; near = a.one.near; keeps = a.one.keeps; short = a.one.short };
         text = a.text;
         connection = a.connection;
-        there = keeps_connection (partition_object settings) skips r l n.conn a.connection (apart_too n.conn l others) a.there;
+        there = still_connected (partition_object settings) skips s l n.conn a.connection (apart_too n.conn l others) a.there;
         sent = a.sent;
         messages = a.messages ∙ sym g.number;
         few = omega (arith, few, same, lines);
@@ -75,8 +98,8 @@ module _ (settings : Settings) (skips : List CallId) (r : Run) (l : Line) (n : N
   dead_on going a = record {
     bare = record { near = a.bare.near; keeps = a.bare.keeps; entries = a.bare.entries; waiting = a.bare.waiting; calls = a.bare.calls };
     connection = a.connection;
-    there = keeps_connection (partition_object settings) skips r l n.conn a.connection (apart_too n.conn l others) a.there;
-    crashed = stays_dead (partition_object settings) skips r l a.connection.member (keeps_members (partition_object settings) skips r l) going a.crashed;
+    there = still_connected (partition_object settings) skips s l n.conn a.connection (apart_too n.conn l others) a.there;
+    crashed = stays_dead (partition_object settings) skips s l a.connection.member going a.crashed;
   }
 
   pub goes_on : next.full ≡ false → Goes settings r n → Goes settings next after

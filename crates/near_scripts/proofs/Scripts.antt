@@ -16,14 +16,17 @@ use Rattle.script_lang.specs.Lines.{IsWithin}
 use Rattle.script_lang.specs.declared.line.Line.{Line}
 use Rattle.script_lang.specs.declared.line.Line.TheVariants as line
 use Rattle.replay_run.specs.Runs.{Run, Connection, Appended, connection_of, is_open, lives, takes_bytes}
-use Rattle.replay_run.specs.AfterLines as grid
+use Rattle.replay_run.specs.AfterLines as alone
 use Rattle.replay_run.specs.Appending.{new_messages}
-use Rattle.replay_run.proofs.Bounds.{line_lines}
 use Rattle.replay_run.proofs.Growing.{Grows}
+use Rattle.ruled_run.specs.Runs.{RuledRun}
+use Rattle.ruled_run.specs.AfterLines as ruled
+use Rattle.ruled_run.proofs.Coming.{AllHaveCome, begun_come, line_come}
+use Rattle.ruled_run.proofs.KeptLines.{line_lines, bytes_after, opening_after, comment_after}
 use Rattle.near_runs.specs.Messages.{sent_to}
 use Rattle.near_runs.specs.Lines.{IsOthers}
 use Rattle.script_run.specs.NearClients.{NearClient, is_near, new_near, opening_of, value_kept, used, missed, get_sent, fed}
-use Rattle.script_run.specs.Runs.{ScriptRun, begun, near_of, is_near_connection, is_silent, is_new, can_begin, takes, Look, Unmade, Hit, Miss, look_at, look_of, may_look, look, asked_line, grid_line, changed, after_look, nears_by}
+use Rattle.script_run.specs.Runs.{ScriptRun, ruled_of, begun, near_of, is_near_connection, is_silent, is_new, can_begin, takes, Look, Unmade, Hit, Miss, look_at, look_of, may_look, look, asked_line, grid_line, changed, after_look, nears_by}
 use Rattle.script_run.specs.AfterLines.{noting, played, after_line, after_lines}
 use Rattle.script_run.proofs.ScriptLaws.{whole_line_grows, whole_lines_grow}
 use Rattle.near_runs.proofs.Sent.{sent_to-append}
@@ -97,7 +100,18 @@ GoesThere settings s c = (n : NearClient) → near_of s c ≡ Some n → Goes se
 module _ (settings : Settings) (skips : List CallId) (s : ScriptRun) (stands : Stands settings s.run) (c : ℕ) (goes : GoesThere settings s c) (room : length (sent_to c s.run.appended) ≤ most_messages) (lines : s.run.lines + 1 ≤ most_lines) where
   -- the run after what the grid runs at a line
   abbrev next : Line → Run
-  next l = grid.after_line (partition_object settings) skips s.run l
+  next l = (ruled.after_line (partition_object settings) skips (ruled_of s) l).run
+
+  -- bytes, and an opening, are the grid's own lines
+
+  bytes_alone : (d : ℕ) (bytes : List ℕ) → next (line.Arrive d bytes) ≡ alone.after_line (partition_object settings) skips s.run (line.Arrive d bytes)
+  bytes_alone d bytes = ap (λ (x : RuledRun). x.run) (bytes_after (partition_object settings) skips (ruled_of s) d bytes)
+
+  opening_alone : (d member : ℕ) → next (line.OpenConn d member) ≡ alone.after_line (partition_object settings) skips s.run (line.OpenConn d member)
+  opening_alone d member = ap (λ (x : RuledRun). x.run) (opening_after (partition_object settings) skips (ruled_of s) d member)
+
+  comment_alone : next line.Comment ≡ alone.after_line (partition_object settings) skips s.run line.Comment
+  comment_alone = ap (λ (x : RuledRun). x.run) (comment_after (partition_object settings) skips (ruled_of s))
 
   abbrev Step : ScriptRun → Type 0
   Step after = after.run.full ≡ false → GoesThere settings after c
@@ -127,7 +141,7 @@ module _ (settings : Settings) (skips : List CallId) (s : ScriptRun) (stands : S
   by_others : (l : Line) (ns : List NearClient) → ((n : NearClient) → find (is_near c) ns ≡ Some n → IsOthers c l × Goes settings s.run n) → Each l ns
   by_others l ns all going n e =
       let here = all n e in
-      goes_on settings skips s.run l n (subst (λ d. IsOthers d l) (sym (its_number c ns n e)) here.0) going here.1
+      goes_on settings skips (ruled_of s) l n (subst (λ d. IsOthers d l) (sym (its_number c ns n e)) here.0) going here.1
 
   -- a line of nobody
   quiet : (ns : List NearClient) → ((n : NearClient) → find (is_near c) ns ≡ Some n → Goes settings s.run n) → Each line.Comment ns
@@ -167,7 +181,9 @@ module _ (settings : Settings) (skips : List CallId) (s : ScriptRun) (stands : S
           utf8 = both_right (is_new (connection_of s.run d)) (is_utf8 name) (both_right (not (is_near_connection s d)) (is_new (connection_of s.run d) && is_utf8 name) so)
 
           comes : (d ≡ c) → (next (line.Arrive d (opening_of d name))).full ≡ false → Goes settings (next (line.Arrive d (opening_of d name))) (noting (new_messages s.run (next (line.Arrive d (opening_of d name)))) (new_near d name capacity))
-          comes same going = (let k = may_begin d name so in begins settings skips s.run stands d name capacity low short (IsUtf8-from_is_utf8 name utf8) k.0 k.1 k.3 k.2)
+          comes same going = (let k = may_begin d name so in
+              subst (λ (x : Run). Goes settings x (noting (new_messages s.run x) (new_near d name capacity))) (sym (bytes_alone d (opening_of d name)))
+              (begins settings skips s.run stands d name capacity low short (IsUtf8-from_is_utf8 name utf8) k.0 k.1 k.3 k.2))
 
           each : Each (line.Arrive d (opening_of d name)) (s.nears ++ new_near d name capacity ∷ [])
           each going n e = by (near_of s c) refl
@@ -278,8 +294,12 @@ module _ (settings : Settings) (skips : List CallId) (s : ScriptRun) (stands : S
 
           by : Goes settings s.run m → Goes settings (next g) (noting (new_messages s.run (next g)) (missed key m))
           by (inl a) =
+              let its = (get_sent m key).request in
+              let own = bytes_alone m.conn its in
               inl (subst (λ h. IsLive settings (next h) (noting (new_messages s.run (next h)) (missed key m))) (sym line_is)
-              (missed_on settings skips s.run stands m a key l.whole short lines (taking a.connection a.there) (ap (λ (x : NearClient). value_kept x key) (sym one) ∙ l.is) (subst (λ h. (next h).full ≡ false) line_is going)))
+              (subst (λ (x : Run). IsLive settings x (noting (new_messages s.run x) (missed key m))) (sym own)
+              (missed_on settings skips s.run stands m a key l.whole short lines (taking a.connection a.there) (ap (λ (x : NearClient). value_kept x key) (sym one) ∙ l.is)
+              (ap (λ (x : Run). x.full) (sym own) ∙ subst (λ h. (next h).full ≡ false) line_is going))))
           by (inr a) = absurd (let clash : false ≡ true = sym a.crashed ∙ both_right (is_open (Some a.connection)) (lives (partition_object settings) s.run a.connection.member) (taking a.connection a.there) in cc)
 
   get_line : (d : ℕ) (key : List ℕ) → 2 * length key ≤ most_line_bytes → Step (after_line settings skips s (line.NearGet d key))
@@ -330,7 +350,8 @@ module _ (settings : Settings) (skips : List CallId) (s : ScriptRun) (stands : S
           here : d ≡ c → Goes settings (next (line.OpenConn d member)) (noting (new_messages s.run (next (line.OpenConn d member))) n)
           here same =
               let k = its_connection n (goes n there) in
-              let none : next (line.OpenConn d member) ≡ next line.Comment = opens_nothing (partition_object settings) skips s.run d member k.0 (ap (connection_of s.run) (same ∙ sym (its_number c s.nears n there)) ∙ k.1) in
+              let none : next (line.OpenConn d member) ≡ next line.Comment =
+              opening_alone d member ∙ opens_nothing (partition_object settings) skips s.run d member k.0 (ap (connection_of s.run) (same ∙ sym (its_number c s.nears n there)) ∙ k.1) ∙ sym comment_alone in
               subst (λ (x : Run). Goes settings x (noting (new_messages s.run x) n)) (sym none) (quiet s.nears goes (ap (λ (x : Run). x.full) (sym none) ∙ going) n there)
 
   plain : (l : Line) → grid_line (partition_object settings) s l ≡ l → nears_by (partition_object settings) s l ≡ s.nears → IsOthers c l → Step (after_line settings skips s l)
@@ -363,14 +384,15 @@ still_going : (r later : Run) → Grows r later → later.full ≡ false → r.f
 still_going r later grows going = false_or_not r.full (λ full. absurd (let clash : true ≡ false = sym (grows.full full) ∙ going in cc))
 
 -- what holds after each line: of the run, of all near clients, and of the one of this connection
-record Holds (settings : Settings) (s : ScriptRun) (c : ℕ) : Type 0 where
+record Holds (settings : Settings) (members : ℕ) (s : ScriptRun) (c : ℕ) : Type 0 where
   stands : Stands settings s.run
+  come : AllHaveCome members (ruled_of s)
   one : AreOnOne s.nears
   goes : GoesThere settings s c
 
 module _ (settings : Settings) (skips : List CallId) (c members : ℕ) where
   all_lines : (s : ScriptRun) (lines : List Line) → ((l : Line) → In l lines → IsWithin members most_line_bytes l) → s.run.lines + length lines ≤ most_lines → (after_lines settings skips s lines).run.full ≡ false
-      → length (sent_to c (after_lines settings skips s lines).run.appended) ≤ most_messages → Holds settings s c → Holds settings (after_lines settings skips s lines) c
+      → length (sent_to c (after_lines settings skips s lines).run.appended) ≤ most_messages → Holds settings members s c → Holds settings members (after_lines settings skips s lines) c
   all_lines s [] within few going room h = h
   all_lines s (l ∷ lines) within few going room h =
       let next = after_line settings skips s l in
@@ -378,11 +400,12 @@ module _ (settings : Settings) (skips : List CallId) (c members : ℕ) where
       let grows = whole_lines_grow settings skips next lines in
       let once = whole_line_grows settings skips s l in
       let now = still_going next.run later.run grows going in
-      let counted = line_lines (partition_object settings) skips s.run (grid_line (partition_object settings) s l) in
+      let counted = line_lines (partition_object settings) skips (ruled_of s) (grid_line (partition_object settings) s l) in
       let here : IsWithin members most_line_bytes l = within l (inl refl) in
       let one_more : s.run.lines + 1 ≤ most_lines = omega (arith, few) in
       all_lines next lines (λ k i. within k (inr i)) (omega (arith, few, counted)) going room (record {
-        stands = line_stands settings skips s.run members (grid_line (partition_object settings) s l) (grid_within (partition_object settings) s members h.one l here) one_more now h.stands;
+        stands = line_stands settings skips (ruled_of s) members members (grid_line (partition_object settings) s l) h.come (grid_within (partition_object settings) s members h.one l here) one_more now h.stands;
+        come = line_come (partition_object settings) skips members (ruled_of s) (grid_line (partition_object settings) s l) h.come;
         one = line_one settings skips s members l here h.one;
         goes = line_goes settings skips s h.stands c h.goes (more_sent c s.run next.run once (more_sent c next.run later.run grows room)) one_more members l here now;
       })
@@ -393,6 +416,7 @@ every_client_goes settings members backups skips lines some low are c going room
     let few = are.few in
     let h = all_lines settings skips c members (begun members backups) lines (λ l i. are.each l (contains_in l lines i)) (omega (arith, few)) going room (record {
       stands = begun_stands settings members backups some low;
+      come = begun_come members backups;
       one = tt;
       goes = λ n there. absurd cc;
     }) in

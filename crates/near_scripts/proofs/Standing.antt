@@ -11,16 +11,18 @@ use Rattle.script_lang.specs.declared.line.Line.TheVariants as line
 use Rattle.replay_run.specs.Runs.{Run, begun}
 use Rattle.replay_run.specs.ScriptRuns.{grid_begun}
 use Rattle.replay_run.specs.Grids.{most_arriving}
-use Rattle.replay_run.specs.AfterLines.{after_line}
-use Rattle.replay_run.proofs.Bounds.{messages_fewer, arrivals_fewer, stays_few, stays_small, line_within}
-use Rattle.replay_run.proofs.LineBounds.{line_bounded}
-use Rattle.replay_run.proofs.Lines.{line_run}
+use Rattle.replay_run.proofs.Bounds.{messages_fewer, arrivals_fewer, line_within}
+use Rattle.ruled_run.specs.Runs.{RuledRun}
+use Rattle.ruled_run.specs.AfterLines.{after_line}
+use Rattle.ruled_run.proofs.Coming.{AllHaveCome}
+use Rattle.ruled_run.proofs.FewEvents.{line_few}
+use Rattle.ruled_run.proofs.KeptLines.{line_lines}
+use Rattle.ruled_run.proofs.RuledRuns.{ruled_run}
 use Rattle.partition_protocol.proofs.Lists.{in_contains}
 use Rattle.near_runs.specs.Messages.{sent_to}
 use Rattle.near_runs.specs.Modest.{IsModest}
-use Rattle.near_runs.proofs.Proper.{every_line_stays_proper}
-use Rattle.near_scripts.proofs.Lives.{line_together}
-use Rattle.near_scripts.proofs.Connections.{BringsSome, keeps_listeners, keeps_members}
+use Rattle.near_scripts.proofs.Connections.{BringsSome}
+use Rattle.near_scripts.proofs.RuledLines.{still_small, still_unheard, still_as_many, crashes_together, still_proper}
 use Rattle.near_scripts.proofs.Facts.{Stands}
 
 pub begun_stands : (settings : Settings) (members backups : ℕ) → 1 ≤ members → members < 2 ^ 8 → Stands settings (begun members backups)
@@ -28,7 +30,7 @@ begun_stands settings members backups some low = record {
   run = grid_begun members backups some;
   small = lit≤ tt;
   few = λ p. lit≤ tt;
-  bounded = record { lines = lit≤ tt; reopenings = lit≤ tt };
+  lines = lit≤ tt;
   together = λ p few. refl;
   listens = λ c unspoken. refl;
   proper = record { events = λ p e i. absurd (in_contains e [] i); waiters = λ w i. absurd (in_contains w [] i) };
@@ -39,19 +41,19 @@ brings_some : (members size : ℕ) (l : Line) → IsWithin members size l → Br
 brings_some members size (line.Arrive c bytes) within = within.1
 brings_some members size l within = tt
 
-pub line_stands : (settings : Settings) (skips : List CallId) (r : Run) (members : ℕ) (l : Line) → IsWithin members most_arriving l → r.lines + 1 ≤ most_lines → (after_line (partition_object settings) skips r l).full ≡ false → Stands settings r
-    → Stands settings (after_line (partition_object settings) skips r l)
-line_stands settings skips r members l within lines going s =
+pub line_stands : (settings : Settings) (skips : List CallId) (s : RuledRun) (n members : ℕ) (l : Line) → AllHaveCome n s → IsWithin members most_arriving l → s.run.lines + 1 ≤ most_lines
+    → (after_line (partition_object settings) skips s l).run.full ≡ false → Stands settings s.run → Stands settings (after_line (partition_object settings) skips s l).run
+line_stands settings skips s n members l come within lines going stands =
     let o = partition_object settings in
     record {
-      run = line_run skips r s.run l;
-      small = stays_small skips r s.run l s.small (line_within members most_arriving l within);
-      few = stays_few o skips r members most_arriving l within s.few;
-      bounded = line_bounded o skips r lines s.bounded l;
-      together = line_together o skips r l going s.together;
-      listens = keeps_listeners o skips r l (brings_some members most_arriving l within) s.listens;
-      proper = every_line_stays_proper o skips r members most_arriving l within s.proper;
-      members = subst (λ (n : ℕ). n < 2 ^ 8) (sym (keeps_members o skips r l)) s.members;
+      run = ruled_run skips s stands.run l;
+      small = still_small o skips s stands.run l (line_within members most_arriving l within) stands.small;
+      few = line_few o skips n members most_arriving s come stands.few l within;
+      lines = let counted = line_lines o skips s l in omega (arith, lines, counted);
+      together = crashes_together o skips s l going stands.together;
+      listens = still_unheard o skips s l (brings_some members most_arriving l within) stands.listens;
+      proper = still_proper o skips s members most_arriving l within stands.proper;
+      members = subst (λ (k : ℕ). k < 2 ^ 8) (sym (still_as_many o skips s l)) stands.members;
     }
 
 -- All that was sent on a connection is within limits, where no more was sent than can be numbered.
@@ -63,7 +65,7 @@ modest settings r c name s short room = record {
       let come = arrivals_fewer r s.run in
       let fewer = messages_fewer r in
       let small = s.small in
-      let lines = s.bounded.lines in
+      let lines = s.lines in
       omega (arith, few, come, fewer, small, lines);
   proper = s.proper.events;
   short = omega (arith, short);

@@ -14,11 +14,11 @@ use Rattle.script_lang.specs.Lines.{IsWithin}
 use Rattle.script_lang.specs.declared.line.Line.{Line}
 use Rattle.script_lang.specs.declared.line.Line.TheVariants as line
 use Rattle.replay_run.specs.Runs.{Appended}
-use Rattle.replay_run.specs.AfterLines as grid
 use Rattle.replay_run.specs.Appending.{new_messages}
 use Rattle.replay_run.specs.Grids.{most_arriving}
+use Rattle.ruled_run.specs.AfterLines as ruled
 use Rattle.script_run.specs.NearClients.{NearClient, is_near, new_near, opening_of, value_kept, used, missed, fed}
-use Rattle.script_run.specs.Runs.{ScriptRun, near_of, is_near_connection, can_begin, Look, Unmade, Hit, Miss, look_at, look_of, may_look, look, asked_line, grid_line, changed, after_look, nears_by}
+use Rattle.script_run.specs.Runs.{ScriptRun, ruled_of, near_of, is_near_connection, can_begin, Look, Unmade, Hit, Miss, look_at, look_of, may_look, look, asked_line, grid_line, changed, after_look, nears_by}
 use Rattle.script_run.specs.AfterLines.{noting, after_line}
 use Rattle.script_run.specs.Grids.{IsOnOne}
 use Rattle.script_run.proofs.OneConnection.{begun_one, used_one, missed_one, fed_one}
@@ -104,4 +104,4 @@ module _ (o : Object Request Partition) (s : ScriptRun) (members : ℕ) (all : A
 
 pub line_one : (settings : Settings) (skips : List CallId) (s : ScriptRun) (members : ℕ) (l : Line) → IsWithin members most_line_bytes l → AreOnOne s.nears → AreOnOne (after_line settings skips s l).nears
 line_one settings skips s members l within all =
-    noted_one (new_messages s.run (grid.after_line (partition_object settings) skips s.run (grid_line (partition_object settings) s l))) (nears_by (partition_object settings) s l) (nears_one (partition_object settings) s members all l within)
+    noted_one (new_messages s.run (ruled.after_line (partition_object settings) skips (ruled_of s) (grid_line (partition_object settings) s l)).run) (nears_by (partition_object settings) s l) (nears_one (partition_object settings) s members all l within)

@@ -4,7 +4,9 @@ pub mod WrittenMasters
 pub mod Extending
 pub mod Going
 pub mod RuledGrowing
+pub mod SkippedTexts
 pub mod KeptLines
+pub mod KeptEvents
 pub mod OwnLines
 pub mod Continuing
 pub mod RuleLemmas
@@ -22,3 +24,9 @@ pub mod RuledMasters
 pub mod Proposing
 pub mod MastersAsked
 pub mod PublishedEvents
+pub mod Coming
+pub mod FewEvents
+pub mod Composing
+pub mod LineParts
+pub mod AtOnce
+pub mod Loops

@@ -29,22 +29,22 @@ pub record RuledGoesBy (s : RuledRun) (onward : List CallId → RuledRun) : Type
   pub alike : (k t : List CallId) → Agree (by.tries k) k t → onward k ≡ onward t
 
 -- whatever the skips are, the masters come to this
-with_masters : (s : RuledRun) (ms : List (Masters Decision)) (onward : List CallId → Run) → GoesBy s.run onward → RuledGoesBy s (λ k. record { run = onward k; masters = ms })
+pub with_masters : (s : RuledRun) (ms : List (Masters Decision)) (onward : List CallId → Run) → GoesBy s.run onward → RuledGoesBy s (λ k. record { run = onward k; masters = ms })
 with_masters s ms onward g = record { by = g; alike = λ k t agree. ap (λ (r : Run). record { run = r; masters = ms }) (g.alike k t agree) }
 
-stays : (s : RuledRun) → RuledGoesBy s (λ k. s)
+pub stays : (s : RuledRun) → RuledGoesBy s (λ k. s)
 stays s = with_masters s s.masters (λ k. s.run) (goes_nowhere s.run)
 
-gives_up : (s : RuledRun) → RuledGoesBy s (λ k. given_up s)
+pub gives_up : (s : RuledRun) → RuledGoesBy s (λ k. given_up s)
 gives_up s = with_masters s s.masters (λ k. grid.given_up s.run) (goes_on s.run (grid.given_up s.run) (goes_quietly s.run (grid.given_up s.run) refl refl ([], append-nil s.run.appended) (λ e. refl)))
 
 -- a choice that the skips have no part in
-either : (s : RuledRun) (b : Bool) (first other : List CallId → RuledRun) → RuledGoesBy s first → RuledGoesBy s other → RuledGoesBy s (λ k. cond b (first k) (other k))
+pub either : (s : RuledRun) (b : Bool) (first other : List CallId → RuledRun) → RuledGoesBy s first → RuledGoesBy s other → RuledGoesBy s (λ k. cond b (first k) (other k))
 either s true first other g h = g
 either s false first other g h = h
 
 -- the line is counted first
-counted_first : (s : RuledRun) (onward : List CallId → RuledRun) → RuledGoesBy (counted s) onward → RuledGoesBy s onward
+pub counted_first : (s : RuledRun) (onward : List CallId → RuledRun) → RuledGoesBy (counted s) onward → RuledGoesBy s onward
 counted_first s onward g = record {
   by = record {
     tries = g.by.tries;
@@ -94,8 +94,8 @@ module _ (s : RuledRun) (first : List CallId → RuledRun) (then : RuledRun → 
     fed = λ k e i. ⊎_elim (λ j. g.by.fed k e j) (λ j. (h (first k)).by.fed k e j) (in_cases e (g.by.grows k).events.0 ((h (first k)).by.grows k).events.0 i);
   }
 
-  unfolding both_go
   pub and_then : RuledGoesBy s (λ k. then (first k) k)
+  unfolding both_go
   and_then = record { by = both_go; alike = both_alike }
 
 module _ (o : Object Request Partition) where

@@ -47,7 +47,7 @@ pub both_quiet : (es fs : List (Event Request)) → AreQuiet es → AreQuiet fs 
 both_quiet [] fs h k = k
 both_quiet (e ∷ es) fs (q, h) k = (q, both_quiet es fs h k)
 
-decision_quiet : (n : ℕ) (d : Decision) → asked_by (event_of {C = Request} n d) ≡ []
+pub decision_quiet : (n : ℕ) (d : Decision) → asked_by (event_of {C = Request} n d) ≡ []
 decision_quiet n (decision.Detect m) = refl
 decision_quiet n (decision.BeginMove from to) = refl
 decision_quiet n (decision.BeginJoin to) = refl

@@ -1,5 +1,5 @@
 -- The grid of the code, with its masters, stands for the run of a script's grid.
-use Rattle.std.specs.Prelude.{◌≡◌, ℕ, ◌+◌, ◌<◌, ◌≤◌, true, List, ◌++◌, length, Some, slice_get}
+use Rattle.std.specs.Prelude.{◌≡◌, ℕ, ◌+◌, ◌<◌, ◌≤◌, true, List, [], ◌++◌, length, Some, slice_get}
 use Rattle.grid_base.specs.declared.names.CallId.{CallId}
 use Rattle.grid_base.specs.declared.calls.Request.{Request}
 use Rattle.call_engine.specs.Calls.{Settings}
@@ -44,6 +44,9 @@ pub record Rules (settings : Settings) (all : List Masters) (s : RuledRun) : Typ
 pub record Stands {V : Type 0} {T : V → Type 0} (form : FormOf V T) (settings : Settings) (all : RuledGrid V T) (s : RuledRun) : Type 0 where
   pub grid : grid.Stands form settings all.grid s.run
   pub masters : Rules settings all.masters.items s
+  -- the first line has made nothing happen
+  pub some : 1 ≤ s.run.lines
+  pub begun : s.run.lines ≡ 1 → s.run.events ≡ []
 
 -- The line is one that the script can have next.
 pub record MayRun {V : Type 0} {T : V → Type 0} (form : FormOf V T) (all : RuledGrid V T) (number : ℕ) (line : ScriptLine) : Type 0 where

@@ -8,3 +8,4 @@ pub mod Written
 pub mod Answers
 pub mod Grids
 pub mod Steps
+pub mod Parts

@@ -1,13 +1,23 @@
-ghost use Rattle.std.specs.Prelude.{◌≡◌, ℕ, ◌≤◌, true, false, [], length, map, is_some, Some, slice_get, IfOk, OnOk, IsErrOf};
+ghost use Rattle.std.specs.Prelude.{◌≡◌, ℕ, ◌<◌, ◌≤◌, ◌++◌, true, false, List, [], length, map, is_some, option_to_list, Some, slice_get, IfOk, OnOk, IsErrOf};
 ghost use Rattle.call_engine.specs.Calls.{Settings};
 ghost use Rattle.master_log.specs.declared.masters.Masters.{Masters as MastersOf};
 ghost use Rattle.master_log.specs.Standing.{StandsFor, size_of};
-ghost use Rattle.replay_run.specs.Runs.{partitions, is_open, connection_of};
+ghost use Rattle.call_engine.specs.Objects.{partition_object};
+ghost use Rattle.masters_world.specs.Machine.{proposals};
+ghost use Rattle.partition_protocol.specs.Events.{Deliver as DeliverEvent};
+ghost use Rattle.replay_run.specs.Runs.{Run, partitions, is_open, connection_of, next_line};
 ghost use Rattle.replay_run.specs.Grids.{boxed};
+ghost use Rattle.replay_run.specs.Grids as grid;
+ghost use Rattle.replay_run.specs.Printing.{nothing_text};
 ghost use Rattle.replay_run.specs.WorldCalls.{open_member_in};
+ghost use Rattle.replay_run.specs.WorldCalls as amid;
+ghost use Rattle.replay_run.specs.declared.run_end.RunEnd.{RunEnd as RunEndOf};
 ghost use Rattle.replay_run.specs.declared.run_end.RunEnd.TheVariants as RunEnds;
-ghost use Rattle.ruled_run.specs.Runs.{RuledRun, begun, has_masters};
-ghost use Rattle.ruled_run.specs.Grids.{Stands, MayRun, HasRun, IsGivenUp};
+ghost use Rattle.script_lang.specs.declared.line.Line.TheVariants as ScriptLines;
+ghost use Rattle.ruled_run.specs.Runs.{RuledRun, begun, ruled_at};
+ghost use Rattle.ruled_run.specs.Grids.{Stands, MayRun, HasMasters, HasRun, IsGivenUp};
+ghost use Rattle.ruled_run.specs.Parts.{MayBeNext, HasNoMasters, ProposesNothing, IsProposalOf, is_held_back, GoesOn, is_of_masters, HaveCrashed};
+ghost use Rattle.ruled_run.specs.Written.{as_written};
 
 use crate::decisions::decision_by;
 use entry_processors::Processor;
@@ -16,7 +26,7 @@ use master_log::Masters;
 use master_wire::Decision;
 use replay_run::{Grid, RunEnd, push_nothing, push_ok};
 use script_lang::Line;
-use std::alloc::Global;
+use std::alloc::{AllocError, Global};
 
 /// The grid of a script, and the masters of its partitions where its table service runs on the members.
 #[derive(Drop)]
@@ -123,7 +133,7 @@ impl RuledGrid {
         out: &mut Vec<u8>,
     ) -> Result<(), RunEnd>
         requires may { MayRun (boxed form) self.old number line.now }
-        requires none { (s : RuledRun) (settings : Settings) → Stands (boxed form) settings self.old s → has_masters s ≡ false }
+        requires none { HasNoMasters (boxed form) self.old }
         ensures ok { (settings : Settings) (s : RuledRun) → Stands (boxed form) settings self.old s → OnOk result (HasRun (boxed form) settings self.new s line.now out.old.items out.new.items) }
         ensures full { (settings : Settings) (s : RuledRun) → Stands (boxed form) settings self.old s → IsErrOf result RunEnds.InFlight → IsGivenUp settings s line.now }
     {
@@ -140,7 +150,13 @@ impl RuledGrid {
         alloc: Global,
         number: u32,
         out: &mut Vec<u8>,
-    ) -> Result<(), RunEnd> {
+    ) -> Result<(), RunEnd>
+        requires may { MayRun (boxed form) self.old number ScriptLines.Masters }
+        requires second { number ≡ 2 }
+        requires none { HasNoMasters (boxed form) self.old }
+        ensures ok { (settings : Settings) (s : RuledRun) → Stands (boxed form) settings self.old s → OnOk result (HasRun (boxed form) settings self.new s ScriptLines.Masters out.old.items out.new.items) }
+        ensures memory { (end : RunEndOf) → IsErrOf result end → end ≡ RunEnds.Memory }
+    {
         self.masters = opening_masters(alloc, self.grid.members())?;
         self.count(alloc, number)?;
         Ok(push_ok(out, number)?)
@@ -155,7 +171,7 @@ impl RuledGrid {
         out: &mut Vec<u8>,
     ) -> Result<(), RunEnd>
         requires may { MayRun (boxed form) self.old number line.now }
-        requires some { (s : RuledRun) (settings : Settings) → Stands (boxed form) settings self.old s → has_masters s ≡ true }
+        requires ruled { HasMasters (boxed form) self.old }
         ensures ok { (settings : Settings) (s : RuledRun) → Stands (boxed form) settings self.old s → OnOk result (HasRun (boxed form) settings self.new s line.now out.old.items out.new.items) }
         ensures full { (settings : Settings) (s : RuledRun) → Stands (boxed form) settings self.old s → IsErrOf result RunEnds.InFlight → IsGivenUp settings s line.now }
     {
@@ -165,6 +181,25 @@ impl RuledGrid {
         if self.is_held_back(line) {
             return self.pass(alloc, number, out);
         }
+        self.run_at_once(alloc, number, line, out)
+    }
+
+    /// Runs a line that proposes nothing and isn't held back: one of the masters alone, or one at which something happens at
+    /// once.
+    fn run_at_once(
+        &mut self,
+        alloc: Global,
+        number: u32,
+        line: &Line,
+        out: &mut Vec<u8>,
+    ) -> Result<(), RunEnd>
+        requires may { MayRun (boxed form) self.old number line.now }
+        requires ruled { HasMasters (boxed form) self.old }
+        requires nothing { ProposesNothing (boxed form) self.old line.now }
+        requires goes_on { GoesOn (boxed form) self.old line.now }
+        ensures ok { (settings : Settings) (s : RuledRun) → Stands (boxed form) settings self.old s → OnOk result (HasRun (boxed form) settings self.new s line.now out.old.items out.new.items) }
+        ensures full { (settings : Settings) (s : RuledRun) → Stands (boxed form) settings self.old s → IsErrOf result RunEnds.InFlight → IsGivenUp settings s line.now }
+    {
         match line {
             Line::Told { member, crashed } => {
                 self.run_told(alloc, number, *member, *crashed, out)
@@ -187,6 +222,27 @@ impl RuledGrid {
             Line::MasterFlow { partition, most } => {
                 self.run_master_flow(alloc, number, *partition, *most, out)
             }
+            _ => self.run_unasked(alloc, number, line, out),
+        }
+    }
+
+    /// The same, but for the lines of the masters alone.
+    fn run_unasked(
+        &mut self,
+        alloc: Global,
+        number: u32,
+        line: &Line,
+        out: &mut Vec<u8>,
+    ) -> Result<(), RunEnd>
+        requires may { MayRun (boxed form) self.old number line.now }
+        requires ruled { HasMasters (boxed form) self.old }
+        requires nothing { ProposesNothing (boxed form) self.old line.now }
+        requires goes_on { GoesOn (boxed form) self.old line.now }
+        requires other { is_of_masters line.now ≡ false }
+        ensures ok { (settings : Settings) (s : RuledRun) → Stands (boxed form) settings self.old s → OnOk result (HasRun (boxed form) settings self.new s line.now out.old.items out.new.items) }
+        ensures full { (settings : Settings) (s : RuledRun) → Stands (boxed form) settings self.old s → IsErrOf result RunEnds.InFlight → IsGivenUp settings s line.now }
+    {
+        match line {
             Line::Flow { partition, most } => {
                 self.run_flow(alloc, number, *partition, *most, out)
             }
@@ -206,7 +262,11 @@ impl RuledGrid {
         &self,
         alloc: Global,
         line: &Line,
-    ) -> Result<Option<(PartitionId, Decision)>, Memory> {
+    ) -> Result<Option<(PartitionId, Decision)>, Memory>
+        requires may { MayBeNext (boxed form) self.now line.now }
+        requires ruled { HasMasters (boxed form) self.now }
+        ensures { IfOk result (IsProposalOf (boxed form) self.now line.now) }
+    {
         match line {
             Line::Deliver {
                 partition,
@@ -223,13 +283,22 @@ impl RuledGrid {
 
     /// The decision that the table service takes the message at that place of the link from that end. While something is
     /// pending there is none.
+    ///
+    /// A decision has four bytes for the place. So many messages that one stands further on would want 100 gigabytes: that is
+    /// told as want of memory.
     fn taking(
         &self,
         alloc: Global,
         partition: PartitionId,
         from: u8,
         place: usize,
-    ) -> Result<Option<Decision>, Memory> {
+    ) -> Result<Option<Decision>, Memory>
+        requires placed { partition < partitions }
+        requires stands { (settings : Settings) × (s : RuledRun) × Stands (boxed form) settings self.now s }
+        requires ruled { HasMasters (boxed form) self.now }
+        ensures { (settings : Settings) (s : RuledRun) → Stands (boxed form) settings self.now s
+            → IfOk result (λ taking. option_to_list taking ≡ map as_written (proposals (ruled_at (partition_object settings) s partition) (DeliverEvent from s.run.members place))) }
+    {
         if self.masters[usize::from(partition)].pending() {
             return Ok(None);
         }
@@ -239,9 +308,12 @@ impl RuledGrid {
         let Some(message) = world.in_flight(from, self.grid.members()).get(place) else {
             return Ok(None);
         };
+        let Ok(place) = u32::try_from(place) else {
+            return Err(AllocError);
+        };
         Ok(Some(Decision::Take {
             from,
-            place: place as u32,
+            place,
             message: message.copied(alloc)?,
         }))
     }
@@ -249,7 +321,12 @@ impl RuledGrid {
     /// Whether a line that proposes nothing does nothing either. A message to the table service comes to it by a decision
     /// alone, and isn't lost while something is pending; the service sends again only where a live master serves; and nothing
     /// is rebalanced.
-    fn is_held_back(&self, line: &Line) -> bool {
+    fn is_held_back(&self, line: &Line) -> bool
+        requires may { MayBeNext (boxed form) self.now line.now }
+        requires ruled { HasMasters (boxed form) self.now }
+        requires nothing { ProposesNothing (boxed form) self.now line.now }
+        ensures { (settings : Settings) (s : RuledRun) → Stands (boxed form) settings self.now s → result ≡ is_held_back settings s line.now }
+    {
         let service = self.grid.members();
         match line {
             Line::Masters | Line::Rebalance { .. } => true,
@@ -265,20 +342,35 @@ impl RuledGrid {
     }
 
     /// A member crashes as a master, in each partition.
-    fn crash(&mut self, member: MemberId) {
+    fn crash(&mut self, member: MemberId)
+        requires { (settings : Settings) × (s : RuledRun) × Stands (boxed form) settings self.old s }
+        ensures masters { HaveCrashed member self.old.masters.items self.new.masters.items }
+        ensures grid { self.new.grid ≡ self.old.grid }
+    {
         for masters in self.masters.iter_mut() {
             masters.crash(member);
         }
     }
 
     /// Counts a line, whose events are then taken one by one.
-    pub(crate) fn count(&mut self, alloc: Global, number: u32) -> Result<(), RunEnd> {
+    pub(crate) fn count(&mut self, alloc: Global, number: u32) -> Result<(), RunEnd>
+        requires { grid.MayRun (boxed form) self.old.grid number ScriptLines.Comment }
+        ensures amid { (settings : Settings) (r : Run) → grid.Stands (boxed form) settings self.old.grid r → OnOk result (amid.IsAmid (boxed form) settings self.new.grid (next_line r)) }
+        ensures memory { (end : RunEndOf) → IsErrOf result end → end ≡ RunEnds.Memory }
+        ensures masters { self.new.masters ≡ self.old.masters }
+    {
         let mut text = Vec::new(alloc);
         self.grid.run_line(alloc, number, &Line::Comment, &mut text)
     }
 
     /// Counts a line whose condition is false.
-    fn pass(&mut self, alloc: Global, number: u32, out: &mut Vec<u8>) -> Result<(), RunEnd> {
+    fn pass(&mut self, alloc: Global, number: u32, out: &mut Vec<u8>) -> Result<(), RunEnd>
+        requires { grid.MayRun (boxed form) self.old.grid number ScriptLines.Comment }
+        ensures amid { (settings : Settings) (r : Run) → grid.Stands (boxed form) settings self.old.grid r → OnOk result (amid.IsAmid (boxed form) settings self.new.grid (next_line r)) }
+        ensures memory { (end : RunEndOf) → IsErrOf result end → end ≡ RunEnds.Memory }
+        ensures masters { self.new.masters ≡ self.old.masters }
+        ensures text { OnOk result (out.new.items ≡ out.old.items ++ nothing_text number) }
+    {
         self.count(alloc, number)?;
         Ok(push_nothing(out, number)?)
     }

@@ -3,12 +3,14 @@ pub mod FedClients
 pub mod Handed
 pub mod LineReadings
 pub mod LookUps
+pub mod MastersLaws
 pub mod NearLines
 pub mod Nears
 pub mod OneConnection
 pub mod Places
 pub mod Playing
 pub mod ReadBack
+pub mod RuledReadings
 pub mod ScriptLaws
 pub mod Sending
 pub mod Sizes

@@ -1,4 +1,4 @@
--- The text of a line that may append messages tells those that it appended.
+-- The text of a line of the grid by itself that may append messages tells those that it appended.
 use Rattle.std.proofs.Common.{◌≡◌, ℕ, ◌<◌, Bool, true, false, not, cond, List, [], ◌∷◌, ◌++◌, length, drop, Option, Some, None, refl, ap, sym, ◌∙◌, subst, append_assoc, arith}
 use Rattle.std.specs.Prelude.{codes}
 use Rattle.std.specs.Fmt.{decimal}
@@ -33,15 +33,28 @@ use Rattle.replay_run.specs.Printing.{ok_text, nothing_text, words_of, done_word
 use Rattle.replay_run.specs.Rebalancing.{stepped, stepped_all, rebalanced, steps_in, plan_in, is_moving_at}
 use Rattle.replay_run.specs.RebalancingTexts.{kind_word, step_text, plan_text, end_text, ran_text, ran_texts}
 use Rattle.replay_run.specs.WorldCalls.{is_quiet}
-use Rattle.replay_run.proofs.Growing.{stepped_goes, stepped_all_goes}
-use Rattle.replay_run.proofs.LineTexts.{new_more}
+use Rattle.replay_run.proofs.Growing.{Grows, stepped_goes, stepped_all_goes}
+use Rattle.replay_run.proofs.LineTexts.{new_with, new_more}
 use Rattle.script_run.specs.Outputs.{sent_to, bytes_to}
-use Rattle.script_run.specs.Reading.{Tells}
-use Rattle.script_run.proofs.ReadBack.{stays, all_both, decimal_stays, number_stays, Reads, reads_none, reads_both, reads_behind, reads_before, IsQuiet, reads_quiet, reads_messages, reads_whole}
+use Rattle.script_run.proofs.ReadBack.{stays, all_both, decimal_stays, number_stays, Reads, reads_none, reads_both, reads_behind, reads_before, IsQuiet, reads_quiet, reads_messages}
 
 -- nothing was appended
-none_new : (r next : Run) → next.appended ≡ r.appended → new_messages r next ≡ []
+pub none_new : (r next : Run) → next.appended ≡ r.appended → new_messages r next ≡ []
 none_new r next same = ap (drop (length r.appended)) same ∙ drop_all (length r.appended) r.appended (omega arith)
+
+-- in two parts
+pub both_new : (r mid last : Run) → Grows r mid → Grows mid last → new_messages r last ≡ new_messages r mid ++ new_messages mid last
+both_new r mid last first rest =
+    let more = rest.appended in
+    let is : new_messages mid last ≡ more.0 = new_with mid last more.0 (sym more.1) in
+    new_more r mid last more.0 first.appended (sym more.1) ∙ ap (λ ms. new_messages r mid ++ ms) (sym is)
+
+-- and the text of each part tells its own
+pub reads_parted : (c : ℕ) (a b : List ℕ) (r mid last : Run) → Grows r mid → Grows mid last → Reads c a (sent_to c (new_messages r mid)) → Reads c b (sent_to c (new_messages mid last)) → Reads c (a ++ b) (sent_to c (new_messages r last))
+reads_parted c a b r mid last first rest reads then =
+    let whole : sent_to c (new_messages r mid) ++ sent_to c (new_messages mid last) ≡ sent_to c (new_messages r last) =
+    sym (flat_map-append (bytes_to c) (new_messages r mid) (new_messages mid last)) ∙ ap (sent_to c) (sym (both_new r mid last first rest)) in
+    subst (Reads c (a ++ b)) whole (reads_both c a b (sent_to c (new_messages r mid)) (sent_to c (new_messages mid last)) reads then)
 
 -- words
 
@@ -58,11 +71,11 @@ module _ (c : ℕ) where
   quiet_reopening NotLost = record { stay = refl; other = refl }
   quiet_reopening why = record { stay = refl; other = refl }
 
-  quiet_done : (e : Event Request) → IsQuiet c (done_word e)
+  pub quiet_done : (e : Event Request) → IsQuiet c (done_word e)
   quiet_done event.Advance = record { stay = refl; other = refl }
   quiet_done e = record { stay = refl; other = refl }
 
-  quiet_words : (done : List ℕ) → IsQuiet c done → (outcome : Outcome) → IsQuiet c (words_of done outcome)
+  pub quiet_words : (done : List ℕ) → IsQuiet c done → (outcome : Outcome) → IsQuiet c (words_of done outcome)
   quiet_words done quiet NothingDone = record { stay = refl; other = refl }
   quiet_words done quiet Done = quiet
   quiet_words done quiet (TookMessage took) = quiet_took took
@@ -71,7 +84,7 @@ module _ (c : ℕ) where
   quiet_words done quiet (ReopenIsRefused why) = quiet_reopening why
   quiet_words done quiet outcome = record { stay = refl; other = refl }
 
-  quiet_fate : (outcome : Outcome) → IsQuiet c (fate_words outcome)
+  pub quiet_fate : (outcome : Outcome) → IsQuiet c (fate_words outcome)
   quiet_fate Done = record { stay = refl; other = refl }
   quiet_fate (RowMadeAt version) = record { stay = refl; other = refl }
   quiet_fate outcome = record { stay = refl; other = refl }
@@ -86,17 +99,17 @@ module _ (c : ℕ) where
 
   -- lines
 
-  reads_ok : (line : ℕ) → Reads c (ok_text line) []
+  pub reads_ok : (line : ℕ) → Reads c (ok_text line) []
   reads_ok line = reads_quiet c line (codes "ok") (record { stay = refl; other = refl })
 
-  reads_nothing : (line : ℕ) → Reads c (nothing_text line) []
+  pub reads_nothing : (line : ℕ) → Reads c (nothing_text line) []
   reads_nothing line = reads_quiet c line (codes "nothing") (record { stay = refl; other = refl })
 
   -- a line of two parts behind its number
   reads_two : (line : ℕ) (first second : List ℕ) → IsQuiet c (first ++ second) → Reads c (number line ++ first ++ second ++ line_end) []
   reads_two line first second quiet = subst (λ (t : List ℕ). Reads c (t ++ line_end) []) (sym (append_assoc (number line) first second)) (reads_quiet c line (first ++ second) quiet)
 
-  reads_flow : (line n : ℕ) → Reads c (flow_text line n) []
+  pub reads_flow : (line n : ℕ) → Reads c (flow_text line n) []
   reads_flow line n = reads_two line (codes "flow ") (decimal n) (record { stay = decimal_stays n; other = refl })
 
   reads_event : (settings : Settings) (r : Run) (line : ℕ) (e : Option At) → Reads c (event_text settings r line e) []
@@ -166,19 +179,11 @@ module _ (c : ℕ) where
     reads_ran r [] = subst (λ (ms : List Appended). Reads c [] (sent_to c ms)) (sym (none_new r r refl)) (reads_none c)
     reads_ran r (step ∷ steps) =
         let mid = stepped o skips r step in
-        let last = stepped_all o skips mid steps in
         let first = new_messages r mid in
-        let rest = new_messages mid last in
-        let grows = ((stepped_all_goes o mid steps).grows skips).appended in
-        let grown : last.appended ≡ mid.appended ++ rest =
-        sym grows.1 ∙ ap (λ (ms : List Appended). mid.appended ++ ms) (sym (ap (drop (length mid.appended)) (sym grows.1) ∙ drop_at mid.appended grows.0 (length mid.appended) refl)) in
-        let whole : sent_to c first ++ sent_to c rest ≡ sent_to c (new_messages r last) =
-        sym (flat_map-append (bytes_to c) first rest) ∙ ap (sent_to c) (sym (new_more r mid last rest ((stepped_goes o r step).grows skips).appended grown)) in
-        subst (Reads c (ran_texts o skips r (step ∷ steps))) whole
-        (reads_both c (ran_text o skips r step) (ran_texts o skips mid steps) (sent_to c first) (sent_to c rest)
+        reads_parted c (ran_text o skips r step) (ran_texts o skips mid steps) r mid (stepped_all o skips mid steps) ((stepped_goes o r step).grows skips) ((stepped_all_goes o mid steps).grows skips)
         (reads_before c (flat_map appended_text first) (end_text r.lines step.partition (is_moving_at o mid step.partition)) (sent_to c first)
         (reads_messages c small first) (reads_end r.lines step.partition (is_moving_at o mid step.partition)))
-        (reads_ran mid steps))
+        (reads_ran mid steps)
 
 -- the text of a line
 
@@ -203,10 +208,10 @@ module _ (settings : Settings) (skips : List CallId) (r : Run) where
     reads_happened : (line : ℕ) (next : Run) (e : Option At) → Reads c (event_text settings r line e ++ flat_map appended_text (news next) ++ [] ++ [] ++ [] ++ []) (sent_to c (news next))
     reads_happened line next e = reads_parts c (event_text settings r line e) (flat_map appended_text (news next)) [] (sent_to c (news next)) (reads_event c settings r line e) (reads_messages c small (news next)) (reads_none c)
 
-    reads_flowed : (line n : ℕ) (next : Run) → Reads c (flow_text line n ++ flat_map appended_text (news next) ++ [] ++ [] ++ [] ++ []) (sent_to c (news next))
+    pub reads_flowed : (line n : ℕ) (next : Run) → Reads c (flow_text line n ++ flat_map appended_text (news next) ++ [] ++ [] ++ [] ++ []) (sent_to c (news next))
     reads_flowed line n next = reads_parts c (flow_text line n) (flat_map appended_text (news next)) [] (sent_to c (news next)) (reads_flow c line n) (reads_messages c small (news next)) (reads_none c)
 
-    reads_fated : (line : ℕ) (next : Run) (e : Event Request) → Reads c (fate_text settings r line e ++ flat_map appended_text (news next) ++ [] ++ [] ++ [] ++ []) (sent_to c (news next))
+    pub reads_fated : (line : ℕ) (next : Run) (e : Event Request) → Reads c (fate_text settings r line e ++ flat_map appended_text (news next) ++ [] ++ [] ++ [] ++ []) (sent_to c (news next))
     reads_fated line next e = reads_parts c (fate_text settings r line e) (flat_map appended_text (news next)) [] (sent_to c (news next)) (reads_fate c settings r line e) (reads_messages c small (news next)) (reads_none c)
 
     -- bytes, which may do nothing
@@ -243,7 +248,7 @@ module _ (settings : Settings) (skips : List CallId) (r : Run) where
     abbrev after : Line → Run
     after line = after_line o skips r line
 
-    reads_text : (line : Line) → is_quiet line ≡ false → Reads c (line_text settings skips r line (after line)) (sent_to c (news (after line)))
+    pub reads_text : (line : Line) → is_quiet line ≡ false → Reads c (line_text settings skips r line (after line)) (sent_to c (news (after line)))
     reads_text (Arrive k bytes) busy = let line = Arrive k bytes in reads_arrived c small k bytes (after line) (does_nothing o r line) (idle_none k bytes)
     reads_text (Clock member moment) busy = let line = Clock member moment in reads_happened c small (after line).lines (after line) (event_by line)
     reads_text (Deliver p from to place) busy = let line = Deliver p from to place in reads_happened c small (after line).lines (after line) (event_by line)
@@ -261,12 +266,6 @@ module _ (settings : Settings) (skips : List CallId) (r : Run) where
     reads_text (Detect member) busy = let line = Detect member in reads_fated c small (after line).lines (after line) (event.Detect member)
     reads_text (Rebalance most) busy = reads_rebalanced c small most (after (Rebalance most)) refl
     reads_text line busy = absurd cc
-
-  pub line_tells : (line : Line) → is_quiet line ≡ false → Tells (line_text settings skips r line (after_line o skips r line)) (news (after_line o skips r line))
-  line_tells line busy c old more within adds =
-      let next = after_line o skips r line in
-      let small : c < 100 = omega (arith, within) in
-      reads_whole c (line_text settings skips r line next) (sent_to c (news next)) old more (reads_text c small line busy) adds
 
   pub quiet_none : (line : Line) → is_quiet line ≡ true → news (after_line o skips r line) ≡ []
   quiet_none (OpenConn k member) quiet = on_if (λ (x : Run). news x ≡ []) (can_open o r k member) (opened r k member) (next_line r) (none_new r (opened r k member) refl) (none_new r (next_line r) refl)

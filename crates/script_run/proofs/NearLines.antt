@@ -12,13 +12,13 @@ use Rattle.script_lang.specs.declared.line.Line.{Line}
 use Rattle.script_lang.specs.declared.line.Line.TheVariants.{Arrive, Near, NearGet, NearFeed, Comment}
 use Rattle.replay_run.specs.Grids.{FormOf, most_arriving}
 use Rattle.replay_run.specs.Printing.{ok_text, nothing_text, words_line}
-use Rattle.replay_run.specs.Printing as grid_text
 use Rattle.replay_run.specs.Runs.{connection_of}
-use Rattle.replay_run.proofs.Bounds.{line_lines}
+use Rattle.ruled_run.specs.Printing as ruled_text
+use Rattle.ruled_run.proofs.KeptLines.{line_lines, bytes_text}
 use Rattle.script_run.specs.declared.client.NearClient.{NearClient as KeptClient}
 use Rattle.script_run.specs.declared.grid.ScriptGrid.{ScriptGrid}
 use Rattle.script_run.specs.NearClients.{NearClient, opening_of, new_near, used, get_sent, missed, piece, told, fed}
-use Rattle.script_run.specs.Runs.{ScriptRun, Look, Unmade, Hit, Miss, near_of, can_begin, look, asked_line, after_look, changed, grid_line, nears_by, takes}
+use Rattle.script_run.specs.Runs.{ScriptRun, ruled_of, Look, Unmade, Hit, Miss, near_of, can_begin, look, asked_line, after_look, changed, grid_line, nears_by, takes}
 use Rattle.script_run.specs.AfterLines.{played}
 use Rattle.script_run.specs.Printing.{brought, hit_text, look_text, heard_text, fed_text, line_text}
 use Rattle.script_run.specs.Grids.{AreNear, AreSpoken, Stands, MayRun, HasRun, IsGivenUp, IsGivenUpAt, MayPlay, HasPlayed, HasCounted, HasSent, MaySend}
@@ -37,7 +37,7 @@ pub ran_sent : {V : Type 0} {T : V → Type 0} {form : FormOf V T} {settings : S
 ran_sent {form = form} {settings = settings} new s line ns c bytes stay asked number outcome says at_line written text sent =
     let next = played settings sent.skips (record s { nears = ns }) (Arrive c bytes) in
     let one = same_mid settings s line ns stay in
-    let lines : number ≡ next.run.lines = at_line ∙ sym (line_lines (partition_object settings) sent.skips s.run (Arrive c bytes)) in
+    let lines : number ≡ next.run.lines = at_line ∙ sym (line_lines (partition_object settings) sent.skips (ruled_of s) (Arrive c bytes)) in
     let shown : text ≡ written ++ line_text settings sent.skips s line next =
     sent.added ∙ append_assoc written (outcome number) (brought settings sent.skips s.run c bytes next.run)
     ∙ ap (λ (n : ℕ). written ++ (outcome n ++ brought settings sent.skips s.run c bytes next.run)) lines ∙ ap (λ (t : List ℕ). written ++ t) (sym (says sent.skips next)) in
@@ -145,7 +145,7 @@ may_send {settings = settings} {s = s} stands low size at_line within = record {
 
 pub next_sent : {V : Type 0} {T : V → Type 0} {form : FormOf V T} {settings : Settings} {all : ScriptGrid V T} {number c : ℕ} {bytes : List ℕ} → MaySend form all number c bytes → (s : ScriptRun) → Stands form settings all s
     → number ≡ s.run.lines + 1
-next_sent may s stands = may.next ∙ ap (λ n. n + 1) (sym may.stands.goes.grid.holds.lines ∙ stands.goes.grid.holds.lines)
+next_sent may s stands = may.next ∙ ap (λ n. n + 1) (sym may.stands.goes.grid.grid.holds.lines ∙ stands.goes.grid.grid.holds.lines)
 
 pub may_play_sent : {V : Type 0} {T : V → Type 0} {form : FormOf V T} {all : ScriptGrid V T} {number c : ℕ} {bytes : List ℕ} → MaySend form all number c bytes → MayPlay form all number (Arrive c bytes)
 may_play_sent may = record { settings = may.settings; run = may.run; goes = may.stands.goes; read = may.read; next = may.next; within = may.within }
@@ -168,12 +168,13 @@ module _ {V : Type 0} {T : V → Type 0} {form : FormOf V T} {settings : Setting
   stands_after = record { goes = ran.goes; spoken = subst (λ (xs : Vec Bool Global). AreSpoken xs.items after.run) (sym same) (spoken ran.skips) }
 
   lines_after : after.run.lines ≡ number
-  lines_after = line_lines (partition_object settings) ran.skips s.run (Arrive c bytes) ∙ sym at_line
+  lines_after = line_lines (partition_object settings) ran.skips (ruled_of s) (Arrive c bytes) ∙ sym at_line
 
   -- Bytes can arrive: the text is that of a line of bytes.
   printed_is : takes (partition_object settings) s.run (connection_of s.run c) ≡ true → printed ≡ ok_text number ++ brought settings ran.skips s.run c bytes after.run
   printed_is taking =
-      ran.added ∙ ap (λ (t : List ℕ). t ++ grid_text.line_text settings ran.skips s.run (Arrive c bytes) after.run) none
+      ran.added ∙ ap (λ (t : List ℕ). t ++ ruled_text.line_text settings ran.skips (ruled_of s) (Arrive c bytes) (ruled_of after)) none
+      ∙ bytes_text settings ran.skips (ruled_of s) c bytes (ruled_of after)
       ∙ text_of_bytes settings ran.skips s.run c bytes after.run taking ∙ ap (λ (n : ℕ). ok_text n ++ brought settings ran.skips s.run c bytes after.run) lines_after
 
   pub printed_brings : takes (partition_object settings) s.run (connection_of s.run c) ≡ true → (more : List ℕ) × (printed ≡ ok_text number ++ more)

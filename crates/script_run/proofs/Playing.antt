@@ -1,5 +1,5 @@
 -- What the grid runs at a line, and what that makes of the run of a script.
-use Rattle.std.proofs.Common.{◌≡◌, ◌≢◌, ℕ, ◌+◌, ◌≤◌, true, false, not, cond, List, [], ◌++◌, length, length-append, map, drop, refl, ap, sym, ◌∙◌, subst, arith, Vec, Global, Bool}
+use Rattle.std.proofs.Common.{◌≡◌, ◌≢◌, ℕ, ◌+◌, ◌≤◌, true, false, cond, List, [], ◌++◌, length, length-append, map, drop, refl, ap, sym, ◌∙◌, subst, arith, Vec, Global, Bool}
 use Rattle.std.proofs.lemmas.List.{drop_at}
 use Rattle.grid_base.specs.declared.names.CallId.{CallId}
 use Rattle.call_engine.specs.Calls.{Settings}
@@ -11,21 +11,22 @@ use Rattle.script_lang.specs.declared.line.Line.{Line}
 use Rattle.script_lang.specs.declared.line.Line.TheVariants.{Arrive, Near, NearGet, NearFeed, Comment}
 use Rattle.replay_run.specs.Appending.{new_messages}
 use Rattle.replay_run.specs.Grids.{FormOf, most_arriving}
-use Rattle.replay_run.specs.Grids as grid
 use Rattle.replay_run.specs.Printing.{nothing_text}
-use Rattle.replay_run.specs.Printing as grid_text
 use Rattle.replay_run.specs.Runs.{Run, Appended}
-use Rattle.replay_run.specs.Skips.{AreOfLine}
-use Rattle.replay_run.specs.WorldCalls.{is_quiet}
+use Rattle.ruled_run.specs.Grids as ruled
+use Rattle.ruled_run.specs.Grids.{AreOfLine}
+use Rattle.ruled_run.specs.Printing as ruled_text
+use Rattle.ruled_run.specs.Runs.{RuledRun}
 use Rattle.script_run.specs.declared.grid.ScriptGrid.{ScriptGrid}
 use Rattle.script_run.specs.NearClients.{NearClient}
-use Rattle.script_run.specs.Runs.{ScriptRun, grid_line, nears_by, is_near_connection}
+use Rattle.script_run.specs.Outputs.{appends}
+use Rattle.script_run.specs.Runs.{ScriptRun, ruled_of, grid_line, nears_by, is_near_connection}
 use Rattle.script_run.specs.AfterLines.{noting, played, after_line}
 use Rattle.script_run.specs.Printing.{line_text}
 use Rattle.script_run.specs.Reading.{Tells}
 use Rattle.script_run.specs.Grids.{AreNear, AreSpoken, Goes, Stands, MayRun, HasRun, IsGivenUp, MayPlay, HasPlayed, IsGivenUpAt, HasCounted}
-use Rattle.script_run.proofs.LineReadings.{line_tells, quiet_none}
 use Rattle.script_run.proofs.Nears.{none_noted}
+use Rattle.script_run.proofs.RuledReadings.{line_tells, quiet_none}
 use Rattle.script_run.proofs.Spoken.{are_spoken_as}
 
 pub if_true : {X : Type 0} (b : Bool) (x y : X) → b ≡ true → cond b x y ≡ x
@@ -59,17 +60,17 @@ longer line m a b more w = w
 
 module _ {V : Type 0} {T : V → Type 0} {form : FormOf V T} {settings : Settings} (all : ScriptGrid V T) (number : ℕ) (line : Line) where
   pub next_number : MayRun form all number line → (s : ScriptRun) → Stands form settings all s → number ≡ s.run.lines + 1
-  next_number may s stands = may.next ∙ ap (λ n. n + 1) (sym may.stands.goes.grid.holds.lines ∙ stands.goes.grid.holds.lines)
+  next_number may s stands = may.next ∙ ap (λ n. n + 1) (sym may.stands.goes.grid.grid.holds.lines ∙ stands.goes.grid.grid.holds.lines)
 
   pub next_played : MayPlay form all number line → (s : ScriptRun) → Goes form settings all s → number ≡ s.run.lines + 1
-  next_played may s goes = may.next ∙ ap (λ n. n + 1) (sym may.goes.grid.holds.lines ∙ goes.grid.holds.lines)
+  next_played may s goes = may.next ∙ ap (λ n. n + 1) (sym may.goes.grid.grid.holds.lines ∙ goes.grid.grid.holds.lines)
 
 pub same_members : {V : Type 0} {T : V → Type 0} {form : FormOf V T} {settings : Settings} {all : ScriptGrid V T} {number : ℕ} {line : Line} (may : MayRun form all number line) (s : ScriptRun) → Stands form settings all s → may.run.run.members ≡ s.run.members
-same_members may s stands = sym may.stands.goes.grid.holds.members ∙ stands.goes.grid.holds.members
+same_members may s stands = sym may.stands.goes.grid.grid.holds.members ∙ stands.goes.grid.grid.holds.members
 
 -- The grid may run what the line is to it.
-pub grid_may : {V : Type 0} {T : V → Type 0} {form : FormOf V T} {all : ScriptGrid V T} {number : ℕ} {line : Line} → MayPlay form all number line → grid.MayRun form all.grid number line
-grid_may may = record { settings = may.settings; run = may.run.run; stands = may.goes.grid; read = may.read; next = may.next; within = may.within }
+pub grid_may : {V : Type 0} {T : V → Type 0} {form : FormOf V T} {all : ScriptGrid V T} {number : ℕ} {line : Line} → MayPlay form all number line → ruled.MayRun form all.grid number line
+grid_may may = record { settings = may.settings; run = ruled_of may.run; stands = may.goes.grid; read = may.read; next = may.next; within = may.within }
 
 pub may_play : {V : Type 0} {T : V → Type 0} {form : FormOf V T} {all : ScriptGrid V T} {number : ℕ} {line : Line} → MayRun form all number line → MayPlay form all number line
 may_play {line = line} may = record {
@@ -86,12 +87,12 @@ pub may_count : {V : Type 0} {T : V → Type 0} {form : FormOf V T} {all : Scrip
 may_count may = record { settings = may.settings; run = may.run; goes = may.stands.goes; read = tt; next = may.next; within = may.within }
 
 -- a line whose calls all found memory
-no_skips : (settings : Settings) (r : Run) (line : Line) → AreOfLine (partition_object settings) r line []
-no_skips settings r line id there = absurd (in_contains id [] there)
+no_skips : (settings : Settings) (s : RuledRun) (line : Line) → AreOfLine settings s line []
+no_skips settings s line id there = absurd (in_contains id [] there)
 
 -- The grid ran a line.
 
-module _ {V : Type 0} {T : V → Type 0} {form : FormOf V T} {settings : Settings} (new : ScriptGrid V T) (s : ScriptRun) (line : Line) {written text : List ℕ} (ran : grid.HasRun form settings new.grid s.run line written text) where
+module _ {V : Type 0} {T : V → Type 0} {form : FormOf V T} {settings : Settings} (new : ScriptGrid V T) (s : ScriptRun) (line : Line) {written text : List ℕ} (ran : ruled.HasRun form settings new.grid (ruled_of s) line written text) where
   abbrev next : Run
   next = (played settings ran.skips s line).run
 
@@ -100,31 +101,21 @@ module _ {V : Type 0} {T : V → Type 0} {form : FormOf V T} {settings : Setting
   has_played nears = record { skips = ran.skips; of_line = ran.of_line; goes = record { grid = ran.stands; nears = nears }; added = ran.added }
 
   -- what it printed tells that
-  pub printed_tells : is_quiet line ≡ false → (more : List ℕ) → more ≡ drop (length written) text → Tells more (new_messages s.run next)
+  pub printed_tells : appends line ≡ true → (more : List ℕ) → more ≡ drop (length written) text → Tells more (new_messages s.run next)
   printed_tells busy more is =
-      let shown : more ≡ grid_text.line_text settings ran.skips s.run line next =
-      is ∙ ap (drop (length written)) ran.added ∙ drop_at written (grid_text.line_text settings ran.skips s.run line next) (length written) refl in
-      subst (λ (t : List ℕ). Tells t (new_messages s.run next)) (sym shown) (line_tells settings ran.skips s.run line busy)
+      let line_text : List ℕ = ruled_text.line_text settings ran.skips (ruled_of s) line (ruled_of (played settings ran.skips s line)) in
+      let shown : more ≡ line_text = is ∙ ap (drop (length written)) ran.added ∙ drop_at written line_text (length written) refl in
+      subst (λ (t : List ℕ). Tells t (new_messages s.run next)) (sym shown) (line_tells settings ran.skips (ruled_of s) line busy)
 
   -- or nothing was appended
-  pub has_played_quietly : is_quiet line ≡ true → AreNear new.nears.items s.nears → HasPlayed form settings new s line written text
+  pub has_played_quietly : appends line ≡ false → AreNear new.nears.items s.nears → HasPlayed form settings new s line written text
   has_played_quietly quiet nears =
       has_played
-      (subst (λ (ms : List Appended). AreNear new.nears.items (map (noting ms) s.nears)) (sym (quiet_none settings ran.skips s.run line quiet)) (none_noted new.nears.items s.nears nears))
+      (subst (λ (ms : List Appended). AreNear new.nears.items (map (noting ms) s.nears)) (sym (quiet_none settings ran.skips (ruled_of s) line quiet)) (none_noted new.nears.items s.nears nears))
 
 -- It was given up.
-pub given_up_played : {settings : Settings} (s : ScriptRun) (line : Line) → grid.IsGivenUp settings s.run line → IsGivenUpAt settings s line
+pub given_up_played : {settings : Settings} (s : ScriptRun) (line : Line) → ruled.IsGivenUp settings (ruled_of s) line → IsGivenUpAt settings s line
 given_up_played s line given = record { skips = given.skips; of_line = given.of_line; full = given.full }
-
--- whether a line may append messages
-
-pub quiet_by : (quiet b : Bool) → b ≡ not quiet → b ≡ false → quiet ≡ true
-quiet_by true b e no_more = refl
-quiet_by false b e no_more = absurd cc
-
-pub busy_by : (quiet b : Bool) → b ≡ not quiet → b ≡ true → quiet ≡ false
-busy_by true b e more = absurd cc
-busy_by false b e more = refl
 
 pub longer_text : (written more text : List ℕ) → text ≡ written ++ more → length written ≤ length text
 longer_text written more text e = let size = ap length e ∙ length-append written more in omega (arith, size)
@@ -137,13 +128,13 @@ mid settings s line = record s { nears = nears_by (partition_object settings) s 
 
 -- It is this line to the grid.
 pub ran_as : {V : Type 0} {T : V → Type 0} {form : FormOf V T} {settings : Settings} (new : ScriptGrid V T) (s : ScriptRun) (line asked : Line) → grid_line (partition_object settings) s line ≡ asked → (skips : List CallId)
-    → AreOfLine (partition_object settings) s.run asked skips → Stands form settings new (played settings skips (mid settings s line) asked)
+    → AreOfLine settings (ruled_of s) asked skips → Stands form settings new (played settings skips (mid settings s line) asked)
     → (written text : List ℕ) → text ≡ written ++ line_text settings skips s line (played settings skips (mid settings s line) asked) → HasRun form settings new s line written text
 ran_as {form = form} {settings = settings} new s line asked is skips of_line stands written text added =
     let whole : after_line settings skips s line ≡ played settings skips (mid settings s line) asked = ap (played settings skips (mid settings s line)) is in
     record {
       skips = skips;
-      of_line = subst (λ (l : Line). AreOfLine (partition_object settings) s.run l skips) (sym is) of_line;
+      of_line = subst (λ (l : Line). AreOfLine settings (ruled_of s) l skips) (sym is) of_line;
       stands = subst (Stands form settings new) (sym whole) stands;
       added = added ∙ ap (λ (next : ScriptRun). written ++ line_text settings skips s line next) (sym whole);
     }
@@ -151,7 +142,7 @@ ran_as {form = form} {settings = settings} new s line asked is skips of_line sta
 pub given_up_at : {settings : Settings} (s : ScriptRun) (line asked : Line) → grid_line (partition_object settings) s line ≡ asked → IsGivenUpAt settings (mid settings s line) asked → IsGivenUp settings s line
 given_up_at {settings = settings} s line asked is given = record {
   skips = given.skips;
-  of_line = subst (λ (l : Line). AreOfLine (partition_object settings) s.run l given.skips) (sym is) given.of_line;
+  of_line = subst (λ (l : Line). AreOfLine settings (ruled_of s) l given.skips) (sym is) given.of_line;
   full = ap (λ (l : Line). (played settings given.skips (mid settings s line) l).run.full) is ∙ given.full;
 }
 
@@ -160,8 +151,8 @@ pub ran_counted : {V : Type 0} {T : V → Type 0} {form : FormOf V T} {settings 
     → new.spoken ≡ all.spoken → (added written text : List ℕ) → HasCounted form settings new (mid settings s line) added written text → added ≡ line_text settings [] s line (played settings [] (mid settings s line) Comment)
     → HasRun form settings new s line written text
 ran_counted {settings = settings} new all s line is spoken same added written text counted shown =
-    let still = are_spoken_as settings [] s.run all.spoken new.spoken Comment (λ k bytes e. cc e) same spoken in
-    ran_as new s line Comment is [] (no_skips settings s.run Comment) (record { goes = counted.goes; spoken = still }) written text (counted.is ∙ ap (λ (t : List ℕ). written ++ t) shown)
+    let still = are_spoken_as settings [] (ruled_of s) all.spoken new.spoken Comment (λ k bytes e. cc e) same spoken in
+    ran_as new s line Comment is [] (no_skips settings (ruled_of s) Comment) (record { goes = counted.goes; spoken = still }) written text (counted.is ∙ ap (λ (t : List ℕ). written ++ t) shown)
 
 -- its condition is false
 pub ran_passed : {V : Type 0} {T : V → Type 0} {form : FormOf V T} {settings : Settings} (new all : ScriptGrid V T) (s : ScriptRun) (line : Line) (number : ℕ) → Stands form settings all s → number ≡ s.run.lines + 1
@@ -178,7 +169,7 @@ ran_passed {form = form} {settings = settings} new all s line number stands at_l
 pub record IsGrids (settings : Settings) (s : ScriptRun) (line : Line) : Type 0 where
   pub asked : grid_line (partition_object settings) s line ≡ line
   pub stay : nears_by (partition_object settings) s line ≡ s.nears
-  pub says : (skips : List CallId) (next : ScriptRun) → line_text settings skips s line next ≡ grid_text.line_text settings skips s.run line next.run
+  pub says : (skips : List CallId) (next : ScriptRun) → line_text settings skips s line next ≡ ruled_text.line_text settings skips (ruled_of s) line (ruled_of next)
 
 pub is_grids : (settings : Settings) (s : ScriptRun) (line : Line) → ((c : ℕ) (name : List ℕ) (capacity : ℕ) → line ≢ Near c name capacity) → ((c : ℕ) (key : List ℕ) → line ≢ NearGet c key)
     → ((c most : ℕ) → line ≢ NearFeed c most) → ((c : ℕ) (bytes : List ℕ) → line ≢ Arrive c bytes) → IsGrids settings s line
@@ -193,7 +184,7 @@ pub is_grids_bytes : (settings : Settings) (s : ScriptRun) (c : ℕ) (bytes : Li
 is_grids_bytes settings s c bytes free = record {
   asked = if_false (is_near_connection s c) Comment (Arrive c bytes) free;
   stay = refl;
-  says = λ skips next. if_false (is_near_connection s c) (nothing_text next.run.lines) (grid_text.line_text settings skips s.run (Arrive c bytes) next.run) free;
+  says = λ skips next. if_false (is_near_connection s c) (nothing_text next.run.lines) (ruled_text.line_text settings skips (ruled_of s) (Arrive c bytes) (ruled_of next)) free;
 }
 
 stayed : {settings : Settings} {s : ScriptRun} {line : Line} → IsGrids settings s line → mid settings s line ≡ s
@@ -213,7 +204,7 @@ given_up_grids {settings = settings} s line grids given = given_up_at s line lin
 -- Who has spoken is no matter of what the grid runs.
 pub goes_as : {V : Type 0} {T : V → Type 0} {form : FormOf V T} {settings : Settings} {old new : ScriptGrid V T} {s : ScriptRun} → (record new { spoken = old.spoken }) ≡ old → Goes form settings old s → Goes form settings new s
 goes_as {form = form} {settings = settings} {s = s} same goes = record {
-  grid = subst (λ all. grid.Stands form settings all.grid s.run) (sym same) goes.grid;
+  grid = subst (λ all. ruled.Stands form settings all.grid (ruled_of s)) (sym same) goes.grid;
   nears = subst (λ all. AreNear all.nears.items s.nears) (sym same) goes.nears;
 }
 

@@ -17,10 +17,14 @@ use Rattle.script_lang.specs.declared.line.Line.TheVariants.{OpenConn, Arrive, C
 use Rattle.replay_run.specs.Runs.{Run, Connection, begun, partitions, is_connection, connection_of, takes_bytes, can_open, opened, updated, with_bytes, took_bytes, items_by, forsaken, handled_all, bytes_arrived, next_line, clock_set, event_by}
 use Rattle.replay_run.specs.AfterLines.{after_line}
 use Rattle.replay_run.specs.WorldCalls.{member_if_open, open_member_in}
-use Rattle.replay_run.proofs.EventRuns.{Kept, served_in_kept, flowed_kept, flowed_in_kept, takes_in_kept, forsaken_kept}
+use Rattle.replay_run.proofs.EventRuns.{Kept, takes_kept, served_in_kept, flowed_kept, flowed_in_kept, takes_in_kept, forsaken_kept}
 use Rattle.replay_run.proofs.Rebalanced.{rebalanced_kept}
 use Rattle.replay_run.proofs.Bounds.{event_kept}
 use Rattle.replay_run.proofs.Lines.{handled_all_come}
+use Rattle.ruled_run.specs.Runs.{RuledRun}
+use Rattle.ruled_run.specs.AfterLines as ruled
+use Rattle.ruled_run.proofs.KeptLines.{bytes_after}
+use Rattle.ruled_run.proofs.RuledRuns.{line_keeps}
 use Rattle.script_run.specs.Runs.{is_silent, takes}
 use Rattle.script_run.specs.Grids.{has_spoken, AreSpoken}
 
@@ -160,14 +164,18 @@ silent (suc n) (suc c) low = silent n c (omega (arith, low))
 pub silent_at_first : (spoken : List Bool) (members backups n : ℕ) → spoken ≡ replicate n false → 64 ≤ n → AreSpoken spoken (begun members backups)
 silent_at_first spoken members backups n all enough c within = ap (λ (xs : List Bool). slice_get xs c) all ∙ silent n c (omega (arith, enough, within))
 
--- where every line but one of bytes leaves it, and one of bytes
+-- where every line but one of bytes leaves it, and one of bytes, with masters or without
 
-pub are_spoken_kept : (o : Object Request Partition) (skips : List CallId) (r : Run) (spoken : List Bool) (line : Line) → ((k : ℕ) (bytes : List ℕ) → line ≢ Arrive k bytes) → AreSpoken spoken r → AreSpoken spoken (after_line o skips r line)
-are_spoken_kept o skips r spoken line other are c within = are c within ∙ ap Some (sym (spoken_kept o skips r c line other))
+pub are_spoken_kept : (o : Object Request Partition) (skips : List CallId) (s : RuledRun) (spoken : List Bool) (line : Line) → ((k : ℕ) (bytes : List ℕ) → line ≢ Arrive k bytes) → AreSpoken spoken s.run → AreSpoken spoken (ruled.after_line o skips s line).run
+are_spoken_kept o skips s spoken line other are c within =
+    are c within
+    ∙ ap Some (sym (line_keeps o skips (Same o skips s.run c) (λ r h. h) (λ r p e quiet h. ap (λ (ks : List Connection). spoken_on ks c) (takes_kept o skips r p e).connections ∙ h) s line refl (spoken_kept o skips s.run c line other)))
 
-pub are_spoken_taking : (o : Object Request Partition) (skips : List CallId) (r : Run) (spoken : List Bool) (k : ℕ) (bytes : List ℕ) → 1 ≤ length bytes → takes o r (connection_of r k) ≡ true → AreSpoken spoken r
+-- bytes, to the grid by itself
+
+taking_alone : (o : Object Request Partition) (skips : List CallId) (r : Run) (spoken : List Bool) (k : ℕ) (bytes : List ℕ) → 1 ≤ length bytes → takes o r (connection_of r k) ≡ true → AreSpoken spoken r
     → AreSpoken (slice_set spoken k true) (after_line o skips r (Arrive k bytes))
-are_spoken_taking o skips r spoken k bytes some taking are c within = by (k == c) refl
+taking_alone o skips r spoken k bytes some taking are c within = by (k == c) refl
   where
     by : (b : Bool) → (k == c) ≡ b → slice_get (slice_set spoken k true) c ≡ Some (spoken_by o skips r c k bytes)
     by true own =
@@ -176,9 +184,9 @@ are_spoken_taking o skips r spoken k bytes some taking are c within = by (k == c
         subst (λ (n : ℕ). slice_get (slice_set spoken n true) c ≡ Some (spoken_by o skips r c n bytes)) (sym same) (set_here spoken c (has_spoken (connection_of r c)) true (are c within) ∙ ap Some (sym is))
     by false other = set_elsewhere spoken k c true other ∙ are c within ∙ ap Some (sym (arrived_elsewhere o skips r c k bytes other))
 
-pub are_spoken_refusing : (o : Object Request Partition) (skips : List CallId) (r : Run) (spoken : List Bool) (k : ℕ) (bytes : List ℕ) → 1 ≤ length bytes → takes o r (connection_of r k) ≡ false → AreSpoken spoken r
+refusing_alone : (o : Object Request Partition) (skips : List CallId) (r : Run) (spoken : List Bool) (k : ℕ) (bytes : List ℕ) → 1 ≤ length bytes → takes o r (connection_of r k) ≡ false → AreSpoken spoken r
     → AreSpoken spoken (after_line o skips r (Arrive k bytes))
-are_spoken_refusing o skips r spoken k bytes some refusing are c within = by (k == c) refl
+refusing_alone o skips r spoken k bytes some refusing are c within = by (k == c) refl
   where
     by : (b : Bool) → (k == c) ≡ b → slice_get spoken c ≡ Some (spoken_by o skips r c k bytes)
     by true own =
@@ -186,6 +194,18 @@ are_spoken_refusing o skips r spoken k bytes some refusing are c within = by (k 
         let is : spoken_by o skips r c c bytes ≡ has_spoken (connection_of r c) = arrived_here o skips r c bytes some ∙ ap (λ (t : Bool). t || has_spoken (connection_of r c)) (ap (λ (n : ℕ). takes o r (connection_of r n)) (sym same) ∙ refusing) in
         subst (λ (n : ℕ). slice_get spoken c ≡ Some (spoken_by o skips r c n bytes)) (sym same) (are c within ∙ ap Some (sym is))
     by false other = are c within ∙ ap Some (sym (arrived_elsewhere o skips r c k bytes other))
+
+-- and with masters
+
+pub are_spoken_taking : (o : Object Request Partition) (skips : List CallId) (s : RuledRun) (spoken : List Bool) (k : ℕ) (bytes : List ℕ) → 1 ≤ length bytes → takes o s.run (connection_of s.run k) ≡ true → AreSpoken spoken s.run
+    → AreSpoken (slice_set spoken k true) (ruled.after_line o skips s (Arrive k bytes)).run
+are_spoken_taking o skips s spoken k bytes some taking are =
+    subst (λ (x : RuledRun). AreSpoken (slice_set spoken k true) x.run) (sym (bytes_after o skips s k bytes)) (taking_alone o skips s.run spoken k bytes some taking are)
+
+pub are_spoken_refusing : (o : Object Request Partition) (skips : List CallId) (s : RuledRun) (spoken : List Bool) (k : ℕ) (bytes : List ℕ) → 1 ≤ length bytes → takes o s.run (connection_of s.run k) ≡ false → AreSpoken spoken s.run
+    → AreSpoken spoken (ruled.after_line o skips s (Arrive k bytes)).run
+are_spoken_refusing o skips s spoken k bytes some refusing are =
+    subst (λ (x : RuledRun). AreSpoken spoken x.run) (sym (bytes_after o skips s k bytes)) (refusing_alone o skips s.run spoken k bytes some refusing are)
 
 -- Bytes can arrive where the grid has a member for them.
 pub takes_is : (settings : Settings) (r : Run) (c : ℕ) → is_some (open_member_in settings r c) ≡ takes (partition_object settings) r (connection_of r c)
@@ -207,7 +227,7 @@ inside (y ∷ xs) (suc i) x e = let rest = inside xs i x e in omega (arith, rest
 pub spoken_within : (spoken : List Bool) (r : Run) (c : ℕ) → AreSpoken spoken r → c ≤ 63 → c < length spoken
 spoken_within spoken r c are within = inside spoken c (has_spoken (connection_of r c)) (are c within)
 
-pub are_spoken_as : (settings : Settings) (skips : List CallId) (r : Run) (old new : Vec Bool Global) (line : Line) → ((k : ℕ) (bytes : List ℕ) → line ≢ Arrive k bytes) → new ≡ old → AreSpoken old.items r
-    → AreSpoken new.items (after_line (partition_object settings) skips r line)
-are_spoken_as settings skips r old new line other same are =
-    subst (λ (xs : Vec Bool Global). AreSpoken xs.items (after_line (partition_object settings) skips r line)) (sym same) (are_spoken_kept (partition_object settings) skips r old.items line other are)
+pub are_spoken_as : (settings : Settings) (skips : List CallId) (s : RuledRun) (old new : Vec Bool Global) (line : Line) → ((k : ℕ) (bytes : List ℕ) → line ≢ Arrive k bytes) → new ≡ old → AreSpoken old.items s.run
+    → AreSpoken new.items (ruled.after_line (partition_object settings) skips s line).run
+are_spoken_as settings skips s old new line other same are =
+    subst (λ (xs : Vec Bool Global). AreSpoken xs.items (ruled.after_line (partition_object settings) skips s line).run) (sym same) (are_spoken_kept (partition_object settings) skips s old.items line other are)

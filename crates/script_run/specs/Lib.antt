@@ -1,6 +1,7 @@
 pub mod AfterLines
 pub mod Grids
 pub mod Laws
+pub mod Masters
 pub mod NearClients
 pub mod Outputs
 pub mod Printing

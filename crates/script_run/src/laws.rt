@@ -1,6 +1,7 @@
 //! What holds of every run of a script's lines. Nothing runs here.
 
 ghost use Rattle.script_run.specs.Laws.{EveryRunIsTheGrids, EveryRunIsLinearizable, EverySkippedCallIsTold, EveryRunThatTellsOfNoSkipHasNone, EveryCallCountsOnce};
+ghost use Rattle.script_run.specs.Masters.{EveryRunIsRuled, EveryServiceServesAsPublished, EveryPublishedListGrows};
 
 /// What the near clients of a script do is, to the grid, bytes that arrive on their connections.
 pub fn every_run_is_the_grids()
@@ -28,4 +29,21 @@ pub fn every_run_that_tells_of_no_skip_has_none()
 /// counted once.
 pub fn every_call_counts_once()
     ensures { EveryCallCountsOnce }
+{}
+
+/// Where masters run the table service of each partition, what holds of masters holds of those of a script, unless its run
+/// is given up.
+pub fn every_run_is_ruled()
+    ensures { EveryRunIsRuled }
+{}
+
+/// The events that the table service of a partition took are what its masters published, in order, and the service alone
+/// over that list comes to the same row, move and detected members. At most one live member gathers or serves.
+pub fn every_service_serves_as_published()
+    ensures { EveryServiceServesAsPublished }
+{}
+
+/// What masters published stays at its place, whoever is master later, and no version of a row is made twice.
+pub fn every_published_list_grows()
+    ensures { EveryPublishedListGrows }
 {}

@@ -16,6 +16,7 @@ mod print;
 
 pub use grid::ScriptGrid;
 pub use laws::{
-    every_call_counts_once, every_run_is_linearizable, every_run_is_the_grids,
-    every_run_that_tells_of_no_skip_has_none, every_skipped_call_is_told,
+    every_call_counts_once, every_published_list_grows, every_run_is_linearizable,
+    every_run_is_ruled, every_run_is_the_grids, every_run_that_tells_of_no_skip_has_none,
+    every_service_serves_as_published, every_skipped_call_is_told,
 };

@@ -1,4 +1,5 @@
 use Rattle.grid_cli.proofs.CommandLaws.{prints_histories}
+use Rattle.grid_cli.proofs.Decisions.{prints_decisions}
 use Rattle.grid_cli.proofs.NearHits.{prints_hits}
 use Rattle.grid_cli.proofs.ReplayRuns.{nothing_played}
 use Rattle.grid_cli.proofs.replay.run_script.Goals as goal
@@ -12,6 +13,9 @@ returns-in_default-clause-headline g c = prints_histories _ _ _ _ _ _ (nothing_p
 pub returns-in_default-clause-hits : goal.returns-in_default-clause-hits
 returns-in_default-clause-hits g c = prints_hits _ _ _ _ _ _ (nothing_played _ _ _)
 
+pub returns-in_default-clause-decisions : goal.returns-in_default-clause-decisions
+returns-in_default-clause-decisions g c = prints_decisions _ _ _ _ _ _ (nothing_played _ _ _)
+
 pub returns-clause-text : goal.returns-clause-text
 returns-clause-text g c = c.run_pieces.ensures.text
 
@@ -20,6 +24,9 @@ returns-clause-headline g c = prints_histories _ c.run_pieces.result _ _ _ _ c.r
 
 pub returns-clause-hits : goal.returns-clause-hits
 returns-clause-hits g c = prints_hits _ c.run_pieces.result _ _ _ _ c.run_pieces.ensures.text
+
+pub returns-clause-decisions : goal.returns-clause-decisions
+returns-clause-decisions g c = prints_decisions _ c.run_pieces.result _ _ _ _ c.run_pieces.ensures.text
 
 pub returns-clause-runs : goal.returns-clause-runs
 returns-clause-runs g c = c.run_pieces.ensures.runs

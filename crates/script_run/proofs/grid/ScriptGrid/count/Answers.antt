@@ -9,4 +9,4 @@ returns-clause-ok g c = λ settings s goes. on_ok_weaker c.run_on_grid.result (�
 pub returns-clause-never : goal.returns-clause-never
 returns-clause-never g c = λ settings s goes full.
     let given = c.run_on_grid.ensures.full settings s goes full in
-    let clash : true ≡ false = sym given.full ∙ goes.grid.holds.goes_on in cc
+    let clash : true ≡ false = sym given.full ∙ goes.grid.grid.holds.goes_on in cc

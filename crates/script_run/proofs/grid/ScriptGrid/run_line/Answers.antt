@@ -1,4 +1,5 @@
 use Rattle.std.proofs.lemmas.Result.{on_ok_weaker}
+use Rattle.script_run.specs.Runs.{ruled_of}
 use Rattle.script_run.proofs.Playing.{may_run_as, has_run_as, given_up_as, may_play, is_grids, ran_grids, given_up_grids}
 use Rattle.script_run.proofs.Spoken.{are_spoken_as}
 use Rattle.script_run.proofs.grid.ScriptGrid.run_line.Goals as goal
@@ -48,7 +49,7 @@ returns-in_default-clause-ok g c = λ settings s stands.
     let grids = is_grids settings s line c.in_default.not-Near c.in_default.not-NearGet c.in_default.not-NearFeed c.in_default.not-Arrive in
     on_ok_weaker c.run_on_grid.result
     (λ ran. ran_grids c.run_on_grid.new.self s line grids c.args.out.now.items c.run_on_grid.new.out.items ran
-    (are_spoken_as settings ran.skips s.run c.args.self.now.spoken c.run_on_grid.new.self.spoken line c.in_default.not-Arrive c.run_on_grid.ensures.spoken stands.spoken))
+    (are_spoken_as settings ran.skips (ruled_of s) c.args.self.now.spoken c.run_on_grid.new.self.spoken line c.in_default.not-Arrive c.run_on_grid.ensures.spoken stands.spoken))
     (c.run_on_grid.ensures.ok settings s stands.goes)
 
 pub returns-in_default-clause-full : goal.returns-in_default-clause-full

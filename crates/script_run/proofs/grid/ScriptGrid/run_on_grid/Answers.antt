@@ -1,11 +1,11 @@
-use Rattle.std.proofs.Common.{◌≡◌, ℕ, drop, length, Err, ap, ◌∙◌, arith}
+use Rattle.std.proofs.Common.{◌≡◌, ℕ, drop, length, Err, ap, sym, ◌∙◌, arith}
 use Rattle.std.proofs.lemmas.List.{take_rest}
 use Rattle.replay_run.specs.Appending.{new_messages}
-use Rattle.replay_run.specs.WorldCalls.{is_quiet}
 use Rattle.replay_run.specs.declared.run_end.RunEnd.TheVariants.{InFlight}
 use Rattle.replay_run.proofs.Asking.{handed_on}
 use Rattle.script_run.specs.AfterLines.{played}
-use Rattle.script_run.proofs.Playing.{grid_may, has_played, has_played_quietly, printed_tells, given_up_played, quiet_by, busy_by}
+use Rattle.script_run.specs.Runs.{ruled_of}
+use Rattle.script_run.proofs.Playing.{grid_may, has_played, has_played_quietly, printed_tells, given_up_played}
 use Rattle.script_run.proofs.grid.ScriptGrid.run_on_grid.Goals as goal
 
 pub run_line-requires : goal.run_line-requires
@@ -14,20 +14,20 @@ run_line-requires g c = grid_may c.requires
 pub returns-in_err-run_line-clause-full : goal.returns-in_err-run_line-clause-full
 returns-in_err-run_line-clause-full g c = λ settings s goes was.
     let why = handed_on c.from_residual.result c.in_err-run_line.field-0.0 InFlight c.from_residual.ensures.1 was in
-    given_up_played s c.args.line.now (c.in_err-run_line.ensures.full settings s.run goes.grid (ap Err why))
+    given_up_played s c.args.line.now (c.in_err-run_line.ensures.full settings (ruled_of s) goes.grid (ap Err why))
 
 pub returns-then-not-appends-clause-ok : goal.returns-then-not-appends-clause-ok
 returns-then-not-appends-clause-ok g c = λ settings s goes.
     let line = c.args.line.now in
-    let ran = c.in_ok-run_line.ensures.ok settings s.run goes.grid in
-    let quiet = quiet_by (is_quiet line) c.appends.result c.appends.ensures c.if-not-appends.true in
+    let ran = c.in_ok-run_line.ensures.ok settings (ruled_of s) goes.grid in
+    let quiet = sym c.appends.ensures ∙ c.if-not-appends.true in
     has_played_quietly (record c.args.self.now { grid = c.run_line.new.self }) s line ran quiet goes.nears
 
 pub returns-clause-ok : goal.returns-clause-ok
 returns-clause-ok g c = λ settings s goes.
     let line = c.args.line.now in
-    let ran = c.in_ok-run_line.ensures.ok settings s.run goes.grid in
-    let busy = busy_by (is_quiet line) c.appends.result c.appends.ensures c.if-not-appends.false in
+    let ran = c.in_ok-run_line.ensures.ok settings (ruled_of s) goes.grid in
+    let busy = sym c.appends.ensures ∙ c.if-not-appends.false in
     let from : c.len-from.result ≡ length c.args.out.now.items = (let counted = c.len-from.ensures in omega (arith, counted, c.args.out.now.ok.0)) in
     let new = record c.args.self.now { grid = c.run_line.new.self; nears = c.note_all.new.nears } in
     has_played new s line ran

@@ -1,0 +1,124 @@
+-- A line of a grid with masters, taken apart: it is counted, what it asks for goes on from there, and behind that the grid stands as between two lines.
+use Rattle.std.proofs.Common.{◌≡◌, ℕ, ◌+◌, ◌<◌, ◌≤◌, Bool, true, false, cond, List, [], ◌∷◌, ◌++◌, length, slice_set, refl, ap, sym, ◌∙◌, subst, append_assoc, arith}
+use Rattle.grid_base.specs.Objects.{Object}
+use Rattle.grid_base.specs.declared.names.CallId.{CallId}
+use Rattle.grid_base.specs.declared.calls.Request.{Request}
+use Rattle.object_store.specs.Partitions.{Partition}
+use Rattle.call_engine.specs.Calls.{Settings}
+use Rattle.call_engine.specs.Objects.{partition_object}
+use Rattle.partition_protocol.specs.Events.{Event}
+use Rattle.partition_protocol.proofs.Lists.{on_cond}
+use Rattle.masters_world.specs.Machine.{Ruled, Line, asked_by, masters_after, events_by}
+use Rattle.script_lang.specs.Limits.{most_lines}
+use Rattle.script_lang.specs.declared.line.Line.{Line as ScriptLine}
+use Rattle.script_lang.specs.declared.line.Line.TheVariants.{Comment}
+use Rattle.replay_run.specs.Runs.{Run, partitions, next_line, takes}
+use Rattle.replay_run.specs.Rebalancing.{most_line_events}
+use Rattle.replay_run.specs.Endings.{AreAmong, new_arrivals}
+use Rattle.replay_run.specs.Grids.{FormOf}
+use Rattle.replay_run.specs.Grids as grid
+use Rattle.replay_run.specs.WorldCalls.{HasRoomAt}
+use Rattle.replay_run.specs.WorldCalls as amid
+use Rattle.replay_run.proofs.GridLines as lines
+use Rattle.replay_run.proofs.LineEnds.{comment_may_run, line_has_room, line_ends}
+use Rattle.replay_run.proofs.TakenApart.{TakesFew, TakesFewIn, few_none, few_in_none, few_in_given_up, few_in_wider, takes_one}
+use Rattle.ruled_run.specs.declared.grid.RuledGrid.{RuledGrid}
+use Rattle.ruled_run.specs.Runs.{RuledRun, has_masters, masters_at, ruled_at, meets_full_link, takes_each, given_up, goes, counted}
+use Rattle.ruled_run.specs.AfterLines.{unruled, ruled_line, after_line}
+use Rattle.ruled_run.specs.Printing.{unruled_text, ruled_text, line_text}
+use Rattle.ruled_run.specs.Grids.{Rules, Stands, MayRun, AreOfLine, HasRun, IsGivenUp}
+use Rattle.ruled_run.specs.Steps.{IsAmid, MayAsk, Onward, Texts, HasGoneOn, GivesUp}
+use Rattle.ruled_run.proofs.Going.{single_at}
+use Rattle.ruled_run.proofs.RuleLemmas.{counted_rules}
+
+-- what a grid with masters comes to at a line
+
+pub with_masters : (o : Object Request Partition) (skips : List CallId) (s : RuledRun) (line : ScriptLine) → has_masters s ≡ true → after_line o skips s line ≡ ruled_line o skips s line
+with_masters o skips s line is = ap (λ b. cond b (ruled_line o skips s line) (unruled o skips s line)) is
+
+pub text_with_masters : (settings : Settings) (skips : List CallId) (s : RuledRun) (line : ScriptLine) (next : RuledRun) → has_masters s ≡ true → line_text settings skips s line next ≡ ruled_text settings skips s line next
+text_with_masters settings skips s line next is = ap (λ b. cond b (ruled_text settings skips s line next) (unruled_text settings skips s line next)) is
+
+pub without_masters : (o : Object Request Partition) (skips : List CallId) (s : RuledRun) (line : ScriptLine) → has_masters s ≡ false → after_line o skips s line ≡ unruled o skips s line
+without_masters o skips s line is = ap (λ b. cond b (ruled_line o skips s line) (unruled o skips s line)) is
+
+pub text_without_masters : (settings : Settings) (skips : List CallId) (s : RuledRun) (line : ScriptLine) (next : RuledRun) → has_masters s ≡ false → line_text settings skips s line next ≡ unruled_text settings skips s line next
+text_without_masters settings skips s line next is = ap (λ b. cond b (ruled_text settings skips s line next) (unruled_text settings skips s line next)) is
+
+-- what is asked for in a partition is one event of it at most
+pub goes_few : (o : Object Request Partition) (skips : List CallId) (s : RuledRun) (p : ℕ) (l : Line Request) → length (events_by (ruled_at o s p) l) ≤ 1 → TakesFewIn p 1 1 s.run (goes o skips s p l).run
+goes_few o skips s p l single =
+    let j = ruled_at o s p in
+    on_cond (λ (x : RuledRun). TakesFewIn p 1 1 s.run x.run) (meets_full_link j.masters (asked_by j l)) (given_up s)
+    (record { run = takes_each o skips s.run p (events_by j l); masters = slice_set s.masters p (masters_after j l) })
+    (λ full. few_in_wider (omega arith) (omega arith) (few_in_given_up p s.run)) (λ free. each_few (events_by j l) single)
+  where
+    each_few : (es : List (Event Request)) → length es ≤ 1 → TakesFewIn p 1 1 s.run (takes_each o skips s.run p es)
+    each_few [] few = few_in_wider (omega arith) (omega arith) (few_in_none p s.run)
+    each_few (e ∷ []) few = takes_one o skips s.run p e
+    each_few (e ∷ f ∷ es) few = absurd (omega (arith, few))
+
+module _ {V : Type 0} {T : V → Type 0} {form : FormOf V T} where
+  -- It is counted as a comment is.
+  pub may_count : (all : RuledGrid V T) (number : ℕ) (line : ScriptLine) → MayRun form all number line → grid.MayRun form all.grid number Comment
+  may_count all number line may = record { settings = may.settings; run = may.run.run; stands = may.stands.grid; read = tt; next = may.next; within = may.within }
+
+  pub next_number : (all : RuledGrid V T) (number : ℕ) (line : ScriptLine) → MayRun form all number line → {settings : Settings} (s : RuledRun) → Stands form settings all s → number ≡ s.run.lines + 1
+  next_number all number line may s stands = lines.next_number all.grid number Comment (may_count all number line may) s.run stands.grid
+
+  pub few_lines : (all : RuledGrid V T) (number : ℕ) (line : ScriptLine) → MayRun form all number line → {settings : Settings} (s : RuledRun) → Stands form settings all s → s.run.lines + 1 ≤ most_lines
+  few_lines all number line may s stands = lines.few_lines all.grid number Comment (may_count all number line may) s.run stands.grid
+
+  module _ {settings : Settings} (all : RuledGrid V T) (s : RuledRun) (stands : Stands form settings all s) where
+    pub counted_amid : (new : RuledGrid V T) → new.masters ≡ all.masters → amid.IsAmid form settings new.grid (next_line s.run) → IsAmid form settings new (counted s)
+    counted_amid new kept now = record { grid = now; masters = subst (λ ms. Rules settings ms (counted s)) (ap (λ ms. ms.items) (sym kept)) (counted_rules settings all.masters.items s stands.masters) }
+
+    -- one event at most, of what a line asks for in a partition
+    pub single : has_masters s ≡ true → (p : ℕ) → p < partitions → (l : Line Request) → length (events_by (ruled_at (partition_object settings) s p) l) ≤ 1
+    single is p low l =
+        let at = stands.masters.each is p low in
+        single_at (partition_object settings) s p at.are.lines at.are.of_lines (subst (λ n. 1 ≤ n) at.are.size at.are.stands.some) stands.masters.most l
+
+    module _ (limit : s.run.lines + 1 ≤ most_lines) where
+      pub may_ask : (new : RuledGrid V T) → has_masters s ≡ true → IsAmid form settings new (counted s) → (p : ℕ) → p < partitions → MayAsk form new p
+      may_ask new is now p low = record {
+        settings = settings;
+        run = counted s;
+        amid = now;
+        ruled = is;
+        placed = low;
+        room = line_has_room all.grid s.run stands.grid limit (next_line s.run) 0 0 (few_none (next_line s.run)) p 1 (omega arith);
+      }
+
+      -- It stands behind its last event.
+      pub stands_then : (new : RuledGrid V T) (next : RuledRun) (taken reopens : ℕ) → TakesFew taken reopens (next_line s.run) next.run → taken ≤ most_line_events → reopens ≤ most_line_events → IsAmid form settings new next → Stands form settings new next
+      stands_then new next taken reopens few within rarely now =
+          let lines = few.kept.lines in
+          let some = stands.some in
+          record {
+            grid = line_ends all.grid s.run stands.grid limit next.run taken reopens few new.grid within rarely now.grid;
+            masters = now.masters;
+            some = omega (arith, lines);
+            begun = λ one. absurd (omega (arith, lines, some, one));
+          }
+
+      -- The line ran, and its text is its outcome and what followed it.
+      module _ (new : RuledGrid V T) (line : ScriptLine) (onward : Onward) (texts : Texts) (start said : List ℕ) (on : HasGoneOn form settings new (counted s) onward texts start said)
+          (after : after_line (partition_object settings) on.skips s line ≡ onward on.skips) (taken reopens : ℕ) (few : TakesFew taken reopens (next_line s.run) (onward on.skips).run) (within : taken ≤ most_line_events) (rarely : reopens ≤ most_line_events) where
+        pub line_ran : (outcome written mid text : List ℕ) → line_text settings on.skips s line (onward on.skips) ≡ outcome ++ texts on.skips → start ≡ [] → mid ≡ written ++ outcome → text ≡ mid ++ said → HasRun form settings new s line written text
+        line_ran outcome written mid text its none began is = record {
+          skips = on.skips;
+          of_line = subst (λ (x : RuledRun). AreAmong (new_arrivals s.run x.run) on.skips) (sym after) on.own;
+          stands = subst (Stands form settings new) (sym after) (stands_then new (onward on.skips) taken reopens few within rarely on.amid);
+          added =
+              is ∙ (λ i. began i ++ (on.added ∙ ap (λ xs. xs ++ texts on.skips) none) i) ∙ append_assoc written outcome (texts on.skips)
+              ∙ ap (λ xs. written ++ xs) (sym (ap (λ x. line_text settings on.skips s line x) after ∙ its));
+        }
+
+    -- or it was given up
+    pub line_given_up : (line : ScriptLine) (onward : Onward) → ((skips : List CallId) → after_line (partition_object settings) skips s line ≡ onward skips) → GivesUp (counted s) onward → IsGivenUp settings s line
+    line_given_up line onward after up = record {
+      skips = up.skips;
+      of_line = subst (λ (x : RuledRun). AreAmong (new_arrivals s.run x.run) up.skips) (sym (after up.skips)) up.own;
+      full = ap (λ (x : RuledRun). x.run.full) (after up.skips) ∙ up.full;
+    }

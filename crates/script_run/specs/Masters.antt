@@ -1,0 +1,47 @@
+-- What holds of the masters of a script's grid, where its second line brings them, whatever its near clients do.
+use Rattle.std.specs.Prelude.{◌≡◌, ℕ, ◌<◌, ◌≤◌, true, false, List, ◌++◌}
+use Rattle.grid_base.specs.declared.names.CallId.{CallId}
+use Rattle.call_engine.specs.Calls.{Settings}
+use Rattle.call_engine.specs.Objects.{partition_object}
+use Rattle.masters_protocol.specs.Claims.{IsSound}
+use Rattle.script_lang.specs.declared.line.Line.{Line}
+use Rattle.replay_run.specs.Runs.{partitions}
+use Rattle.ruled_run.specs.Laws.{ServesAsPublished, GoesOn, MastersAgree}
+use Rattle.ruled_run.specs.Runs.{has_masters, masters_at}
+use Rattle.ruled_run.specs.Standing.{IsRuled}
+use Rattle.script_run.specs.Laws.{run_with}
+use Rattle.script_run.specs.Runs.{ScriptRun, ruled_of}
+
+-- In one partition: the events that its table service took are the published list, in order, and the service alone over that list comes to
+-- the partition's row, move and detected members. At most one live member gathers or serves, and what is published is a front of each live log.
+pub record IsServed (settings : Settings) (s : ScriptRun) (p : ℕ) : Type 0 where
+  pub serves : ServesAsPublished settings (ruled_of s) p
+  pub sound : IsSound (masters_at (ruled_of s) p)
+
+-- In each partition, where the grid has masters. A run may be given up between a publication and its event.
+abbrev pub AllAreServed : Settings → ScriptRun → Type 0
+AllAreServed settings s = has_masters (ruled_of s) ≡ true → s.run.full ≡ false → (p : ℕ) → p < partitions → IsServed settings s p
+
+-- From one moment to a later one, in one partition: what is published stays at its place, and no version of a row is made twice. What was
+-- published is the front of each later live log, whatever the masters were asked meanwhile.
+pub record IsServedOn (settings : Settings) (first later : ScriptRun) (p : ℕ) : Type 0 where
+  pub goes_on : GoesOn settings (ruled_of first) (ruled_of later) p
+  pub agree : MastersAgree (ruled_of first) (ruled_of later) p
+
+abbrev pub AllGoOn : Settings → ScriptRun → ScriptRun → Type 0
+AllGoOn settings first later = has_masters (ruled_of first) ≡ true → later.run.full ≡ false → (p : ℕ) → p < partitions → IsServedOn settings first later p
+
+-- whatever the processors, the queues' capacity, the lines after the first, and the calls that find no memory
+
+-- each partition stands for lines of its own, so all that holds of masters and of the service that they run holds of it
+abbrev pub EveryRunIsRuled : Type 0
+EveryRunIsRuled = (settings : Settings) (members backups : ℕ) (skips : List CallId) (lines : List Line) → 1 ≤ members → members ≤ 8
+    → let s = run_with settings members backups skips lines in has_masters (ruled_of s) ≡ true → s.run.full ≡ false → IsRuled (partition_object settings) (ruled_of s)
+
+abbrev pub EveryServiceServesAsPublished : Type 0
+EveryServiceServesAsPublished = (settings : Settings) (members backups : ℕ) (skips : List CallId) (lines : List Line) → 1 ≤ members → members ≤ 8
+    → AllAreServed settings (run_with settings members backups skips lines)
+
+abbrev pub EveryPublishedListGrows : Type 0
+EveryPublishedListGrows = (settings : Settings) (members backups : ℕ) (skips : List CallId) (lines more : List Line) → 1 ≤ members → members ≤ 8
+    → AllGoOn settings (run_with settings members backups skips lines) (run_with settings members backups skips (lines ++ more))
