@@ -1,5 +1,5 @@
 -- The masters of a partition are there, and are asked what a line asks them.
-use Rattle.std.proofs.Common.{◌≡◌, ◌≢◌, ℕ, zero, suc, ◌+◌, ◌<◌, ◌≤◌, Bool, true, false, ◌&&◌, ◌||◌, List, [], ◌∷◌, ◌++◌, map, length, Option, Some, get_or, slice_get, slice_set, refl, ap, sym, ◌∙◌, subst, arith}
+use Rattle.std.proofs.Common.{◌≡◌, ℕ, zero, suc, ◌<◌, ◌≤◌, true, false, ◌||◌, List, [], ◌∷◌, ◌++◌, length, Some, get_or, slice_get, slice_set, refl, ap, sym, ◌∙◌, subst, arith}
 use Rattle.std.proofs.lemmas.Option.{slice_get-get_or, slice_get_past, slice_get_read, get_or_from_slice_get}
 use Rattle.grid_base.specs.declared.calls.Request.{Request}
 use Rattle.call_engine.specs.Calls.{Settings}
@@ -17,8 +17,8 @@ use Rattle.replay_run.specs.Runs.{partitions}
 use Rattle.replay_run.specs.Grids.{FormOf}
 use Rattle.replay_run.specs.WorldCalls as grid
 use Rattle.ruled_run.specs.declared.grid.RuledGrid.{RuledGrid}
-use Rattle.ruled_run.specs.Runs.{RuledRun, are_some, has_masters, masters_at, ruled_at, may_send, has_full_link, meets_full_link}
-use Rattle.ruled_run.specs.Grids.{AreMasters, HasMastersAt, Rules}
+use Rattle.ruled_run.specs.Runs.{RuledRun, are_some, masters_at, ruled_at, may_send, has_full_link, meets_full_link}
+use Rattle.ruled_run.specs.Grids.{AreMasters, HasMastersAt}
 use Rattle.ruled_run.specs.Steps.{IsAmid, MayAsk, HasAskedMasters}
 use Rattle.ruled_run.proofs.Following.{HasPublished}
 use Rattle.ruled_run.proofs.RuledMasters.{asked_of, published_long_so, nothing_follows, decision_follows}

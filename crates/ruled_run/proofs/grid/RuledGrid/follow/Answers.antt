@@ -22,7 +22,7 @@ pub run_published-requires-clause-unasked : goal.run_published-requires-clause-u
 run_published-requires-clause-unasked g c =
     let h = c.requires.3 in
     let one = one_behind _ c.requires.0 c.args.self.now c.requires.1 c.args.partition c.requires.2 c.args.before h c.from.result c.index.result.now c.from.ensures c.index.ensures c.published-published.result.now c.published-published.ensures.published
-        c.in-Some.decision.now c.in-Some.ensures.lookup.3.0 c.in-Some.ensures.lookup.1 in
+    c.in-Some.decision.now c.in-Some.ensures.lookup.3.0 c.in-Some.ensures.lookup.1 in
     ap (λ e. asked_by e) (c.event_of-event.ensures one.publishes.decision one.is) ∙ (of_decision Request c.members.result one.publishes.decision).silent
 
 on_ok : {X Y P Q : Type 0} (r : Result X Y) → OnOk r P → (P → Q) → OnOk r Q
@@ -33,7 +33,7 @@ pub returns-clause-ok : goal.returns-clause-ok
 returns-clause-ok g c = λ settings s l h.
     let p = c.args.partition in
     let one = one_behind _ settings c.args.self.now s p l c.args.before h c.from.result c.index.result.now c.from.ensures c.index.ensures c.published-published.result.now c.published-published.ensures.published
-        c.in-Some.decision.now c.in-Some.ensures.lookup.3.0 c.in-Some.ensures.lookup.1 in
+    c.in-Some.decision.now c.in-Some.ensures.lookup.3.0 c.in-Some.ensures.lookup.1 in
     let d = one.publishes.decision in
     let its = c.event_of-event.ensures d one.is ∙ ap (λ n. event_of {C = Request} n d) (c.members.ensures settings s.run h.grid.holds) in
     let began = c.in_ok-push_published.ensures ∙ ap (λ n. c.args.out.now.items ++ words_line n (codes "published " ++ number p ++ decimal (c.args.before + 1))) (c.lines.ensures settings s.run h.grid.holds) in
@@ -45,7 +45,7 @@ pub returns-clause-full : goal.returns-clause-full
 returns-clause-full g c = λ settings s l h was.
     let p = c.args.partition in
     let one = one_behind _ settings c.args.self.now s p l c.args.before h c.from.result c.index.result.now c.from.ensures c.index.ensures c.published-published.result.now c.published-published.ensures.published
-        c.in-Some.decision.now c.in-Some.ensures.lookup.3.0 c.in-Some.ensures.lookup.1 in
+    c.in-Some.decision.now c.in-Some.ensures.lookup.3.0 c.in-Some.ensures.lookup.1 in
     let d = one.publishes.decision in
     let its = c.event_of-event.ensures d one.is ∙ ap (λ n. event_of {C = Request} n d) (c.members.ensures settings s.run h.grid.holds) in
     full_follows _ settings c.args.self.now s p l c.args.before h d one.publishes.one (event_in c.event_of-event.result) its (c.run_published.ensures.full settings s.run h.grid was)

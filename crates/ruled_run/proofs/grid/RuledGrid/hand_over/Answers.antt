@@ -31,7 +31,7 @@ follow-requires g c =
     let are = masters_read _ old p c.requires settings s amid c.from.result kept c.from.ensures c.index_mut.ensures.value in
     let so = asked_so are l (Deliver c.args.from c.args.to c.args.place) (outcome_of c.in_ok-took.took) refl (c.in_ok-took.ensures.ok (events_of are) are.stands) in
     let h = have_asked _ settings old s p l amid there kept next are c.from.result c.from.ensures c.index_mut.ensures.value new refl refl
-        (not_full settings s p l (Deliver c.args.from c.args.to c.args.place) refl (c.in_ok-find_room.ensures.room settings s amid)) refl so.0 so.1 c.published-before.result (c.published-before.ensures settings s amid) in
+    (not_full settings s p l (Deliver c.args.from c.args.to c.args.place) refl (c.in_ok-find_room.ensures.room settings s amid)) refl so.0 so.1 c.published-before.result (c.published-before.ensures settings s amid) in
     (settings, s, l, h, may.room)
 
 pub returns-in_err-follow-clause-full : goal.returns-in_err-follow-clause-full
@@ -46,7 +46,7 @@ returns-in_err-follow-clause-full g c = λ settings s amid was.
     let are = masters_read _ old p c.requires settings s amid c.from.result kept c.from.ensures c.index_mut.ensures.value in
     let so = asked_so are l (Deliver c.args.from c.args.to c.args.place) (outcome_of c.in_ok-took.took) refl (c.in_ok-took.ensures.ok (events_of are) are.stands) in
     let h = have_asked _ settings old s p l amid there kept next are c.from.result c.from.ensures c.index_mut.ensures.value new refl refl
-        (not_full settings s p l (Deliver c.args.from c.args.to c.args.place) refl (c.in_ok-find_room.ensures.room settings s amid)) refl so.0 so.1 c.published-before.result (c.published-before.ensures settings s amid) in
+    (not_full settings s p l (Deliver c.args.from c.args.to c.args.place) refl (c.in_ok-find_room.ensures.room settings s amid)) refl so.0 so.1 c.published-before.result (c.published-before.ensures settings s amid) in
     let why = handed_on c.from_residual-in_err-follow.result c.in_err-follow.field-0.0 InFlight c.from_residual-in_err-follow.ensures.1 was in
     c.in_err-follow.ensures.full settings s l h (ap Err why)
 
@@ -62,5 +62,5 @@ returns-clause-ok g c = λ settings s amid.
     let are = masters_read _ old p c.requires settings s amid c.from.result kept c.from.ensures c.index_mut.ensures.value in
     let so = asked_so are l (Deliver c.args.from c.args.to c.args.place) (outcome_of c.in_ok-took.took) refl (c.in_ok-took.ensures.ok (events_of are) are.stands) in
     let h = have_asked _ settings old s p l amid there kept next are c.from.result c.from.ensures c.index_mut.ensures.value new refl refl
-        (not_full settings s p l (Deliver c.args.from c.args.to c.args.place) refl (c.in_ok-find_room.ensures.room settings s amid)) refl so.0 so.1 c.published-before.result (c.published-before.ensures settings s amid) in
+    (not_full settings s p l (Deliver c.args.from c.args.to c.args.place) refl (c.in_ok-find_room.ensures.room settings s amid)) refl so.0 so.1 c.published-before.result (c.published-before.ensures settings s amid) in
     record { on = c.in_ok-follow.ensures.ok settings s l h; outcome = so.2 }

@@ -39,7 +39,7 @@ follow-requires g c =
     let its = is_proposed (ruled_at (partition_object settings) s p) e one.decision one.one in
     let so = proposed_at are e c.args.decision.now (Proposed c.in-Ok.number) by (c.in-Ok.ensures.answered (events_of are) are.stands) in
     let h = have_asked _ settings old s p l amid there kept next are c.from.result c.from.ensures c.index_mut.ensures.value new refl refl
-        (not_full settings s p l (Propose one.decision) its.asked (c.in_ok-find_room.ensures.room settings s amid)) its.later so.0 so.1 c.published-before.result (c.published-before.ensures settings s amid) in
+    (not_full settings s p l (Propose one.decision) its.asked (c.in_ok-find_room.ensures.room settings s amid)) its.later so.0 so.1 c.published-before.result (c.published-before.ensures settings s amid) in
     (settings, s, l, h, c.requires.may.room)
 
 pub returns-in_err-follow-clause-full : goal.returns-in_err-follow-clause-full
@@ -56,7 +56,7 @@ returns-in_err-follow-clause-full g c = λ settings s e amid by was.
     let its = is_proposed (ruled_at (partition_object settings) s p) e one.decision one.one in
     let so = proposed_at are e c.args.decision.now (Proposed c.in-Ok.number) by (c.in-Ok.ensures.answered (events_of are) are.stands) in
     let h = have_asked _ settings old s p l amid there kept next are c.from.result c.from.ensures c.index_mut.ensures.value new refl refl
-        (not_full settings s p l (Propose one.decision) its.asked (c.in_ok-find_room.ensures.room settings s amid)) its.later so.0 so.1 c.published-before.result (c.published-before.ensures settings s amid) in
+    (not_full settings s p l (Propose one.decision) its.asked (c.in_ok-find_room.ensures.room settings s amid)) its.later so.0 so.1 c.published-before.result (c.published-before.ensures settings s amid) in
     let why = handed_on c.from_residual-in_err-follow.result c.in_err-follow.field-0.0 InFlight c.from_residual-in_err-follow.ensures.1 was in
     c.in_err-follow.ensures.full settings s l h (ap Err why)
 
@@ -74,7 +74,7 @@ returns-clause-ok g c = λ settings s e amid by.
     let its = is_proposed (ruled_at (partition_object settings) s p) e one.decision one.one in
     let so = proposed_at are e c.args.decision.now (Proposed c.in-Ok.number) by (c.in-Ok.ensures.answered (events_of are) are.stands) in
     let h = have_asked _ settings old s p l amid there kept next are c.from.result c.from.ensures c.index_mut.ensures.value new refl refl
-        (not_full settings s p l (Propose one.decision) its.asked (c.in_ok-find_room.ensures.room settings s amid)) its.later so.0 so.1 c.published-before.result (c.published-before.ensures settings s amid) in
+    (not_full settings s p l (Propose one.decision) its.asked (c.in_ok-find_room.ensures.room settings s amid)) its.later so.0 so.1 c.published-before.result (c.published-before.ensures settings s amid) in
     record { on = c.in_ok-follow.ensures.ok settings s l h; outcome = so.2 }
 
 pub returns-in-Err-NoMaster-clause-ok : goal.returns-in-Err-NoMaster-clause-ok
@@ -91,9 +91,9 @@ returns-in-Err-NoMaster-clause-ok g c = λ settings s e amid by.
     let its = is_proposed (ruled_at (partition_object settings) s p) e one.decision one.one in
     let so = proposed_at are e c.args.decision.now NothingDone by ((rw c.in-Err-NoMaster.field-0-is at c.in-Err-NoMaster.ensures).answered (events_of are) are.stands) in
     let h = have_asked _ settings old s p l amid there kept next are c.from.result c.from.ensures c.index_mut.ensures.value new refl refl
-        (not_full settings s p l (Propose one.decision) its.asked (c.in_ok-find_room.ensures.room settings s amid)) its.later so.0 so.1 c.published-before.result (c.published-before.ensures settings s amid) in
+    (not_full settings s p l (Propose one.decision) its.asked (c.in_ok-find_room.ensures.room settings s amid)) its.later so.0 so.1 c.published-before.result (c.published-before.ensures settings s amid) in
     let none = kept_publishes_nothing _ settings new s p l c.published-before.result h next (is_next _ settings old s p l amid there kept next are c.from.result c.from.ensures c.index_mut.ensures.value new refl refl)
-        (still_masters are (c.in-Err-NoMaster.ensures.err (events_of are) are.stands)) in
+    (still_masters are (c.in-Err-NoMaster.ensures.err (events_of are) are.stands)) in
     record { on = none_follows _ settings new s p l c.published-before.result h none c.args.out.now.items; outcome = so.2 }
 
 pub returns-in-Err-Busy-clause-ok : goal.returns-in-Err-Busy-clause-ok
@@ -110,9 +110,9 @@ returns-in-Err-Busy-clause-ok g c = λ settings s e amid by.
     let its = is_proposed (ruled_at (partition_object settings) s p) e one.decision one.one in
     let so = proposed_at are e c.args.decision.now (RefusedBusy c.in-Err-Busy.length) by ((rw c.in-Err-Busy.field-0-is at c.in-Err-Busy.ensures).answered (events_of are) are.stands) in
     let h = have_asked _ settings old s p l amid there kept next are c.from.result c.from.ensures c.index_mut.ensures.value new refl refl
-        (not_full settings s p l (Propose one.decision) its.asked (c.in_ok-find_room.ensures.room settings s amid)) its.later so.0 so.1 c.published-before.result (c.published-before.ensures settings s amid) in
+    (not_full settings s p l (Propose one.decision) its.asked (c.in_ok-find_room.ensures.room settings s amid)) its.later so.0 so.1 c.published-before.result (c.published-before.ensures settings s amid) in
     let none = kept_publishes_nothing _ settings new s p l c.published-before.result h next (is_next _ settings old s p l amid there kept next are c.from.result c.from.ensures c.index_mut.ensures.value new refl refl)
-        (still_masters are (c.in-Err-Busy.ensures.err (events_of are) are.stands)) in
+    (still_masters are (c.in-Err-Busy.ensures.err (events_of are) are.stands)) in
     record { on = none_follows _ settings new s p l c.published-before.result h none c.args.out.now.items; outcome = so.2 ∙ ap (λ n. RefusedBusy n ∷ []) (sym c.in-Err-Busy.length-is) }
 
 pub returns-in-Err-Full-clause-ok : goal.returns-in-Err-Full-clause-ok
@@ -129,7 +129,7 @@ returns-in-Err-Full-clause-ok g c = λ settings s e amid by.
     let its = is_proposed (ruled_at (partition_object settings) s p) e one.decision one.one in
     let so = proposed_at are e c.args.decision.now RefusedFull by ((rw c.in-Err-Full.field-0-is at c.in-Err-Full.ensures).answered (events_of are) are.stands) in
     let h = have_asked _ settings old s p l amid there kept next are c.from.result c.from.ensures c.index_mut.ensures.value new refl refl
-        (not_full settings s p l (Propose one.decision) its.asked (c.in_ok-find_room.ensures.room settings s amid)) its.later so.0 so.1 c.published-before.result (c.published-before.ensures settings s amid) in
+    (not_full settings s p l (Propose one.decision) its.asked (c.in_ok-find_room.ensures.room settings s amid)) its.later so.0 so.1 c.published-before.result (c.published-before.ensures settings s amid) in
     let none = kept_publishes_nothing _ settings new s p l c.published-before.result h next (is_next _ settings old s p l amid there kept next are c.from.result c.from.ensures c.index_mut.ensures.value new refl refl)
-        (still_masters are (c.in-Err-Full.ensures.err (events_of are) are.stands)) in
+    (still_masters are (c.in-Err-Full.ensures.err (events_of are) are.stands)) in
     record { on = none_follows _ settings new s p l c.published-before.result h none c.args.out.now.items; outcome = so.2 }
