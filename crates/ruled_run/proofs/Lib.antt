@@ -30,3 +30,4 @@ pub mod Composing
 pub mod LineParts
 pub mod AtOnce
 pub mod Loops
+pub mod Delivering
