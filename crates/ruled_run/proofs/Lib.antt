@@ -30,4 +30,3 @@ pub mod Composing
 pub mod LineParts
 pub mod AtOnce
 pub mod Loops
-pub mod Delivering
