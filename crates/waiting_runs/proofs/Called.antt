@@ -1,16 +1,16 @@
 -- The calls of a run, and those that lines of one partition's machine bring: what each step of a run does to both.
-use Rattle.std.proofs.Common.{◌≡◌, ◌≢◌, ℕ, Bool, true, false, not, List, [], ◌∷◌, ◌++◌, map, filter, Option, refl, ap, sym, ◌∙◌, subst, ◌⊎◌, ⊎_elim, inl, inr, true≢false}
+use Rattle.std.proofs.Common.{◌≡◌, ◌≢◌, ℕ, true, false, List, [], ◌∷◌, ◌++◌, map, filter, Option, refl, ap, sym, ◌∙◌, subst, ◌⊎◌, ⊎_elim, inl, inr, true≢false}
 use Rattle.grid_base.specs.Objects.{Object}
 use Rattle.grid_base.specs.declared.calls.Request.{Request}
-use Rattle.grid_base.specs.declared.names.CallId.{CallId}
 use Rattle.object_store.specs.Partitions.{Partition}
 use Rattle.partition_protocol.specs.Arrivals.{CallName, NamedOnce}
 use Rattle.partition_protocol.proofs.Lists.{In, in_left, in_right, in_cases, in_contains, contains_in, cases}
+use Rattle.partition_protocol.proofs.RowFacts.{not_false}
 use Rattle.waiting_protocol.specs.Claims.{names_in, waits_in}
 use Rattle.waiting_protocol.specs.Machine.{Line}
 use Rattle.waiting_protocol.specs.Machine as machine
-use Rattle.replay_run.specs.Runs.{Run, At, Arrival, Waiter, Appended, arrival_at, arrived, waits, waiter_at, without, ending, leaves, as_machine}
-use Rattle.replay_run.specs.ScriptRuns.{IsNext, IsRun, call_arrived, waiter_came, run_given_up, waiter_asked, waiter_refused, waiter_left}
+use Rattle.replay_run.specs.Runs.{Run, Arrival, Waiter, arrival_at, as_machine}
+use Rattle.replay_run.specs.ScriptRuns.{IsNext, IsRun, call_arrived}
 use Rattle.replay_run.proofs.EventRuns.{is_other}
 use Rattle.replay_run.proofs.Parts.{in_filter, in_filtered, named_same, named_append}
 use Rattle.replay_run.proofs.Places.{same_call}
@@ -40,10 +40,6 @@ once_more (a ∷ ks) k once fresh = ((λ m c. go m (in_cases m ks (k ∷ []) (in
     go m (inl i) e = once.0 m (contains_in m ks i) e
     go m (inr (inl s)) e = fresh a (inl refl) (sym e ∙ sym s)
     go m (inr (inr i)) e = absurd i
-
-not_false : (b : Bool) → not b ≡ false → b ≡ true
-not_false true e = refl
-not_false false e = absurd cc
 
 -- One of those who wait leaves, however it does.
 

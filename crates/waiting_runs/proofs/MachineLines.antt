@@ -1,21 +1,20 @@
 -- What each step between lines, and each line of a script, does to one partition is a line of its machine, or several, or none; and these bring the calls that came.
-use Rattle.std.proofs.Common.{◌≡◌, ◌≢◌, ℤ, ℕ, zero, suc, ◌≤◌, ◌<◌, ◌+◌, Bool, true, false, ◌==◌, cond, List, [], ◌∷◌, ◌++◌, length, map, filter, slice_get, pos, Option, Some, None, refl, ap, sym, ◌∙◌, subst, ◌⊎◌, ⊎_elim, inl, inr, arith, append-nil, append_assoc, true≢false}
+use Rattle.std.proofs.Common.{◌≡◌, ◌≢◌, ℤ, ℕ, zero, suc, ◌≤◌, ◌<◌, ◌+◌, Bool, true, false, not, ◌==◌, cond, List, [], ◌∷◌, ◌++◌, length, map, filter, slice_get, pos, Option, Some, None, refl, ap, sym, ◌∙◌, subst, ◌⊎◌, ⊎_elim, inl, inr, arith, append-nil, append_assoc}
 use Rattle.std.specs.Option.{unwrap_or}
 use Rattle.grid_base.specs.Errors.{want_of_memory}
 use Rattle.grid_base.specs.Objects.{Object}
 use Rattle.grid_base.specs.declared.names.CallId.{CallId}
 use Rattle.grid_base.specs.declared.calls.Request.{Request}
 use Rattle.object_store.specs.Partitions.{Partition}
-use Rattle.partition_protocol.specs.Arrivals.{asked_by, arrivals, name}
+use Rattle.partition_protocol.specs.Arrivals.{CallName, asked_by, name}
 use Rattle.partition_protocol.specs.Claims.{IsLawful}
 use Rattle.partition_protocol.specs.Events.{Event, run}
-use Rattle.partition_protocol.specs.Events as event
 use Rattle.partition_protocol.specs.Service.{numbers_below}
 use Rattle.partition_protocol.specs.World as world
 use Rattle.partition_protocol.specs.World.{World}
 use Rattle.partition_protocol.proofs.Extends.{run_append}
-use Rattle.partition_protocol.proofs.Lists.{In, contains_in, on_if, set_get_other}
-use Rattle.partition_protocol.proofs.RowFacts.{number_cases, number_same, number_other}
+use Rattle.partition_protocol.proofs.Lists.{In, in_right, contains_in, on_if, set_get_other}
+use Rattle.partition_protocol.proofs.RowFacts.{not_false, number_cases, number_same, number_other}
 use Rattle.session_core.specs.declared.item.Item.{Item}
 use Rattle.session_core.specs.declared.item.Item.TheVariants.{Call as Asks, Wait, Register, Reply}
 use Rattle.waiting_protocol.specs.Claims.{names_in, waits_in}
@@ -23,11 +22,11 @@ use Rattle.waiting_protocol.specs.Machine.{Waiting, opened, event_in, goes, gone
 use Rattle.waiting_protocol.specs.Machine as machine
 use Rattle.waiting_protocol.proofs.Orders.{lines_append, names_append}
 use Rattle.replay_run.specs.ByMachine.{terms_by, HasGoneBy}
-use Rattle.replay_run.specs.Runs.{Run, At, Connection, Arrival, Waiter, Appended, partitions, events_at, world_at, moment_of, connection_of, is_open, next_line, clock_set, took_bytes, takes_bytes, items_by, bytes_arrived, with_bytes, messages_on, call_of, arrival_at, is_full, is_skipped, refusal, happening, arrived, told, registers, delivery_on, asked, asks, given_up, waiter_at, waits, without, ending, leaves, as_machine, is_its_turn, served, served_in, forsaken, calls, begins_to_wait, handled, handled_all, occurred, stirred_by, served_at, meets_full, takes}
-use Rattle.replay_run.specs.ScriptRuns.{MayAsk, IsNext, IsRun, line_counted, clock_was_set, event_occurred, run_given_up, call_asked, waiter_came, waiter_asked, waiter_refused, waiter_left, answer_told}
+use Rattle.replay_run.specs.Runs.{Run, At, Connection, Arrival, Waiter, Appended, partitions, events_at, world_at, moment_of, connection_of, is_open, clock_set, with_bytes, messages_on, call_of, arrival_at, is_full, is_skipped, refusal, refused_at, happening, arrived, told, registers, asked, given_up, waiter_at, waits, without, ending, leaves, as_machine, is_its_turn, served, served_in, forsaken, calls, begins_to_wait, handled, handled_all, occurred, stirred_by, served_at, meets_full, takes}
+use Rattle.replay_run.specs.ScriptRuns.{MayAsk, IsNext, IsRun, clock_was_set, event_occurred, run_given_up, call_asked, waiter_came, waiter_asked, waiter_refused, waiter_left, answer_told}
 use Rattle.replay_run.specs.Staying.{waiting_in}
 use Rattle.replay_run.proofs.ByMachine.{is_in, listed, listed-append, listed_here, served_follows}
-use Rattle.replay_run.proofs.EventRuns.{Kept, IsFull, is_other, events_at-append, served_kept, served_in_kept, served_full, served_in_full, served_in_run, served_run, forsaken_kept, forsaken_run, takes_run, takes_full, forsaken_full, handled_full}
+use Rattle.replay_run.proofs.EventRuns.{Kept, IsFull, is_other, events_at-append, served_kept, served_in_kept, served_full, served_in_full, served_in_keeps, served_in_run, served_run, forsaken_kept, forsaken_run, takes_run, takes_full, forsaken_full, handled_full}
 use Rattle.replay_run.proofs.Items.{AreNumbered}
 use Rattle.replay_run.proofs.Leaving.{stays, two_tests, forsaken_waiters, forsaken_open}
 use Rattle.replay_run.proofs.Lines.{is_next, calls_run, begins_run, registers_run, may_calls, may_begin, may_ask_after, may_ask_registered}
@@ -38,7 +37,7 @@ use Rattle.replay_run.proofs.RunFacts.{arrival_name, waiter_name, id_name}
 use Rattle.replay_run.proofs.RunsOfLines.{run_ok}
 use Rattle.replay_run.proofs.Serving.{often_none, served_in_more, second_holds}
 use Rattle.replay_run.proofs.Staying.{Only, And, From, Nobody, Leaving, still_only, event_only, occurred_only, unstirred, stirred_there, takes_quiet, set_only, lists_only, handled_nobody, forsaken_nobody, waits_only}
-use Rattle.replay_run.proofs.Turns.{IsMade, its_event, KeepsTurns, by_endings, served_keeps, forsaken_keeps}
+use Rattle.replay_run.proofs.Turns.{its_event, KeepsTurns, served_keeps, forsaken_keeps}
 use Rattle.waiting_runs.proofs.Called.{CalledBy, Called, ended_called, call_called, name_called, waiter_elsewhere, waiter_here, new_name}
 use Rattle.waiting_runs.proofs.Silence.{after_append, waits_append}
 
@@ -296,7 +295,7 @@ module _ (o : Object Request Partition) (skips : List CallId) (q : ℕ) where
     -- an event that is no call
 
     bare_event : (e : Event Request) → asked_by e ≡ [] → names_in (machine.Asks e ∷ []) ≡ []
-    bare_event e quiet = ap (λ as. map name (as ++ []) ++ []) quiet
+    bare_event e quiet = ap (λ calls. map name (calls ++ []) ++ []) quiet
 
     takes_opens : (own : Option ℕ) (p member : ℕ) (r : Run) (e : Event Request) → asked_by e ≡ [] → Opens own p member r (occurred o r p e) (machine.Asks e)
     takes_opens own p member r e quiet = record {
@@ -560,14 +559,17 @@ module _ (o : Object Request Partition) (skips : List CallId) (q : ℕ) where
 
     -- nothing that matters has changed
     pub still_by : (r next : Run) → IsRun o next → next.members ≡ r.members → next.backups ≡ r.backups → next.moments ≡ r.moments → next.events ≡ r.events → next.arrivals ≡ r.arrivals → next.waiters ≡ r.waiters → next.full ≡ r.full → IsBy r → IsBy next
-    still_by r next is members backups moments happened come waiters full by = (is, ⊎_elim
-        (λ up. inl (full ∙ up))
-        (λ h. inr (
-          still_only o Nobody r next members backups moments happened (λ w i. subst (In w) waiters i) h.0,
-          no_line r next members backups
-              (λ i. record { world = run o (world.start q (members i) (backups i)) (events_at q (happened i)); clock = λ m. unwrap_or (slice_get (moments i) m) 0; waiters = listed q (waiters i) }, ap (events_at q) happened)
-              (λ lines c. subst (λ as. Called q as next.waiters (waits_in lines) (names_in lines)) (sym come) (subst (λ ws. Called q r.arrivals ws (waits_in lines) (names_in lines)) (sym waiters) c)) h.1,
-        )) by.1)
+    still_by r next is members backups moments happened come waiters full by = (
+      is,
+      ⊎_elim
+          (λ up. inl (full ∙ up))
+          (λ h. inr (
+            still_only o Nobody r next members backups moments happened (λ w i. subst (In w) waiters i) h.0,
+            no_line r next members backups
+                (λ i. record { world = run o (world.start q (members i) (backups i)) (events_at q (happened i)); clock = λ m. unwrap_or (slice_get (moments i) m) 0; waiters = listed q (waiters i) }, ap (events_at q) happened)
+                (λ lines c. subst (λ came. Called q came next.waiters (waits_in lines) (names_in lines)) (sym come) (subst (λ ws. Called q r.arrivals ws (waits_in lines) (names_in lines)) (sym waiters) c)) h.1,
+          )) by.1,
+    )
 
     pub clock_by : q < partitions → (r : Run) (member moment : ℕ) → Leaving o Nobody (served_in o skips (clock_set r member moment) member (numbers_below partitions)) → IsBy r → IsBy (served_in o skips (clock_set r member moment) member (numbers_below partitions))
     clock_by low r member moment nobody by = (

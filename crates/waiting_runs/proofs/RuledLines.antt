@@ -1,5 +1,5 @@
 -- Each partition of a run of a script's lines, with masters or without, goes by its machine: what is asked for in partitions are events that the grid takes, and each other line is the grid's own.
-use Rattle.std.proofs.Common.{◌≡◌, ℕ, ◌≤◌, ◌<◌, Bool, false, List, [], ◌∷◌, length, Option, Some, None, refl, ap, sym, ◌∙◌, subst, ⊎_elim, inl, inr, arith, true≢false}
+use Rattle.std.proofs.Common.{◌≡◌, ℕ, zero, suc, ◌<◌, Bool, true, false, cond, List, [], ◌∷◌, length, Option, Some, None, refl, sym, ◌∙◌, ◌⊎◌, ⊎_elim, inl, inr, arith, true≢false}
 use Rattle.grid_base.specs.Objects.{Object}
 use Rattle.grid_base.specs.declared.names.CallId.{CallId}
 use Rattle.grid_base.specs.declared.calls.Request.{Request}
@@ -8,14 +8,12 @@ use Rattle.partition_protocol.specs.Claims.{IsLawful}
 use Rattle.partition_protocol.specs.Events as event
 use Rattle.partition_protocol.specs.Service.{numbers_below}
 use Rattle.partition_protocol.specs.World as world
-use Rattle.partition_protocol.proofs.Lists.{on_if, in_contains}
+use Rattle.partition_protocol.proofs.Lists.{on_if}
 use Rattle.call_engine.specs.Objects.{partition_object}
 use Rattle.script_lang.specs.declared.line.Line.{Line}
 use Rattle.script_lang.specs.declared.line.Line.TheVariants.{OpenConn, Arrive, Clock, Flow, FlowAll, Rebalance}
 use Rattle.script_lang.specs.declared.line.Line.TheVariants as line
-use Rattle.waiting_protocol.specs.Machine as machine
 use Rattle.replay_run.specs.AfterLines as alone
-use Rattle.replay_run.specs.ByMachine.{HasGoneBy}
 use Rattle.replay_run.specs.Runs.{Run, At, Connection, partitions, connection_of, can_open, next_line, took_bytes, takes_bytes, items_by, bytes_arrived, messages_on, moment_of, delivery_on, handled_all, forsaken, event_by}
 use Rattle.replay_run.specs.Runs as runs
 use Rattle.replay_run.specs.ScriptRuns.{IsRun, grid_begun, line_counted, run_given_up}
@@ -91,8 +89,11 @@ first_clock zero backups k = refl
 first_clock (suc n) backups zero = refl
 first_clock (suc n) backups (suc k) = first_clock n backups k
 
-begun_by : (o : Object Request Partition) (skips : List CallId) (q members backups : ℕ) → HasGoneBy o skips (runs.begun members backups) q
-begun_by o skips q members backups = record { lines = []; states = λ i. record { world = world.start q members backups; clock = λ k. first_clock members backups k i; waiters = [] }; happened = refl }
+begun_by : (o : Object Request Partition) (skips : List CallId) (q members backups : ℕ) → HasCome o skips q (runs.begun members backups)
+begun_by o skips q members backups = record {
+  by = record { lines = []; states = λ i. record { world = world.start q members backups; clock = λ k. first_clock members backups k i; waiters = [] }; happened = refl };
+  called = none_called q;
+}
 
 unless_full : (o : Object Request Partition) (skips : List CallId) (q : ℕ) (r : Run) → IsFull r ⊎ (Only o Nobody r × HasCome o skips q r) → r.full ≡ false → GoesByItsMachine o skips r q
 unless_full o skips q r rest goes_on = ⊎_elim (λ full. absurd (true≢false (sym full ∙ goes_on))) (λ h. record { by = h.1.by; calls = brings_its_calls q r h.1.by.lines h.1.called }) rest
@@ -102,6 +103,5 @@ every_partition_goes_by_its_machine settings members backups skips lines p some 
     let o = partition_object settings in
     let first = begun members backups in
     let last = after_lines o skips first lines in
-    let begins = record { by = begun_by o skips p members backups; called = none_called p } in
-    let rest = lines_by o skips p (lawful settings) low first lines (grid_begun members backups some, inr ((λ w i over. absurd i), begins)) in
+    let rest = lines_by o skips p (lawful settings) low first lines (grid_begun members backups some, inr ((λ w i over. absurd i), begun_by o skips p members backups)) in
     unless_full o skips p last.run rest.1 goes_on

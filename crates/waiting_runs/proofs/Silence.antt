@@ -1,11 +1,10 @@
 -- Of the machine, where no two calls have one name: whoever waits after some lines came by one of them, and by the others all is the same but that it waits.
-use Rattle.std.proofs.Common.{◌≡◌, ℕ, zero, suc, ◌+◌, ◌≤◌, List, [], ◌∷◌, ◌++◌, map, length, Contains, refl, ap, sym, ◌∙◌, subst, ⊎_elim, inl, inr, arith, append_assoc, length-append}
+use Rattle.std.proofs.Common.{◌≡◌, ℕ, zero, suc, ◌+◌, ◌≤◌, List, [], ◌∷◌, ◌++◌, map, length, refl, ap, sym, ◌∙◌, subst, ◌⊎◌, ⊎_elim, inl, inr, arith, append_assoc}
 use Rattle.grid_base.specs.Objects.{Object}
 use Rattle.partition_protocol.specs.Arrivals.{CallName, NamedOnce}
-use Rattle.partition_protocol.specs.Events.{Event}
-use Rattle.partition_protocol.proofs.Lists.{In, in_left, in_right, in_contains}
-use Rattle.waiting_protocol.specs.Machine.{Waiter, Waiting, Line, Asks, Waits, Clock, Closes, Terms, Gone, start, turn, turned, opened, goes, gone_by, events_by, after, events, all_gone}
-use Rattle.waiting_protocol.specs.Claims.{IsQuiet, IsItsTurn, IsWithout, IsStillWaiting, HasLeft, NothingDependsOn, names_in, name_of, waits_by, waits_in}
+use Rattle.partition_protocol.proofs.Lists.{In, in_contains}
+use Rattle.waiting_protocol.specs.Machine.{Waiter, Waiting, Line, Asks, Waits, Clock, Closes, Terms, start, turn, turned, opened, goes, gone_by, events_by, after, events, all_gone}
+use Rattle.waiting_protocol.specs.Claims.{IsItsTurn, IsWithout, IsStillWaiting, ComesToItsTurn, HasLeft, names_in, name_of, waits_by, waits_in}
 use Rattle.waiting_protocol.proofs.Names.{count, count_append, count_in, once_count, wait, wait_append, turn_counts, turned_counts, opened_counts, all_counts}
 use Rattle.waiting_protocol.proofs.Orders.{names_append, lines_append}
 use Rattle.waiting_protocol.proofs.Theorem.{every_waiter_is_silent}
@@ -35,6 +34,7 @@ waits_append [] ms = refl
 waits_append (l ∷ ls) ms = ap (λ xs. waits_by l ++ xs) (waits_append ls ms) ∙ sym (append_assoc (waits_by l) (waits_in ls) (waits_in ms))
 
 in_names : {C : Type 0} (x : Waiter C) (xs : List (Waiter C)) → In x xs → In (name_of x) (map name_of xs)
+in_names x [] i = i
 in_names x (y ∷ ys) (inl e) = inl (ap name_of e)
 in_names x (y ∷ ys) (inr i) = inr (in_names x ys i)
 
@@ -85,14 +85,14 @@ module _ {C State : Type 0} (o : Object C State) (t : Terms C) where
         omega (arith, a, b)
     turned_takes (suc i) n u low its = ⊎_elim
         (λ s. turned_takes i n u low (subst (λ v. IsItsTurn o t (turned o t i v) x) s.1 its))
-        (λ s. busy s.0 n low s.1)
+        (λ s. busy s.0 n low s.1 (λ m less. turned_takes i m (turn o t u) less its))
         (turn_of o t u)
       where
-        busy : (y : Waiter C) (n : ℕ) → length u.waiters ≤ n → IsItsTurn o t u y → suc (of_it (turned o t n u)) ≤ of_it u
-        busy y zero low one = absurd (let s = shorter o t u y one in omega (arith, s, low))
-        busy y (suc n) low one =
+        busy : (y : Waiter C) (n : ℕ) → length u.waiters ≤ n → IsItsTurn o t u y → ((m : ℕ) → length (turn o t u).waiters ≤ m → suc (of_it (turned o t m (turn o t u))) ≤ of_it (turn o t u)) → suc (of_it (turned o t n u)) ≤ of_it u
+        busy y zero low one rest = absurd (let s = shorter o t u y one in omega (arith, s, low))
+        busy y (suc n) low one rest =
             let s = shorter o t u y one in
-            let a = turned_takes i n (turn o t u) (omega (arith, s, low)) its in
+            let a = rest n (omega (arith, s, low)) in
             let b = turn_counts o t k u in
             omega (arith, a, b)
 
@@ -138,7 +138,8 @@ module _ {C State : Type 0} (o : Object C State) (t : Terms C) where
         then_without : Waiting C
         then_without = after o t m h.before
 
-        by_how : of_it then ≤ 1 → count k (names_in (h.line ∷ [])) ≡ 0 → _ → of_it (goes o t then h.line) ≡ 0
+        by_how : of_it then ≤ 1 → count k (names_in (h.line ∷ [])) ≡ 0
+            → ComesToItsTurn o t x then then_without h.line ⊎ ((h.line ≡ Closes x.conn) × (goes o t then h.line ≡ goes o t then_without h.line) × (events_by o t then h.line ≡ events_by o t then_without h.line)) → of_it (goes o t then h.line) ≡ 0
         by_how few none (inl its) = let a = goes_takes then h.line its.turn its.its in omega (arith, a, few, none)
         by_how few none (inr closes) =
             let a = without_counts then then_without h.until.states in

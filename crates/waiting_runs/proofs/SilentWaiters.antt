@@ -1,12 +1,12 @@
 -- Whoever waits has changed nothing.
-use Rattle.std.proofs.Common.{◌≡◌, ℕ, List, map, filter, refl, ap, sym, ◌∙◌, subst}
+use Rattle.std.proofs.Common.{◌++◌, filter, refl, sym, ◌∙◌, subst}
 use Rattle.grid_base.specs.declared.calls.Request.{Request}
 use Rattle.partition_protocol.proofs.Lists.{In, in_contains}
 use Rattle.partition_protocol.proofs.RowFacts.{number_same}
 use Rattle.waiting_protocol.specs.Claims.{IsWithout, waits_in}
 use Rattle.waiting_protocol.specs.Machine.{Waiting, start, after}
 use Rattle.replay_run.specs.ByMachine.{terms_by}
-use Rattle.replay_run.specs.Runs.{Waiter, as_machine}
+use Rattle.replay_run.specs.Runs.{as_machine}
 use Rattle.replay_run.specs.Staying.{waiting_in}
 use Rattle.replay_run.proofs.ByMachine.{is_in}
 use Rattle.replay_run.proofs.Parts.{in_map, in_filter}
