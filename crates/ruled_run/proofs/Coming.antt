@@ -91,7 +91,7 @@ module _ (o : Object Request Partition) (skips : List CallId) (n : ℕ) where
   pub goes_come : (s : RuledRun) (p : ℕ) (l : Line Request) → AllHaveCome n s → AllHaveCome n (goes o skips s p l)
   goes_come s p l h = on_if (AllHaveCome n) (is_held_up o skips s p l) (given_up s) (asked_run o skips s p l) (record { members = h.members; each = h.each }) (asked_come s p l h)
 
-  counted_come : (s : RuledRun) → AllHaveCome n s → AllHaveCome n (counted s)
+  pub counted_come : (s : RuledRun) → AllHaveCome n s → AllHaveCome n (counted s)
   counted_come s h = record { members = h.members; each = h.each }
 
   opening_come : (s : RuledRun) → AllHaveCome n s → AllHaveCome n (record (counted s) { masters = opening_masters s.run.members })

@@ -25,7 +25,7 @@ pub mod Coming
 pub mod FewEvents
 pub mod Proposing
 pub mod MastersAsked
-pub mod Publishing
+pub mod PublishedEvents
 pub mod Composing
 pub mod LineParts
 pub mod AtOnce

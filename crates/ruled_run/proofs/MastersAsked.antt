@@ -1,5 +1,6 @@
 -- The masters of a partition are there, and are asked what a line asks them.
-use Rattle.std.proofs.Common.{◌≡◌, ◌≢◌, ℕ, ◌+◌, ◌<◌, ◌≤◌, Bool, true, false, ◌&&◌, ◌||◌, List, [], ◌∷◌, ◌++◌, map, length, Option, Some, None, slice_get, slice_set, refl, ap, sym, ◌∙◌, subst, arith}
+use Rattle.std.proofs.Common.{◌≡◌, ◌≢◌, ℕ, zero, suc, ◌+◌, ◌<◌, ◌≤◌, Bool, true, false, ◌&&◌, ◌||◌, List, [], ◌∷◌, ◌++◌, map, length, Option, Some, get_or, slice_get, slice_set, refl, ap, sym, ◌∙◌, subst, arith}
+use Rattle.std.proofs.lemmas.Option.{slice_get-get_or}
 use Rattle.grid_base.specs.declared.calls.Request.{Request}
 use Rattle.call_engine.specs.Calls.{Settings}
 use Rattle.call_engine.specs.Objects.{partition_object}
@@ -44,12 +45,23 @@ are_there form all p may settings s amid =
 pub within_all : (settings : Settings) (all : List Masters) (s : RuledRun) (p : ℕ) → AreThere settings all s p → p < length all
 within_all settings all s p there = let a = there.placed in let b = there.count in let c = there.whole in omega (arith, a, b, c)
 
--- what is read there are these masters
+-- what is read there is one of them
+pub is_read : (settings : Settings) (all : List Masters) (s : RuledRun) (p : ℕ) → AreThere settings all s p → (i : ℕ) (kept : Masters) → i ≡ p → kept ≡ get_or all i kept → slice_get all p ≡ Some kept
+is_read settings all s p there i kept same read = slice_get-get_or all p kept (within_all settings all s p there) ∙ ap Some (ap (λ k. get_or all k kept) (sym same) ∙ sym read)
+
+-- and they are the partition's
 pub they_are : (settings : Settings) (all : List Masters) (s : RuledRun) (p : ℕ) → AreThere settings all s p → (kept : Masters) → slice_get all p ≡ Some kept → AreMasters settings kept s p
 they_are settings all s p there kept read =
     let here = there.each p there.placed in
     let same : here.masters ≡ kept = let e = sym here.there ∙ read in cc in
     subst (λ m. AreMasters settings m s p) same here.are
+
+-- the same, as it is read
+pub masters_read : {V : Type 0} {T : V → Type 0} (form : FormOf V T) (all : RuledGrid V T) (p : ℕ) → MayAsk form all p → (settings : Settings) (s : RuledRun) → IsAmid form settings all s
+    → (i : ℕ) (kept : Masters) → i ≡ p → kept ≡ get_or all.masters.items i kept → AreMasters settings kept s p
+masters_read form all p may settings s amid i kept same read =
+    let there = are_there form all p may settings s amid in
+    they_are settings all.masters.items s p there kept (is_read settings all.masters.items s p there i kept same read)
 
 -- Masters that are asked one thing, with no full link between them, have gone on by the line.
 pub have_asked : {V : Type 0} {T : V → Type 0} (form : FormOf V T) (settings : Settings) (old new : RuledGrid V T) (s : RuledRun) (p : ℕ) (l : Line Request)
@@ -72,7 +84,7 @@ have_asked form settings old new s p l amid there kept next read same set free l
       most = there.most;
       others = λ q low other. subst (λ ms. HasMastersAt settings ms s q) (sym set)
           (let here = there.each q low in record { masters = here.masters; there = set_get_other old.masters.items p q next other ∙ here.there; are = here.are });
-      goes = ap (λ es. meets_full_link w es) its ∙ ap (λ b. (may_send e || false) && b) free ∙ and_false (may_send e || false);
+      goes = ap (λ es. meets_full_link w es) its ∙ and_false (may_send e || false) (has_full_link w) free;
       later = later;
       published = sym was;
       masters = next;

@@ -85,7 +85,7 @@ pub record HasRun {V : Type 0} {T : V → Type 0} (form : FormOf V T) (settings 
   pub stands : Stands form settings new (after_line settings skips s line)
   pub added : text ≡ written ++ line_text settings skips s line (after_line settings skips s line)
 
--- The run is given up at the line, of whose calls these found no memory: an event met a full partition.
+-- The run is given up at the line, of whose calls these found no memory: an event met a full partition, or masters a full link.
 pub record IsGivenUp (settings : Settings) (s : ScriptRun) (line : Line) : Type 0 where
   pub skips : List CallId
   pub of_line : AreOfLine settings (ruled_of s) (grid_line (partition_object settings) s line) skips

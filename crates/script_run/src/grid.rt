@@ -68,10 +68,10 @@ impl ScriptGrid {
     }
 
     /// Runs the line of that number, which is the next one, and appends its text. After an error the grid and the text are
-    /// given up: for want of memory, or where an event other than a loss met a partition with 65,400 messages or more in
-    /// flight on one link.
+    /// given up: for want of memory, or where a link between members, or between masters, had 65,400 messages or more in
+    /// flight as an event came that may send.
     ///
-    /// A line costs what it costs the grid (`Grid::run_line`), and in addition, where there are near clients, its text for
+    /// A line costs what it costs the grid (`RuledGrid::run_line`), and in addition, where there are near clients, its text for
     /// each of them. A look-up that hits costs the copy of its value; `nearfeed` costs what its client makes of the bytes that
     /// it is handed.
     pub fn run_line(
