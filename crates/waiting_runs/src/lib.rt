@@ -11,8 +11,8 @@ ghost use Rattle.waiting_runs.specs.ByMachine.{EveryPartitionGoesByItsMachine};
 ghost use Rattle.waiting_runs.specs.Silent.{EveryWaiterChangesNothing};
 
 /// Each partition goes by lines of its machine that bring the waiting calls of the run there, each once, and no other, unless
-/// the run is given up. So all that the machine's laws say of such lines holds of the partition: each of its waiters is ruled
-/// by the protocol, an earlier one of two goes first, an event elsewhere is idle, and whoever leaves does so at a line of its
+/// the run is given up. So what the machine's laws say of such lines holds of the partition: each turn goes by the rule, of two
+/// with one plain call at a member the later goes first only if it alone is due, and whoever leaves does so at a line of its
 /// member.
 pub fn every_partition_goes_by_its_machine()
     ensures { EveryPartitionGoesByItsMachine }
