@@ -162,5 +162,15 @@ brings_its_calls q r lines h = record {
   no_other = λ x c. ⊎_elim (λ s. inl (s.0, contains_in s.0 r.waiters s.1, s.2, s.3)) (λ s. inr (s.0, contains_in s.0 r.arrivals s.1, s.2, s.3, s.4)) (h.no_other x (in_contains x (waits_in lines) c));
   waiting = λ w c here. contains_in (as_machine w) (waits_in lines) (h.waiting w (in_contains w r.waiters c) here);
   arrived = λ a c waits here. let it = h.arrived a (in_contains a r.arrivals c) waits here in (it.0, contains_in (as_machine (as_it_waited a it.0)) (waits_in lines) it.1);
+  known = λ k c. ⊎_elim (λ s. inl (s.0, contains_in s.0 r.arrivals s.1, s.2)) (λ s. inr (s.0, contains_in s.0 r.waiters s.1, s.2)) (h.known k (in_contains k (names_in lines) c));
+  once = h.once;
+}
+
+pub called_by : (q : ℕ) (r : Run) (lines : List (Line Request)) → BringsItsCalls r q lines → CalledBy q r lines
+called_by q r lines h = record {
+  no_other = λ x i. ⊎_elim (λ s. inl (s.0, in_contains s.0 r.waiters s.1, s.2, s.3)) (λ s. inr (s.0, in_contains s.0 r.arrivals s.1, s.2, s.3, s.4)) (h.no_other x (contains_in x (waits_in lines) i));
+  waiting = λ w i here. in_contains (as_machine w) (waits_in lines) (h.waiting w (contains_in w r.waiters i) here);
+  arrived = λ a i waits here. let it = h.arrived a (contains_in a r.arrivals i) waits here in (it.0, in_contains (as_machine (as_it_waited a it.0)) (waits_in lines) it.1);
+  known = λ k i. ⊎_elim (λ s. inl (s.0, in_contains s.0 r.arrivals s.1, s.2)) (λ s. inr (s.0, in_contains s.0 r.waiters s.1, s.2)) (h.known k (contains_in k (names_in lines) i));
   once = h.once;
 }

@@ -9,6 +9,7 @@ use Rattle.object_store.specs.Partitions.{Partition}
 use Rattle.partition_protocol.specs.Arrivals.{CallName, asked_by, name}
 use Rattle.partition_protocol.specs.Claims.{IsLawful}
 use Rattle.partition_protocol.specs.Events.{Event, run}
+use Rattle.partition_protocol.specs.Sequences.{IsFrontOf}
 use Rattle.partition_protocol.specs.Service.{numbers_below}
 use Rattle.partition_protocol.specs.World as world
 use Rattle.partition_protocol.specs.World.{World}
@@ -71,12 +72,13 @@ filter_listed c (w ∷ ws) = go (stays c w) (filter_listed c ws)
 closed_listed : (q c : ℕ) (ws : List Waiter) → listed q (filter (stays c) ws) ≡ filter (λ (x : machine.Waiter Request). not (x.conn == c)) (listed q ws)
 closed_listed q c ws = ap (map as_machine) (two_tests (is_in q) (stays c) ws) ∙ sym (filter_listed c (filter (is_in q) ws))
 
--- of one partition
-module _ (o : Object Request Partition) (skips : List CallId) (q : ℕ) where
-  -- it has come to what it is by these lines, and they brought its calls
+-- of one partition that had gone by some lines
+module _ (o : Object Request Partition) (skips : List CallId) (q : ℕ) (front : List (machine.Line Request)) where
+  -- it has come to what it is by these lines and more, and they brought its calls
   pub record HasCome (r : Run) : Type 0 where
     pub by : HasGoneBy o skips r q
     pub called : CalledBy q r by.lines
+    pub goes_on : IsFrontOf front by.lines
 
   -- the same has happened in it, and the same wait
   abbrev IsSame : Run → Run → Type 0
@@ -97,6 +99,7 @@ module _ (o : Object Request Partition) (skips : List CallId) (q : ℕ) where
       happened = same.1 ∙ h.by.happened ∙ (λ i. events o (terms_by skips) (start q (sym members i) (sym backups i)) h.by.lines);
     };
     called = keeps h.by.lines h.called;
+    goes_on = h.goes_on;
   }
 
   one_line : (r next : Run) (l : machine.Line Request) → next.members ≡ r.members → next.backups ≡ r.backups → waiting_in o next q ≡ goes o (terms_by skips) (waiting_in o r q) l
@@ -113,6 +116,7 @@ module _ (o : Object Request Partition) (skips : List CallId) (q : ℕ) where
           happened = happened ∙ (λ i. h.by.happened i ++ events_by o t (h.by.states i) l) ∙ sym more ∙ (λ i. events o t (start q (sym members i) (sym backups i)) (lines ++ l ∷ []));
         };
         called = keeps lines h.called;
+        goes_on = (h.goes_on.0 ++ l ∷ [], sym (append_assoc front h.goes_on.0 (l ∷ [])) ∙ ap (λ ls. ls ++ l ∷ []) h.goes_on.1);
       }
 
   -- calls

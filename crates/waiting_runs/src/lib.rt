@@ -7,7 +7,7 @@
 //! The functions compute nothing: their contracts are what holds of every run.
 #![tactic(auto)]
 
-ghost use Rattle.waiting_runs.specs.ByMachine.{EveryPartitionGoesByItsMachine};
+ghost use Rattle.waiting_runs.specs.ByMachine.{EveryPartitionGoesByItsMachine, EveryPartitionGoesOn};
 ghost use Rattle.waiting_runs.specs.Silent.{EveryWaiterChangesNothing};
 
 /// Each partition goes by lines of its machine that bring the waiting calls of the run there, each once, and no other, unless
@@ -16,6 +16,12 @@ ghost use Rattle.waiting_runs.specs.Silent.{EveryWaiterChangesNothing};
 /// member.
 pub fn every_partition_goes_by_its_machine()
     ensures { EveryPartitionGoesByItsMachine }
+{}
+
+/// As a script goes on, so do the lines by which a partition goes: whichever they are at one moment, those of a later one are
+/// these and more, unless the run is given up. So what the machine's laws say of two moments holds of a script's.
+pub fn every_partition_goes_on()
+    ensures { EveryPartitionGoesOn }
 {}
 
 /// A call changes nothing while it waits: by the lines without its arrival its partition comes to the same world and the same
