@@ -45,19 +45,6 @@ without_masters o skips s line is = ap (λ b. cond b (ruled_line o skips s line)
 pub text_without_masters : (settings : Settings) (skips : List CallId) (s : RuledRun) (line : ScriptLine) (next : RuledRun) → has_masters s ≡ false → line_text settings skips s line next ≡ unruled_text settings skips s line next
 text_without_masters settings skips s line next is = ap (λ b. cond b (ruled_text settings skips s line next) (unruled_text settings skips s line next)) is
 
--- what is asked for in a partition is one event of it at most
-pub goes_few : (o : Object Request Partition) (skips : List CallId) (s : RuledRun) (p : ℕ) (l : Line Request) → length (events_by (ruled_at o s p) l) ≤ 1 → TakesFewIn p 1 1 s.run (goes o skips s p l).run
-goes_few o skips s p l single =
-    let j = ruled_at o s p in
-    on_cond (λ (x : RuledRun). TakesFewIn p 1 1 s.run x.run) (meets_full_link j.masters (asked_by j l)) (given_up s)
-    (record { run = takes_each o skips s.run p (events_by j l); masters = slice_set s.masters p (masters_after j l) })
-    (λ full. few_in_wider (omega arith) (omega arith) (few_in_given_up p s.run)) (λ free. each_few (events_by j l) single)
-  where
-    each_few : (es : List (Event Request)) → length es ≤ 1 → TakesFewIn p 1 1 s.run (takes_each o skips s.run p es)
-    each_few [] few = few_in_wider (omega arith) (omega arith) (few_in_none p s.run)
-    each_few (e ∷ []) few = takes_one o skips s.run p e
-    each_few (e ∷ f ∷ es) few = absurd (omega (arith, few))
-
 module _ {V : Type 0} {T : V → Type 0} {form : FormOf V T} where
   -- It is counted as a comment is.
   pub may_count : (all : RuledGrid V T) (number : ℕ) (line : ScriptLine) → MayRun form all number line → grid.MayRun form all.grid number Comment
