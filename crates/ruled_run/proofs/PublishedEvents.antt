@@ -16,8 +16,8 @@ use Rattle.partition_world.specs.declared.event.Event.TheVariants as happening
 use Rattle.partition_world.specs.declared.event.Happened.{Happened}
 use Rattle.partition_world.specs.Events.{event_of as event_in}
 use Rattle.masters_world.specs.Decisions.{Decision, event_of}
-use Rattle.masters_world.specs.Machine.{Ruled, Line, asked_by, at_once, masters_after, published_by, events_by}
-use Rattle.replay_run.specs.Runs.{Run, Appended, events_at, world_at, takes}
+use Rattle.masters_world.specs.Machine.{Line, asked_by, at_once, masters_after, published_by, events_by}
+use Rattle.replay_run.specs.Runs.{Run, events_at, world_at, takes}
 use Rattle.replay_run.specs.Dumps.{number}
 use Rattle.replay_run.specs.Appending.{new_messages}
 use Rattle.replay_run.specs.Printing.{words_line, words_of, fate_words, done_word}
@@ -29,7 +29,7 @@ use Rattle.replay_run.specs.WorldCalls.{GivesUpSo, texts_of}
 use Rattle.ruled_run.specs.declared.grid.RuledGrid.{RuledGrid}
 use Rattle.ruled_run.specs.Runs.{RuledRun, masters_at, ruled_at, meets_full_link, takes_each, goes}
 use Rattle.ruled_run.specs.Runs as ruled
-use Rattle.ruled_run.specs.Printing.{published_words, published_texts, followed}
+use Rattle.ruled_run.specs.Printing.{published_words, published_texts}
 use Rattle.ruled_run.specs.Grids.{Rules}
 use Rattle.ruled_run.specs.Steps.{HasGoneOn, GivesUp, going, following, HasAskedMasters, HasTaken}
 use Rattle.ruled_run.proofs.RuleLemmas.{rules_after}

@@ -1,5 +1,5 @@
 -- The outcome of a detection is told as on a line of its own, and that of any other event in its words.
-use Rattle.std.proofs.Common.{◌≡◌, ℕ, true, false, cond, List, ◌++◌, ap, sym, ◌∙◌, Vec, Global}
+use Rattle.std.proofs.Common.{◌≡◌, ℕ, cond, ◌++◌, ap, sym, ◌∙◌, Vec, Global}
 use Rattle.call_engine.specs.Objects.{partition_object}
 use Rattle.partition_protocol.specs.Events.{happens}
 use Rattle.partition_world.specs.Events.{event_of, happened_of}
