@@ -26,8 +26,9 @@ pub mod FewEvents
 pub mod Proposing
 pub mod MastersAsked
 pub mod PublishedEvents
-pub mod Publishing
 pub mod Composing
 pub mod LineParts
 pub mod AtOnce
 pub mod Loops
+pub mod Delivering
+pub mod HandingOver
