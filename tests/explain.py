@@ -10,7 +10,7 @@ failed. It checks of each script that
 - each connection's answers are as many at each line as `replay` prints;
 - each `say` line, composed by `grid compose`, gives the bytes of its line, where the line is that whole message;
 
-and of those that have one in tests/explained, the eleven scenarios to read first and one of a near client, that it is that one.
+and of those that have one in tests/explained, the eleven scenarios to read first, one of a near client and one of masters, that it is that one.
 """
 import os
 import re

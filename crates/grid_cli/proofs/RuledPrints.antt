@@ -1,5 +1,5 @@
 -- Each message that a line appends stands in the line's text, where the grid has masters too.
-use Rattle.std.proofs.Common.{◌≡◌, ℕ, zero, suc, ◌+◌, Bool, true, false, ◌==◌, cond, List, [], ◌∷◌, ◌++◌, length, Option, Some, None, refl, ◌⊎◌, ⊎_elim, inl, inr}
+use Rattle.std.proofs.Common.{ℕ, zero, suc, ◌+◌, Bool, true, false, ◌==◌, cond, List, [], ◌∷◌, ◌++◌, length, Option, Some, None, refl, ◌⊎◌, ⊎_elim, inl, inr}
 use Rattle.std.specs.List.{flat_map}
 use Rattle.grid_base.specs.Objects.{Object}
 use Rattle.grid_base.specs.declared.names.CallId.{CallId}
@@ -15,7 +15,7 @@ use Rattle.call_engine.specs.Objects.{partition_object}
 use Rattle.masters_world.specs.Machine.{Line, Asks, Told, at_once, published_by}
 use Rattle.script_lang.specs.declared.line.Line.{Line as ScriptLine}
 use Rattle.script_lang.specs.declared.line.Line.TheVariants as line
-use Rattle.replay_run.specs.Runs.{Run, Appended, partitions}
+use Rattle.replay_run.specs.Runs.{Appended, partitions}
 use Rattle.replay_run.specs.Appending.{appended_text, new_messages}
 use Rattle.replay_run.specs.Printing.{ok_text, flow_text, words_line, deliveries}
 use Rattle.ruled_run.specs.Runs.{RuledRun, opening_masters, has_masters, masters_at, ruled_at, goes, goes_in, flowed, flowed_in, link_between, handing_over, flowed_between, counted}
@@ -56,7 +56,7 @@ module _ (m : Appended) where
         (all_new s next ((goes_goes o s p l quiet).by.grows skips).appended)
 
     goes_in_shows : (s : RuledRun) (l : Line Request) (ps : List ℕ) → AsksNoCall l → Shows (followed_in o skips s l ps) s (goes_in o skips s l ps)
-    goes_in_shows s l [] quiet i = inl i
+    goes_in_shows s l [] quiet = λ i. inl i
     goes_in_shows s l (p ∷ ps) quiet =
         let mid = goes o skips s p l in
         and_then (followed o skips s p l) (followed_in o skips mid l ps) s mid (goes_in o skips mid l ps) (goes_shows s p l quiet) (goes_in_shows mid l ps quiet)
@@ -71,11 +71,11 @@ module _ (m : Appended) where
     each_on s p most next = elim next [ None ↦ [] | Some l ↦ followed o skips s p (handing_over l) ++ followed_each o skips (goes o skips s p (handing_over l)) p most ]
 
     each_shows : (s : RuledRun) (p most : ℕ) → Shows (followed_each o skips s p most) s (flowed_between o skips s p most)
-    each_shows s p zero i = inl i
+    each_shows s p zero = λ i. inl i
     each_shows s p (suc most) = go (link_between (masters_at s p)) (λ x. each_shows x p most)
       where
         go : (next : Option Link) → ((x : RuledRun) → Shows (followed_each o skips x p most) x (flowed_between o skips x p most)) → Shows (each_on s p most next) s (between_on o skips s p most next)
-        go None on i = inl i
+        go None on = λ i. inl i
         go (Some l) on =
             let mid = goes o skips s p (handing_over l) in
             and_then (followed o skips s p (handing_over l)) (followed_each o skips mid p most) s mid (flowed_between o skips mid p most) (goes_shows s p (handing_over l) tt) (on mid)
@@ -101,8 +101,8 @@ module _ (m : Appended) where
         (all_new (counted s) next ((goes_in_goes o (counted s) (Asks (Crash c)) (numbers_below partitions) refl).by.grows skips).appended i)
 
     ruled_shows : (s : RuledRun) (l : ScriptLine) → let next = ruled_line o skips s l in Shows (ruled_text settings skips s l next) s next
-    ruled_shows s line.Masters i = inl i
-    ruled_shows s (line.Rebalance most) i = inl i
+    ruled_shows s line.Masters = λ i. inl i
+    ruled_shows s (line.Rebalance most) = λ i. inl i
     ruled_shows s (line.Flow p most) = flows_show s (flowed o skips (counted s) p most) ((flowed_goes o (counted s) p most).by.grows skips).appended
     ruled_shows s (line.FlowAll most) = flows_show s (flowed_in o skips (counted s) most (numbers_below partitions)) ((flowed_in_goes o (counted s) most (numbers_below partitions)).by.grows skips).appended
     ruled_shows s (line.MasterFlow p most) =

@@ -5,6 +5,7 @@ ghost use Rattle.std.specs.Prelude.{◌<◌};
 
 mod codec;
 mod long_scripts;
+mod masters_limits;
 mod scenarios;
 mod tables;
 
@@ -13,6 +14,7 @@ use entry_processors::{Add, AddUpTo, Append, Clear, Processor, SetIfGreater};
 use grid_cli::{Status, replay_command};
 use grid_edge::{MemorySink, MemorySource};
 use long_scripts::{LONG_SCRIPTS, LongScript};
+use masters_limits::{MASTERS_SCRIPTS, MastersScript};
 use scenarios::{SUBJECTS, Subject};
 use std::alloc::Global;
 use std::process::ExitCode;
@@ -314,6 +316,9 @@ fn run_scenarios(rt: &HostRuntime) -> io::Result<ExitCode> {
     for script in LONG_SCRIPTS {
         held &= long_script_holds(rt, script)?;
     }
+    for script in MASTERS_SCRIPTS {
+        held &= masters_script_holds(rt, script)?;
+    }
     let refused = other_words_are_no_command(rt, SHORT_SCENARIO)?;
     held &= tell(rt, "other_words", refused)?;
     for name in FAULTY_SCENARIOS {
@@ -366,14 +371,33 @@ fn long_script_holds(rt: &HostRuntime, script: LongScript) -> io::Result<bool> {
     let alloc = rt.alloc();
     let text = script.script(alloc)?;
     let transcript = script.transcript(alloc)?;
+    made_up_holds(rt, script.name, text, transcript, script.code)
+}
+
+/// Runs a script with masters that is made up, and tells how it came out.
+fn masters_script_holds(rt: &HostRuntime, script: MastersScript) -> io::Result<bool> {
+    let alloc = rt.alloc();
+    let text = script.script(alloc)?;
+    let transcript = script.transcript(alloc)?;
+    made_up_holds(rt, script.name, text, transcript, script.code)
+}
+
+/// Runs the script of this name, which has to print this transcript and to end with this exit status, and tells how it came out.
+fn made_up_holds(
+    rt: &HostRuntime,
+    name: &str,
+    script: Vec<u8>,
+    transcript: Vec<u8>,
+    code: u8,
+) -> io::Result<bool> {
     let scenario = Scenario {
-        name: script.name,
-        script: text.as_slice(),
+        name,
+        script: script.as_slice(),
         transcript: transcript.as_slice(),
-        code: script.code,
+        code,
     };
     let held = is_as_wanted(rt, scenario, Pieces::Whole)?;
-    tell(rt, script.name, held)
+    tell(rt, name, held)
 }
 
 /// With words that are no command, does a run of the scenario end as such, and print nothing?

@@ -201,7 +201,7 @@ module _ (settings : Settings) (client : ℕ) (name : List ℕ) (s : Machine) (e
   pub served_on : (skips : List CallId) (r : Run) (own : Option ℕ) (p member : ℕ) → Goes r → Goes (served o skips r own p member)
   served_on skips r own p member g = served_keeps o skips p Goes (turns skips p) r own member g
 
-  event_on : (skips : List CallId) (r : Run) (p : ℕ) (e : Event Request) → asked_by e ≡ [] → Goes r → Goes (takes o skips r p e)
+  pub event_on : (skips : List CallId) (r : Run) (p : ℕ) (e : Event Request) → asked_by e ≡ [] → Goes r → Goes (takes o skips r p e)
   event_on skips r p e quiet g = takes_keeps o skips p Goes (turns skips p) r e g (stepped r (occurred o r p e) g p e (event_happened r g.machine earlier heard p e g.run quiet) g.elsewhere)
 
   -- ---- items of another connection

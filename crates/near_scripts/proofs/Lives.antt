@@ -295,19 +295,19 @@ module _ (o : Object Request Partition) (skips : List CallId) (r : Run) where
   IsNoCrash l = Unit {0}
 
   pub calm_line : (l : Line) → IsNoCrash l → Calm o r (after_line o skips r l)
-  calm_line (line.OpenConn c member) no = on_if (Calm o r) (can_open o r c member) (opened r c member) (next_line r) (λ q. refl) (λ q. refl)
-  calm_line (line.Arrive c bytes) no = arrives c bytes (connection_of r c)
-  calm_line (line.Clock member moment) no = served_in_keeps o skips (Calm o r) member (λ x p h. served_calm o skips r x None p member h) (clock_set r member moment) (numbers_below partitions) (λ q. refl)
-  calm_line (line.Flow partition most) no = flow_calm o skips r partition (next_line r) most (λ q. refl)
-  calm_line (line.FlowAll most) no = flowed_in_keeps o skips (Calm o r) (λ y p l k. takes_calm o skips r y p (delivery_on l) refl k) (next_line r) most (numbers_below partitions) (λ q. refl)
-  calm_line (line.Crash member) no = absurd no
-  calm_line (line.Detect member) no = detects (numbers_below partitions) (next_line r) (λ q. refl)
+  calm_line (line.OpenConn c member) calm = on_if (Calm o r) (can_open o r c member) (opened r c member) (next_line r) (λ q. refl) (λ q. refl)
+  calm_line (line.Arrive c bytes) calm = arrives c bytes (connection_of r c)
+  calm_line (line.Clock member moment) calm = served_in_keeps o skips (Calm o r) member (λ x p h. served_calm o skips r x None p member h) (clock_set r member moment) (numbers_below partitions) (λ q. refl)
+  calm_line (line.Flow partition most) calm = flow_calm o skips r partition (next_line r) most (λ q. refl)
+  calm_line (line.FlowAll most) calm = flowed_in_keeps o skips (Calm o r) (λ y p l k. takes_calm o skips r y p (delivery_on l) refl k) (next_line r) most (numbers_below partitions) (λ q. refl)
+  calm_line (line.Crash member) calm = absurd calm
+  calm_line (line.Detect member) calm = detects (numbers_below partitions) (next_line r) (λ q. refl)
     where
       detects : (ps : List ℕ) (x : Run) → Calm o r x → Calm o r (takes_in o skips x (Detect member) ps)
       detects [] x h = h
       detects (p ∷ ps) x h = detects ps (takes o skips x p (Detect member)) (takes_calm o skips r x p (Detect member) refl h)
-  calm_line (line.Rebalance most) no = steps_calm o skips r (next_line r) (steps_in o (next_line r) most) (λ q. refl)
-  calm_line l no = by_event (event_by l) (quiet_line l)
+  calm_line (line.Rebalance most) calm = steps_calm o skips r (next_line r) (steps_in o (next_line r) most) (λ q. refl)
+  calm_line l calm = by_event (event_by l) (quiet_line l)
 
   pub crash_line : (member : ℕ) → (after_line o skips r (line.Crash member)).full ≡ false → Shift (after_line o skips r (line.Crash member))
   crash_line member going = inr (member, all)

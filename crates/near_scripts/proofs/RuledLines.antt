@@ -82,17 +82,17 @@ module _ (o : Object Request Partition) (skips : List CallId) (s : RuledRun) whe
   event_calm (Some e) quiet = (tt, quiet)
 
   asks_calm : (l : Line) → IsNoCrash o skips s.run l → IsFor Anywhere IsCalm l
-  asks_calm (line.Crash m) no = absurd no
-  asks_calm (line.Flow p most) no = tt
-  asks_calm (line.MasterFlow p most) no = tt
-  asks_calm (line.MasterDeliver p from to place) no = tt
-  asks_calm (line.MasterLose p from to place) no = tt
-  asks_calm (line.MasterResend p member) no = tt
-  asks_calm l no = event_calm (event_by l) (quiet_line o skips s.run l)
+  asks_calm (line.Crash m) calm = absurd calm
+  asks_calm (line.Flow p most) calm = tt
+  asks_calm (line.MasterFlow p most) calm = tt
+  asks_calm (line.MasterDeliver p from to place) calm = tt
+  asks_calm (line.MasterLose p from to place) calm = tt
+  asks_calm (line.MasterResend p member) calm = tt
+  asks_calm l calm = event_calm (event_by l) (quiet_line o skips s.run l)
 
   still_calm : (l : Line) → IsNoCrash o skips s.run l → Shift o skips s.run (after_line o skips s l).run
-  still_calm l no =
-      inl (event_line_keeps o skips Anywhere (λ p i. tt) IsCalm decided_calm (Calm o s.run) (λ r h. h) (λ r p e here calm h. takes_calm o skips s.run r p e calm h) s l (asks_calm l no) (λ q. refl) (calm_line o skips s.run l no))
+  still_calm l calm =
+      inl (event_line_keeps o skips Anywhere (λ p i. tt) IsCalm decided_calm (Calm o s.run) (λ r h. h) (λ r p e here quiet h. takes_calm o skips s.run r p e quiet h) s l (asks_calm l calm) (λ q. refl) (calm_line o skips s.run l calm))
 
   -- A crash is the grid's own.
   crash_alone : (m : ℕ) → (after_line o skips s (line.Crash m)).run ≡ alone.after_line o skips s.run (line.Crash m)

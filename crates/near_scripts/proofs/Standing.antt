@@ -47,7 +47,7 @@ line_stands settings skips s n members l come within lines going stands =
     let o = partition_object settings in
     record {
       run = ruled_run skips s stands.run l;
-      small = still_small o skips s stands.run l (line_within members most_arriving l within) stands.small;
+      small = still_small o skips s l stands.run (line_within members most_arriving l within) stands.small;
       few = line_few o skips n members most_arriving s come stands.few l within;
       lines = let counted = line_lines o skips s l in omega (arith, lines, counted);
       together = crashes_together o skips s l going stands.together;

@@ -1,5 +1,5 @@
 -- Each line of a grid with masters extends the lines for which its partitions stand, unless the run is given up: so every run is ruled, and the lines of a later moment begin with those of an earlier one.
-use Rattle.std.proofs.Common.{◌≡◌, ◌≢◌, ℕ, zero, suc, ◌+◌, ◌<◌, ◌≤◌, Bool, true, false, List, [], ◌∷◌, ◌++◌, length, Option, Some, None, refl, ap, sym, ◌∙◌, subst, true≢false, append-nil, append_assoc, ⊎_elim, arith}
+use Rattle.std.proofs.Common.{◌≡◌, ◌≢◌, ℕ, zero, suc, ◌<◌, ◌≤◌, true, false, List, [], ◌∷◌, ◌++◌, length, Option, Some, None, refl, ap, sym, ◌∙◌, subst, true≢false, append-nil, append_assoc, ⊎_elim, arith}
 use Rattle.grid_base.specs.Objects.{Object}
 use Rattle.grid_base.specs.declared.names.CallId.{CallId}
 use Rattle.grid_base.specs.declared.calls.Request.{Request}
@@ -8,17 +8,17 @@ use Rattle.partition_protocol.specs.Events.{Crash, Detect}
 use Rattle.partition_protocol.specs.Service.{numbers_below}
 use Rattle.partition_protocol.proofs.RowFacts.{false_or_not, number_cases}
 use Rattle.partition_world.specs.declared.Link.{Link}
-use Rattle.masters_world.specs.Machine.{Ruled, Line, Asks, Told, start, events_by}
+use Rattle.masters_world.specs.Machine.{Line, Asks, Told}
 use Rattle.script_lang.specs.declared.line.Line.{Line as ScriptLine}
 use Rattle.script_lang.specs.declared.line.Line.TheVariants as line
-use Rattle.replay_run.specs.Runs.{Run, partitions, events_at, world_at, delivery_on}
-use Rattle.ruled_run.specs.Runs.{RuledRun, has_masters, masters_at, ruled_at, goes, goes_in, link_to_member, flowed, flowed_in, link_between, handing_over, flowed_between, counted}
-use Rattle.ruled_run.specs.AfterLines.{by_grid, Asked, asked_at, asked_in_all, by_partition, by_all, ruled_line, after_line, after_lines}
+use Rattle.replay_run.specs.Runs.{partitions, world_at, delivery_on}
+use Rattle.ruled_run.specs.Runs.{RuledRun, masters_at, goes, goes_in, link_to_member, flowed, flowed_in, link_between, handing_over, flowed_between, counted}
+use Rattle.ruled_run.specs.AfterLines.{by_grid, Asked, asked_at, by_partition, ruled_line}
 use Rattle.ruled_run.specs.Standing.{IsOfLines, IsRuled}
 use Rattle.ruled_run.proofs.Extending.{asking}
 use Rattle.ruled_run.proofs.OwnLines.{IsPlain, asks_no_event, own_calls}
 use Rattle.ruled_run.proofs.RuledRuns.{flowed_on, between_on}
-use Rattle.ruled_run.proofs.Going.{single_at, Stays, CallsCome, LineComes, stays_refl, no_calls, calls_extend, line_extends, goes_count, goes_kept, goes_full, goes_elsewhere, goes_comes, goes_in_full, flowed_full, flowed_in_full, between_full}
+use Rattle.ruled_run.proofs.Going.{single_at, CallsCome, no_calls, calls_extend, line_extends, goes_count, goes_kept, goes_elsewhere, goes_comes, goes_in_full, flowed_full, flowed_in_full, between_full}
 
 -- From one run to a later one: the lines of each partition are more by these.
 pub record Continues (o : Object Request Partition) (s next : RuledRun) : Type 0 where
@@ -78,7 +78,7 @@ module _ (o : Object Request Partition) where
           record { calls = h.calls; are = h.are; members = h.members; backups = h.backups; masters = ap (λ n. masters_at (record { run = record s.run { members = n }; masters = s.masters }) p) h.members; here = h.here }
 
   pub counted_continues : (s : RuledRun) → Continues o s (counted s)
-  counted_continues s = by_each s (counted s) refl refl refl (λ p low. (asking [], calls_extend o s (counted s) p (no_calls (record { members = refl; backups = refl; masters = refl; here = refl }))))
+  counted_continues s = by_each s (counted s) refl refl refl (λ p low. let h : CallsCome s (counted s) p = no_calls (record { members = refl; backups = refl; masters = refl; here = refl }) in (asking h.calls, calls_extend o s (counted s) p h))
 
   module _ (skips : List CallId) where
     pub goes_continues : (s : RuledRun) (p : ℕ) (l : Line Request) → IsRuled o s → (goes o skips s p l).run.full ≡ false → Continues o s (goes o skips s p l)

@@ -1,14 +1,12 @@
 -- A line of a partition extends the lines for which it stands: by itself, and by the calls that had their turns behind it. Other partitions stay.
-use Rattle.std.proofs.Common.{◌≡◌, ◌≢◌, ℕ, Bool, true, false, cond, ◌+◌, ◌<◌, ◌≤◌, List, [], ◌∷◌, ◌++◌, map, filter, length, Option, Some, None, slice_get, slice_set, unwrap_or, refl, ap, sym, ◌∙◌, subst, ⊎_elim, ◌⊎◌, inl, inr, append_assoc, append-nil, arith}
+use Rattle.std.proofs.Common.{◌≡◌, ℕ, Bool, true, false, cond, List, [], ◌∷◌, ◌++◌, map, Option, refl, ap, sym, ◌∙◌, subst, inl, inr, append_assoc, append-nil}
 use Rattle.grid_base.specs.Objects.{Object}
 use Rattle.grid_base.specs.declared.names.CallId.{CallId}
 use Rattle.grid_base.specs.declared.calls.Request.{Request}
 use Rattle.object_store.specs.Partitions.{Partition}
 use Rattle.partition_protocol.specs.Events.{Event, Call, Deliver, Lose, Repeat, Resend, Crash, Detect, BeginMove, BeginJoin, BeginHandover, Advance, Reopen}
-use Rattle.partition_protocol.proofs.Lists.{set_get_same, set_get_other, on_cond}
 use Rattle.partition_protocol.proofs.RowFacts.{number_same}
-use Rattle.masters_protocol.specs.Machine.{Masters}
-use Rattle.masters_world.specs.Decisions.{Decision, event_of}
+use Rattle.masters_world.specs.Decisions.{event_of}
 use Rattle.masters_world.specs.Machine.{Ruled, Line, Asks, start, past, asked_by, masters_after, events_by, after, asked, events}
 use Rattle.masters_world.specs.Machine as ruled
 use Rattle.masters_world.proofs.Lists.{past_append}
@@ -16,8 +14,9 @@ use Rattle.masters_world.proofs.Theorem.{after_append, events_append}
 use Rattle.replay_run.specs.Runs.{Run, At, Arrival, is_at, events_at, world_at, meets_full, arrived, without, ending, given_up, occurred, served, served_at, takes, stirred_by}
 use Rattle.replay_run.proofs.Turns.{KeepsTurns, by_endings, served_keeps, served_at_keeps, IsMade, its_event}
 use Rattle.replay_run.proofs.EventRuns.{events_at-append, takes_here}
-use Rattle.ruled_run.specs.Runs.{RuledRun, masters_at, ruled_at}
+use Rattle.ruled_run.specs.Runs.{RuledRun, masters_at}
 use Rattle.ruled_run.specs.Standing.{IsOfLines}
+use Rattle.ruled_run.proofs.AskedLines.{asked_append}
 
 -- calls alone
 
@@ -171,10 +170,6 @@ extended_by_calls o s next p lines calls of are same backups by here =
     }
 
 -- Nothing is asked of the masters by calls.
-
-pub asked_append : {State : Type 0} (o : Object Request State) (j : Ruled Request) (ls ms : List (Line Request)) → asked o j (ls ++ ms) ≡ asked o j ls ++ asked o (after o j ls) ms
-asked_append o j [] ms = refl
-asked_append o j (l ∷ ls) ms = ap (λ es. asked_by j l ++ es) (asked_append o (ruled.goes o j l) ls ms) ∙ sym (append_assoc (asked_by j l) (asked o (ruled.goes o j l) ls) (asked o (after o (ruled.goes o j l) ls) ms))
 
 call_asks : (j : Ruled Request) (e : Event Request) → IsCall e → asked_by j (Asks e) ≡ []
 call_asks j (Call m conn number call now) is = refl

@@ -1,5 +1,5 @@
 -- What is asked for in a partition extends its lines, unless the run is given up; and other partitions stay.
-use Rattle.std.proofs.Common.{◌≡◌, ◌≢◌, ℕ, zero, suc, ◌<◌, ◌≤◌, Bool, true, false, cond, List, [], ◌∷◌, ◌++◌, length, Option, Some, None, slice_get, slice_set, unwrap_or, get_or, refl, ap, sym, ◌∙◌, subst, true≢false, append-nil, append_assoc, ⊎_elim, arith}
+use Rattle.std.proofs.Common.{◌≡◌, ◌≢◌, ℕ, zero, suc, ◌<◌, ◌≤◌, Bool, true, false, cond, List, [], ◌∷◌, ◌++◌, length, slice_get, slice_set, unwrap_or, get_or, refl, ap, sym, ◌∙◌, subst, true≢false, append-nil, ⊎_elim, arith}
 use Rattle.std.proofs.lemmas.Option.{slice_get-get_or}
 use Rattle.grid_base.specs.Objects.{Object}
 use Rattle.grid_base.specs.declared.names.CallId.{CallId}
@@ -15,7 +15,7 @@ use Rattle.masters_protocol.specs.Machine.{Masters}
 use Rattle.masters_protocol.specs.Machine as masters
 use Rattle.masters_protocol.proofs.Lists.{length_set}
 use Rattle.masters_world.specs.Decisions.{Decision}
-use Rattle.masters_world.specs.Machine.{Ruled, Line, start, asked_by, masters_after, events_by, after, events}
+use Rattle.masters_world.specs.Machine.{Ruled, Line, start, asked_by, masters_after, events_by, after}
 use Rattle.masters_world.proofs.Theorem.{world_goes, every_run_is_well_ruled}
 use Rattle.replay_run.specs.Runs.{Run, events_at, world_at, meets_full, takes}
 use Rattle.replay_run.proofs.EventRuns.{IsFull, Kept, kept_refl, kept_trans, takes_kept, takes_nothing, takes_elsewhere, takes_full}
@@ -238,21 +238,16 @@ module _ (o : Object Request Partition) (skips : List CallId) (s : RuledRun) (l 
       (stays_trans (still_to_come n q (omega (arith, high))) (goes_elsewhere o skips (through n) n l q (omega (arith, high))))
 
   -- and in each before them the line came
-  pub line_came : (n : ℕ) → n ≤ length s.masters → ((q : ℕ) → q < n → length (events_by (ruled_at o s q) l) ≤ 1) → (through n).run.full ≡ false → (q : ℕ) → q < n → LineComes o s (through n) q l
-  line_came zero within few goes_on q low = absurd (omega (arith, low))
-  line_came (suc n) within few goes_on q low =
-      subst (λ (x : RuledRun). LineComes o s x q l) (sym (through_more n)) (⊎_elim here before (number_cases q n))
+
+  -- where it came to those before this one, so it does to this one
+  came_on : (n : ℕ) → n < length s.masters → length (events_by (ruled_at o s n) l) ≤ 1 → (goes o skips (through n) n l).run.full ≡ false → ((q : ℕ) → q < n → LineComes o s (through n) q l) → (q : ℕ) → q < suc n
+      → LineComes o s (goes o skips (through n) n l) q l
+  came_on n within few on earlier q low = ⊎_elim here before (number_cases q n)
     where
-      on : (goes o skips (through n) n l).run.full ≡ false
-      on = sym (ap (λ (x : RuledRun). x.run.full) (through_more n)) ∙ goes_on
-
-      so_far : (through n).run.full ≡ false
-      so_far = false_or_not (through n).run.full (λ full. true≢false (sym (goes_full o skips (through n) n l full) ∙ on))
-
       own : LineComes o s (goes o skips (through n) n l) n l
       own =
           let same = ruled_stays o s (through n) n (still_to_come n n (omega arith)) in
-          let alone = subst (λ (j : Ruled Request). length (events_by j l) ≤ 1) (sym same) (few n (omega arith)) in
+          let alone = subst (λ (j : Ruled Request). length (events_by j l) ≤ 1) (sym same) few in
           let count = through_count n in
           stays_then_line o s (through n) (goes o skips (through n) n l) n l (still_to_come n n (omega arith)) (goes_comes o skips (through n) n l (omega (arith, within, count)) alone on)
 
@@ -260,6 +255,12 @@ module _ (o : Object Request Partition) (skips : List CallId) (s : RuledRun) (l 
       here same = subst (λ k. LineComes o s (goes o skips (through n) n l) k l) (sym same) own
 
       before : q ≢ n → LineComes o s (goes o skips (through n) n l) q l
-      before other =
-          line_then_stays o s (through n) (goes o skips (through n) n l) q l (line_came n (omega (arith, within)) (λ k k_low. few k (omega (arith, k_low))) so_far q (omega (arith, low, other)))
-          (goes_elsewhere o skips (through n) n l q other)
+      before other = line_then_stays o s (through n) (goes o skips (through n) n l) q l (earlier q (omega (arith, low, other))) (goes_elsewhere o skips (through n) n l q other)
+
+  pub line_came : (n : ℕ) → n ≤ length s.masters → ((q : ℕ) → q < n → length (events_by (ruled_at o s q) l) ≤ 1) → (through n).run.full ≡ false → (q : ℕ) → q < n → LineComes o s (through n) q l
+  line_came zero within few goes_on q low = absurd (omega (arith, low))
+  line_came (suc n) within few goes_on q low =
+      let on : (goes o skips (through n) n l).run.full ≡ false = sym (ap (λ (x : RuledRun). x.run.full) (through_more n)) ∙ goes_on in
+      let so_far = false_or_not (through n).run.full (λ full. true≢false (sym (goes_full o skips (through n) n l full) ∙ on)) in
+      subst (λ (x : RuledRun). LineComes o s x q l) (sym (through_more n))
+      (came_on n (omega (arith, within)) (few n (omega arith)) on (line_came n (omega (arith, within)) (λ k k_low. few k (omega (arith, k_low))) so_far) q low)

@@ -1,5 +1,5 @@
 -- A line that is the grid's own and no event brings calls to partitions, and nothing else.
-use Rattle.std.proofs.Common.{◌≡◌, ℕ, Bool, true, false, List, [], ◌∷◌, ◌++◌, pos, Option, Some, None, option_map, refl, ap, sym, inl, inr, append-nil}
+use Rattle.std.proofs.Common.{◌≡◌, ℕ, List, [], ◌∷◌, pos, Option, Some, None, option_map, refl, sym, inl, inr, append-nil}
 use Rattle.grid_base.specs.Errors.{want_of_memory}
 use Rattle.grid_base.specs.Objects.{Object}
 use Rattle.grid_base.specs.declared.names.CallId.{CallId}
@@ -12,11 +12,11 @@ use Rattle.session_core.specs.declared.item.Item.{Item}
 use Rattle.session_core.specs.declared.item.Item.TheVariants.{Call as Asks, Wait, Register, Reply}
 use Rattle.script_lang.specs.declared.line.Line.{Line}
 use Rattle.script_lang.specs.declared.line.Line.TheVariants.{OpenConn, Arrive, Clock, Flow, FlowAll, Crash, Detect, Rebalance, MasterDeliver, MasterLose, MasterResend}
-use Rattle.replay_run.specs.Runs.{Run, At, Connection, Arrival, partitions, events_at, world_at, connection_of, can_open, opened, next_line, clock_set, took_bytes, takes_bytes, items_by, bytes_arrived, arrival_at, is_full, is_skipped, refusal, happening, arrived, told, registers, asked, asks, given_up, waiter_at, waits, leaves, ending, served, served_in, forsaken, handled, handled_all, event_by}
+use Rattle.replay_run.specs.Runs.{Run, At, Connection, Arrival, partitions, events_at, world_at, connection_of, can_open, opened, next_line, clock_set, took_bytes, takes_bytes, items_by, bytes_arrived, arrival_at, is_full, is_skipped, refusal, happening, arrived, told, registers, asked, asks, given_up, waiter_at, waits, leaves, ending, forsaken, handled, handled_all, event_by}
 use Rattle.replay_run.specs.AfterLines.{after_event, after_line}
 use Rattle.replay_run.proofs.EventRuns.{served_in_keeps}
 use Rattle.replay_run.proofs.Turns.{forsaken_keeps, its_event}
-use Rattle.ruled_run.specs.AfterLines.{Asked, as_asked, asked_at}
+use Rattle.ruled_run.specs.AfterLines.{as_asked, asked_at}
 use Rattle.ruled_run.proofs.Extending.{HasCalls, calls_still, calls_made, served_calls}
 
 -- none of those that go through partitions by themselves

@@ -1,22 +1,26 @@
 -- What the masters of a partition published has happened to it, and was told: the run has gone on by the line that they were asked.
-use Rattle.std.proofs.Common.{◌≡◌, ℕ, ◌+◌, ◌<◌, ◌≤◌, Bool, true, false, cond, List, [], ◌∷◌, ◌++◌, map, length, drop, Option, Some, None, slice_get, slice_set, refl, ap, sym, ◌∙◌, subst, append_assoc, append-nil, arith}
+use Rattle.std.proofs.Common.{◌≡◌, ◌≢◌, ℕ, ◌+◌, true, false, cond, List, [], ◌∷◌, ◌++◌, map, length, drop, slice_set, refl, ap, sym, ◌∙◌, subst, append_assoc, append-nil, arith}
 use Rattle.std.specs.Prelude.{codes, decimal}
 use Rattle.std.proofs.lemmas.List.{drop_at, drop_all}
 use Rattle.grid_base.specs.declared.names.CallId.{CallId}
 use Rattle.grid_base.specs.declared.calls.Request.{Request}
 use Rattle.call_engine.specs.Calls.{Settings}
 use Rattle.call_engine.specs.Objects.{partition_object}
-use Rattle.partition_protocol.specs.Events.{Event, Reopen, run}
+use Rattle.grid_base.specs.Objects.{Object}
+use Rattle.partition_protocol.specs.Events.{Event, Reopen, happens, run}
 use Rattle.partition_protocol.specs.World.{World, start}
 use Rattle.partition_protocol.proofs.Lists.{in_contains}
 use Rattle.partition_protocol.proofs.WellFormed.{run_size}
-use Rattle.masters_protocol.specs.Machine as masters
+use Rattle.partition_world.specs.declared.event.Event.{Event as Happening}
+use Rattle.partition_world.specs.declared.event.Event.TheVariants as happening
+use Rattle.partition_world.specs.declared.event.Happened.{Happened}
+use Rattle.partition_world.specs.Events.{event_of as event_in}
 use Rattle.masters_world.specs.Decisions.{Decision, event_of}
-use Rattle.masters_world.specs.Machine.{Ruled, Line, asked_by, at_once, masters_after, published_by, events_by}
-use Rattle.replay_run.specs.Runs.{Run, Appended, events_at, world_at, takes}
+use Rattle.masters_world.specs.Machine.{Line, asked_by, at_once, masters_after, published_by, events_by}
+use Rattle.replay_run.specs.Runs.{Run, events_at, world_at, takes}
 use Rattle.replay_run.specs.Dumps.{number}
 use Rattle.replay_run.specs.Appending.{new_messages}
-use Rattle.replay_run.specs.Printing.{words_line}
+use Rattle.replay_run.specs.Printing.{words_line, words_of, fate_words, done_word}
 use Rattle.replay_run.specs.declared.grid.Grid.{Grid}
 use Rattle.replay_run.specs.Endings.{AreAmong, new_arrivals}
 use Rattle.replay_run.specs.Grids.{FormOf}
@@ -25,10 +29,10 @@ use Rattle.replay_run.specs.WorldCalls.{GivesUpSo, texts_of}
 use Rattle.ruled_run.specs.declared.grid.RuledGrid.{RuledGrid}
 use Rattle.ruled_run.specs.Runs.{RuledRun, masters_at, ruled_at, meets_full_link, takes_each, goes}
 use Rattle.ruled_run.specs.Runs as ruled
-use Rattle.ruled_run.specs.Printing.{published_words, published_texts, followed}
+use Rattle.ruled_run.specs.Printing.{published_words, published_texts}
 use Rattle.ruled_run.specs.Grids.{Rules}
 use Rattle.ruled_run.specs.Steps.{HasGoneOn, GivesUp, going, following, HasAskedMasters, HasTaken}
-use Rattle.ruled_run.proofs.RuleLemmas.{goes_rules}
+use Rattle.ruled_run.proofs.RuleLemmas.{rules_after}
 
 -- each world of a run has as many members as its run
 pub world_members : (settings : Settings) (r : Run) (p : ℕ) → (world_at (partition_object settings) r p).members ≡ r.members
@@ -40,6 +44,33 @@ no_messages r = drop_all (length r.appended) r.appended (omega arith)
 -- what was written, and then what was published, what came of it and what was appended
 told_together : (written said came sent : List ℕ) → ((written ++ said) ++ came) ++ sent ≡ written ++ (((said ++ came) ++ []) ++ sent)
 told_together written said came sent = simp (append_assoc, append-nil)
+
+-- what a published event came to, as it is told
+
+module _ {State : Type 0} (o : Object Request State) (w : World Request) where
+  -- a detection
+  pub detection_words : (e : Happening Request) (m : ℕ) → e ≡ happening.Detect m → published_words o w (event_in e) ≡ fate_words (happens o w (event_in e)).outcome
+  detection_words e m is = subst (λ x. published_words o w (event_in x) ≡ fate_words (happens o w (event_in x)).outcome) (sym is) refl
+
+  -- and any other event
+  pub other_words : (e : Happening Request) → ((m : ℕ) → e ≢ happening.Detect m) → published_words o w (event_in e) ≡ words_of (done_word (event_in e)) (happens o w (event_in e)).outcome
+  other_words (happening.Detect m) other = absurd (other m refl)
+  other_words e other = refl
+
+-- The event has happened, and its outcome and what it appended were told.
+pub taken_so : {V : Type 0} {T : V → Type 0} (form : FormOf V T) (settings : Settings) (new : Grid V T) (r : Run) (p : ℕ) (e : Event Request) (happened : Happened) (start messages : List ℕ) → start ≡ []
+    → grid.HasTaken form settings new r p e happened start messages → (written told text : List ℕ)
+    → told ≡ written ++ words_line r.lines (published_words (partition_object settings) (world_at (partition_object settings) r p) e) → text ≡ told ++ messages → HasTaken form settings new r p e written text
+taken_so form settings new r p e happened start messages empty did written told text came more =
+    let o = partition_object settings in
+    let next = takes o did.on.skips r p e in
+    let sent : new_messages r next ≡ did.on.on.messages = ap (λ ms. drop (length r.appended) ms) did.on.on.appended ∙ drop_at r.appended did.on.on.messages (length r.appended) refl in
+    record {
+      skips = did.on.skips;
+      own = did.on.own;
+      amid = did.on.on.amid;
+      added = more ∙ ap (λ xs. told ++ xs) (did.on.on.added ∙ ap (λ xs. xs ++ texts_of did.on.on.messages) empty ∙ ap (λ ms. texts_of ms) (sym sent)) ∙ ap (λ xs. xs ++ texts_of (new_messages r next)) came;
+    }
 
 -- where an event met a full partition, or masters a full link
 
@@ -118,7 +149,7 @@ module _ {V : Type 0} {T : V → Type 0} (form : FormOf V T) (settings : Setting
         own = λ id c. absurd (in_contains id [] c);
         amid = record {
           grid = subst (λ r. grid.IsAmid form settings all.grid r) (sym same) h.grid;
-          masters = goes_rules settings all.masters.items [] s p l h.count h.whole h.placed h.most h.others h.masters h.there h.lines h.of_lines h.size h.stands (ap (λ (r : Run). r.full) same ∙ h.grid.holds.goes_on);
+          masters = rules_after settings all.masters.items s p l [] h.placed h.count h.whole h.most h.others h.masters h.there h.lines h.of_lines h.size h.stands (ap (λ (r : Run). r.full) same ∙ h.grid.holds.goes_on);
         };
         added = sym (append-nil written) ∙ ap (λ t. written ++ t) (sym (none_told settings s p l h.goes h.later is []));
       }
@@ -139,7 +170,7 @@ module _ {V : Type 0} {T : V → Type 0} (form : FormOf V T) (settings : Setting
         amid = record {
           grid = subst (λ r. grid.IsAmid form settings new.grid r) (sym on) took.amid;
           masters = subst (λ ms. Rules settings ms (goes o took.skips s p l)) (sym (ap (λ ms. ms.items) kept))
-              (goes_rules settings all.masters.items took.skips s p l h.count h.whole h.placed h.most h.others h.masters h.there h.lines h.of_lines h.size h.stands (ap (λ (r : Run). r.full) on ∙ took.amid.holds.goes_on));
+              (rules_after settings all.masters.items s p l took.skips h.placed h.count h.whole h.most h.others h.masters h.there h.lines h.of_lines h.size h.stands (ap (λ (r : Run). r.full) on ∙ took.amid.holds.goes_on));
         };
         added = took.added ∙ ap (λ xs. (xs ++ came) ++ sent) began ∙ told_together written said came sent
             ∙ ap (λ t. written ++ t) (ap (λ n. ((words_line s.run.lines (codes "published " ++ number p ++ decimal (n + 1)) ++ came) ++ []) ++ sent) (sym h.published) ∙ sym (one_told settings s p l h.goes h.later d is e its took.skips));

@@ -1,25 +1,23 @@
 -- Where the masters are asked nothing, a line's events are taken as the grid takes them, and that is all. And a crash in each partition is the grid's own crash, with the masters' beside it.
-use Rattle.std.proofs.Common.{◌≡◌, ℕ, ◌<◌, Bool, true, false, cond, ◌&&◌, List, [], ◌∷◌, ◌++◌, map, length, Option, Some, None, slice_get, slice_set, unwrap_or, get_or, refl, ap, sym, ◌∙◌, subst, append-nil, arith}
+use Rattle.std.proofs.Common.{◌≡◌, ℕ, ◌<◌, cond, List, [], ◌∷◌, ◌++◌, map, length, Some, slice_get, slice_set, unwrap_or, get_or, refl, ap, sym, ◌∙◌, append-nil}
 use Rattle.std.proofs.lemmas.Option.{slice_get-get_or}
 use Rattle.std.proofs.lemmas.List.{map-append}
 use Rattle.grid_base.specs.Objects.{Object}
 use Rattle.grid_base.specs.declared.names.CallId.{CallId}
 use Rattle.grid_base.specs.declared.calls.Request.{Request}
 use Rattle.object_store.specs.Partitions.{Partition}
-use Rattle.call_engine.specs.Calls.{Settings}
-use Rattle.call_engine.specs.Objects.{partition_object}
-use Rattle.partition_protocol.specs.Events.{Event, Crash}
+use Rattle.partition_protocol.specs.Events.{Crash}
 use Rattle.partition_protocol.proofs.Lists.{set_itself}
 use Rattle.masters_protocol.specs.Machine.{Masters}
 use Rattle.masters_protocol.specs.Machine as masters
-use Rattle.master_wire.specs.declared.decision.Decision.{Decision as Written}
 use Rattle.masters_world.specs.Decisions.{Decision, event_of}
-use Rattle.masters_world.specs.Machine.{Ruled, Line, Asks, start, past, asked_by, at_once, masters_after, events_by, after, asked}
+use Rattle.masters_world.specs.Machine.{Ruled, Line, Asks, past, asked_by, at_once, masters_after, events_by, asked}
 use Rattle.masters_world.proofs.Crashes.{crash_publishes}
-use Rattle.replay_run.specs.Runs.{Run, takes, takes_in}
+use Rattle.replay_run.specs.Runs.{takes, takes_in}
 use Rattle.ruled_run.specs.Runs.{RuledRun, masters_at, ruled_at, meets_full_link, takes_each, given_up, goes, goes_in}
 use Rattle.ruled_run.specs.Written.{written_event, written_events}
-use Rattle.ruled_run.proofs.Extending.{past_same, asked_append}
+use Rattle.ruled_run.proofs.AskedLines.{asked_more}
+use Rattle.ruled_run.proofs.Extending.{past_same}
 
 -- the masters as they are, set
 pub masters_themselves : (s : RuledRun) (p : ℕ) → p < length s.masters → slice_set s.masters p (masters_at s p) ≡ s.masters
@@ -63,4 +61,4 @@ crash_run o skips s m (p ∷ ps) =
 -- what the masters were asked then
 pub asked_crash : {State : Type 0} (o : Object Request State) (j : Ruled Request) (lines : List (Line Request)) (m : ℕ)
     → written_events (asked o j (lines ++ Asks (Crash m) ∷ [])) ≡ written_events (asked o j lines) ++ masters.Crash m ∷ []
-asked_crash o j lines m = ap written_events (asked_append o j lines (Asks (Crash m) ∷ [])) ∙ map-append written_event (asked o j lines) (masters.Crash m ∷ [])
+asked_crash o j lines m = ap written_events (asked_more o j lines (Asks (Crash m))) ∙ map-append written_event (asked o j lines) (masters.Crash m ∷ [])

@@ -1,5 +1,5 @@
 -- The masters of the code stand for those of the run after each step: what is asked for in a partition, a line that is the grid's own, and a line in each partition.
-use Rattle.std.proofs.Common.{◌≡◌, ◌≢◌, ℕ, zero, suc, ◌<◌, ◌≤◌, ◌==◌, Bool, true, false, List, [], ◌∷◌, ◌++◌, length, replicate, Option, Some, None, slice_get, unwrap_or, get_or, refl, ap, sym, ◌∙◌, subst, ⊎_elim, append-nil, append_assoc, arith}
+use Rattle.std.proofs.Common.{◌≡◌, ◌≢◌, ℕ, ◌<◌, ◌≤◌, true, false, List, [], ◌∷◌, ◌++◌, length, Some, None, slice_get, unwrap_or, refl, ap, sym, ◌∙◌, subst, ⊎_elim, append-nil, append_assoc, arith}
 use Rattle.std.proofs.lemmas.Option.{slice_get-get_or}
 use Rattle.std.proofs.Math.ListN.{length-replicate, get_or-replicate}
 use Rattle.grid_base.specs.Objects.{Object}
@@ -16,16 +16,16 @@ use Rattle.master_log.specs.Standing.{StandsFor, size_of}
 use Rattle.masters_world.specs.Decisions.{Decision}
 use Rattle.masters_world.specs.Machine.{Ruled, Line, start, asked_by, events_by, after, asked}
 use Rattle.script_lang.specs.declared.line.Line.{Line as ScriptLine}
-use Rattle.replay_run.specs.Runs.{Run, partitions, events_at, event_by, next_line}
-use Rattle.replay_run.specs.AfterLines as grid
-use Rattle.ruled_run.specs.Runs.{RuledRun, are_some, has_masters, opening_masters, masters_at, ruled_at, goes, goes_in, counted}
+use Rattle.replay_run.specs.Runs.{partitions, events_at, event_by}
+use Rattle.ruled_run.specs.Runs.{RuledRun, are_some, has_masters, opening_masters, ruled_at, goes, goes_in, counted}
 use Rattle.ruled_run.specs.AfterLines.{by_grid}
 use Rattle.ruled_run.specs.Standing.{IsOfLines}
 use Rattle.ruled_run.specs.Grids.{AreMasters, HasMastersAt, Rules}
 use Rattle.ruled_run.specs.Written.{written_events}
-use Rattle.ruled_run.proofs.Extending.{calls_add_nothing, asked_append, asking}
+use Rattle.ruled_run.proofs.AskedLines.{asked_more}
+use Rattle.ruled_run.proofs.Extending.{calls_add_nothing, asking}
 use Rattle.ruled_run.proofs.OwnLines.{IsPlain, own_calls}
-use Rattle.ruled_run.proofs.Going.{at_lines, single_at, Stays, CallsCome, LineComes, no_calls, calls_extend, line_extends, goes_count, goes_kept, goes_elsewhere, goes_comes, through, through_count, through_kept, line_came}
+use Rattle.ruled_run.proofs.Going.{at_lines, single_at, CallsCome, LineComes, no_calls, calls_extend, line_extends, goes_count, goes_kept, goes_elsewhere, goes_comes, through, through_count, through_kept, line_came}
 
 -- there are masters, or none, as there were
 some_alike : (xs ys : List (masters.Masters Decision)) → length xs ≡ length ys → are_some xs ≡ are_some ys
@@ -65,7 +65,7 @@ module _ (settings : Settings) where
       let first : Ruled Request = start p s.run.members s.run.backups in
       let whole : lines ++ l ∷ asking h.calls ≡ (lines ++ l ∷ []) ++ asking h.calls = sym (append_assoc lines (l ∷ []) (asking h.calls)) in
       let same : asked_of next p (lines ++ l ∷ asking h.calls) ≡ asked_of s p (lines ++ l ∷ []) =
-          asked_still s next p h.members h.backups (lines ++ l ∷ asking h.calls) ∙ ap (asked o first) whole ∙ calls_add_nothing o first (lines ++ l ∷ []) h.calls h.are in
+      asked_still s next p h.members h.backups (lines ++ l ∷ asking h.calls) ∙ ap (asked o first) whole ∙ calls_add_nothing o first (lines ++ l ∷ []) h.calls h.are in
       record {
         lines = lines ++ l ∷ asking h.calls;
         of_lines = line_extends o s next p l h lines of;
@@ -134,7 +134,7 @@ module _ (settings : Settings) where
   asked_nothing s p l lines of none =
       let first : Ruled Request = start p s.run.members s.run.backups in
       let here : asked_by (after o first lines) l ≡ [] = ap (λ (j : Ruled Request). asked_by j l) (sym (at_lines o s p lines of)) ∙ none in
-      asked_append o first lines (l ∷ []) ∙ ap (λ es. asked o first lines ++ (es ++ [])) here ∙ append-nil (asked o first lines)
+      asked_more o first lines l ∙ ap (λ es. asked o first lines ++ es) here ∙ append-nil (asked o first lines)
 
   pub quiet_rules : (all : List Masters) (skips : List CallId) (s : RuledRun) (p : ℕ) (l : Line Request) → has_masters s ≡ true → p < partitions → asked_by (ruled_at o s p) l ≡ [] → (goes o skips s p l).run.full ≡ false
       → Rules settings all s → Rules settings all (goes o skips s p l)
@@ -175,10 +175,11 @@ module _ (settings : Settings) where
 
 -- masters as they begin, where nothing has happened
 
-pub opening_at : (n p : ℕ) → p < partitions → slice_get (opening_masters n) p ≡ Some (masters.start n)
+pub opening_at : (n p : ℕ) → p < partitions → slice_get (opening_masters n) p ≡ Some (masters.start {D = Decision} n)
 opening_at n p low =
-    let size = length-replicate partitions (masters.start n) in
-    slice_get-get_or (opening_masters n) p (masters.start n) (subst (λ k. p < k) (sym size) low) ∙ ap Some (get_or-replicate partitions p (masters.start n) (masters.start n) low)
+    let first : masters.Masters Decision = masters.start n in
+    let size : length (opening_masters n) ≡ partitions = length-replicate partitions first in
+    slice_get-get_or (opening_masters n) p first (subst (λ k. p < k) (sym size) low) ∙ ap Some (get_or-replicate partitions p first first low)
 
 pub opening_of_lines : {State : Type 0} (o : Object Request State) (s : RuledRun) (p : ℕ) → p < partitions → s.masters ≡ opening_masters s.run.members → s.run.events ≡ [] → IsOfLines o s p []
 opening_of_lines o s p low opens none = record {
@@ -189,7 +190,8 @@ opening_of_lines o s p low opens none = record {
 pub opening_rules : (settings : Settings) (all : List Masters) (s : RuledRun) → s.masters ≡ opening_masters s.run.members → s.run.events ≡ [] → length all ≡ partitions → s.run.members ≤ 8
     → ((p : ℕ) → p < partitions → (kept : Masters) × (slice_get all p ≡ Some kept) × (size_of kept ≡ s.run.members) × StandsFor kept []) → Rules settings all s
 opening_rules settings all s opens none count most each =
-    let whole : length s.masters ≡ partitions = ap length opens ∙ length-replicate partitions (masters.start s.run.members) in
+    let first : masters.Masters Decision = masters.start s.run.members in
+    let whole : length s.masters ≡ partitions = ap length opens ∙ length-replicate partitions first in
     record {
       count = count ∙ sym whole;
       ruled = λ is. whole;

@@ -1,5 +1,5 @@
 -- Every run with masters is ruled: what `masters_world` proves of every list of lines holds in each partition of it.
-use Rattle.std.proofs.Common.{◌≡◌, ℕ, suc, ◌+◌, ◌<◌, ◌≤◌, ◌==◌, Bool, true, false, cond, List, [], ◌∷◌, ◌++◌, length, map, filter, refl, ap, sym, ◌∙◌, subst, true≢false, arith}
+use Rattle.std.proofs.Common.{◌≡◌, ℕ, ◌<◌, ◌≤◌, ◌==◌, true, false, cond, List, [], ◌∷◌, ◌++◌, length, map, filter, refl, ap, sym, ◌∙◌, subst, true≢false, arith}
 use Rattle.std.proofs.Math.ListN.{length-replicate}
 use Rattle.grid_base.specs.Objects.{Object}
 use Rattle.grid_base.specs.declared.names.CallId.{CallId}
@@ -20,13 +20,13 @@ use Rattle.masters_world.specs.Machine.{Ruled, Line, start, after, asked}
 use Rattle.masters_world.proofs.Theorem.{every_run_is_well_ruled, every_run_goes_on, after_append, masters_go}
 use Rattle.script_lang.specs.declared.line.Line.{Line as ScriptLine}
 use Rattle.script_lang.specs.declared.line.Line.TheVariants as line
-use Rattle.replay_run.specs.Runs.{Run, partitions, events_at, world_at}
+use Rattle.replay_run.specs.Runs.{partitions, world_at}
 use Rattle.replay_run.proofs.LineCounts as counts
 use Rattle.replay_run.proofs.Places.{same_number}
 use Rattle.ruled_run.specs.Runs.{RuledRun, begun, are_some, has_masters, opening_masters, masters_at, ruled_at, counted}
 use Rattle.ruled_run.specs.AfterLines.{by_grid, unruled, ruled_line, after_line, after_lines}
-use Rattle.ruled_run.specs.Standing.{IsOfLines, IsRuled}
-use Rattle.ruled_run.specs.Laws.{ruled_with, EveryRunIsRuled, ServesAsPublished, EveryServiceServesAsPublished, GoesOn, EveryPublishedListGrows, EveryMastershipIsSound, MastersAgree, EveryMastershipAgrees}
+use Rattle.ruled_run.specs.Standing.{IsRuled}
+use Rattle.ruled_run.specs.Laws.{ruled_with, EveryRunIsRuled, EveryServiceServesAsPublished, EveryPublishedListGrows, EveryMastershipIsSound, MastersAgree, EveryMastershipAgrees}
 use Rattle.ruled_run.proofs.KeptLines.{line_lines, line_members}
 use Rattle.ruled_run.proofs.RuledGrowing.{ruled_line_grows, ruled_lines_grow}
 use Rattle.ruled_run.proofs.Going.{at_lines}
@@ -74,7 +74,8 @@ module _ (o : Object Request Partition) where
     opened : (s : RuledRun) → Begins s → s.run.lines ≡ 1 → IsRuledIf (record (counted s) { masters = opening_masters s.run.members })
     opened s b first is goes_on =
         let next : RuledRun = record (counted s) { masters = opening_masters s.run.members } in
-        record { count = length-replicate partitions (masters.start s.run.members); some = b.some; most = b.most; lines = λ p low. []; stands = λ p low. opening_of_lines o next p low refl (b.fresh first) }
+        let first_masters : Masters Decision = masters.start s.run.members in
+        record { count = length-replicate partitions first_masters; some = b.some; most = b.most; lines = λ p low. []; stands = λ p low. opening_of_lines o next p low refl (b.fresh first) }
 
     -- another line brings none
     none_yet : (s : RuledRun) (l : ScriptLine) → has_masters s ≡ false → IsRuledIf (by_grid o skips s l)

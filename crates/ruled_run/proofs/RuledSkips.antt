@@ -1,10 +1,10 @@
 -- A call that is skipped is told of, unless its run is given up; so a run that tells of no skip has none.
-use Rattle.std.proofs.Common.{◌≡◌, true, false, List, [], refl, sym, ◌∙◌, subst, true≢false}
+use Rattle.std.proofs.Common.{[], sym, ◌∙◌, subst, true≢false}
 use Rattle.call_engine.specs.Objects.{partition_object}
 use Rattle.partition_protocol.proofs.Lists.{In, in_right, in_contains, contains_in}
 use Rattle.partition_protocol.proofs.RowFacts.{false_or_not}
-use Rattle.replay_run.specs.Runs.{Run, Arrival, is_skipped}
-use Rattle.ruled_run.specs.Runs.{RuledRun, begun}
+use Rattle.replay_run.specs.Runs.{is_skipped}
+use Rattle.ruled_run.specs.Runs.{begun}
 use Rattle.ruled_run.specs.AfterLines.{after_lines}
 use Rattle.ruled_run.specs.Laws.{EverySkippedCallIsTold, EveryRunThatTellsOfNoSkipHasNone}
 use Rattle.ruled_run.proofs.RuledGrowing.{ruled_lines_go}

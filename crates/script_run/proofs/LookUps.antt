@@ -1,5 +1,5 @@
 -- What a client's look-up makes of a near client.
-use Rattle.std.proofs.Common.{◌≡◌, ℕ, Bool, true, false, cond, List, [], Option, Some, None, option_map, refl, ap, sym, ◌∙◌, subst}
+use Rattle.std.proofs.Common.{◌≡◌, ℕ, ◌≤◌, nat_lt, Bool, true, false, not, ◌&&◌, cond, List, [], length, arith, Option, Some, None, option_map, refl, ap, sym, ◌∙◌, subst}
 use Rattle.std.specs.Prelude.{option_and_then}
 use Rattle.std.specs.Option.{option_map_or}
 use Rattle.std.specs.List.{position}
@@ -7,13 +7,15 @@ use Rattle.grid_base.specs.Objects.{Object}
 use Rattle.grid_base.specs.declared.calls.Request.{Request}
 use Rattle.object_store.specs.Partitions.{Partition}
 use Rattle.session_core.specs.Places.{partition_of_key}
+use Rattle.replay_run.specs.Runs.{connection_of}
+use Rattle.std.proofs.lemmas.Bool.Decides.{nat_tests}
 use Rattle.grid_client.specs.Nears.{Near, Value, hit, used as used_in, opened}
 use Rattle.grid_client.specs.Calls.{asked_call, sending_of}
 use Rattle.grid_client.specs.States.{State, looked, asking, get_of, opening_look_up, HasHit, HasMissed}
 use Rattle.grid_client.specs.declared.heard.Sending.{Sending}
 use Rattle.script_run.specs.declared.client.NearClient.{NearClient as KeptClient}
 use Rattle.script_run.specs.NearClients.{NearClient, value_kept, map_name, used, get_sent, missed}
-use Rattle.script_run.specs.Runs.{ScriptRun, Unmade, near_of, may_look, look, look_of, look_at}
+use Rattle.script_run.specs.Runs.{ScriptRun, Unmade, near_of, takes, may_look, look, look_of, look_at}
 use Rattle.script_run.specs.Grids.{IsNear, AreNear, IsOnOne, is_kept}
 use Rattle.script_run.proofs.Nears.{none_found}
 use Rattle.script_run.proofs.OneConnection.{target_one, used_one, missed_one}
@@ -23,6 +25,12 @@ use Rattle.script_run.proofs.Playing.{if_true, if_false}
 -- what the look-up of the run comes to
 
 module _ (o : Object Request Partition) (s : ScriptRun) (c : ℕ) (key : List ℕ) where
+  -- It may be made where its key is long enough and the connection takes bytes.
+  pub looks_if : (n : ℕ) (b : Bool) → n ≡ length key → 8 ≤ n → b ≡ takes o s.run (connection_of s.run c) → b ≡ may_look o s c key
+  looks_if n b size enough taking =
+      let long : nat_lt (length key) 8 ≡ false = grind (arith, nat_tests) in
+      taking ∙ sym (ap (λ t. not t && takes o s.run (connection_of s.run c)) long)
+
   pub not_made : may_look o s c key ≡ false → look o s c key ≡ Unmade
   not_made cannot = if_false (may_look o s c key) (look_of key (near_of s c)) Unmade cannot
 

@@ -23,7 +23,7 @@ use Rattle.script_run.specs.AfterLines.{played}
 use Rattle.script_run.specs.Printing.{brought, hit_text, look_text, heard_text, fed_text, line_text}
 use Rattle.script_run.specs.Grids.{AreNear, AreSpoken, Stands, MayRun, HasRun, IsGivenUp, IsGivenUpAt, MayPlay, HasPlayed, HasCounted, HasSent, MaySend}
 use Rattle.script_run.proofs.Nears.{none_changed}
-use Rattle.script_run.proofs.Playing.{if_true, if_false, mid, ran_as, ran_counted, ran_passed, given_up_at}
+use Rattle.script_run.proofs.Playing.{if_true, if_false, mid, comment_lines, ran_as, ran_counted, ran_passed, given_up_at}
 use Rattle.script_run.proofs.Sending.{text_of_bytes, nothing_brought}
 
 -- What a near client sends arrives: the line's outcome, and then what that brings.
@@ -90,7 +90,7 @@ ran_hit {form = form} {settings = settings} new all s c key number n value spoke
     let one = same_mid settings s line (changed c (used key) s.nears) (ap (λ (l : Look). after_look c key l s.nears) hit) in
     ran_counted new all s line (ap (asked_line c key) hit) spoken same (hit_text number value) written text
     (subst (λ (m : ScriptRun). HasCounted form settings new m (hit_text number value) written text) (sym one) counted)
-    (ap (λ (k : ℕ). hit_text k value) at_line ∙ sym (ap (look_text settings [] s.run c key (played settings [] (mid settings s line) Comment).run) hit))
+    (ap (λ (k : ℕ). hit_text k value) (at_line ∙ sym (comment_lines settings s)) ∙ sym (ap (look_text settings [] s.run c key (played settings [] (mid settings s line) Comment).run) hit))
 
 -- a miss
 
@@ -109,8 +109,8 @@ given_up_missed s c key n miss given =
 -- `nearfeed`
 pub ran_fed : {V : Type 0} {T : V → Type 0} {form : FormOf V T} {settings : Settings} (new all : ScriptGrid V T) (s : ScriptRun) (c most number : ℕ) → AreSpoken all.spoken.items s.run → new.spoken ≡ all.spoken → number ≡ s.run.lines + 1
     → (written text : List ℕ) → HasCounted form settings new (record s { nears = changed c (fed most) s.nears }) (fed_text number most (near_of s c)) written text → HasRun form settings new s (NearFeed c most) written text
-ran_fed new all s c most number spoken same at_line written text counted =
-    ran_counted new all s (NearFeed c most) refl spoken same (fed_text number most (near_of s c)) written text counted (ap (λ (k : ℕ). fed_text k most (near_of s c)) at_line)
+ran_fed {settings = settings} new all s c most number spoken same at_line written text counted =
+    ran_counted new all s (NearFeed c most) refl spoken same (fed_text number most (near_of s c)) written text counted (ap (λ (k : ℕ). fed_text k most (near_of s c)) (at_line ∙ sym (comment_lines settings s)))
 
 -- there is no client to be handed them
 pub ran_not_fed : {V : Type 0} {T : V → Type 0} {form : FormOf V T} {settings : Settings} (new all : ScriptGrid V T) (s : ScriptRun) (c most number : ℕ) → Stands form settings all s → number ≡ s.run.lines + 1

@@ -17,6 +17,7 @@ use Rattle.ruled_run.specs.Grids as ruled
 use Rattle.ruled_run.specs.Grids.{AreOfLine}
 use Rattle.ruled_run.specs.Printing as ruled_text
 use Rattle.ruled_run.specs.Runs.{RuledRun}
+use Rattle.ruled_run.proofs.KeptLines.{line_lines}
 use Rattle.script_run.specs.declared.grid.ScriptGrid.{ScriptGrid}
 use Rattle.script_run.specs.NearClients.{NearClient}
 use Rattle.script_run.specs.Outputs.{appends}
@@ -146,6 +147,10 @@ given_up_at {settings = settings} s line asked is given = record {
   full = ap (λ (l : Line). (played settings given.skips (mid settings s line) l).run.full) is ∙ given.full;
 }
 
+-- a comment counts one
+pub comment_lines : (settings : Settings) (s : ScriptRun) → (played settings [] s Comment).run.lines ≡ s.run.lines + 1
+comment_lines settings s = line_lines (partition_object settings) [] (ruled_of s) Comment
+
 -- nothing happens on the grid
 pub ran_counted : {V : Type 0} {T : V → Type 0} {form : FormOf V T} {settings : Settings} (new all : ScriptGrid V T) (s : ScriptRun) (line : Line) → grid_line (partition_object settings) s line ≡ Comment → AreSpoken all.spoken.items s.run
     → new.spoken ≡ all.spoken → (added written text : List ℕ) → HasCounted form settings new (mid settings s line) added written text → added ≡ line_text settings [] s line (played settings [] (mid settings s line) Comment)
@@ -162,7 +167,7 @@ ran_passed {form = form} {settings = settings} new all s line number stands at_l
     let one : mid settings s line ≡ s = ap (λ (ns : List NearClient). record s { nears = ns }) stay in
     ran_counted new all s line is stands.spoken same (nothing_text number) written text
     (subst (λ (m : ScriptRun). HasCounted form settings new m (nothing_text number) written text) (sym one) counted)
-    (ap nothing_text at_line ∙ sym (says (played settings [] (mid settings s line) Comment)))
+    (ap nothing_text (at_line ∙ sym (comment_lines settings s)) ∙ sym (says (played settings [] (mid settings s line) Comment)))
 
 -- A line that is none of a near client's, and brings no bytes, is the grid's.
 

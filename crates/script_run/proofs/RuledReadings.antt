@@ -10,7 +10,7 @@ use Rattle.call_engine.specs.Calls.{Settings}
 use Rattle.call_engine.specs.Objects.{partition_object}
 use Rattle.object_store.specs.Partitions.{Partition}
 use Rattle.partition_protocol.specs.World.{World}
-use Rattle.partition_protocol.specs.Events.{Event, Crash, Detect, happens, run}
+use Rattle.partition_protocol.specs.Events.{Event, Deliver, Lose, Repeat, Resend, Crash, Detect, BeginMove, BeginJoin, BeginHandover, Advance, Reopen, happens, run}
 use Rattle.partition_protocol.specs.Service.{numbers_below}
 use Rattle.partition_protocol.proofs.Lists.{on_if}
 use Rattle.partition_world.specs.declared.Link.{Link}
@@ -153,15 +153,15 @@ module _ (settings : Settings) (skips : List CallId) (s : RuledRun) where
     reads_ruled : (l : ScriptLine) → appends l ≡ true → RuledTells l
     reads_ruled (line.Arrive k bytes) busy = reads_text settings skips s.run c small (line.Arrive k bytes) refl
     reads_ruled (line.Clock member moment) busy = reads_text settings skips s.run c small (line.Clock member moment) refl
-    reads_ruled (line.Deliver p from to place) busy = reads_asked p _
-    reads_ruled (line.Lose p from to place) busy = reads_asked p _
-    reads_ruled (line.Repeat p from to place) busy = reads_asked p _
-    reads_ruled (line.Resend p end) busy = reads_asked p _
-    reads_ruled (line.Move p from to) busy = reads_asked p _
-    reads_ruled (line.Join p to) busy = reads_asked p _
-    reads_ruled (line.Handover p from to) busy = reads_asked p _
-    reads_ruled (line.Advance p) busy = reads_asked p _
-    reads_ruled (line.Reopen p) busy = reads_asked p _
+    reads_ruled (line.Deliver p from to place) busy = reads_asked p (Asks (Deliver from to place))
+    reads_ruled (line.Lose p from to place) busy = reads_asked p (Asks (Lose from to place))
+    reads_ruled (line.Repeat p from to place) busy = reads_asked p (Asks (Repeat from to place))
+    reads_ruled (line.Resend p end) busy = reads_asked p (Asks (Resend end))
+    reads_ruled (line.Move p from to) busy = reads_asked p (Asks (BeginMove from to))
+    reads_ruled (line.Join p to) busy = reads_asked p (Asks (BeginJoin to))
+    reads_ruled (line.Handover p from to) busy = reads_asked p (Asks (BeginHandover from to))
+    reads_ruled (line.Advance p) busy = reads_asked p (Asks Advance)
+    reads_ruled (line.Reopen p) busy = reads_asked p (Asks Reopen)
     reads_ruled (line.MasterDeliver p from to place) busy = reads_asked p (MasterDeliver from to place)
     reads_ruled (line.Flow p most) busy = let next = ruled_line o skips s (line.Flow p most) in reads_flow_of next (deliveries s.run next.run)
     reads_ruled (line.FlowAll most) busy = let next = ruled_line o skips s (line.FlowAll most) in reads_flow_of next (deliveries s.run next.run)

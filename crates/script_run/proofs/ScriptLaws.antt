@@ -52,15 +52,15 @@ with_grid : (settings : Settings) (s : ScriptRun) (line : Line) → RuledRun →
 with_grid settings s line next = record { run = next.run; masters = next.masters; nears = map (noting (new_messages s.run next.run)) (nears_by (partition_object settings) s line) }
 
 -- a line of which the run tells no skip skips none
-unfolding with_grid
 pub whole_line_none : (settings : Settings) (skips : List CallId) (s : ScriptRun) (line : Line) → TellsOfNoSkip (after_line settings skips s line).run
     → after_line settings skips s line ≡ after_line settings [] s line
+unfolding with_grid
 whole_line_none settings skips s asked none = ap (with_grid settings s asked) (line.line_none settings skips (ruled_of s) (grid_line (partition_object settings) s asked) none)
 
 -- A line asks of the skips only which of the calls are among them that come to their end at it,
-unfolding with_grid
 pub whole_line_alike : (settings : Settings) (s k : List CallId) (r : ScriptRun) (line : Line) → AgreeOn (new_arrivals r.run (after_line settings s r line).run) s k
     → after_line settings s r line ≡ after_line settings k r line
+unfolding with_grid
 whole_line_alike settings s k r asked agree = ap (with_grid settings r asked) (line.line_alike settings s k (ruled_of r) (grid_line (partition_object settings) r asked) agree)
 
 -- and so does its text.

@@ -1,5 +1,5 @@
 -- On which connections a byte has arrived.
-use Rattle.std.proofs.Common.{◌≡◌, ◌≢◌, ℕ, zero, suc, ◌≤◌, ◌<◌, ◌==◌, ◌||◌, Bool, true, false, not, cond, List, [], ◌∷◌, ◌++◌, length, replicate, Option, Some, None, refl, ap, sym, ◌∙◌, subst, arith, Vec, Global}
+use Rattle.std.proofs.Common.{◌≡◌, ◌≢◌, ℕ, zero, suc, ◌≤◌, ◌<◌, ◌==◌, ◌&&◌, ◌||◌, Bool, true, false, not, cond, List, [], ◌∷◌, ◌++◌, length, replicate, get_or, Option, Some, None, refl, ap, sym, ◌∙◌, subst, arith, Vec, Global}
 use Rattle.std.specs.Prelude.{slice_get, slice_set, is_some, option_and_then}
 use Rattle.std.specs.List.{find}
 use Rattle.std.proofs.lemmas.Bool.Decides.{nat_tests}
@@ -14,7 +14,7 @@ use Rattle.partition_protocol.specs.Service.{numbers_below}
 use Rattle.partition_protocol.proofs.Lists.{on_if}
 use Rattle.script_lang.specs.declared.line.Line.{Line}
 use Rattle.script_lang.specs.declared.line.Line.TheVariants.{OpenConn, Arrive, Clock, Flow, FlowAll, Crash, Detect, Rebalance}
-use Rattle.replay_run.specs.Runs.{Run, Connection, begun, partitions, is_connection, connection_of, takes_bytes, can_open, opened, updated, with_bytes, took_bytes, items_by, forsaken, handled_all, bytes_arrived, next_line, clock_set, event_by}
+use Rattle.replay_run.specs.Runs.{Run, Connection, begun, partitions, is_connection, connection_of, takes_bytes, can_open, opened, updated, with_bytes, is_open, took_bytes, items_by, forsaken, handled_all, bytes_arrived, next_line, clock_set, event_by}
 use Rattle.replay_run.specs.AfterLines.{after_line}
 use Rattle.replay_run.specs.WorldCalls.{member_if_open, open_member_in}
 use Rattle.replay_run.proofs.EventRuns.{Kept, takes_kept, served_in_kept, flowed_kept, flowed_in_kept, takes_in_kept, forsaken_kept}
@@ -25,7 +25,7 @@ use Rattle.ruled_run.specs.Runs.{RuledRun}
 use Rattle.ruled_run.specs.AfterLines as ruled
 use Rattle.ruled_run.proofs.KeptLines.{bytes_after}
 use Rattle.ruled_run.proofs.RuledRuns.{line_keeps}
-use Rattle.script_run.specs.Runs.{is_silent, takes}
+use Rattle.script_run.specs.Runs.{is_silent, is_new, takes}
 use Rattle.script_run.specs.Grids.{has_spoken, AreSpoken}
 
 -- whether bytes have arrived on the connection of that number
@@ -226,6 +226,29 @@ inside (y ∷ xs) (suc i) x e = let rest = inside xs i x e in omega (arith, rest
 
 pub spoken_within : (spoken : List Bool) (r : Run) (c : ℕ) → AreSpoken spoken r → c ≤ 63 → c < length spoken
 spoken_within spoken r c are within = inside spoken c (has_spoken (connection_of r c)) (are c within)
+
+-- what is read of it
+pub is_read : (spoken : List Bool) (r : Run) (c : ℕ) (b : Bool) → AreSpoken spoken r → c ≤ 63 → b ≡ get_or spoken c b → b ≡ has_spoken (connection_of r c)
+is_read spoken r c b are within read = read ∙ of_place spoken c (has_spoken (connection_of r c)) b (are c within)
+  where
+    of_place : (xs : List Bool) (i : ℕ) (x d : Bool) → slice_get xs i ≡ Some x → get_or xs i d ≡ x
+    of_place [] i x d e = absurd cc
+    of_place (y ∷ xs) zero x d e = (let same : y ≡ x = cc in same)
+    of_place (y ∷ xs) (suc i) x d e = of_place xs i x d e
+
+-- A connection is new where it is open and hasn't spoken.
+
+pub new_if : (found : Option Connection) (b : Bool) → is_open found ≡ true → b ≡ has_spoken found → not b ≡ is_new found
+new_if None b opened spoken = absurd cc
+new_if (Some k) b opened spoken = ap not spoken ∙ twice (is_silent k.bytes) ∙ sym (ap (λ t. t && is_silent k.bytes) opened)
+  where
+    twice : (b : Bool) → not (not b) ≡ b
+    twice true = refl
+    twice false = refl
+
+pub not_new : (found : Option Connection) → is_open found ≡ false → false ≡ is_new found
+not_new None closed = refl
+not_new (Some k) closed = sym (ap (λ t. t && is_silent k.bytes) closed)
 
 pub are_spoken_as : (settings : Settings) (skips : List CallId) (s : RuledRun) (old new : Vec Bool Global) (line : Line) → ((k : ℕ) (bytes : List ℕ) → line ≢ Arrive k bytes) → new ≡ old → AreSpoken old.items s.run
     → AreSpoken new.items (ruled.after_line (partition_object settings) skips s line).run

@@ -96,14 +96,13 @@ fn push_came(out: &mut String, came: Outcome<'_>) -> Result<(), Memory> {
             out.push_str("refused: ")?;
             out.push_str(refused_words(came.rest))
         }
-        "took" => match took_of(came.rest) {
+        _ => match took_of(came.rest) {
             Some(took) => {
                 out.push_str("the message is ")?;
                 out.push_str(took_words(took))
             }
-            None => out.push_str("nothing"),
+            None => out.push_str("nothing came of it"),
         },
-        _ => out.push_str("nothing: the crash was known"),
     }
 }
 
@@ -163,8 +162,8 @@ fn published_in(line: Outcome<'_>) -> Option<(PartitionId, u32)> {
 }
 
 impl Notes {
-    /// Whether a line is told by what masters made of it. Of a line to the table service that is what it is without them,
-    /// where it happened at once.
+    /// Whether a line is told by what masters made of it. A loss on a link to the table service, and its sending again, are
+    /// told as without masters where they happened.
     fn is_told_by_masters(&self, line: &Line, table: u8, came: Outcome<'_>) -> bool {
         if is_of_masters(line) {
             return true;

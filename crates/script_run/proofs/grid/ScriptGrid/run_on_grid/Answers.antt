@@ -5,7 +5,7 @@ use Rattle.replay_run.specs.declared.run_end.RunEnd.TheVariants.{InFlight}
 use Rattle.replay_run.proofs.Asking.{handed_on}
 use Rattle.script_run.specs.AfterLines.{played}
 use Rattle.script_run.specs.Runs.{ruled_of}
-use Rattle.script_run.proofs.Playing.{grid_may, has_played, has_played_quietly, printed_tells, given_up_played}
+use Rattle.script_run.proofs.Playing.{grid_may, has_played, has_played_quietly, printed_tells, given_up_played, longer_text}
 use Rattle.script_run.proofs.grid.ScriptGrid.run_on_grid.Goals as goal
 
 pub run_line-requires : goal.run_line-requires
@@ -22,6 +22,22 @@ returns-then-not-appends-clause-ok g c = λ settings s goes.
     let ran = c.in_ok-run_line.ensures.ok settings (ruled_of s) goes.grid in
     let quiet = sym c.appends.ensures ∙ c.if-not-appends.true in
     has_played_quietly (record c.args.self.now { grid = c.run_line.new.self }) s line ran quiet goes.nears
+
+pub slice_bounds-note_all-count : goal.slice_bounds-note_all-count
+slice_bounds-note_all-count g c =
+    let ran = c.in_ok-run_line.ensures.ok c.requires.settings (ruled_of c.requires.run) c.requires.goes.grid in
+    let longer = longer_text c.args.out.now.items _ c.run_line.new.out.items ran.added in
+    let same = ap length c.deref.ensures.value in
+    let from = c.len-from.ensures in
+    omega (arith, longer, same, from)
+
+pub slice_bounds-note_all-start : goal.slice_bounds-note_all-start
+slice_bounds-note_all-start g c =
+    let ran = c.in_ok-run_line.ensures.ok c.requires.settings (ruled_of c.requires.run) c.requires.goes.grid in
+    let longer = longer_text c.args.out.now.items _ c.run_line.new.out.items ran.added in
+    let same = ap length c.deref.ensures.value in
+    let from = c.len-from.ensures in
+    omega (arith, longer, same, from)
 
 pub returns-clause-ok : goal.returns-clause-ok
 returns-clause-ok g c = λ settings s goes.

@@ -1,0 +1,5 @@
+use Rattle.script_run.specs.Runs.{ruled_of}
+use Rattle.script_run.proofs.grid.ScriptGrid.lines.Goals as goal
+
+pub returns : goal.returns
+returns g c = λ settings s stands. c.lines.ensures settings (ruled_of s) stands.goes.grid
