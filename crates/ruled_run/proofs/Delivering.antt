@@ -282,4 +282,4 @@ module _ (settings : Settings) (s : RuledRun) (most : ℕ) where
             let same : before + 1 ≡ last = omega (arith, e) in
             subst (λ m. GivesUp s (delivering_in settings s most m)) same
             (up_as (in_same before).leads
-            (gives_up_first settings s (delivering_in settings s most before) (λ x. delivering settings x before most) (told_in settings s most before) (λ x. told_by settings x before most) (in_tells before) (λ x. so_tells settings x before most) (rest more before refl up)))
+            (gives_up_first settings s (delivering_in settings s most before) (λ x. delivering settings x before most) (told_in settings s most before) (λ x. told_by settings x before most) (in_tells before) (λ x. so_tells settings s before x most) (rest more before refl up)))
