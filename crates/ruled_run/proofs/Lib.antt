@@ -32,3 +32,7 @@ pub mod AtOnce
 pub mod Loops
 pub mod Delivering
 pub mod HandingOver
+pub mod OneAsked
+pub mod ByGrid
+pub mod Proposals
+pub mod Finding
