@@ -1,10 +1,10 @@
 #!/usr/bin/env bash
 # What a look-up of a near client costs whose cache is full, with `grid replay`: `hits` of keys that it keeps, in an order
 # that isn't that of their last use, and `misses` of keys that it doesn't, whose answers it is handed after every 100
-# look-ups, so that each takes the place of the entry that wasn't used for longest. Beside it in the same run stands what any
-# C++ program would keep entries in (near_peer.cpp), on the same scripts: a miss is there a look-up and an entry, and no get. Run
-# it from the repository's top, after `rt run` in crates/grid has built the program: bench/near.sh [ENTRIES..]. GRID names
-# another program.
+# look-ups, so that each takes the place of the entry that wasn't used for longest; and `alone` hits of a cache without a script
+# (crates/near_looks). Beside it in the same run stands what any C++ program would keep entries in (near_peer.cpp), with the same
+# look-ups: a miss is there a look-up and an entry, and no get. Run it from anywhere, after `rt run` in crates/grid and in
+# crates/near_looks has built the programs: bench/near.sh [ENTRIES..]. GRID and LOOKS name other ones.
 #
 # Two scripts fill the same cache and then make FEW and MANY look-ups, and what they differ in is what the look-ups cost.
 # BY says in what:
@@ -18,14 +18,17 @@ set -euo pipefail
 
 cd "$(dirname "$0")/.."
 GRID=${GRID:-crates/grid/out/grid}
+LOOKS=${LOOKS:-crates/near_looks/out/near_looks}
 RUNS=${RUNS:-7}
 FEW=${FEW:-5000}
 MANY=${MANY:-95000}
 BY=${BY:-time}
-if [ ! -x "$GRID" ]; then
-    echo "no program at $GRID: build it with 'cd crates/grid && rt run', or set GRID" >&2
-    exit 1
-fi
+for program in "$GRID" "$LOOKS"; do
+    if [ ! -x "$program" ]; then
+        echo "no program at $program: build it with 'rt run' in its crate, or set GRID or LOOKS" >&2
+        exit 1
+    fi
+done
 case $BY in
     time | instructions | lines) ;;
     *) echo "BY is time, instructions or lines" >&2; exit 1 ;;
@@ -71,13 +74,15 @@ print("end")
 PY
 }
 
-# Runs the grid or its peer on a script, in front of it whatever else is given.
+# Runs the grid or its peer on a script, or so many look-ups of a cache alone; in front of it whatever else is given.
 run_on() {
-    local who=$1 script=$2
+    local who=$1 work=$2
     shift 2
-    case $who in
-        grid) "$@" "$GRID" replay < "$script" > "$DIR/transcript" ;;
-        peer) "$@" "$DIR/peer" < "$script" > "$DIR/transcript" ;;
+    case $kind/$who in
+        alone/grid) "$@" "$LOOKS" "$entries" "$work" > "$DIR/transcript" ;;
+        alone/peer) "$@" "$DIR/peer" "$entries" "$work" > "$DIR/transcript" ;;
+        */grid) "$@" "$GRID" replay < "$work" > "$DIR/transcript" ;;
+        */peer) "$@" "$DIR/peer" < "$work" > "$DIR/transcript" ;;
     esac
 }
 
@@ -103,19 +108,22 @@ counted_of() {
     esac
 }
 
-# What the two scripts cost the grid and its peer: in files named by both, of the fastest run where several count.
+# What few and many look-ups cost the grid and its peer: in files named by both, of each run.
 measure() {
-    local who script taken runs=1
+    local who work runs=1
     [ "$BY" != time ] || runs=$RUNS
     rm -f "$DIR"/cost.*
     for _ in $(seq "$runs"); do
-        for script in few many; do
+        for work in few many; do
             for who in grid peer; do
-                if [ "$BY" = time ]; then taken=$(microseconds_of "$who" "$DIR/$script"); else taken=$(counted_of "$who" "$DIR/$script"); fi
-                echo "$taken" >> "$DIR/cost.$who.$script"
+                cost_of "$who" "${!work}" >> "$DIR/cost.$who.$work"
             done
         done
     done
+}
+
+cost_of() {
+    if [ "$BY" = time ]; then microseconds_of "$@"; else counted_of "$@"; fi
 }
 
 least() {
@@ -124,9 +132,8 @@ least() {
 
 # Prints what a look-up costs the grid, or its peer.
 tell() {
-    local kind=$1 entries=$2 who=$3
-    awk -v kind="$kind" -v entries="$entries" -v who="$who" -v by="$BY" -v looks="$((MANY - FEW))" \
-        -v few="$(least "$DIR/cost.$who.few")" -v many="$(least "$DIR/cost.$who.many")" 'BEGIN {
+    awk -v kind="$kind" -v entries="$entries" -v who="$1" -v by="$BY" -v looks="$looks" \
+        -v few="$(least "$DIR/cost.$1.few")" -v many="$(least "$DIR/cost.$1.many")" 'BEGIN {
             each = (many - few) / looks
             if (by == "time") {
                 printf "%8s %10d %6s %20.0f %16.0f\n", kind, entries, who, 1000 * each, (each > 0 ? 1000000 / each : 0)
@@ -142,11 +149,18 @@ case $BY in
     *) printf '%8s %10s %6s %20s\n' look-ups entries who "$BY/look-up" ;;
 esac
 for entries in "$@"; do
-    for kind in hits misses; do
-        write_script "$kind" "$entries" "$FEW" > "$DIR/few"
-        write_script "$kind" "$entries" "$MANY" > "$DIR/many"
+    for kind in hits misses alone; do
+        few=$DIR/few many=$DIR/many looks=$((MANY - FEW))
+        if [ "$kind" = alone ]; then
+            # A look-up alone is so short that it takes more of them to be timed.
+            times=$([ "$BY" = time ] && echo 30 || echo 1)
+            few=$((times * FEW)) many=$((times * MANY)) looks=$((times * looks))
+        else
+            write_script "$kind" "$entries" "$FEW" > "$few"
+            write_script "$kind" "$entries" "$MANY" > "$many"
+        fi
         measure
-        tell "$kind" "$entries" grid
-        tell "$kind" "$entries" peer
+        tell grid
+        tell peer
     done
 done

@@ -2,10 +2,11 @@
 // hash table of its places. bench/near.sh compiles it and times it beside the grid, on the same script.
 //
 //     near_peer < SCRIPT
+//     near_peer ENTRIES LOOKS
 //
 // It reads the lines of such a script alone: `near 0 NAME CAP` makes an empty cache, and `nearget 0 KEY` looks a key up. A
 // miss is answered null at once, and kept. It prints what the grid prints of them, but for the bytes of messages, and `ok` for
-// each other line.
+// each other line. With two words it does what `near_looks` does.
 #include <cstdio>
 #include <cstdlib>
 #include <list>
@@ -46,9 +47,7 @@ struct Cache {
     }
 };
 
-int digit_of(char c) {
-    return c <= '9' ? c - '0' : (c | 0x20) - 'a' + 10;
-}
+int digit_of(char c) { return c <= '9' ? c - '0' : (c | 0x20) - 'a' + 10; }
 
 void read_hex(std::string_view digits, std::string &bytes) {
     bytes.clear();
@@ -58,13 +57,9 @@ void read_hex(std::string_view digits, std::string &bytes) {
 }
 
 // What stands behind the last space.
-std::string_view last_word(std::string_view line) {
-    return line.substr(line.rfind(' ') + 1);
-}
+std::string_view last_word(std::string_view line) { return line.substr(line.rfind(' ') + 1); }
 
-bool begins(std::string_view line, std::string_view word) {
-    return line.substr(0, word.size()) == word;
-}
+bool begins(std::string_view line, std::string_view word) { return line.substr(0, word.size()) == word; }
 
 // Looks a key up, and keeps null where it isn't there. Was it there?
 bool look_up(Cache &cache, const std::string &key) {
@@ -89,9 +84,39 @@ void run(Cache &cache, unsigned long number, std::string_view line) {
     std::printf("%lu ok\n", number);
 }
 
+// The key of this number: a hash, and no content.
+std::string key_of(unsigned long number) {
+    const auto hash = static_cast<unsigned>(number + 1);
+    std::string key;
+    for (const int shift : {24, 16, 8, 0}) {
+        key.push_back(static_cast<char>(hash >> shift));
+    }
+    return key + "\xff\xff\xff\xf5";
+}
+
+// Fills a cache of so many entries, and prints how many of so many look-ups hit.
+void look(unsigned long entries, unsigned long looks) {
+    Cache cache;
+    cache.room = entries;
+    for (unsigned long number = 0; number < entries; ++number) {
+        cache.keep(key_of(number), std::nullopt);
+    }
+    unsigned long hits = 0;
+    unsigned long number = 0;
+    for (unsigned long at = 0; at < looks; ++at) {
+        hits += cache.hit(key_of(number)) != nullptr;
+        number = (number + 7919) % entries;
+    }
+    std::printf("%lu hits\n", hits);
+}
+
 } // namespace
 
-int main() {
+int main(int count, char **words) {
+    if (count == 3) {
+        look(std::strtoul(words[1], nullptr, 10), std::strtoul(words[2], nullptr, 10));
+        return EXIT_SUCCESS;
+    }
     Cache cache;
     unsigned long number = 0;
     char line[4096];

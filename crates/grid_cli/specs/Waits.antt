@@ -1,10 +1,11 @@
 -- What holds of the calls that wait in a replayed script.
-use Rattle.std.specs.Prelude.{◌≡◌, ℕ, ◌<◌, false, List, Option, Some, Contains}
+use Rattle.std.specs.Prelude.{◌≡◌, ℕ, ◌<◌, ◌≤◌, false, List, Option, Some, Contains}
 use Rattle.std.specs.Io.KnownBytes.{append_known, prepend_known}
 use Rattle.grid_base.specs.declared.names.CallId.{CallId}
 use Rattle.entry_processors.specs.Processors.{ProcessorForm}
 use Rattle.call_engine.specs.Calls.{Settings}
 use Rattle.call_engine.specs.Objects.{partition_object}
+use Rattle.partition_protocol.specs.Sequences.{IsFrontOf}
 use Rattle.replay_run.specs.Runs.{Run, Waiter, partitions, as_machine}
 use Rattle.replay_run.specs.Staying.{HasNoTurn}
 use Rattle.waiting_runs.specs.ByMachine.{GoesByItsMachine}
@@ -23,10 +24,17 @@ pub record WaitByTheRule (settings : Settings) (skips : List CallId) (r : Run) :
   pub silent : (w : Waiter) → Contains r.waiters w → (goes : GoesByItsMachine (partition_object settings) skips r w.request.partition)
       → ChangesNothing (partition_object settings) skips r w.request.partition goes.by.lines (as_machine w)
 
--- With this status this was read of the script and this text written, where these calls found no memory. After whichever line, unless the run was given up, calls wait by the rule.
+-- From one moment to a later one: by whichever lines a partition has gone, it goes on by more of them.
+abbrev pub GoOnByTheRule : Settings → List CallId → Run → Run → Type 0
+GoOnByTheRule settings skips first later = (p : ℕ) → p < partitions → (goes : GoesByItsMachine (partition_object settings) skips first p)
+    → (on : GoesByItsMachine (partition_object settings) skips later p) × IsFrontOf goes.by.lines on.by.lines
+
+-- With this status this was read of the script and this text written, where these calls found no memory. After whichever line, and from it to whichever later one, calls wait by the rule, unless the run was given up.
 pub record TellsWaits (forms : List ProcessorForm) (status : Status) (skips : List CallId) (script read text : List ℕ) : Type 0 where
   pub replayed : HasReplayed forms status skips script read text
   pub waits : (lines : ℕ) → let s = run_of_script forms skips script lines in s.run.full ≡ false → WaitByTheRule (settings_in forms script) skips s.run
+  pub goes_on : (lines later : ℕ) → 1 ≤ lines → lines ≤ later → let first = run_of_script forms skips script lines in let last = run_of_script forms skips script later in
+      last.run.full ≡ false → GoOnByTheRule (settings_in forms script) skips first.run last.run
 
 -- What was written is of a script that the source told, whose calls wait by the rule, for some calls that found no memory.
 abbrev pub PrintsWaits : List ProcessorForm → Status → Option (List ℕ) → Option (List ℕ) → Option (List ℕ) → Option (List ℕ) → Type 0

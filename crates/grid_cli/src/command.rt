@@ -55,8 +55,8 @@ pub fn replay_command<S: Source, K: Sink>(
     // version of a row is made twice, and no two live members are master of a partition.
     ensures decisions { PrintsDecisions (map form processors.items) result (S.left script.old) (S.left script.new) (K.taken out.old) (K.taken out.new) }
     // After each line calls wait by the rule: each partition has come to what it is by lines of its machine that bring the
-    // waiting calls of the script there and no other; nothing is to be done with whoever still waits; and it has changed
-    // nothing: without it the same would have happened to all others.
+    // waiting calls of the script there and no other, and goes on by more of them; nothing is to be done with whoever still
+    // waits; and it has changed nothing: without it the same would have happened to all others.
     ensures waits { PrintsWaits (map form processors.items) result (S.left script.old) (S.left script.new) (K.taken out.old) (K.taken out.new) }
 {
     if !is_replay_command(words) {

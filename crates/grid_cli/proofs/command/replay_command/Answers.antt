@@ -1,8 +1,8 @@
 use Rattle.grid_cli.proofs.CommandLaws.{nothing_printed}
 use Rattle.grid_cli.proofs.Decisions.{prints_decisions}
 use Rattle.grid_cli.proofs.NearHits.{prints_hits}
-use Rattle.grid_cli.proofs.Waits.{prints_waits}
 use Rattle.grid_cli.proofs.ReplayRuns.{nothing_said}
+use Rattle.grid_cli.proofs.Waits.{prints_waits}
 use Rattle.grid_cli.proofs.command.replay_command.Goals as goal
 
 pub returns-then-not-is_replay_command-clause-text : goal.returns-then-not-is_replay_command-clause-text

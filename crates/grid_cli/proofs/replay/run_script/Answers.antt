@@ -1,8 +1,8 @@
 use Rattle.grid_cli.proofs.CommandLaws.{prints_histories}
 use Rattle.grid_cli.proofs.Decisions.{prints_decisions}
 use Rattle.grid_cli.proofs.NearHits.{prints_hits}
-use Rattle.grid_cli.proofs.Waits.{prints_waits}
 use Rattle.grid_cli.proofs.ReplayRuns.{nothing_played}
+use Rattle.grid_cli.proofs.Waits.{prints_waits}
 use Rattle.grid_cli.proofs.replay.run_script.Goals as goal
 
 pub returns-in_default-clause-text : goal.returns-in_default-clause-text
