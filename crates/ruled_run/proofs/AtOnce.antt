@@ -21,7 +21,6 @@ use Rattle.masters_world.proofs.Lists.{past_append}
 use Rattle.script_lang.specs.declared.line.Line.{Line as ScriptLine}
 use Rattle.script_lang.specs.declared.line.Line.TheVariants.{Grid, OpenConn, Arrive, Clock, Deliver, Lose, Repeat, Flow, FlowAll, Resend, Crash, Detect, Move, Join, Handover, Advance, Reopen, Rebalance, Dump, Links, Trail, Near, NearGet, NearFeed, Masters as MastersLine, Told, MasterDeliver, MasterLose, MasterResend, MasterFlow, Comment, End}
 use Rattle.replay_run.specs.Runs.{Run, At, partitions, events_at, world_at, takes, next_line, event_by}
-use Rattle.replay_run.specs.AfterLines as grid
 use Rattle.replay_run.specs.Appending.{new_messages}
 use Rattle.replay_run.specs.Printing.{nothing_text, words_line, words_of, done_word, outcome_at, outcome_text, line_messages, line_close, line_dump, line_links, entry_text, printed_by}
 use Rattle.replay_run.specs.Printing as grid
@@ -121,15 +120,15 @@ module _ (settings : Settings) (s : RuledRun) where
   same_event line x e same = let one : x ≡ e = cc in subst (IsEvent settings s line) one
 
   pub as_event : (line : ScriptLine) (e : At) → event_by line ≡ Some e → IsEvent settings s line e
-  as_event (Deliver p from to place) e same = same_event (Deliver p from to place) (record { partition = p; event = event.Deliver from to place }) e same (record { is = refl; after = λ skips. refl; text = λ skips next. refl; no_crash = λ m. cc })
-  as_event (Lose p from to place) e same = same_event (Lose p from to place) (record { partition = p; event = event.Lose from to place }) e same (record { is = refl; after = λ skips. refl; text = λ skips next. refl; no_crash = λ m. cc })
-  as_event (Repeat p from to place) e same = same_event (Repeat p from to place) (record { partition = p; event = event.Repeat from to place }) e same (record { is = refl; after = λ skips. refl; text = λ skips next. refl; no_crash = λ m. cc })
-  as_event (Resend p end) e same = same_event (Resend p end) (record { partition = p; event = event.Resend end }) e same (record { is = refl; after = λ skips. refl; text = λ skips next. refl; no_crash = λ m. cc })
-  as_event (Move p from to) e same = same_event (Move p from to) (record { partition = p; event = event.BeginMove from to }) e same (record { is = refl; after = λ skips. refl; text = λ skips next. refl; no_crash = λ m. cc })
-  as_event (Join p to) e same = same_event (Join p to) (record { partition = p; event = event.BeginJoin to }) e same (record { is = refl; after = λ skips. refl; text = λ skips next. refl; no_crash = λ m. cc })
-  as_event (Handover p from to) e same = same_event (Handover p from to) (record { partition = p; event = event.BeginHandover from to }) e same (record { is = refl; after = λ skips. refl; text = λ skips next. refl; no_crash = λ m. cc })
-  as_event (Advance p) e same = same_event (Advance p) (record { partition = p; event = event.Advance }) e same (record { is = refl; after = λ skips. refl; text = λ skips next. refl; no_crash = λ m. cc })
-  as_event (Reopen p) e same = same_event (Reopen p) (record { partition = p; event = event.Reopen }) e same (record { is = refl; after = λ skips. refl; text = λ skips next. refl; no_crash = λ m. cc })
+  as_event (Deliver p from to place) e same = same_event (Deliver p from to place) (record { partition = p; event = event.Deliver from to place }) e same (record { is = refl; after = λ skips. refl; text = λ skips next. refl; no_crash = λ m z. absurd cc })
+  as_event (Lose p from to place) e same = same_event (Lose p from to place) (record { partition = p; event = event.Lose from to place }) e same (record { is = refl; after = λ skips. refl; text = λ skips next. refl; no_crash = λ m z. absurd cc })
+  as_event (Repeat p from to place) e same = same_event (Repeat p from to place) (record { partition = p; event = event.Repeat from to place }) e same (record { is = refl; after = λ skips. refl; text = λ skips next. refl; no_crash = λ m z. absurd cc })
+  as_event (Resend p end) e same = same_event (Resend p end) (record { partition = p; event = event.Resend end }) e same (record { is = refl; after = λ skips. refl; text = λ skips next. refl; no_crash = λ m z. absurd cc })
+  as_event (Move p from to) e same = same_event (Move p from to) (record { partition = p; event = event.BeginMove from to }) e same (record { is = refl; after = λ skips. refl; text = λ skips next. refl; no_crash = λ m z. absurd cc })
+  as_event (Join p to) e same = same_event (Join p to) (record { partition = p; event = event.BeginJoin to }) e same (record { is = refl; after = λ skips. refl; text = λ skips next. refl; no_crash = λ m z. absurd cc })
+  as_event (Handover p from to) e same = same_event (Handover p from to) (record { partition = p; event = event.BeginHandover from to }) e same (record { is = refl; after = λ skips. refl; text = λ skips next. refl; no_crash = λ m z. absurd cc })
+  as_event (Advance p) e same = same_event (Advance p) (record { partition = p; event = event.Advance }) e same (record { is = refl; after = λ skips. refl; text = λ skips next. refl; no_crash = λ m z. absurd cc })
+  as_event (Reopen p) e same = same_event (Reopen p) (record { partition = p; event = event.Reopen }) e same (record { is = refl; after = λ skips. refl; text = λ skips next. refl; no_crash = λ m z. absurd cc })
   as_event (Grid members backups capacity) e same = absurd cc
   as_event (OpenConn c member) e same = absurd cc
   as_event (Arrive c bytes) e same = absurd cc

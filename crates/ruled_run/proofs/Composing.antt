@@ -103,6 +103,7 @@ module _ (settings : Settings) (s : RuledRun) (first : Onward) (then : RuledRun 
     pub first_same : first both ≡ first a
     pub then_same : then (first both) both ≡ then (first a) b
     pub first_told : texts both ≡ texts a
+    pub agrees : AgreeOn (new_arrivals s.run (first a).run) a both
     pub then_told : more (first both) both ≡ more (first a) b
     pub among : AreAmong (new_arrivals s.run (then (first both) both).run) both
 
@@ -121,17 +122,20 @@ module _ (settings : Settings) (s : RuledRun) (first : Onward) (then : RuledRun 
           first_same = same_first;
           then_same = same_then;
           first_told = sym (g.alike a (a ++ b) agree_first);
+          agrees = agree_first;
           then_told = ap (λ x. more x (a ++ b)) same_first ∙ sym ((h mid).alike b (a ++ b) agree_then);
           among = subst (λ (x : RuledRun). AreAmong (new_arrivals s.run x.run) (a ++ b)) (sym same_then) (both_among s.run mid.run last.run up on once a b of_first of_then);
         }
 
   module _ {V : Type 0} {T : V → Type 0} {form : FormOf V T} (mid new : RuledGrid V T) (written so_far text : List ℕ) (a : HasGoneOn form settings mid s first texts written so_far) where
-    pub record HasGoneFurther : Type 0 where
-      pub on : HasGoneOn form settings new s (λ k. then (first k) k) (λ k. texts k ++ more (first k) k) written text
-      pub then_skips : List CallId
-      pub same : GoSame a.skips then_skips on.skips
+    abbrev pub GoesFrom : Type 0
+    GoesFrom = HasGoneOn form settings new (first a.skips) (then (first a.skips)) (more (first a.skips)) so_far text
 
-    pub gone_further : (b : HasGoneOn form settings new (first a.skips) (then (first a.skips)) (more (first a.skips)) so_far text) → HasGoneFurther
+    pub record HasGoneFurther (b : GoesFrom) : Type 0 where
+      pub on : HasGoneOn form settings new s (λ k. then (first k) k) (λ k. texts k ++ more (first k) k) written text
+      pub same : GoSame a.skips b.skips on.skips
+
+    pub gone_further : (b : GoesFrom) → HasGoneFurther b
     gone_further b =
         let once : ArrivalsOk (then (first a.skips) b.skips).run = (run_ok b.amid.grid.run).of_arrivals in
         let both = a.skips ++ b.skips in
@@ -145,7 +149,6 @@ module _ (settings : Settings) (s : RuledRun) (first : Onward) (then : RuledRun 
             added = b.added ∙ ap (λ xs. xs ++ more (first a.skips) b.skips) a.added ∙ append_assoc written (texts a.skips) (more (first a.skips) b.skips)
                 ∙ sym told;
           };
-          then_skips = b.skips;
           same = same;
         }
 
@@ -175,17 +178,22 @@ pub record SameSteps (first other : Onward) (texts also : Texts) : Type 0 where
   pub leads : (k : List CallId) → first k ≡ other k
   pub says : (k : List CallId) → texts k ≡ also k
 
-pub gone_as : {V : Type 0} {T : V → Type 0} {form : FormOf V T} {settings : Settings} {new : RuledGrid V T} {s : RuledRun} {first other : Onward} {texts also : Texts} {written text : List ℕ} → SameSteps first other texts also
-    → (a : HasGoneOn form settings new s first texts written text) → (c : HasGoneOn form settings new s other also written text) × (c.skips ≡ a.skips)
-gone_as {form = form} {settings = settings} {new = new} {s = s} {written = written} same a = (
+-- at the skips by which it has gone
+pub gone_at : {V : Type 0} {T : V → Type 0} {form : FormOf V T} {settings : Settings} {new : RuledGrid V T} {s : RuledRun} {first other : Onward} {texts also : Texts} {written text : List ℕ}
+    → (a : HasGoneOn form settings new s first texts written text) → first a.skips ≡ other a.skips → texts a.skips ≡ also a.skips → (c : HasGoneOn form settings new s other also written text) × (c.skips ≡ a.skips)
+gone_at {form = form} {settings = settings} {new = new} {s = s} {written = written} a leads says = (
   record {
     skips = a.skips;
-    own = subst (λ (x : RuledRun). AreAmong (new_arrivals s.run x.run) a.skips) (same.leads a.skips) a.own;
-    amid = subst (IsAmid form settings new) (same.leads a.skips) a.amid;
-    added = a.added ∙ ap (λ xs. written ++ xs) (same.says a.skips);
+    own = subst (λ (x : RuledRun). AreAmong (new_arrivals s.run x.run) a.skips) leads a.own;
+    amid = subst (IsAmid form settings new) leads a.amid;
+    added = a.added ∙ ap (λ xs. written ++ xs) says;
   },
   refl,
 )
+
+pub gone_as : {V : Type 0} {T : V → Type 0} {form : FormOf V T} {settings : Settings} {new : RuledGrid V T} {s : RuledRun} {first other : Onward} {texts also : Texts} {written text : List ℕ} → SameSteps first other texts also
+    → (a : HasGoneOn form settings new s first texts written text) → (c : HasGoneOn form settings new s other also written text) × (c.skips ≡ a.skips)
+gone_as same a = gone_at a (same.leads a.skips) (same.says a.skips)
 
 pub up_as : {s : RuledRun} {first other : Onward} → ((k : List CallId) → first k ≡ other k) → GivesUp s first → GivesUp s other
 up_as {s = s} same a = record {

@@ -30,3 +30,9 @@ pub mod Composing
 pub mod LineParts
 pub mod AtOnce
 pub mod Loops
+pub mod Delivering
+pub mod HandingOver
+pub mod OneAsked
+pub mod ByGrid
+pub mod Proposals
+pub mod Finding

@@ -15,6 +15,8 @@ use Rattle.script_lang.specs.declared.line.Line.TheVariants.{Comment}
 use Rattle.replay_run.specs.Runs.{Run, partitions, next_line, takes}
 use Rattle.replay_run.specs.Rebalancing.{most_line_events}
 use Rattle.replay_run.specs.Endings.{AreAmong, new_arrivals}
+use Rattle.replay_run.specs.declared.run_end.RunEnd.{RunEnd}
+use Rattle.replay_run.specs.declared.run_end.RunEnd.TheVariants.{InFlight, Memory}
 use Rattle.replay_run.specs.Grids.{FormOf}
 use Rattle.replay_run.specs.Grids as grid
 use Rattle.replay_run.specs.WorldCalls.{HasRoomAt}
@@ -109,3 +111,7 @@ module _ {V : Type 0} {T : V → Type 0} {form : FormOf V T} where
       of_line = subst (λ (x : RuledRun). AreAmong (new_arrivals s.run x.run) up.skips) (sym (after up.skips)) up.own;
       full = ap (λ (x : RuledRun). x.run.full) (after up.skips) ∙ up.full;
     }
+
+pub only_memory : (end : RunEnd) → (end ≡ InFlight → ⊥) → end ≡ Memory
+only_memory InFlight none = absurd (none refl)
+only_memory Memory none = refl

@@ -43,19 +43,19 @@ one_tells settings s p l q =
 -- A run stays one.
 
 pub goes_run : (o : Object Request Partition) (skips : List CallId) (s : RuledRun) (p : ℕ) (l : Line Request) → AsksNoCall l → IsRun o s.run → IsRun o (goes o skips s p l).run
-goes_run o skips = goes_keeps o skips (IsRun o) run_given_up (λ r p e quiet h. takes_run o skips r p e quiet h)
+goes_run o skips = goes_keeps o skips (IsRun o) run_given_up (λ r p e quiet h. takes_run skips r p e h quiet)
 
 pub goes_in_run : (o : Object Request Partition) (skips : List CallId) (s : RuledRun) (l : Line Request) (ps : List ℕ) → AsksNoCall l → IsRun o s.run → IsRun o (goes_in o skips s l ps).run
-goes_in_run o skips = goes_in_keeps o skips (IsRun o) run_given_up (λ r p e quiet h. takes_run o skips r p e quiet h)
+goes_in_run o skips = goes_in_keeps o skips (IsRun o) run_given_up (λ r p e quiet h. takes_run skips r p e h quiet)
 
 pub flowed_run : (o : Object Request Partition) (skips : List CallId) (s : RuledRun) (p most : ℕ) → IsRun o s.run → IsRun o (flowed o skips s p most).run
-flowed_run o skips = flowed_keeps o skips (IsRun o) run_given_up (λ r p e quiet h. takes_run o skips r p e quiet h)
+flowed_run o skips = flowed_keeps o skips (IsRun o) run_given_up (λ r p e quiet h. takes_run skips r p e h quiet)
 
 pub flowed_in_run : (o : Object Request Partition) (skips : List CallId) (s : RuledRun) (most : ℕ) (ps : List ℕ) → IsRun o s.run → IsRun o (flowed_in o skips s most ps).run
-flowed_in_run o skips = flowed_in_keeps o skips (IsRun o) run_given_up (λ r p e quiet h. takes_run o skips r p e quiet h)
+flowed_in_run o skips = flowed_in_keeps o skips (IsRun o) run_given_up (λ r p e quiet h. takes_run skips r p e h quiet)
 
 pub between_run : (o : Object Request Partition) (skips : List CallId) (s : RuledRun) (p most : ℕ) → IsRun o s.run → IsRun o (flowed_between o skips s p most).run
-between_run o skips = between_keeps o skips (IsRun o) run_given_up (λ r p e quiet h. takes_run o skips r p e quiet h)
+between_run o skips = between_keeps o skips (IsRun o) run_given_up (λ r p e quiet h. takes_run skips r p e h quiet)
 
 -- the same in each partition
 
@@ -78,61 +78,59 @@ module _ (o : Object Request Partition) (skips : List CallId) (l : Line Request)
       followed_in-append s (numbers_below n) (n ∷ [])
       ∙ ap (λ xs. followed_in o skips s l (numbers_below n) ++ xs) (append-nil (followed o skips (goes_in o skips s l (numbers_below n)) n l))
 
+-- in the first partitions
+
+abbrev pub going_in : Settings → RuledRun → Line Request → ℕ → Onward
+going_in settings s l n skips = goes_in (partition_object settings) skips s l (numbers_below n)
+
+abbrev pub following_in : Settings → RuledRun → Line Request → ℕ → Texts
+following_in settings s l n skips = followed_in (partition_object settings) skips s l (numbers_below n)
+
+-- What is asked for has gone on in so many partitions.
+abbrev pub HasGoneIn : {V : Type 0} {T : V → Type 0} → FormOf V T → Settings → RuledGrid V T → RuledRun → Line Request → ℕ → List ℕ → List ℕ → Type 0
+HasGoneIn form settings grid s l n written text = HasGoneOn form settings grid s (going_in settings s l n) (following_in settings s l n) written text
+
+pub gone_in_none : {V : Type 0} {T : V → Type 0} {form : FormOf V T} {settings : Settings} (grid : RuledGrid V T) (s : RuledRun) (l : Line Request) (text : List ℕ) → IsAmid form settings grid s → HasGoneIn form settings grid s l 0 text text
+gone_in_none grid s l text amid = gone_nowhere grid s text amid
+
 module _ (settings : Settings) (s : RuledRun) (l : Line Request) (quiet : AsksNoCall l) where
-  abbrev o : Object Request Partition
-  o = partition_object settings
+  in_tells : (n : ℕ) → TellsBy s (going_in settings s l n) (following_in settings s l n)
+  in_tells n = record { by = goes_in_goes (partition_object settings) s l (numbers_below n) quiet; alike = λ k t agree. followed_in_alike settings k t s l (numbers_below n) quiet agree }
 
-  -- in the first partitions
-  abbrev pub going_in : ℕ → Onward
-  going_in n skips = goes_in o skips s l (numbers_below n)
-
-  abbrev pub following_in : ℕ → Texts
-  following_in n skips = followed_in o skips s l (numbers_below n)
-
-  in_tells : (n : ℕ) → TellsBy s (going_in n) (following_in n)
-  in_tells n = record { by = goes_in_goes o s l (numbers_below n) quiet; alike = λ k t agree. followed_in_alike settings k t s l (numbers_below n) quiet agree }
-
-  in_same : (n : ℕ) → SameSteps (λ k. going settings (going_in n k) n l k) (going_in (n + 1)) (λ k. following_in n k ++ following settings (going_in n k) n l k) (following_in (n + 1))
+  in_same : (n : ℕ) → SameSteps (λ k. going settings (going_in settings s l n k) n l k) (going_in settings s l (n + 1)) (λ k. following_in settings s l n k ++ following settings (going_in settings s l n k) n l k) (following_in settings s l (n + 1))
   in_same n =
       let one : suc n ≡ n + 1 = omega arith in
       record {
-        leads = λ k. sym (goes_in_more o k l s n) ∙ ap (λ m. going_in m k) one;
-        says = λ k. sym (followed_in_more o k l s n) ∙ ap (λ m. following_in m k) one;
+        leads = λ k. sym (goes_in_more (partition_object settings) k l s n) ∙ ap (λ m. going_in settings s l m k) one;
+        says = λ k. sym (followed_in_more (partition_object settings) k l s n) ∙ ap (λ m. following_in settings s l m k) one;
       }
 
-  module _ {V : Type 0} {T : V → Type 0} {form : FormOf V T} where
-    abbrev pub HasGoneIn : RuledGrid V T → ℕ → List ℕ → List ℕ → Type 0
-    HasGoneIn grid n written text = HasGoneOn form settings grid s (going_in n) (following_in n) written text
+  module _ {V : Type 0} {T : V → Type 0} {form : FormOf V T} (mid new : RuledGrid V T) (n : ℕ) (written so_far : List ℕ) (a : HasGoneIn form settings mid s l n written so_far) where
+    -- the run by then
+    abbrev pub gone_in : RuledRun
+    gone_in = going_in settings s l n a.skips
 
-    pub gone_in_none : (grid : RuledGrid V T) (text : List ℕ) → IsAmid form settings grid s → HasGoneIn grid 0 text text
-    gone_in_none grid text amid = gone_nowhere grid s text amid
+    -- and in one more
+    pub gone_in_more : (text : List ℕ) → HasGoneOn form settings new gone_in (going settings gone_in n l) (following settings gone_in n l) so_far text → HasGoneIn form settings new s l (n + 1) written text
+    gone_in_more text b =
+        (gone_as (in_same n)
+        (gone_further settings s (going_in settings s l n) (λ x. going settings x n l) (following_in settings s l n) (λ x. following settings x n l) (in_tells n) (λ x. one_tells settings x n l quiet) mid new written so_far text a b).on).0
 
-    module _ (mid new : RuledGrid V T) (n : ℕ) (written so_far : List ℕ) (a : HasGoneIn mid n written so_far) where
-      -- the run by then
-      abbrev pub gone_in : RuledRun
-      gone_in = going_in n a.skips
-
-      -- and in one more
-      pub gone_in_more : (text : List ℕ) → HasGoneOn form settings new gone_in (going settings gone_in n l) (following settings gone_in n l) so_far text → HasGoneIn new (n + 1) written text
-      gone_in_more text b =
-          (gone_as (in_same n)
-          (gone_further settings s (going_in n) (λ x. going settings x n l) (following_in n) (λ x. following settings x n l) (in_tells n) (λ x. one_tells settings x n l quiet) mid new written so_far text a b).on).0
-
-      -- or it is given up there
-      pub gives_up_in : (most : ℕ) → n < most → GivesUp gone_in (going settings gone_in n l) → GivesUp s (going_in most)
-      gives_up_in most below b =
-          let now = gives_up_then settings s (going_in n) (λ x. going settings x n l) (following_in n) (λ x. following settings x n l) (in_tells n) (λ x. one_tells settings x n l quiet) mid new written so_far [] a b
-              (λ t. goes_run o t gone_in n l quiet a.amid.grid.run) in
-          rest (most - (n + 1)) most (omega (arith, below)) (up_as (in_same n).leads now)
-        where
-          rest : (more last : ℕ) → (n + 1) + more ≡ last → GivesUp s (going_in (n + 1)) → GivesUp s (going_in last)
-          rest zero last e up = let same : n + 1 ≡ last = omega (arith, e) in subst (λ m. GivesUp s (going_in m)) same up
-          rest (suc more) last e up =
-              let before = n + 1 + more in
-              let up_to = rest more before refl up in
-              let same : before + 1 ≡ last = omega (arith, e) in
-              subst (λ m. GivesUp s (going_in m)) same
-              (up_as (in_same before).leads (gives_up_first settings s (going_in before) (λ x. going settings x before l) (following_in before) (λ x. following settings x before l) (in_tells before) (λ x. one_tells settings x before l quiet) up_to))
+    -- or it is given up there
+    pub gives_up_in : (most : ℕ) → n < most → GivesUp gone_in (going settings gone_in n l) → GivesUp s (going_in settings s l most)
+    gives_up_in most below b =
+        let now = gives_up_then settings s (going_in settings s l n) (λ x. going settings x n l) (following_in settings s l n) (λ x. following settings x n l) (in_tells n) (λ x. one_tells settings x n l quiet) mid new written so_far [] a b
+            (λ t. goes_run (partition_object settings) t gone_in n l quiet a.amid.grid.run) in
+        rest (most - (n + 1)) most (omega (arith, below)) (up_as (in_same n).leads now)
+      where
+        rest : (more last : ℕ) → (n + 1) + more ≡ last → GivesUp s (going_in settings s l (n + 1)) → GivesUp s (going_in settings s l last)
+        rest zero last e up = let same : n + 1 ≡ last = omega (arith, e) in subst (λ m. GivesUp s (going_in settings s l m)) same up
+        rest (suc more) last e up =
+            let before = n + 1 + more in
+            let same : before + 1 ≡ last = omega (arith, e) in
+            subst (λ m. GivesUp s (going_in settings s l m)) same
+            (up_as (in_same before).leads
+            (gives_up_first settings s (going_in settings s l before) (λ x. going settings x before l) (following_in settings s l before) (λ x. following settings x before l) (in_tells before) (λ x. one_tells settings x before l quiet) (rest more before refl up)))
 
 -- `mflow`, message after message
 
@@ -164,7 +162,7 @@ module _ (o : Object Request Partition) (skips : List CallId) where
   pub between_parts : (s : RuledRun) (p a b all : ℕ) → a + b ≡ all → AreParts s p a b all
   between_parts s p zero b all e =
       let same : all ≡ b = omega (arith, e) in
-      record { leads = ap (flowed_between o skips s p) same; says = ap (followed_each o skips s p) same; handed = ap (handed_over o skips s p) same }
+      record { leads = ap (flowed_between o skips s p) same; says = ap (followed_each o skips s p) same; handed = let more = ap (handed_over o skips s p) same in omega (arith, more) }
   between_parts s p (suc a) b zero e = absurd (omega (arith, e))
   between_parts s p (suc a) b (suc all) e = go (link_between (masters_at s p)) refl (λ x. between_parts x p a b all left)
     where
@@ -177,7 +175,11 @@ module _ (o : Object Request Partition) (skips : List CallId) where
           record {
             leads = between_none s p (suc all) none ∙ sym (ap (λ x. flowed_between o skips x p b) stays ∙ between_none s p b none);
             says = each_none s p (suc all) none ∙ sym ((λ i. each_none s p (suc a) none i ++ followed_each o skips (stays i) p b) ∙ each_none s p b none);
-            handed = handed_none s p (suc all) none ∙ sym ((λ i. handed_none s p (suc a) none i + handed_over o skips (stays i) p b) ∙ handed_none s p b none);
+            handed =
+                (let whole = handed_none s p (suc all) none in
+                let first = handed_none s p (suc a) none in
+                let then = ap (λ x. handed_over o skips x p b) stays ∙ handed_none s p b none in
+                omega (arith, whole, first, then));
           }
       go (Some l) some parts =
           let next = goes o skips s p (handing_over l) in

@@ -274,8 +274,10 @@ impl RuledGrid {
                 to,
                 place,
             } if *to == self.grid.members() => {
-                let taking = self.taking(alloc, *partition, *from, *place)?;
-                Ok(taking.map(|decision| (*partition, decision)))
+                match self.taking(alloc, *partition, *from, *place)? {
+                    Some(decision) => Ok(Some((*partition, decision))),
+                    None => Ok(None),
+                }
             }
             _ => Ok(decision_by(line)),
         }
