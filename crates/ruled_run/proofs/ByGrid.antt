@@ -16,10 +16,11 @@ use Rattle.masters_world.specs.Machine.{Line, Asks, start, proposals, asked}
 use Rattle.master_log.specs.declared.masters.Masters.{Masters}
 use Rattle.master_log.specs.Standing.{StandsFor, size_of}
 use Rattle.script_lang.specs.declared.line.Line.{Line as ScriptLine}
-use Rattle.script_lang.specs.declared.line.Line.TheVariants as line
+use Rattle.script_lang.specs.declared.line.Line.TheVariants as ScriptLines
+use Rattle.script_lang.specs.Lines.{IsWithin}
 use Rattle.replay_run.specs.Runs.{Run, At, partitions, takes, takes_in, next_line, event_by}
 use Rattle.replay_run.specs.Endings.{AreAmong, new_arrivals}
-use Rattle.replay_run.specs.Grids.{FormOf}
+use Rattle.replay_run.specs.Grids.{FormOf, most_arriving}
 use Rattle.replay_run.specs.Grids as alone
 use Rattle.replay_run.specs.Printing.{ok_text, nothing_text, line_text as alone_text}
 use Rattle.replay_run.proofs.Bounds as bounds
@@ -30,9 +31,10 @@ use Rattle.ruled_run.specs.AfterLines.{by_grid, unruled, ruled_line, after_line}
 use Rattle.ruled_run.specs.Printing.{grid_text, unruled_text, ruled_text, line_text}
 use Rattle.ruled_run.specs.Written.{written_event, written_events}
 use Rattle.ruled_run.specs.Grids.{AreMasters, HasMastersAt, Rules, Stands, HasRun, IsGivenUp}
-use Rattle.ruled_run.specs.Parts.{is_held_back, HasCrashedAt, HaveCrashed}
+use Rattle.ruled_run.specs.Parts.{is_held_back, is_of_masters, HasCrashedAt, HaveCrashed}
 use Rattle.ruled_run.proofs.AskedLines.{asked_more, crash_publishes_nothing, happens_at_once}
-use Rattle.ruled_run.proofs.AtOnce.{IsOwn, IsEvent, as_event, asks_none, event_goes, event_text}
+use Rattle.replay_run.proofs.EventLines.{of_event}
+use Rattle.ruled_run.proofs.AtOnce.{IsOwn, as_event, as_own, asks_none, event_goes, event_text}
 use Rattle.ruled_run.proofs.Going.{goes_far}
 use Rattle.ruled_run.proofs.LineParts.{with_masters, text_with_masters, without_masters, text_without_masters}
 use Rattle.ruled_run.proofs.RuleLemmas.{own_rules, quiet_rules, counted_rules, WereAskedIn, goes_in_rules}
@@ -105,6 +107,15 @@ module _ (settings : Settings) (s : RuledRun) (line : ScriptLine) (all : List Ma
             (quiet_rules settings all k (counted s) e.partition (Asks e.event) ruled placed (asks_none settings s line e is nothing on low) (ap (λ (x : RuledRun). x.run.full) (goes_so k) ∙ full) (counted_rules settings all s rules));
       }
 
+  -- a line that proposes nothing, isn't held back and isn't taken apart
+  pub by_alone : ((e : At) → event_by line ≡ Some e → proposals (ruled_at o s e.partition) e.event ≡ []) → ((p most : ℕ) → line ≢ ScriptLines.Flow p most) → ((most : ℕ) → line ≢ ScriptLines.FlowAll most) → ((member : ℕ) → line ≢ ScriptLines.Crash member) → ((member : ℕ) → line ≢ ScriptLines.Detect member)
+      → is_held_back settings s line ≡ false → is_of_masters line ≡ false → IsWithin s.run.members most_arriving line → length s.masters ≡ partitions → RunsAlone settings s line all all
+  by_alone nothing flow flow_all crash detect on other read whole = go (event_by line) refl
+    where
+      go : (e : Option At) → event_by line ≡ e → RunsAlone settings s line all all
+      go None none = own_alone (as_own settings s line none flow flow_all crash detect on other)
+      go (Some e) is = event_alone e is (nothing e is) on ((of_event settings s.run line e is).within s.run.members most_arriving read) whole
+
 -- a crash
 
 module _ (o : Object Request Partition) (skips : List CallId) (m : ℕ) where
@@ -138,12 +149,12 @@ module _ (settings : Settings) (s : RuledRun) (m : ℕ) (all new : List Masters)
         stands = subst (λ es. StandsFor its.masters es) (sym same) (its.crashed.stands (written_events events) at.are.stands);
       }
 
-  pub crash_alone : RunsAlone settings s (line.Crash m) all new
+  pub crash_alone : RunsAlone settings s (ScriptLines.Crash m) all new
   crash_alone = record {
     next = λ k. goes_in o k (counted s) l (numbers_below partitions);
-    after = λ k. with_masters o k s (line.Crash m) ruled;
+    after = λ k. with_masters o k s (ScriptLines.Crash m) ruled;
     run = λ k. crash_runs o k m (counted s) (next_line s.run) (numbers_below partitions) refl;
-    text = λ k. text_with_masters settings k s (line.Crash m) (goes_in o k (counted s) l (numbers_below partitions)) ruled;
+    text = λ k. text_with_masters settings k s (ScriptLines.Crash m) (goes_in o k (counted s) l (numbers_below partitions)) ruled;
     rules = λ k full rules. goes_in_rules settings all new k (counted s) l crashed.count were_asked ruled full (counted_rules settings all s rules);
   }
 
@@ -177,15 +188,15 @@ module _ (settings : Settings) (s : RuledRun) (line : ScriptLine) (all : List Ma
     rules = λ k full rules. no_rules (by_grid o k s line) refl ((counts.line_counted o k s.run line).members) rules;
   }
 
-pub masters_later : (settings : Settings) (s : RuledRun) → s.run.lines ≢ 1 → IsUnruled settings s line.Masters
+pub masters_later : (settings : Settings) (s : RuledRun) → s.run.lines ≢ 1 → IsUnruled settings s ScriptLines.Masters
 masters_later settings s later =
     let is : (s.run.lines == 1) ≡ false = number_other s.run.lines 1 later in
     record {
-      after = λ k. ap (λ b. cond b (record (counted s) { masters = opening_masters s.run.members }) (by_grid (partition_object settings) k s line.Masters)) is;
+      after = λ k. ap (λ b. cond b (record (counted s) { masters = opening_masters s.run.members }) (by_grid (partition_object settings) k s ScriptLines.Masters)) is;
       text = λ k next. ap (λ b. cond b (ok_text next.run.lines) (nothing_text next.run.lines)) is;
     }
 
 -- each line but `masters` is the grid's
-pub is_unruled : (settings : Settings) (s : RuledRun) (l : ScriptLine) → l ≢ line.Masters → IsUnruled settings s l
-is_unruled settings s line.Masters other = absurd (other refl)
+pub is_unruled : (settings : Settings) (s : RuledRun) (l : ScriptLine) → l ≢ ScriptLines.Masters → IsUnruled settings s l
+is_unruled settings s ScriptLines.Masters other = absurd (other refl)
 is_unruled settings s l other = record { after = λ k. refl; text = λ k next. refl }

@@ -1,0 +1,7 @@
+use Rattle.ruled_run.proofs.grid.RuledGrid.link_to_member.Goals as goal
+
+pub returns-in-Some : goal.returns-in-Some
+returns-in-Some g c = ?
+
+pub returns-in_default : goal.returns-in_default
+returns-in_default g c = ?

@@ -1,0 +1,16 @@
+use Rattle.ruled_run.proofs.grid.RuledGrid.run_detection.Goals as goal
+
+pub loop-partition-init : goal.loop-partition-init
+loop-partition-init g c = ?
+
+pub detect-requires : goal.detect-requires
+detect-requires g c = ?
+
+pub returns-in_err-detect-clause-full : goal.returns-in_err-detect-clause-full
+returns-in_err-detect-clause-full g c = ?
+
+pub loop-partition-preserved : goal.loop-partition-preserved
+loop-partition-preserved g c = ?
+
+pub returns-clause-ok : goal.returns-clause-ok
+returns-clause-ok g c = ?
