@@ -38,3 +38,4 @@ pub mod Proposals
 pub mod Finding
 pub mod Passing
 pub mod Crashed
+pub mod ServiceTakes

@@ -89,7 +89,7 @@ module _ {V : Type 0} {T : V → Type 0} {form : FormOf V T} where
         single_at (partition_object settings) s p at.are.lines at.are.of_lines (subst (λ n. 1 ≤ n) at.are.size at.are.stands.some) stands.masters.most l
 
     module _ (limit : s.run.lines + 1 ≤ most_lines) where
-      pub may_ask : (new : RuledGrid V T) → has_masters s ≡ true → IsAmid form settings new (counted s) → (p : ℕ) → p < partitions → MayAsk form new p
+      abbrev pub may_ask : (new : RuledGrid V T) → has_masters s ≡ true → IsAmid form settings new (counted s) → (p : ℕ) → p < partitions → MayAsk form new p
       may_ask new is now p low = record {
         settings = settings;
         run = counted s;

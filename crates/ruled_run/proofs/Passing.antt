@@ -1,6 +1,7 @@
 -- A line that is counted, and does nothing else to the grid: it is held back, or it brings the masters.
-use Rattle.std.proofs.Common.{◌≡◌, ℕ, zero, suc, ◌+◌, ◌<◌, ◌≤◌, true, false, true≢false, cond, ◌==◌, List, [], ◌∷◌, ◌++◌, map, length, Option, Some, None, slice_get, refl, ap, sym, ◌∙◌, subst, append-nil, arith}
-use Rattle.std.specs.Prelude.{codes}
+use Rattle.std.proofs.Common.{◌≡◌, ℕ, zero, suc, ◌+◌, ◌<◌, ◌≤◌, true, false, true≢false, cond, ◌==◌, List, [], ◌∷◌, ◌++◌, map, length, Option, Some, None, Result, Ok, Err, slice_get, refl, ap, sym, ◌∙◌, subst, ⊎_elim, append-nil, arith}
+use Rattle.std.specs.Prelude.{codes, OnOk}
+use Rattle.std.proofs.lemmas.Bool.{cases_eq}
 use Rattle.std.proofs.lemmas.List.{drop_all}
 use Rattle.grid_base.specs.Objects.{Object}
 use Rattle.grid_base.specs.declared.names.CallId.{CallId}
@@ -26,6 +27,7 @@ use Rattle.replay_run.specs.Printing.{ok_text, nothing_text, words_line}
 use Rattle.replay_run.specs.WorldCalls.{texts_of}
 use Rattle.replay_run.specs.WorldCalls as amid
 use Rattle.replay_run.proofs.EventLines.{of_event}
+use Rattle.replay_run.proofs.TableChanges.{got_before, got_last}
 use Rattle.replay_run.proofs.TakenApart.{few_none}
 use Rattle.ruled_run.specs.declared.grid.RuledGrid.{RuledGrid}
 use Rattle.ruled_run.specs.Runs.{RuledRun, has_masters, opening_masters, ruled_at, takes_each, goes, counted}
@@ -116,3 +118,18 @@ module _ {V : Type 0} {T : V → Type 0} {form : FormOf V T} {settings : Setting
         added = is ∙ ap (λ n. written ++ ok_text n) at_line
             ∙ ap (λ xs. written ++ xs) (sym (ap (λ x. line_text settings [] s ScriptLines.Masters x) after ∙ text_without_masters settings [] s ScriptLines.Masters next none ∙ ap (λ b. cond b (ok_text (s.run.lines + 1)) (nothing_text (s.run.lines + 1))) first));
       }
+
+pub on_ok_two : {T E P Q R : Type 0} (r : Result T E) → (P → Q → R) → OnOk r P → OnOk r Q → OnOk r R
+on_ok_two (Ok x) f p q = f p q
+on_ok_two (Err e) f p q = tt
+
+-- One partition more has its masters.
+pub opened_more : (before : List Masters) (new : Masters) (members : ℕ) → ((p : ℕ) (masters : Masters) → slice_get before p ≡ Some masters → (size_of masters ≡ members) × StandsFor masters []) → size_of new ≡ members → StandsFor new []
+    → (p : ℕ) (masters : Masters) → slice_get (before ++ new ∷ []) p ≡ Some masters → (size_of masters ≡ members) × StandsFor masters []
+opened_more before new members each size stands p masters there = ⊎_elim last (λ apart. each p masters (sym (got_before before new p apart) ∙ there)) (cases_eq p (length before))
+  where
+    last : p ≡ length before → (size_of masters ≡ members) × StandsFor masters []
+    last e =
+        let both : Some new ≡ Some masters = sym (got_last before new) ∙ ap (slice_get (before ++ new ∷ [])) (sym e) ∙ there in
+        let one : new ≡ masters = cc in
+        subst (λ (m : Masters). (size_of m ≡ members) × StandsFor m []) one (size, stands)
