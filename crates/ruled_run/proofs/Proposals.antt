@@ -1,6 +1,6 @@
 -- What a line proposes, and whether it is held back.
 use Rattle.std.proofs.Common.{◌≡◌, ◌≢◌, ℕ, ◌+◌, ◌<◌, ◌≤◌, Bool, true, false, true≢false, cond, not, ◌&&◌, ◌==◌, List, [], ◌∷◌, map, length, Option, Some, None, is_some, option_map, slice_get, refl, ap, sym, ◌∙◌, subst, arith}
-use Rattle.std.specs.Prelude.{option_to_list, is_none}
+use Rattle.std.specs.Prelude.{option_to_list}
 use Rattle.grid_base.specs.declared.calls.Request.{Request}
 use Rattle.call_engine.specs.Calls.{Settings}
 use Rattle.call_engine.specs.Objects.{partition_object}
@@ -200,9 +200,9 @@ module _ (settings : Settings) (s : RuledRun) where
   not_held line nothing masters rebalance deliver lose resend = refl
 
 -- nobody is there
-pub none_is : {X : Type 0} (is : Bool) (there found : Option X) → is ≡ is_none found → found ≡ there → is ≡ not (is_some there)
-none_is is there found e same = e ∙ ap (λ x. is_none x) same ∙ go there
+pub none_is : {X : Type 0} (is : Bool) (found there : Option X) → is_some found ≡ not is → found ≡ there → is ≡ not (is_some there)
+none_is is found there e same = twice is ∙ ap not (sym e) ∙ ap (λ x. not (is_some x)) same
   where
-    go : {X : Type 0} (x : Option X) → is_none x ≡ not (is_some x)
-    go None = refl
-    go (Some x) = refl
+    twice : (b : Bool) → b ≡ not (not b)
+    twice true = refl
+    twice false = refl

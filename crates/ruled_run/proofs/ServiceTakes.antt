@@ -1,6 +1,6 @@
 -- The message at a place of a link to the table service, as it is read in a grid's world.
 use Rattle.std.proofs.Common.{◌≡◌, ℕ, ◌<◌, ◌≤◌, List, [], ◌∷◌, map, length, get_or, Some, None, slice_get, false, refl, ap, sym, ◌∙◌}
-use Rattle.std.proofs.lemmas.Option.{slice_get_read}
+use Rattle.std.proofs.lemmas.Option.{slice_get_past, slice_get_read}
 use Rattle.grid_base.specs.declared.calls.Request.{Request}
 use Rattle.call_engine.specs.Calls.{Settings}
 use Rattle.call_engine.specs.Objects.{partition_object}
@@ -13,7 +13,7 @@ use Rattle.partition_world.specs.Worlds.{run_of}
 use Rattle.replay_run.specs.Runs.{events_at, world_at}
 use Rattle.replay_run.specs.Grids.{GridWorld, StandsForEvents, IsWorld}
 use Rattle.replay_run.specs.Shelves.{grid_meaning}
-use Rattle.replay_run.proofs.Asking.{run_is}
+use Rattle.replay_run.proofs.WorldRuns.{run_is}
 use Rattle.ruled_run.specs.Runs.{RuledRun, masters_at, ruled_at}
 use Rattle.ruled_run.specs.Written.{as_written}
 use Rattle.ruled_run.proofs.RuledMasters.{taking_none, taking_written}

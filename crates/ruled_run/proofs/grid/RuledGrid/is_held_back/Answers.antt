@@ -63,7 +63,7 @@ returns-then-end-service g c = λ settings s stands.
     let low = read.0 in
     let are = stand_read c.args.self.now s stands (c.requires.ruled settings s stands) p (omega (arith, low)) c.from-then-end-service.result c.index-then-end-service.result.now c.from-then-end-service.ensures c.index-then-end-service.ensures in
     let same : (end == s.run.members) ≡ true = number_same end s.run.members (c.if-end-service.true ∙ c.members-service.ensures settings s.run stands.grid.holds) in
-    none_is c.is_none.result (master (masters_at s p)) c.serving.result c.is_none.ensures (c.serving.ensures (events_of are) are.stands ∙ serving_so are)
+    none_is c.is_none.result c.serving.result (master (masters_at s p)) c.is_none.ensures (c.serving.ensures (events_of are) are.stands ∙ serving_so are)
     ∙ ap (λ b. b && not (is_some (master (masters_at s p)))) (sym same)
     ∙ sym (held_resending settings s p end) ∙ ap (is_held_back settings s) (sym c.in-Resend.is)
 

@@ -40,7 +40,7 @@ returns-in-Crash-clause-ok g c = λ settings s stands.
     let h : RunsAlone settings s line all.masters.items new.masters.items = subst (λ l. RunsAlone settings s l all.masters.items new.masters.items) (sym c.in-Crash.is)
         (crash_alone settings s c.in-Crash.member all.masters.items new.masters.items c.crash.ensures.masters (c.requires.ruled settings s stands)) in
     on_ok_weaker c.run_line.result (alone_ran all new s stands line h c.args.out.now.items c.run_line.new.out.items)
-    (c.run_line.ensures.ok settings s.run (subst (λ x. alone.Stands _ settings x s.run) (sym c.crash.ensures.grid) stands.grid))
+    (c.run_line.ensures.ok settings s.run (subst (λ x. alone.Stands (alone.boxed (λ z. (goal.Processor-dyn g z).form z.1)) settings x s.run) (sym c.crash.ensures.grid) stands.grid))
 
 pub returns-in-Crash-clause-full : goal.returns-in-Crash-clause-full
 returns-in-Crash-clause-full g c = λ settings s stands full.
@@ -49,7 +49,7 @@ returns-in-Crash-clause-full g c = λ settings s stands full.
     let line = c.args.line.now in
     let h : RunsAlone settings s line all.masters.items new.masters.items = subst (λ l. RunsAlone settings s l all.masters.items new.masters.items) (sym c.in-Crash.is)
         (crash_alone settings s c.in-Crash.member all.masters.items new.masters.items c.crash.ensures.masters (c.requires.ruled settings s stands)) in
-    alone_up all new s stands line h (c.run_line.ensures.full settings s.run (subst (λ x. alone.Stands _ settings x s.run) (sym c.crash.ensures.grid) stands.grid) full)
+    alone_up all new s stands line h (c.run_line.ensures.full settings s.run (subst (λ x. alone.Stands (alone.boxed (λ z. (goal.Processor-dyn g z).form z.1)) settings x s.run) (sym c.crash.ensures.grid) stands.grid) full)
 
 pub returns-in_default : goal.returns-in_default
 returns-in_default g c =

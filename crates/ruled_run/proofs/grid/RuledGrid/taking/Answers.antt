@@ -1,4 +1,4 @@
-use Rattle.std.proofs.Common.{◌∙◌, map, sym, ap, subst}
+use Rattle.std.proofs.Common.{◌∙◌, map, true≢false, sym, ap, subst}
 use Rattle.std.specs.Prelude.{IsSome}
 use Rattle.ruled_run.specs.Written.{as_written}
 use Rattle.ruled_run.proofs.LineParts.{stand_read}
@@ -18,7 +18,7 @@ returns-then-pending g c = λ settings s stands.
     sym (ap (λ ds. map as_written ds) (taking_pending settings s c.args.partition c.args.from c.args.place (sym (c.pending.ensures (events_of are) are.stands ∙ pending_so are) ∙ c.if-pending.true)))
 
 pub returns-in_default : goal.returns-in_default
-returns-in_default g c = λ settings s stands. absurd (subst IsSome c.in_default.is (c.world.ensures.there settings s.run stands.grid.holds c.requires.placed))
+returns-in_default g c = λ settings s stands. absurd (true≢false (sym (subst IsSome c.in_default.is (c.world.ensures.there settings s.run stands.grid.holds c.requires.placed))))
 
 pub returns-in_default-get : goal.returns-in_default-get
 returns-in_default-get g c = λ settings s stands.
