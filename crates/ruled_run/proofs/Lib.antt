@@ -37,3 +37,4 @@ pub mod ByGrid
 pub mod Proposals
 pub mod Finding
 pub mod Quietly
+pub mod Crashing
