@@ -1,10 +1,17 @@
 #!/usr/bin/env python3
-"""Runs the gate, and says what each crate costs from nothing: bench/gate.py [FILE], from anywhere.
+"""Says what each crate costs from nothing, in seconds of processor time:
 
-While `.ci/run` runs, its processes of the prover are looked at twice a second, and their processor time is counted for the crate that
-they prove: its library or program, its tests, or its must-fail edits. What passed and failed is printed as it comes, each line behind
-the seconds since the beginning; the table is written at the end, in Markdown, behind the rest and to FILE, and all that the gate wrote to
-FILE.log. A process that lives for less than half a second is missed. The exit status is the gate's.
+    bench/gate.py [FILE]            runs the gate, from anywhere
+    bench/gate.py --watch PID FILE  looks on as an `rt ci` of that process number runs, that somebody began, until it ends
+    bench/gate.py --add FILE..      makes one table of several such runs, as of a first one of some crates and a second one of the rest
+
+While `.ci/run` or `rt ci` runs, its processes of the prover are looked at twice a second, and their processor time is counted for the
+crate that they prove: its library or program, its tests, or its must-fail edits. A process that lives for less than half a second is
+missed, and so is one that ended before a run was watched. The table is written to FILE, in Markdown, and to FILE.seconds the same for
+--add, every minute too: of what several runs did, the last of them counts.
+
+What passed and failed in a gate is printed as it comes, each line behind the seconds since the beginning, and all that the gate wrote
+goes to FILE.log. The exit status is the gate's.
 """
 
 from __future__ import annotations
@@ -80,8 +87,7 @@ class Costs:
     """The processor time of each process that was seen, by what it works on."""
 
     def __init__(self) -> None:
-        programs = {main.parent.parent.name for main in TOP.glob("crates/*/src/main.rt")}
-        self.programs = programs
+        self.programs = {main.parent.parent.name for main in TOP.glob("crates/*/src/main.rt")}
         self.seen: dict[tuple[Work, str], float] = {}
 
     def look(self, top: int) -> None:
@@ -92,22 +98,38 @@ class Costs:
 
     def by_work(self) -> dict[Work, float]:
         sums: dict[Work, float] = defaultdict(float)
-        for (work, _), seconds in self.seen.items():
+        for (work, _), seconds in list(self.seen.items()):
             sums[work] += seconds
         return sums
 
-    def table(self) -> str:
-        sums = self.by_work()
-        crates = sorted({work.crate for work in sums}, key=lambda crate: -self.of(crate, sums))
-        lines = ["| Crate | Library | Tests | Edits |", "|---|---|---|---|"]
-        for crate in crates:
-            lines.append(f"| `{crate}` | " + " | ".join(shown(sums[Work(crate, stage)]) for stage in STAGES) + " |")
-        totals = (shown(sum(sums[Work(crate, stage)] for crate in crates)) for stage in STAGES)
-        return "\n".join([*lines, "| all | " + " | ".join(totals) + " |"])
 
-    @staticmethod
-    def of(crate: str, sums: dict[Work, float]) -> float:
-        return sum(sums[Work(crate, stage)] for stage in STAGES)
+def table_of(sums: dict[Work, float]) -> str:
+    """A row for each crate, the dearest first."""
+    crates: dict[str, list[float]] = defaultdict(lambda: [0.0] * len(STAGES))
+    for work, seconds in sums.items():
+        crates[work.crate][STAGES.index(work.stage)] += seconds
+    lines = ["| Crate | Library | Tests | Edits |", "|---|---|---|---|"]
+    for crate, stages in sorted(crates.items(), key=lambda it: (-sum(it[1]), it[0])):
+        lines.append(f"| `{crate}` | " + " | ".join(map(shown, stages)) + " |")
+    totals = (shown(sum(stages[at] for stages in crates.values())) for at in range(len(STAGES)))
+    return "\n".join([*lines, "| all | " + " | ".join(totals) + " |"])
+
+
+def write_costs(table: Path, sums: dict[Work, float], minutes: float) -> str:
+    """Writes the table of a run, and its seconds for --add; returns what it wrote."""
+    text = f"{minutes:.0f} minutes on {os.cpu_count()} processors. In seconds of processor time:\n\n{table_of(sums)}\n"
+    if table != Path(os.devnull):
+        table.write_text(text)
+        rows = (f"{work.crate} {work.stage} {seconds:.2f}\n" for work, seconds in sorted(sums.items()))
+        Path(f"{table}.seconds").write_text(f"minutes {minutes:.1f}\n" + "".join(rows))
+    return text
+
+
+def read_costs(table: str) -> tuple[dict[Work, float], float]:
+    """The seconds of a run that was written, and its minutes."""
+    first, *rows = Path(f"{table}.seconds").read_text().splitlines()
+    sums = {Work(crate, stage): float(seconds) for crate, stage, seconds in map(str.split, rows)}
+    return sums, float(first.split()[1])
 
 
 def shown(seconds: float) -> str:
@@ -119,9 +141,9 @@ def keep_looking(costs: Costs, top: int, ended: threading.Event) -> None:
         costs.look(top)
 
 
-def main() -> int:
+def run_gate(table: Path) -> int:
+    """Runs the gate, and writes what it cost."""
     costs, ended, began = Costs(), threading.Event(), time.monotonic()
-    table = Path(sys.argv[1] if len(sys.argv) > 1 else os.devnull)
     gate = subprocess.Popen([TOP / ".ci/run"], stdout=subprocess.PIPE, stderr=subprocess.STDOUT, text=True, errors="replace")
     looking = threading.Thread(target=keep_looking, args=(costs, gate.pid, ended))
     looking.start()
@@ -135,11 +157,47 @@ def main() -> int:
     status = gate.wait()
     ended.set()
     looking.join()
-    minutes = (time.monotonic() - began) / 60
-    text = f"{minutes:.0f} minutes on {os.cpu_count()} processors. In seconds of processor time:\n\n{costs.table()}\n"
-    table.write_text(text)
-    print(text)
+    print(write_costs(table, costs.by_work(), (time.monotonic() - began) / 60))
     return status
+
+
+def watch(top: int, table: Path) -> int:
+    """Looks on as a run goes, until it has ended, and writes what it cost since."""
+    costs, began, written = Costs(), time.monotonic(), 0.0
+    while Path(f"/proc/{top}").exists():
+        costs.look(top)
+        now = time.monotonic() - began
+        if now - written > 60:
+            write_costs(table, costs.by_work(), now / 60)
+            written = now
+        time.sleep(0.5)
+    print(write_costs(table, costs.by_work(), (time.monotonic() - began) / 60))
+    return 0
+
+
+def add(tables: list[str]) -> int:
+    """Prints one table of several runs."""
+    sums: dict[Work, float] = {}
+    minutes = []
+    for table in tables:
+        costs, took = read_costs(table)
+        sums.update(costs)
+        minutes.append(took)
+    print(" and ".join(f"{took:.0f}" for took in minutes), "minutes. In seconds of processor time:\n")
+    print(table_of(sums))
+    return 0
+
+
+def main() -> int:
+    match sys.argv[1:]:
+        case ["--watch", top, table]:
+            return watch(int(top), Path(table))
+        case ["--add", *tables] if tables:
+            return add(tables)
+        case [] | [_] as words if not words or not words[0].startswith("-"):
+            return run_gate(Path(words[0] if words else os.devnull))
+    print(__doc__)
+    return 1
 
 
 if __name__ == "__main__":

@@ -3,8 +3,9 @@
 
 Each script must end with the exit status of its replay, and nothing may stand on standard error. Its picture must be
 well-formed, with all that stands in it inside its frame. Where its messages are delivered and lost one by one, or by the
-`flow` of one partition, it has an arrow or a broken line for each. FOLDERs have scripts, as files *.script, in place of the
-scenarios. GRID names another program. The last line is 'N passed, M failed', and the exit status is 0 where none failed.
+`flow` of one partition, it has an arrow or a broken line for each; messages between masters, and what a published decision
+came to, have words. FOLDERs have scripts, as files *.script, in place of the scenarios. GRID names another program. The last
+line is 'N passed, M failed', and the exit status is 0 where none failed.
 """
 import os
 import subprocess
@@ -53,12 +54,14 @@ def faults_of_arrows(script: bytes, transcript: bytes, svg: tree.Element) -> lis
     commands = [line.split(b" ") for line in script.split(b"\n")]
     if any(words[0] == b"rebalance" or words[:2] == [b"flow", b"all"] for words in commands):
         return []
-    messages = 0
+    messages, published = 0, False
     for line in transcript.splitlines():
         number, word, *rest = line.split(b" ")
         command = commands[int(number) - 1][0] if number.isdigit() else b""
-        messages += word == b"took" or (command == b"lose" and word == b"ok")
-        messages += int(rest[0]) if word == b"flow" else 0
+        messages += command == b"deliver" and word == b"took" and not published
+        messages += command == b"lose" and word == b"ok"
+        messages += int(rest[0]) if command == b"flow" and word == b"flow" else 0
+        published = word == b"published"
     shown = [it.get("class") for it in svg.iter(f"{SVG}line")]
     arrows = sum(it in ("message", "untaken", "lost") for it in shown)
     return [] if arrows == messages else [f"its picture has {arrows} arrows for {messages} messages"]

@@ -8,10 +8,7 @@ use Rattle.script_lang.specs.declared.line.Line.{Line}
 use Rattle.script_lang.specs.declared.line.Line.TheVariants.{Grid, End}
 use Rattle.script_lang.specs.declared.refusal.LineWhy.{LineWhy}
 use Rattle.script_lang.specs.declared.refusal.LineWhy.TheVariants.{NoGrid}
-use Rattle.grid_base.specs.Objects.{Object}
-use Rattle.grid_base.specs.declared.calls.Request.{Request}
 use Rattle.entry_processors.specs.Processors.{ProcessorForm}
-use Rattle.object_store.specs.Partitions.{Partition}
 use Rattle.call_engine.specs.Calls.{Settings}
 use Rattle.call_engine.specs.Objects.{partition_object}
 use Rattle.replay_run.specs.Runs.{Run, next_line}

@@ -21,13 +21,13 @@ use Rattle.grid_cli.proofs.CommandLaws.{first_within, run_of_lines}
 use Rattle.grid_cli.proofs.Progress.{run_line}
 
 -- The lines that run of some texts, and of more.
-record AreRunOn (s : Settings) (skips : List CallId) (r : ScriptRun) (texts later : List (List ℕ)) : Type 0 where
-  lines : List Line
-  more : List Line
-  first : run_after s skips r texts ≡ after_lines s skips r lines
-  then : run_after s skips r later ≡ after_lines s skips r (lines ++ more)
+pub record AreRunOn (s : Settings) (skips : List CallId) (r : ScriptRun) (texts later : List (List ℕ)) : Type 0 where
+  pub lines : List Line
+  pub more : List Line
+  pub first : run_after s skips r texts ≡ after_lines s skips r lines
+  pub then : run_after s skips r later ≡ after_lines s skips r (lines ++ more)
 
-are_run_on : (s : Settings) (skips : List CallId) (k n : ℕ) (r : ScriptRun) (texts : List (List ℕ)) → k ≤ n → AreRunOn s skips r (take k texts) (take n texts)
+pub are_run_on : (s : Settings) (skips : List CallId) (k n : ℕ) (r : ScriptRun) (texts : List (List ℕ)) → k ≤ n → AreRunOn s skips r (take k texts) (take n texts)
 are_run_on s skips zero n r texts within = let all = run_of_lines s skips r (take n texts) in record { lines = []; more = all.0; first = refl; then = all.1 }
 are_run_on s skips (suc k) zero r texts within = absurd (omega (arith, within))
 are_run_on s skips (suc k) (suc n) r [] within = record { lines = []; more = []; first = refl; then = refl }

@@ -16,3 +16,4 @@ pub mod PrintedRuns
 pub mod SkippedCalls
 pub mod NearHits
 pub mod Decisions
+pub mod Waits

@@ -22,7 +22,7 @@ use Rattle.script_run.specs.AfterLines as script
 use Rattle.script_run.specs.Printing.{brought, look_text}
 use Rattle.script_run.specs.Printing as script_text
 use Rattle.grid_cli.specs.Scripts.{lines_of, limit_of}
-use Rattle.grid_cli.specs.Transcripts.{Transcript, Ended, settings, first_line, later_lines, after_first, following, refused, too_long}
+use Rattle.grid_cli.specs.Transcripts.{Transcript, Ended, settings, first_line, later_lines, after_first, following, refused}
 use Rattle.grid_cli.specs.PrintedRuns.{printed_after, printed_by_grid, printed_of, HasPart, EveryMessageIsPrinted}
 use Rattle.grid_cli.specs.declared.status.LimitWhat.{LimitWhat}
 use Rattle.grid_cli.proofs.Parts.{part_left, part_right, behind_outcome}

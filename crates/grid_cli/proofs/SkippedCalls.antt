@@ -1,18 +1,13 @@
 -- A transcript that tells of no skip is followed line by line by the one without skips.
-use Rattle.std.proofs.Common.{◌≡◌, ℕ, ◌+◌, Bool, true, false, cond, if◌then◌else◌, List, [], ◌∷◌, ◌++◌, Option, Result, Ok, Err, refl, ap, sym, ◌∙◌, subst, ◌⊎◌, inl, inr, append_assoc}
-use Rattle.grid_base.specs.Objects.{Object}
+use Rattle.std.proofs.Common.{◌≡◌, ℕ, ◌+◌, Bool, true, false, cond, if◌then◌else◌, List, [], ◌∷◌, ◌++◌, Option, Result, Ok, Err, refl, ap, sym, ◌∙◌, subst, inl, inr, append_assoc}
 use Rattle.grid_base.specs.declared.names.CallId.{CallId}
-use Rattle.grid_base.specs.declared.calls.Request.{Request}
 use Rattle.partition_protocol.proofs.Lists.{on_if}
 use Rattle.entry_processors.specs.Processors.{ProcessorForm}
-use Rattle.object_store.specs.Partitions.{Partition}
 use Rattle.call_engine.specs.Calls.{Settings}
-use Rattle.call_engine.specs.Objects.{partition_object}
 use Rattle.script_lang.specs.Lines.{line_of, is_end}
 use Rattle.script_lang.specs.declared.line.Line.{Line}
 use Rattle.script_lang.specs.declared.line.Line.TheVariants.{Grid}
 use Rattle.script_lang.specs.declared.refusal.LineWhy.{LineWhy}
-use Rattle.script_lang.specs.declared.refusal.LineWhy.TheVariants.{NoGrid}
 use Rattle.replay_run.specs.Printing.{ok_text}
 use Rattle.script_run.specs.Runs.{ScriptRun, begun}
 use Rattle.script_run.specs.AfterLines.{after_line}
@@ -24,7 +19,7 @@ use Rattle.script_run.proofs.ScriptLaws.{whole_line_none, whole_line_grows, text
 use Rattle.grid_cli.specs.Scripts.{lines_of, limit_of}
 use Rattle.grid_cli.specs.Transcripts.{Transcript, Ended, settings, first_line, later_lines, after_first, following, refused, too_long}
 use Rattle.grid_cli.specs.PrintedRuns.{printed_after, printed_by_grid, printed_of}
-use Rattle.grid_cli.specs.SkippedCalls.{Agree, AgreeUntilGivenUp, EveryTranscriptThatTellsOfNoSkipHasNone}
+use Rattle.grid_cli.specs.SkippedCalls.{Agree, EveryTranscriptThatTellsOfNoSkipHasNone}
 use Rattle.grid_cli.specs.declared.status.LimitWhat.{LimitWhat}
 use Rattle.grid_cli.specs.declared.status.LimitWhat.TheVariants.{InFlight}
 use Rattle.grid_cli.proofs.Progress.{continued, later_line}

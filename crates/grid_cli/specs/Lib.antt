@@ -9,3 +9,4 @@ pub mod SkippedCalls
 pub mod Statuses
 pub mod Transcribing
 pub mod Transcripts
+pub mod Waits

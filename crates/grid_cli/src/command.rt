@@ -4,6 +4,7 @@ ghost use Rattle.grid_cli.specs.Statuses.{ReadsAndWrites};
 ghost use Rattle.grid_cli.specs.Commands.{is_replay, PrintsHistories};
 ghost use Rattle.grid_cli.specs.NearHits.{PrintsHits};
 ghost use Rattle.grid_cli.specs.Decisions.{PrintsDecisions};
+ghost use Rattle.grid_cli.specs.Waits.{PrintsWaits};
 
 use crate::replay::run_script;
 use crate::status::Status;
@@ -53,6 +54,10 @@ pub fn replay_command<S: Source, K: Sink>(
     // masters published, in order, and that alone gives the partition's row, whoever was master. What is published stays, no
     // version of a row is made twice, and no two live members are master of a partition.
     ensures decisions { PrintsDecisions (map form processors.items) result (S.left script.old) (S.left script.new) (K.taken out.old) (K.taken out.new) }
+    // After each line calls wait by the rule: each partition has come to what it is by lines of its machine that bring the
+    // waiting calls of the script there and no other, and goes on by more of them; nothing is to be done with whoever still
+    // waits; and it has changed nothing: without it the same would have happened to all others.
+    ensures waits { PrintsWaits (map form processors.items) result (S.left script.old) (S.left script.new) (K.taken out.old) (K.taken out.new) }
 {
     if !is_replay_command(words) {
         return Status::Usage;

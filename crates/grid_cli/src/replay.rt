@@ -12,6 +12,7 @@ ghost use Rattle.grid_cli.specs.Replays.{HasRead, Takes, StopsIn, ended_line, la
 ghost use Rattle.grid_cli.specs.Commands.{PrintsHistories};
 ghost use Rattle.grid_cli.specs.NearHits.{PrintsHits};
 ghost use Rattle.grid_cli.specs.Decisions.{PrintsDecisions};
+ghost use Rattle.grid_cli.specs.Waits.{PrintsWaits};
 
 use crate::status::{LimitWhat, Status};
 use crate::transcriber::Transcriber;
@@ -191,6 +192,7 @@ pub(crate) fn run_script<S: Source, K: Sink>(
     ensures headline { PrintsHistories (map form processors.items) result (S.left script.old) (S.left script.new) (K.taken out.old) (K.taken out.new) }
     ensures hits { PrintsHits (map form processors.items) result (S.left script.old) (S.left script.new) (K.taken out.old) (K.taken out.new) }
     ensures decisions { PrintsDecisions (map form processors.items) result (S.left script.old) (S.left script.new) (K.taken out.old) (K.taken out.new) }
+    ensures waits { PrintsWaits (map form processors.items) result (S.left script.old) (S.left script.new) (K.taken out.old) (K.taken out.new) }
     ensures runs { result ≢ Status.Usage }
     ensures doorless { result ≢ Status.DoorFault }
     ensures read_fault { result ≡ Status.ReadFault → Rose (S.faults script.old) (S.faults script.new) }

@@ -5,6 +5,7 @@ use Rattle.entry_processors.specs.Processors.{ProcessorForm}
 use Rattle.grid_cli.specs.Commands.{PrintsHistories}
 use Rattle.grid_cli.specs.NearHits.{PrintsHits}
 use Rattle.grid_cli.specs.Decisions.{PrintsDecisions}
+use Rattle.grid_cli.specs.Waits.{PrintsWaits}
 use Rattle.grid_cli.specs.declared.status.Status.{Status}
 use Rattle.serve_options.specs.Options.{Words}
 use Rattle.grid_sample.specs.Samples.{HasSampled}
@@ -23,6 +24,9 @@ hit_as forms told status first left before after same printed = subst (λ (s : S
 
 pub decided_as : (forms : List ProcessorForm) (told status : Status) (first left before after : Option (List ℕ)) → status ≡ told → PrintsDecisions forms told first left before after → PrintsDecisions forms status first left before after
 decided_as forms told status first left before after same printed = subst (λ (s : Status). PrintsDecisions forms s first left before after) (sym same) printed
+
+pub waited_as : (forms : List ProcessorForm) (told status : Status) (first left before after : Option (List ℕ)) → status ≡ told → PrintsWaits forms told first left before after → PrintsWaits forms status first left before after
+waited_as forms told status first left before after same printed = subst (λ (s : Status). PrintsWaits forms s first left before after) (sym same) printed
 
 -- the same of a sample, whose number is the one that the words give
 pub sampled_as : (asked number : ℕ) (forms : List Form) (before after : Operator) (outside closed : AtDoors) (ended : Ended) → asked ≡ number → after.script ≡ before.script → closed ≡ outside

@@ -4,6 +4,7 @@ ghost use Rattle.entry_processors.specs.Forms.{form_of};
 ghost use Rattle.grid_cli.specs.Commands.{PrintsHistories};
 ghost use Rattle.grid_cli.specs.NearHits.{PrintsHits};
 ghost use Rattle.grid_cli.specs.Decisions.{PrintsDecisions};
+ghost use Rattle.grid_cli.specs.Waits.{PrintsWaits};
 ghost use Rattle.grid_server.specs.Commands.{is_serve, sample_of, HasReplayedBy, HasSampledBy, HasEnded};
 ghost use Rattle.grid_server.specs.Serving.{operator, at_doors};
 
@@ -68,6 +69,10 @@ where
     // masters published, in order, and that alone gives the partition's row, whoever was master. What is published stays, no
     // version of a row is made twice, and no two live members are master of a partition.
     ensures decisions { is_serve words.now ≡ false → sample_of words.now ≡ None → PrintsDecisions (map form processors.items) result.status (S.left script.old) (S.left script.new) (K.taken out.old) (K.taken out.new) }
+    // After each line calls wait by the rule: each partition has come to what it is by lines of its machine that bring the
+    // waiting calls of the script there and no other, and goes on by more of them; nothing is to be done with whoever still
+    // waits; and it has changed nothing: without it the same would have happened to all others.
+    ensures waits { is_serve words.now ≡ false → sample_of words.now ≡ None → PrintsWaits (map form processors.items) result.status (S.left script.old) (S.left script.new) (K.taken out.old) (K.taken out.new) }
     // The control script was run on the grid that is handed back, in the histories that its pass has seen; and each client that
     // came was answered by these. Where no grid was made, the words, the doors or memory are the cause.
     ensures served { is_serve words.now ≡ true → HasEnded words.now forms.now (C.gives clock.now)

@@ -4,8 +4,6 @@
 //! `Masters` is the machine of `masters_protocol` in code: each call is one of the machine's events, and its contract says
 //! that the state after it and its answer are the machine's. `specs/` has what each part of the code is to the machine.
 //! docs/MASTERS.md says the rules in words.
-//!
-//! Built ahead: no program runs masters yet.
 #![tactic(auto)]
 
 mod calls;

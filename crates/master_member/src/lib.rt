@@ -4,8 +4,6 @@
 //! `Member` is a member of the machine of `masters_protocol` in code. Each step takes all its memory before anything
 //! changes, and its contract says that the state after it, the answer and the messages are the machine's (`specs/Steps.antt`).
 //! docs/MASTERS.md says the rules in words.
-//!
-//! Built ahead: no program runs masters yet.
 #![tactic(auto)]
 
 mod counts;

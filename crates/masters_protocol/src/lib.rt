@@ -8,8 +8,8 @@
 //! (`Examples`).
 //! The function here computes nothing. Its contract is what holds of every run, for decisions of any type.
 //!
-//! Built ahead: no program runs it yet. It is for table services that run on the members themselves, and docs/MASTERS.md
-//! says its rules in words.
+//! It is for table services that run on the members themselves, and docs/MASTERS.md says its rules in words. `master_log`
+//! has the machine in code.
 #![tactic(auto)]
 
 ghost use Rattle.masters_protocol.specs.Claims.{EveryRunAgrees};

@@ -198,6 +198,7 @@ impl RuledGrid {
         ensures full { (settings : Settings) (s : RuledRun) → IsAmid (boxed form) settings self.old s → IsErrOf result RunEnds.InFlight → GivesUp s (going settings s partition (MasterResend member)) }
     {
         self.find_room(partition)?; // also where nothing is sent again
-        Ok(self.masters[usize::from(partition)].resend(alloc, member)?)
+        let done = self.masters[usize::from(partition)].resend(alloc, member)?;
+        Ok(done)
     }
 }

@@ -17,7 +17,7 @@ use Rattle.script_run.proofs.ScriptLaws.{every_run_is_the_grids}
 
 -- the lines that the grid runs, of a script's lines and then more
 
-grid_lines-append : (settings : Settings) (skips : List CallId) (s : ScriptRun) (lines more : List Line)
+pub grid_lines-append : (settings : Settings) (skips : List CallId) (s : ScriptRun) (lines more : List Line)
     → grid_lines settings skips s (lines ++ more) ≡ grid_lines settings skips s lines ++ grid_lines settings skips (after_lines settings skips s lines) more
 grid_lines-append settings skips s [] more = refl
 grid_lines-append settings skips s (line ∷ lines) more =

@@ -2,7 +2,7 @@
 use Rattle.std.proofs.Common.{◌≡◌, ℕ, zero, suc, ◌+◌, ◌<◌, ◌==◌, Bool, true, false, not, cond, List, [], ◌∷◌, ◌++◌, length, map, Option, Some, None, refl, ap, sym, ◌∙◌, subst, append-nil, arith}
 use Rattle.std.specs.Prelude.{codes}
 use Rattle.std.specs.Fmt.{decimal}
-use Rattle.std.specs.List.{flat_map, list_all}
+use Rattle.std.specs.List.{flat_map}
 use Rattle.grid_base.specs.Objects.{Object}
 use Rattle.grid_base.specs.declared.names.CallId.{CallId}
 use Rattle.grid_base.specs.declared.calls.Request.{Request}
@@ -15,18 +15,16 @@ use Rattle.partition_protocol.specs.Service.{numbers_below}
 use Rattle.partition_protocol.proofs.Lists.{on_if}
 use Rattle.partition_world.specs.declared.Link.{Link}
 use Rattle.masters_protocol.specs.Members as masters
-use Rattle.masters_protocol.specs.Machine.{Masters}
 use Rattle.masters_world.specs.Decisions.{Decision, event_of}
-use Rattle.masters_world.specs.Machine.{Ruled, Line, Asks, Told, MasterDeliver, MasterLose, MasterResend, asked_by, masters_say, at_once, masters_after, published_by, events_by}
+use Rattle.masters_world.specs.Machine.{Ruled, Line, Asks, Told, MasterDeliver, MasterLose, MasterResend, asked_by, masters_say, at_once, published_by, events_by}
 use Rattle.script_lang.specs.declared.line.Line.{Line as ScriptLine}
 use Rattle.script_lang.specs.declared.line.Line.TheVariants as line
-use Rattle.replay_run.specs.Runs.{Run, Appended, partitions}
+use Rattle.replay_run.specs.Runs.{Appended, partitions}
 use Rattle.replay_run.specs.Appending.{appended_text, new_messages}
 use Rattle.replay_run.specs.Dumps.{number}
-use Rattle.replay_run.specs.Printing.{nothing_text, ok_text, words_line, done_word, fate_words, words_of, flow_text, deliveries}
+use Rattle.replay_run.specs.Printing.{nothing_text, ok_text, words_line, done_word, flow_text, deliveries}
 use Rattle.replay_run.specs.WorldCalls.{is_quiet}
 use Rattle.ruled_run.specs.Runs.{RuledRun, has_masters, opening_masters, masters_at, ruled_at, takes_each, meets_full_link, given_up, goes, goes_in, link_between, handing_over, flowed_between, counted}
-use Rattle.ruled_run.specs.Runs as ruled
 use Rattle.ruled_run.specs.AfterLines.{by_grid, unruled, ruled_line, after_line}
 use Rattle.ruled_run.specs.Printing.{master_words, event_words, said, outcome_words, published_words, published_text, published_texts, followed, followed_in, handed_over, followed_each, ruled_text, unruled_text, line_text}
 use Rattle.ruled_run.proofs.AskedLines.{loss_publishes_nothing, resending_publishes_nothing}

@@ -2,6 +2,7 @@ use Rattle.grid_cli.proofs.CommandLaws.{prints_histories}
 use Rattle.grid_cli.proofs.Decisions.{prints_decisions}
 use Rattle.grid_cli.proofs.NearHits.{prints_hits}
 use Rattle.grid_cli.proofs.ReplayRuns.{nothing_played}
+use Rattle.grid_cli.proofs.Waits.{prints_waits}
 use Rattle.grid_cli.proofs.replay.run_script.Goals as goal
 
 pub returns-in_default-clause-text : goal.returns-in_default-clause-text
@@ -16,6 +17,9 @@ returns-in_default-clause-hits g c = prints_hits _ _ _ _ _ _ (nothing_played _ _
 pub returns-in_default-clause-decisions : goal.returns-in_default-clause-decisions
 returns-in_default-clause-decisions g c = prints_decisions _ _ _ _ _ _ (nothing_played _ _ _)
 
+pub returns-in_default-clause-waits : goal.returns-in_default-clause-waits
+returns-in_default-clause-waits g c = prints_waits _ _ _ _ _ _ (nothing_played _ _ _)
+
 pub returns-clause-text : goal.returns-clause-text
 returns-clause-text g c = c.run_pieces.ensures.text
 
@@ -27,6 +31,9 @@ returns-clause-hits g c = prints_hits _ c.run_pieces.result _ _ _ _ c.run_pieces
 
 pub returns-clause-decisions : goal.returns-clause-decisions
 returns-clause-decisions g c = prints_decisions _ c.run_pieces.result _ _ _ _ c.run_pieces.ensures.text
+
+pub returns-clause-waits : goal.returns-clause-waits
+returns-clause-waits g c = prints_waits _ c.run_pieces.result _ _ _ _ c.run_pieces.ensures.text
 
 pub returns-clause-runs : goal.returns-clause-runs
 returns-clause-runs g c = c.run_pieces.ensures.runs

@@ -1,6 +1,6 @@
 use Rattle.std.proofs.Common.{ap, ◌∙◌, sym, refl}
 use Rattle.grid_server.specs.Serving.{operator}
-use Rattle.grid_server.proofs.Replayed.{replayed_as, printed_as, hit_as, decided_as, sampled_as}
+use Rattle.grid_server.proofs.Replayed.{replayed_as, printed_as, hit_as, decided_as, waited_as, sampled_as}
 use Rattle.grid_server.proofs.SampleWords.{sample_is_no_server, some_none, same_some}
 use Rattle.grid_server.proofs.top.grid_top.Goals as goal
 
@@ -15,6 +15,9 @@ returns-in-Some-clause-hits g c = λ no_server no_sample. absurd (some_none _ (c
 
 pub returns-in-Some-clause-decisions : goal.returns-in-Some-clause-decisions
 returns-in-Some-clause-decisions g c = λ no_server no_sample. absurd (some_none _ (c.in-Some.ensures ∙ no_sample))
+
+pub returns-in-Some-clause-waits : goal.returns-in-Some-clause-waits
+returns-in-Some-clause-waits g c = λ no_server no_sample. absurd (some_none _ (c.in-Some.ensures ∙ no_sample))
 
 pub returns-in-Some-clause-served : goal.returns-in-Some-clause-served
 returns-in-Some-clause-served g c = λ server. absurd (sample_is_no_server c.args.words.now c.in-Some.number (sym c.in-Some.ensures) server)
@@ -45,6 +48,9 @@ returns-clause-hits g c = λ no_server no_sample. hit_as _ _ _ _ _ _ _ c.without
 
 pub returns-clause-decisions : goal.returns-clause-decisions
 returns-clause-decisions g c = λ no_server no_sample. decided_as _ _ _ _ _ _ _ c.without_grid.ensures.status c.replay_command.ensures.decisions
+
+pub returns-clause-waits : goal.returns-clause-waits
+returns-clause-waits g c = λ no_server no_sample. waited_as _ _ _ _ _ _ _ c.without_grid.ensures.status c.replay_command.ensures.waits
 
 pub returns-clause-sampled : goal.returns-clause-sampled
 returns-clause-sampled g c = λ number asked. absurd (some_none _ (sym asked ∙ sym c.in_default.ensures))

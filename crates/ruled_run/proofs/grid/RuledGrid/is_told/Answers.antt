@@ -1,6 +1,6 @@
-use Rattle.std.proofs.Common.{◌∙◌, sym, ap}
+use Rattle.std.proofs.Common.{◌∙◌, sym}
 use Rattle.ruled_run.proofs.MastersAsked.{masters_read}
-use Rattle.ruled_run.proofs.RuledMasters.{events_of, told_by_none, told_by}
+use Rattle.ruled_run.proofs.RuledMasters.{events_of, told_by, told_by_none}
 use Rattle.ruled_run.proofs.grid.RuledGrid.is_told.Goals as goal
 
 pub serving-requires : goal.serving-requires

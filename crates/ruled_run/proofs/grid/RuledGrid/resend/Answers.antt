@@ -28,7 +28,7 @@ returns-clause-ok g c = λ settings s amid.
     let new = record old { masters = with_item old.masters c.from.result next } in
     let there = are_there _ old p c.requires settings s amid in
     let are = masters_read _ old p c.requires settings s amid c.from.result kept c.from.ensures c.index_mut.ensures.value in
-    let so = asked_so are l (Resend c.args.member) (done_if c.in_ok-resend.field-0) refl (c.in_ok-resend.ensures.ok (events_of are) are.stands) in
+    let so = asked_so are l (Resend c.args.member) (done_if c.in_ok-done.done) refl (c.in_ok-done.ensures.ok (events_of are) are.stands) in
     let h = have_asked _ settings old s p l amid there kept next are c.from.result c.from.ensures c.index_mut.ensures.value new refl refl
     (not_full settings s p l (Resend c.args.member) refl (c.in_ok-find_room.ensures.room settings s amid)) refl so.0 so.1 (length (masters_at s p).published) refl in
     record { on = none_follows _ settings new s p l (length (masters_at s p).published) h (resending_publishes_nothing (ruled_at (partition_object settings) s p) c.args.member) []; outcome = so.2 }

@@ -1,4 +1,4 @@
-use Rattle.std.proofs.Common.{sym, ◌∙◌}
+use Rattle.std.proofs.Common.{◌∙◌}
 use Rattle.call_engine.specs.Objects.{partition_object}
 use Rattle.script_run.specs.Runs.{ruled_of}
 use Rattle.script_run.proofs.LookUps.{looks_if}
