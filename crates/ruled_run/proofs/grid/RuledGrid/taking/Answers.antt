@@ -33,4 +33,4 @@ returns g c = λ settings s stands.
     one_to_take settings s c.args.partition c.args.from c.args.place c.in-Some.world.now (c.in-Some.ensures.world settings s.run stands.grid.holds c.requires.placed)
     c.members.result (c.members.ensures settings s.run stands.grid.holds) c.in_flight.result.now (c.in_flight.ensures settings)
     (sym (c.pending.ensures (events_of are) are.stands ∙ pending_so are) ∙ c.if-pending.false)
-    c.in-Some-get.message.now c.in-Some-get.ensures.lookup.3.0 c.in-Some-get.ensures.lookup.1 c.in-Ok.place c.in_ok-copied.field-0 c.in-Ok.ensures c.in_ok-copied.ensures
+    c.in-Some-get.message.now c.in-Some-get.ensures.lookup.3.0 c.in-Some-get.ensures.lookup.1 c.in-Ok.place c.in_ok-copied.field-0 c.in-Ok.ensures.1 c.in_ok-copied.ensures
