@@ -38,3 +38,4 @@ pub mod Proposals
 pub mod Finding
 pub mod Quietly
 pub mod Crashing
+pub mod EachPartition
