@@ -1,12 +1,13 @@
 -- A line that asks for the same in each partition: it is asked in one after the other, finds room in each, and behind the last one the line ran; or in one of them it is given up.
-use Rattle.std.proofs.Common.{◌≡◌, ℕ, ◌+◌, ◌<◌, ◌≤◌, true, List, [], ◌++◌, length, refl, ap, sym, ◌∙◌, subst, arith}
+use Rattle.std.proofs.Common.{◌≡◌, ℕ, ◌+◌, ◌<◌, ◌≤◌, true, List, [], ◌∷◌, ◌++◌, length, refl, ap, sym, ◌∙◌, subst, arith}
 use Rattle.grid_base.specs.Objects.{Object}
 use Rattle.grid_base.specs.declared.names.CallId.{CallId}
 use Rattle.grid_base.specs.declared.calls.Request.{Request}
 use Rattle.object_store.specs.Partitions.{Partition}
 use Rattle.call_engine.specs.Calls.{Settings}
 use Rattle.call_engine.specs.Objects.{partition_object}
-use Rattle.masters_world.specs.Machine.{Line}
+use Rattle.masters_protocol.specs.Members.{Outcome}
+use Rattle.masters_world.specs.Machine.{Line, asked_by, masters_say}
 use Rattle.script_lang.specs.Limits.{most_lines}
 use Rattle.script_lang.specs.declared.line.Line.{Line as ScriptLine}
 use Rattle.replay_run.specs.Runs.{partitions, next_line}
@@ -14,7 +15,7 @@ use Rattle.replay_run.specs.Grids.{FormOf}
 use Rattle.replay_run.proofs.LineEnds.{line_has_room}
 use Rattle.replay_run.proofs.TakenApart.{TakesFew}
 use Rattle.ruled_run.specs.declared.grid.RuledGrid.{RuledGrid}
-use Rattle.ruled_run.specs.Runs.{RuledRun, has_masters, counted}
+use Rattle.ruled_run.specs.Runs.{RuledRun, has_masters, masters_at, ruled_at, counted}
 use Rattle.ruled_run.specs.AfterLines.{ruled_line}
 use Rattle.ruled_run.specs.Printing.{ruled_text}
 use Rattle.ruled_run.specs.Grids.{Stands, HasRun, IsGivenUp}
@@ -95,3 +96,10 @@ module _ {V : Type 0} {T : V → Type 0} {form : FormOf V T} {settings : Setting
     in_all_ran_on start text on outcome written its began =
         let said = following_in settings (counted s) l partitions on.skips in
         in_all_ran [] said (record { skips = on.skips; own = on.own; amid = on.amid; added = refl }) outcome written start text its refl began on.added
+
+-- What the masters of the first partition say is what those said that were asked first.
+pub first_says : (settings : Settings) (s : RuledRun) (l : Line Request) (n : ℕ) (k : List CallId) (answer : Outcome) → n ≡ 0
+    → masters_say (masters_at (going_in settings (counted s) l n k) n) (asked_by (ruled_at (partition_object settings) (going_in settings (counted s) l n k) n) l) ≡ answer ∷ []
+    → masters_say (masters_at s 0) (asked_by (ruled_at (partition_object settings) s 0) l) ≡ answer ∷ []
+first_says settings s l n k answer first says =
+    subst (λ i. masters_say (masters_at (going_in settings (counted s) l i k) i) (asked_by (ruled_at (partition_object settings) (going_in settings (counted s) l i k) i) l) ≡ answer ∷ []) first says
