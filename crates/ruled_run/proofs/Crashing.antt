@@ -17,7 +17,7 @@ use Rattle.ruled_run.specs.Grids.{Rules}
 use Rattle.ruled_run.specs.Parts.{HasCrashed, HasCrashedAt}
 use Rattle.ruled_run.proofs.RuledMasters.{events_of}
 
-some_more : (ws : List (masters.Masters Decision)) → 1 ≤ length ws → are_some ws ≡ true
+pub some_more : (ws : List (masters.Masters Decision)) → 1 ≤ length ws → are_some ws ≡ true
 some_more [] e = absurd (omega (arith, e))
 some_more (w ∷ ws) e = refl
 

@@ -41,3 +41,4 @@ pub mod Crashed
 pub mod ServiceTakes
 pub mod Quietly
 pub mod Crashing
+pub mod EachPartition
