@@ -36,3 +36,4 @@ pub mod OneAsked
 pub mod ByGrid
 pub mod Proposals
 pub mod Finding
+pub mod FlowParts
