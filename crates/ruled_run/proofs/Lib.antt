@@ -36,4 +36,5 @@ pub mod OneAsked
 pub mod ByGrid
 pub mod Proposals
 pub mod Finding
+pub mod Reaching
 pub mod FlowParts
