@@ -42,3 +42,5 @@ pub mod ServiceTakes
 pub mod Quietly
 pub mod Crashing
 pub mod EachPartition
+pub mod Reaching
+pub mod FlowParts
