@@ -37,7 +37,6 @@ pub mod ByGrid
 pub mod Proposals
 pub mod Finding
 pub mod Passing
-pub mod Crashed
 pub mod ServiceTakes
 pub mod Quietly
 pub mod Crashing

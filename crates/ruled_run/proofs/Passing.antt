@@ -66,13 +66,13 @@ module _ (settings : Settings) (s : RuledRun) (whole : length s.masters ≡ part
       let nothing_now : at_once_of j e.event ≡ [] = empty_none (at_once_of j e.event) later in
       let low : e.partition < length s.masters = omega (arith, placed, whole) in
       let stays : (k : List CallId) → goes o k (counted s) e.partition (Asks e.event) ≡ counted s = λ k.
-          goes_at_once o (counted s) e.partition e.event none k low ∙ ap (λ es. record (counted s) { run = takes_each o k (next_line s.run) e.partition es }) nothing_now in
+      goes_at_once o (counted s) e.partition e.event none k low ∙ ap (λ es. record (counted s) { run = takes_each o k (next_line s.run) e.partition es }) nothing_now in
       record {
         after = λ k. its.after k ∙ stays k;
         text = λ k.
             (let words : outcome_words o j (Asks e.event) ≡ codes "nothing" = says_at_once o (counted s) e.partition e.event none ∙ ap (λ es. said [] (map (event_words o j.world) es)) nothing_now in
             let rest : followed o k (counted s) e.partition (Asks e.event) ≡ [] =
-                followed_at_once o (counted s) e.partition e.event none k ∙ ap (λ (x : RuledRun). texts_of (new_messages (next_line s.run) x.run)) (stays k) ∙ ap texts_of (drop_all (length s.run.appended) s.run.appended (omega arith)) in
+            followed_at_once o (counted s) e.partition e.event none k ∙ ap (λ (x : RuledRun). texts_of (new_messages (next_line s.run) x.run)) (stays k) ∙ ap texts_of (drop_all (length s.run.appended) s.run.appended (omega arith)) in
             its.text k (counted s) ∙ (λ i. words_line (s.run.lines + 1) (words i) ++ rest i) ∙ append-nil (nothing_text (s.run.lines + 1)));
       }
 
@@ -110,7 +110,7 @@ module _ {V : Type 0} {T : V → Type 0} {form : FormOf V T} {settings : Setting
       let first : (s.run.lines == 1) ≡ true = number_same s.run.lines 1 one in
       let after : after_line o [] s ScriptLines.Masters ≡ next = without_masters o [] s ScriptLines.Masters none ∙ ap (λ b. cond b next (by_grid o [] s ScriptLines.Masters)) first in
       let rules = opening_rules settings new.masters.items next refl (stands.begun one) count stands.masters.most
-          (λ p low. let there = some_at new.masters.items p (omega (arith, low, count)) in let its = each p there.0 there.1 in (there.0, there.1, its.0, its.1)) in
+      (λ p low. let there = some_at new.masters.items p (omega (arith, low, count)) in let its = each p there.0 there.1 in (there.0, there.1, its.0, its.1)) in
       record {
         skips = [];
         of_line = λ id c. absurd (in_contains id [] c);

@@ -38,8 +38,8 @@ quiet_follows form settings all s p l amid low none later written =
     let there : List (event.Event Request) → RuledRun = λ es. record { run = takes_each o [] s.run p es; masters = s.masters } in
     let same : goes o [] s p l ≡ s = quiet_goes o [] s p l low none ∙ ap there later in
     let told : following settings s p l [] ≡ [] =
-        ap (λ ds. published_texts o s.run.lines p (length j.masters.published + 1) (event.run o j.world (at_once j l)) ds ++ texts_of (new_messages s.run (goes o [] s p l).run)) (nothing_published j l none)
-        ∙ ap (λ (x : RuledRun). texts_of (new_messages s.run x.run)) same ∙ ap (λ ms. texts_of ms) (no_messages s.run)
+    ap (λ ds. published_texts o s.run.lines p (length j.masters.published + 1) (event.run o j.world (at_once j l)) ds ++ texts_of (new_messages s.run (goes o [] s p l).run)) (nothing_published j l none)
+    ∙ ap (λ (x : RuledRun). texts_of (new_messages s.run x.run)) same ∙ ap (λ ms. texts_of ms) (no_messages s.run)
     in
     record {
       skips = [];

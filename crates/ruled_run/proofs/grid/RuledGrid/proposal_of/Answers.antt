@@ -21,7 +21,7 @@ returns-in-Some g c =
     subst (λ l. IsProposalOf (boxed (λ z. (goal.Processor-dyn g z).form z.1)) all l (Some (p, c.in-Some.decision))) (sym c.in-Deliver.is)
     (takes_some (boxed (λ z. (goal.Processor-dyn g z).form z.1)) all p from c.in-Deliver.to place c.in-Some.decision
     (λ settings s stands. ap option_to_list (sym c.in-Some.is) ∙ c.in_ok-decision-in-Deliver.ensures settings s stands
-        ∙ ap (λ n. map as_written (proposals (ruled_at (partition_object settings) s p) (Deliver from n place))) (sym (c.if-to-members.true ∙ c.members.ensures settings s.run stands.grid.holds))))
+    ∙ ap (λ n. map as_written (proposals (ruled_at (partition_object settings) s p) (Deliver from n place))) (sym (c.if-to-members.true ∙ c.members.ensures settings s.run stands.grid.holds))))
 
 pub returns-in-None : goal.returns-in-None
 returns-in-None g c =
@@ -32,7 +32,7 @@ returns-in-None g c =
     subst (λ l. IsProposalOf (boxed (λ z. (goal.Processor-dyn g z).form z.1)) all l None) (sym c.in-Deliver.is)
     (takes_none (boxed (λ z. (goal.Processor-dyn g z).form z.1)) all p from c.in-Deliver.to place
     (λ settings s stands. ap option_to_list (sym c.in-None.is) ∙ c.in_ok-decision-in-Deliver.ensures settings s stands
-        ∙ ap (λ n. map as_written (proposals (ruled_at (partition_object settings) s p) (Deliver from n place))) (sym (c.if-to-members.true ∙ c.members.ensures settings s.run stands.grid.holds))))
+    ∙ ap (λ n. map as_written (proposals (ruled_at (partition_object settings) s p) (Deliver from n place))) (sym (c.if-to-members.true ∙ c.members.ensures settings s.run stands.grid.holds))))
 
 pub returns-in_default : goal.returns-in_default
 returns-in_default g c =

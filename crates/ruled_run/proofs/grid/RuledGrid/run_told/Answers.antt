@@ -51,11 +51,11 @@ loop-partition-preserved g c = record {
       let a = c.loop-partition.invariant.on settings s stands in
       let l = Told c.args.member c.args.crashed in
       elim c.if-partition-eq0.branch [
-        then-partition-eq0 w ↦
+        | then-partition-eq0 w ↦
             first_says settings s l c.loop-partition.partition a.skips (done_if c.in_ok-told.told) w.if-partition-eq0.true
             (c.in_ok-told.ensures.ok settings (going_in settings (counted s) l c.loop-partition.partition a.skips) a.amid).outcome
             ∙ ap (λ b. done_if b ∷ []) (sym w.done-is)
-      | else-partition-eq0 w ↦
+        | else-partition-eq0 w ↦
             (let other = w.if-partition-eq0.false in
             c.loop-partition.invariant.first settings s stands (omega (arith, other)))
             ∙ ap (λ b. done_if b ∷ []) (sym w.done-is)

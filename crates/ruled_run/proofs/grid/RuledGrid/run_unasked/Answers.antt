@@ -38,7 +38,7 @@ returns-in-Crash-clause-ok g c = λ settings s stands.
     let new = record c.crash.new.self { grid = c.run_line.new.self } in
     let line = c.args.line.now in
     let h : RunsAlone settings s line all.masters.items new.masters.items = subst (λ l. RunsAlone settings s l all.masters.items new.masters.items) (sym c.in-Crash.is)
-        (crash_alone settings s c.in-Crash.member all.masters.items new.masters.items c.crash.ensures.masters (c.requires.ruled settings s stands)) in
+    (crash_alone settings s c.in-Crash.member all.masters.items new.masters.items c.crash.ensures.masters (c.requires.ruled settings s stands)) in
     on_ok_weaker c.run_line.result (alone_ran all new s stands line h c.args.out.now.items c.run_line.new.out.items)
     (c.run_line.ensures.ok settings s.run (subst (λ x. alone.Stands (alone.boxed (λ z. (goal.Processor-dyn g z).form z.1)) settings x s.run) (sym c.crash.ensures.grid) stands.grid))
 
@@ -48,7 +48,7 @@ returns-in-Crash-clause-full g c = λ settings s stands full.
     let new = record c.crash.new.self { grid = c.run_line.new.self } in
     let line = c.args.line.now in
     let h : RunsAlone settings s line all.masters.items new.masters.items = subst (λ l. RunsAlone settings s l all.masters.items new.masters.items) (sym c.in-Crash.is)
-        (crash_alone settings s c.in-Crash.member all.masters.items new.masters.items c.crash.ensures.masters (c.requires.ruled settings s stands)) in
+    (crash_alone settings s c.in-Crash.member all.masters.items new.masters.items c.crash.ensures.masters (c.requires.ruled settings s stands)) in
     alone_up all new s stands line h (c.run_line.ensures.full settings s.run (subst (λ x. alone.Stands (alone.boxed (λ z. (goal.Processor-dyn g z).form z.1)) settings x s.run) (sym c.crash.ensures.grid) stands.grid) full)
 
 pub returns-in_default : goal.returns-in_default
@@ -62,12 +62,12 @@ returns-in_default g c =
           (let ruled = c.requires.ruled settings s stands in
           let same = sym may.stands.grid.holds.members ∙ stands.grid.holds.members in
           let h = by_alone settings s line all.masters.items ruled (λ e is. c.requires.nothing settings s e stands is) c.in_default.not-Flow c.in_default.not-FlowAll c.in_default.not-Crash c.in_default.not-Detect
-              (c.requires.goes_on settings s stands) c.requires.other (subst (λ n. IsWithin n most_arriving line) same may.read) (stands.masters.ruled ruled) in
+          (c.requires.goes_on settings s stands) c.requires.other (subst (λ n. IsWithin n most_arriving line) same may.read) (stands.masters.ruled ruled) in
           on_ok_weaker c.run_line-in_default.result (alone_ran all new s stands line h c.args.out.now.items c.run_line-in_default.new.out.items) (c.run_line-in_default.ensures.ok settings s.run stands.grid));
       full = λ settings s stands full.
           (let ruled = c.requires.ruled settings s stands in
           let same = sym may.stands.grid.holds.members ∙ stands.grid.holds.members in
           let h = by_alone settings s line all.masters.items ruled (λ e is. c.requires.nothing settings s e stands is) c.in_default.not-Flow c.in_default.not-FlowAll c.in_default.not-Crash c.in_default.not-Detect
-              (c.requires.goes_on settings s stands) c.requires.other (subst (λ n. IsWithin n most_arriving line) same may.read) (stands.masters.ruled ruled) in
+          (c.requires.goes_on settings s stands) c.requires.other (subst (λ n. IsWithin n most_arriving line) same may.read) (stands.masters.ruled ruled) in
           alone_up all new s stands line h (c.run_line-in_default.ensures.full settings s.run stands.grid full));
     }
