@@ -52,7 +52,7 @@ set_either (y ∷ ys) zero x (suc q) = inl refl
 set_either (y ∷ ys) (suc p) x zero = inl refl
 set_either (y ∷ ys) (suc p) x (suc q) = set_either ys p x q
 
-beyond : {X : Type 0} (xs : List X) (q : ℕ) → length xs ≤ q → slice_get xs q ≡ None
+pub beyond : {X : Type 0} (xs : List X) (q : ℕ) → length xs ≤ q → slice_get xs q ≡ None
 beyond [] q high = refl
 beyond (x ∷ xs) zero high = absurd (omega (arith, high))
 beyond (x ∷ xs) (suc q) high = beyond xs q (omega (arith, high))

@@ -24,7 +24,7 @@ use Rattle.ruled_run.proofs.Following.{HasPublished}
 use Rattle.ruled_run.proofs.RuledMasters.{asked_of, published_long_so, nothing_follows, decision_follows}
 
 -- masters of all partitions are some
-some_are : (ws : List (masters.Masters Decision)) → length ws ≡ partitions → are_some ws ≡ true
+pub some_are : (ws : List (masters.Masters Decision)) → length ws ≡ partitions → are_some ws ≡ true
 some_are [] e = absurd (omega (arith, e))
 some_are (w ∷ ws) e = refl
 

@@ -25,12 +25,14 @@ impl RuledGrid {
         requires { partition < partitions }
         ensures { (settings : Settings) (s : RuledRun) → IsAmid (boxed form) settings self.now s → result ≡ link_to_member (world_at (partition_object settings) s.run partition) }
     {
-        for from in 0..=self.grid.members() {
+        let service = self.grid.members();
+        for from in 0..service {
             if let Some(to) = self.member_reached(partition, from) {
                 return Some(Link { from, to });
             }
         }
-        None
+        let to = self.member_reached(partition, service)?;
+        Some(Link { from: service, to })
     }
 
     /// The first member to whom a message from that end is in flight.
