@@ -1,6 +1,7 @@
 use Rattle.std.proofs.Common.{◌≡◌, ◌++◌, Err, refl, ap, sym, ◌∙◌, arith}
+use Rattle.grid_base.specs.declared.calls.Request.{Request}
 use Rattle.partition_protocol.specs.Events.{Detect}
-use Rattle.masters_world.specs.Machine.{Asks}
+use Rattle.masters_world.specs.Machine.{Line, Asks}
 use Rattle.script_lang.specs.declared.line.Line.TheVariants.{Detect as DetectLine}
 use Rattle.replay_run.specs.Runs.{partitions}
 use Rattle.replay_run.specs.Printing.{ok_text}
@@ -57,7 +58,7 @@ returns-clause-ok g c = λ settings s stands.
     let all = c.args.self.now in
     let may = c.requires.may in
     let line = DetectLine c.args.member in
-    let l = Asks (Detect c.args.member) in
+    let l : Line Request = Asks (Detect c.args.member) in
     let past = c.loop-partition-test.false in
     let end = c.loop-partition.auto.partition-end in
     let last : c.loop-partition.partition ≡ partitions = omega (arith, past, end) in
