@@ -1,6 +1,7 @@
 use Rattle.std.proofs.Common.{◌≡◌, ◌++◌, Err, refl, ap, sym, ◌∙◌, arith}
+use Rattle.grid_base.specs.declared.calls.Request.{Request}
 use Rattle.partition_protocol.specs.Events.{Detect}
-use Rattle.masters_world.specs.Machine.{Asks}
+use Rattle.masters_world.specs.Machine.{Line, Asks}
 use Rattle.script_lang.specs.declared.line.Line.TheVariants.{Detect as DetectLine}
 use Rattle.replay_run.specs.Runs.{partitions}
 use Rattle.replay_run.specs.Printing.{ok_text}
@@ -8,7 +9,7 @@ use Rattle.replay_run.specs.declared.run_end.RunEnd.TheVariants.{InFlight, Memor
 use Rattle.replay_run.proofs.Asking.{handed_on}
 use Rattle.ruled_run.specs.Runs.{counted}
 use Rattle.ruled_run.proofs.EachPartition.{lines_then, at_last, may_ask_next, up_next, in_all_ran_on}
-use Rattle.ruled_run.proofs.LineParts.{may_count, next_number, few_lines, counted_amid}
+use Rattle.ruled_run.proofs.LineParts.{next_number, few_lines, counted_amid}
 use Rattle.ruled_run.proofs.Loops.{going_in, following_in, gone_in_none, gone_in_more}
 use Rattle.ruled_run.proofs.grid.RuledGrid.run_detection.Goals as goal
 
@@ -57,7 +58,7 @@ returns-clause-ok g c = λ settings s stands.
     let all = c.args.self.now in
     let may = c.requires.may in
     let line = DetectLine c.args.member in
-    let l = Asks (Detect c.args.member) in
+    let l : Line Request = Asks (Detect c.args.member) in
     let past = c.loop-partition-test.false in
     let end = c.loop-partition.auto.partition-end in
     let last : c.loop-partition.partition ≡ partitions = omega (arith, past, end) in
