@@ -1,21 +1,3 @@
-<<<<<<< HEAD
-use Rattle.ruled_run.proofs.grid.RuledGrid.deliver_to_members.Goals as goal
-
-pub returns-in_default-clause-ok : goal.returns-in_default-clause-ok
-returns-in_default-clause-ok g c = ?
-
-pub take-requires-clause-stands : goal.take-requires-clause-stands
-take-requires-clause-stands g c = ?
-
-pub returns-in_err-take-clause-full : goal.returns-in_err-take-clause-full
-returns-in_err-take-clause-full g c = ?
-
-pub loop-deliveries-preserved : goal.loop-deliveries-preserved
-loop-deliveries-preserved g c = ?
-
-pub returns-clause-ok : goal.returns-clause-ok
-returns-clause-ok g c = ?
-=======
 use Rattle.std.proofs.Common.{◌≡◌, ◌∙◌, Err, sym, ap, refl, arith}
 use Rattle.replay_run.specs.Runs.{delivery_on}
 use Rattle.replay_run.specs.declared.run_end.RunEnd.TheVariants.{InFlight}
@@ -78,4 +60,3 @@ pub returns-clause-ok : goal.returns-clause-ok
 returns-clause-ok g c = λ settings s amid.
     delivered_all s c.loop-deliveries.self c.args.partition c.loop-deliveries.deliveries c.args.out.now.items c.loop-deliveries.out.items (c.loop-deliveries.invariant.delivered settings s amid) c.args.most c.loop-deliveries.invariant.below
     (omega (arith, c.loop-deliveries-test.false))
->>>>>>> d2006fc94beb681622d62136cd3b39d70e334a30

@@ -1,15 +1,3 @@
-<<<<<<< HEAD
-use Rattle.ruled_run.proofs.grid.RuledGrid.run_flow.Goals as goal
-
-pub deliver_to_members-requires-clause-may : goal.deliver_to_members-requires-clause-may
-deliver_to_members-requires-clause-may g c = ?
-
-pub returns-in_err-deliveries-clause-full : goal.returns-in_err-deliveries-clause-full
-returns-in_err-deliveries-clause-full g c = ?
-
-pub returns-clause-ok : goal.returns-clause-ok
-returns-clause-ok g c = ?
-=======
 use Rattle.std.proofs.Common.{◌∙◌, ◌++◌, Err, ap, arith}
 use Rattle.script_lang.specs.declared.line.Line.TheVariants.{Flow}
 use Rattle.replay_run.specs.declared.run_end.RunEnd.TheVariants.{InFlight}
@@ -46,4 +34,3 @@ returns-clause-ok g c = λ settings s stands.
     c.new-text.result.items c.deliver_to_members.new.out.items (c.in_ok-deliveries.ensures.ok settings (counted s) amid)
     c.args.number c.args.out.now.items c.push_flow.new.out.items c.push_text.new.out.items (next_number all c.args.number line may s stands) c.new-text.ensures.items c.in_ok-push_flow.ensures
     (c.in_ok-push_text.ensures ∙ ap (λ xs. c.push_flow.new.out.items ++ xs) c.as_slice.ensures.value)
->>>>>>> d2006fc94beb681622d62136cd3b39d70e334a30
