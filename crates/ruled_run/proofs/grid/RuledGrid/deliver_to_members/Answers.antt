@@ -1,4 +1,4 @@
-use Rattle.std.proofs.Common.{◌≡◌, ◌∙◌, Err, sym, ap, refl, arith}
+use Rattle.std.proofs.Common.{◌∙◌, Err, sym, ap, refl, arith}
 use Rattle.replay_run.specs.Runs.{delivery_on}
 use Rattle.replay_run.specs.declared.run_end.RunEnd.TheVariants.{InFlight}
 use Rattle.replay_run.proofs.Asking.{handed_on}
@@ -20,9 +20,12 @@ take-requires-clause-stands g c =
     let p = c.args.partition in
     let mid = c.loop-deliveries.self in
     let number = c.loop-deliveries.deliveries in
-    let did = c.loop-deliveries.invariant.delivered may.settings may.run may.amid in
-    (may.settings, (by_then may.settings may.run p mid number c.args.out.now.items c.loop-deliveries.out.items did).run, did.on.amid.grid,
-    room_left c.args.self.now mid p c.args.most number c.args.out.now.items c.loop-deliveries.out.items may did c.loop-deliveries-test.true)
+    let did = c.loop-deliveries.invariant.delivered may.settings may.run may.amid in (
+      may.settings,
+      (by_then may.settings may.run p mid number c.args.out.now.items c.loop-deliveries.out.items did).run,
+      did.on.amid.grid,
+      room_left c.args.self.now mid p c.args.most number c.args.out.now.items c.loop-deliveries.out.items may did c.loop-deliveries-test.true,
+    )
 
 pub returns-in_err-take-clause-full : goal.returns-in_err-take-clause-full
 returns-in_err-take-clause-full g c = λ settings s amid was.
