@@ -91,7 +91,8 @@ std::string key_of(unsigned long number) {
     for (const int shift : {24, 16, 8, 0}) {
         key.push_back(static_cast<char>(hash >> shift));
     }
-    return key + "\xff\xff\xff\xf5";
+    key += "\xff\xff\xff\xf5";
+    return key;
 }
 
 // Fills a cache of so many entries, and prints how many of so many look-ups hit.

@@ -1,7 +1,8 @@
 #!/usr/bin/env -S python3 -B
-"""Has members crash before the steps of scripts, clients do to `grid serve` what no good client does, over real sockets, and the
-system give the program too few threads and interrupted calls. Run it from anywhere, with a C compiler at hand, after `rt ci` or
-`rt run` in crates/grid has built the program: tests/hostile.py. GRID names another.
+"""Has members crash before the steps of scripts, and while what masters propose is under way; has clients do to `grid serve` what
+no good client does, over real sockets, and the system give the program too few threads and interrupted calls. Run it from
+anywhere, with a C compiler at hand, after `rt ci` or `rt run` in crates/grid has built the program: tests/hostile.py. GRID names
+another.
 
     tests/hostile.py [--times] [WORD..]
 
@@ -13,11 +14,11 @@ from __future__ import annotations
 import os
 import sys
 
-from hostile_tests import clients, closes, consoles, crashes, interrupts, threads
+from hostile_tests import clients, closes, consoles, crashes, interrupts, masters, threads
 from serving.checks import Test, run_tests
 from serving.server import end_when_told, program, raise_descriptor_limit
 
-MODULES = (crashes, closes, clients, consoles, threads, interrupts)
+MODULES = (crashes, masters, closes, clients, consoles, threads, interrupts)
 
 TESTS: list[Test] = [test for module in MODULES for test in module.TESTS]
 

@@ -8,9 +8,10 @@ use Rattle.script_lang.specs.declared.line.Line.{Line}
 use Rattle.script_lang.specs.declared.line.Line.TheVariants.{Grid}
 use Rattle.script_lang.specs.declared.refusal.LineWhy.{LineWhy}
 use Rattle.script_run.specs.AfterLines.{after_line, after_lines}
-use Rattle.script_run.specs.Masters.{AllAreServed, AllGoOn}
+use Rattle.script_run.specs.Laws.{run_with}
+use Rattle.script_run.specs.Masters.{AreRuled, AllAreServed, AllGoOn}
 use Rattle.script_run.specs.Runs.{ScriptRun, begun}
-use Rattle.script_run.proofs.MastersLaws.{every_service_serves_as_published, every_published_list_grows}
+use Rattle.script_run.proofs.MastersLaws.{every_run_is_ruled, every_service_serves_as_published, every_published_list_grows}
 use Rattle.grid_cli.specs.Decisions.{PrintsDecisions}
 use Rattle.grid_cli.specs.Progress.{run_after, begun_by, capacity_by, capacity_of, run_of}
 use Rattle.grid_cli.specs.Scripts.{lines_of}
@@ -45,10 +46,34 @@ are_run_on s skips (suc k) (suc n) r (text ∷ texts) within = by (λ next. are_
 
 -- at one moment
 
-runs_served : (s : Settings) (members backups : ℕ) (skips : List CallId) (texts : List (List ℕ)) → 1 ≤ members → members ≤ 8 → AllAreServed s (run_after s skips (begun members backups) texts)
-runs_served s members backups skips texts some most =
-    let run = run_of_lines s skips (begun members backups) texts in
-    subst (AllAreServed s) (sym run.1) (every_service_serves_as_published s members backups skips run.0 some most)
+-- what holds of the run of whichever lines, and of the one before the second line
+module _ (Holds : Settings → ScriptRun → Type 0) (every : (s : Settings) (members backups : ℕ) (skips : List CallId) (lines : List Line) → 1 ≤ members → members ≤ 8 → Holds s (run_with s members backups skips lines))
+    (none : (s : Settings) → Holds s (begun 1 0)) where
+  after_texts : (s : Settings) (members backups : ℕ) (skips : List CallId) (texts : List (List ℕ)) → 1 ≤ members → members ≤ 8 → Holds s (run_after s skips (begun members backups) texts)
+  after_texts s members backups skips texts some most = let run = run_of_lines s skips (begun members backups) texts in subst (Holds s) (sym run.1) (every s members backups skips run.0 some most)
+
+  module _ (forms : List ProcessorForm) (skips : List CallId) where
+    module _ (first : List ℕ) (texts : List (List ℕ)) where
+      -- the first line makes the grid
+      abbrev So : Result Line LineWhy → Type 0
+      So line = let s = settings forms (capacity_by line) in Holds s (run_after s skips (begun_by line) texts)
+
+      one_member : (x : Result Line LineWhy) → line_of true 0 first ≡ x → begun_by x ≡ begun 1 0 → So (line_of true 0 first)
+      one_member x read is =
+          let s = settings forms (capacity_by x) in
+          subst So (sym read) (subst (λ r. Holds s (run_after s skips r texts)) (sym is) (after_texts s 1 0 skips texts (omega arith) (omega arith)))
+
+      by_first : (x : Result Line LineWhy) → line_of true 0 first ≡ x → So (line_of true 0 first)
+      by_first (Ok (Grid members backups capacity)) read = let w = first_within first _ read in subst So (sym read) (after_texts (settings forms capacity) members backups skips texts w.0 w.1)
+      by_first (Err why) read = one_member _ read refl
+      by_first (Ok line) read = one_member _ read refl
+
+    -- however many of the lines run
+    holds_after : (texts : List (List ℕ)) (lines : ℕ) → Holds (settings forms (capacity_of texts)) (run_of forms skips (take lines texts))
+    holds_after [] zero = none (settings forms 0)
+    holds_after [] (suc lines) = none (settings forms 0)
+    holds_after (text ∷ texts) zero = none (settings forms (capacity_of (text ∷ texts)))
+    holds_after (text ∷ texts) (suc lines) = by_first text (take lines texts) (line_of true 0 text) refl
 
 -- at two
 
@@ -61,6 +86,9 @@ runs_go_on s members backups skips k n texts some most within =
 
 -- No masters are there before the second line.
 
+none_ruled : (s : Settings) → AreRuled s (begun 1 0)
+none_ruled s has lasts = absurd cc
+
 none_served : (s : Settings) → AllAreServed s (begun 1 0)
 none_served s has lasts p low = absurd cc
 
@@ -71,18 +99,6 @@ module _ (forms : List ProcessorForm) (skips : List CallId) where
   -- the first line makes the grid
   abbrev by : Result Line LineWhy → Settings
   by line = settings forms (capacity_by line)
-
-  module _ (first : List ℕ) (texts : List (List ℕ)) where
-    abbrev Served : Result Line LineWhy → Type 0
-    Served line = AllAreServed (by line) (run_after (by line) skips (begun_by line) texts)
-
-    one_served : (x : Result Line LineWhy) → line_of true 0 first ≡ x → begun_by x ≡ begun 1 0 → Served (line_of true 0 first)
-    one_served x read is = subst Served (sym read) (subst (λ r. AllAreServed (by x) (run_after (by x) skips r texts)) (sym is) (runs_served (by x) 1 0 skips texts (omega arith) (omega arith)))
-
-    run_served : (x : Result Line LineWhy) → line_of true 0 first ≡ x → Served (line_of true 0 first)
-    run_served (Ok (Grid members backups capacity)) read = let w = first_within first _ read in subst Served (sym read) (runs_served (settings forms capacity) members backups skips texts w.0 w.1)
-    run_served (Err why) read = one_served _ read refl
-    run_served (Ok line) read = one_served _ read refl
 
   module _ (first : List ℕ) (k n : ℕ) (texts : List (List ℕ)) (within : k ≤ n) where
     abbrev On : Result Line LineWhy → Type 0
@@ -99,12 +115,6 @@ module _ (forms : List ProcessorForm) (skips : List CallId) where
 
   -- however many of the lines run
 
-  all_served : (texts : List (List ℕ)) (lines : ℕ) → AllAreServed (settings forms (capacity_of texts)) (run_of forms skips (take lines texts))
-  all_served [] zero = none_served (settings forms 0)
-  all_served [] (suc lines) = none_served (settings forms 0)
-  all_served (text ∷ texts) zero = none_served (settings forms (capacity_of (text ∷ texts)))
-  all_served (text ∷ texts) (suc lines) = run_served text (take lines texts) (line_of true 0 text) refl
-
   all_go_on : (texts : List (List ℕ)) (lines later : ℕ) → lines ≤ later → AllGoOn (settings forms (capacity_of texts)) (run_of forms skips (take lines texts)) (run_of forms skips (take later texts))
   all_go_on [] zero later within = none_go_on (settings forms 0) (run_of forms skips (take later []))
   all_go_on [] (suc lines) later within = none_go_on (settings forms 0) (run_of forms skips (take later []))
@@ -115,4 +125,9 @@ module _ (forms : List ProcessorForm) (skips : List CallId) where
 pub prints_decisions : (forms : List ProcessorForm) (status : Status) (first left before after : Option (List ℕ)) → ReadsAndWrites forms status first left before after → PrintsDecisions forms status first left before after
 prints_decisions forms status first left before after writes script told =
     let w = writes script told in
-    (w.0, w.1, w.2, w.3, w.4, record { replayed = w.5; served = all_served forms w.0 (lines_of script); goes_on = all_go_on forms w.0 (lines_of script) })
+    (w.0, w.1, w.2, w.3, w.4, record {
+      replayed = w.5;
+      ruled = holds_after AreRuled every_run_is_ruled none_ruled forms w.0 (lines_of script);
+      served = holds_after AllAreServed every_service_serves_as_published none_served forms w.0 (lines_of script);
+      goes_on = all_go_on forms w.0 (lines_of script);
+    })

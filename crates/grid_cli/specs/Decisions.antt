@@ -3,7 +3,7 @@ use Rattle.std.specs.Prelude.{◌≡◌, ℕ, ◌≤◌, List, Option, Some}
 use Rattle.std.specs.Io.KnownBytes.{append_known, prepend_known}
 use Rattle.grid_base.specs.declared.names.CallId.{CallId}
 use Rattle.entry_processors.specs.Processors.{ProcessorForm}
-use Rattle.script_run.specs.Masters.{AllAreServed, AllGoOn}
+use Rattle.script_run.specs.Masters.{AreRuled, AllAreServed, AllGoOn}
 use Rattle.grid_cli.specs.Commands.{run_of_script, settings_in}
 use Rattle.grid_cli.specs.Statuses.{HasReplayed}
 use Rattle.grid_cli.specs.declared.status.Status.{Status}
@@ -11,8 +11,10 @@ use Rattle.grid_cli.specs.declared.status.Status.{Status}
 -- With this status this was read of the script and this text written, where these calls found no memory.
 pub record TellsDecisions (forms : List ProcessorForm) (status : Status) (skips : List CallId) (script read text : List ℕ) : Type 0 where
   pub replayed : HasReplayed forms status skips script read text
-  -- After whichever line, in each partition: what its table service did is what its masters published, in order, and that alone gives the
-  -- partition's row, move and detected members; and no two live members are its master.
+  -- After whichever line, each partition with its masters is as lines of their machine make it.
+  pub ruled : (lines : ℕ) → AreRuled (settings_in forms script) (run_of_script forms skips script lines)
+  -- After whichever line, in each partition: what its table service did is what its masters published, in order, each decision right as it was
+  -- taken, and that alone gives the partition's row, move and detected members; and no two live members are its master.
   pub served : (lines : ℕ) → AllAreServed (settings_in forms script) (run_of_script forms skips script lines)
   -- From whichever line to whichever later one: what was published stays, and no version of a row is made twice.
   pub goes_on : (lines later : ℕ) → lines ≤ later → AllGoOn (settings_in forms script) (run_of_script forms skips script lines) (run_of_script forms skips script later)

@@ -236,8 +236,8 @@ module _ (settings : Settings) (s : RuledRun) (line : ScriptLine) (e : At) (is :
   event_text skips next at_line same =
       let by = of_event settings s.run line e is in
       let words : outcome_words o k (Asks e.event) ≡ words_of (done_word e.event) (outcome_at o s.run e.partition e.event) =
-          says_at_once o (counted s) e.partition e.event asks_none ∙ ap (λ es. said [] (map (event_words o k.world) es)) alone in
+      says_at_once o (counted s) e.partition e.event asks_none ∙ ap (λ es. said [] (map (event_words o k.world) es)) alone in
       let outcome : words_line (s.run.lines + 1) (outcome_words o k (Asks e.event)) ≡ outcome_text settings s.run line next.run = ap (λ n. words_line n (outcome_words o k (Asks e.event))) (sym at_line) ∙ ap (λ xs. words_line next.run.lines xs) words ∙ by.outcome next.run in
       let rest : followed o skips (counted s) e.partition (Asks e.event) ≡ texts_of (new_messages s.run next.run) =
-          followed_at_once o (counted s) e.partition e.event asks_none skips ∙ ap (λ (x : RuledRun). texts_of (new_messages s.run x.run)) (sym same) in
+      followed_at_once o (counted s) e.partition e.event asks_none skips ∙ ap (λ (x : RuledRun). texts_of (new_messages s.run x.run)) (sym same) in
       (λ i. outcome i ++ rest i) ∙ sym (text_of_messages settings skips s.run next.run line (by.prints skips next.run))

@@ -16,10 +16,11 @@ use Rattle.masters_world.specs.Machine.{Line, Asks, start, proposals, asked}
 use Rattle.master_log.specs.declared.masters.Masters.{Masters}
 use Rattle.master_log.specs.Standing.{StandsFor, size_of}
 use Rattle.script_lang.specs.declared.line.Line.{Line as ScriptLine}
-use Rattle.script_lang.specs.declared.line.Line.TheVariants as line
+use Rattle.script_lang.specs.declared.line.Line.TheVariants as ScriptLines
+use Rattle.script_lang.specs.Lines.{IsWithin}
 use Rattle.replay_run.specs.Runs.{Run, At, partitions, takes, takes_in, next_line, event_by}
 use Rattle.replay_run.specs.Endings.{AreAmong, new_arrivals}
-use Rattle.replay_run.specs.Grids.{FormOf}
+use Rattle.replay_run.specs.Grids.{FormOf, most_arriving}
 use Rattle.replay_run.specs.Grids as alone
 use Rattle.replay_run.specs.Printing.{ok_text, nothing_text, line_text as alone_text}
 use Rattle.replay_run.proofs.Bounds as bounds
@@ -30,9 +31,10 @@ use Rattle.ruled_run.specs.AfterLines.{by_grid, unruled, ruled_line, after_line}
 use Rattle.ruled_run.specs.Printing.{grid_text, unruled_text, ruled_text, line_text}
 use Rattle.ruled_run.specs.Written.{written_event, written_events}
 use Rattle.ruled_run.specs.Grids.{AreMasters, HasMastersAt, Rules, Stands, HasRun, IsGivenUp}
-use Rattle.ruled_run.specs.Parts.{is_held_back, HasCrashedAt, HaveCrashed}
+use Rattle.ruled_run.specs.Parts.{is_held_back, is_of_masters, HasCrashedAt, HaveCrashed}
 use Rattle.ruled_run.proofs.AskedLines.{asked_more, crash_publishes_nothing, happens_at_once}
-use Rattle.ruled_run.proofs.AtOnce.{IsOwn, IsEvent, as_event, asks_none, event_goes, event_text}
+use Rattle.replay_run.proofs.EventLines.{of_event}
+use Rattle.ruled_run.proofs.AtOnce.{IsOwn, as_event, as_own, asks_none, event_goes, event_text}
 use Rattle.ruled_run.proofs.Going.{goes_far}
 use Rattle.ruled_run.proofs.LineParts.{with_masters, text_with_masters, without_masters, text_without_masters}
 use Rattle.ruled_run.proofs.RuleLemmas.{own_rules, quiet_rules, counted_rules, WereAskedIn, goes_in_rules}
@@ -46,18 +48,15 @@ pub record RunsAlone (settings : Settings) (s : RuledRun) (line : ScriptLine) (a
   pub rules : (skips : List CallId) → (next skips).run.full ≡ false → Rules settings all s → Rules settings new (next skips)
 
 module _ {V : Type 0} {T : V → Type 0} {form : FormOf V T} {settings : Settings} (all new : RuledGrid V T) (s : RuledRun) (stands : Stands form settings all s) (line : ScriptLine) (h : RunsAlone settings s line all.masters.items new.masters.items) where
-  abbrev o : Object Request Partition
-  o = partition_object settings
-
   -- what the grid's run after it is, the run with masters has
   module _ (P : Run → Type 0) (skips : List CallId) where
-    here : P (by_grid o skips s line).run → P (after_line o skips s line).run
+    here : P (by_grid (partition_object settings) skips s line).run → P (after_line (partition_object settings) skips s line).run
     here is = subst P (sym (ap (λ (x : RuledRun). x.run) (h.after skips) ∙ h.run skips)) is
 
   pub alone_ran : (written text : List ℕ) → alone.HasRun form settings new.grid s.run line written text → HasRun form settings new s line written text
   alone_ran written text ran =
       let k = ran.skips in
-      let lines = bounds.line_lines o k s.run line in
+      let lines = bounds.line_lines (partition_object settings) k s.run line in
       let some = stands.some in
       let there : Stands form settings new (h.next k) = record {
         grid = subst (alone.Stands form settings new.grid) (sym (h.run k)) ran.stands;
@@ -78,32 +77,38 @@ module _ {V : Type 0} {T : V → Type 0} {form : FormOf V T} {settings : Setting
 -- with masters
 
 module _ (settings : Settings) (s : RuledRun) (line : ScriptLine) (all : List Masters) (ruled : has_masters s ≡ true) where
-  abbrev o : Object Request Partition
-  o = partition_object settings
-
   pub own_alone : IsOwn settings s line → RunsAlone settings s line all all
   own_alone own = record {
-    next = λ k. by_grid o k s line;
-    after = λ k. with_masters o k s line ruled ∙ own.after k;
+    next = λ k. by_grid (partition_object settings) k s line;
+    after = λ k. with_masters (partition_object settings) k s line ruled ∙ own.after k;
     run = λ k. refl;
-    text = λ k. text_with_masters settings k s line (by_grid o k s line) ruled ∙ own.text k (by_grid o k s line);
+    text = λ k. text_with_masters settings k s line (by_grid (partition_object settings) k s line) ruled ∙ own.text k (by_grid (partition_object settings) k s line);
     rules = λ k full rules. own_rules settings all k s line own.plain own.none rules;
   }
 
-  pub event_alone : (e : At) → event_by line ≡ Some e → proposals (ruled_at o s e.partition) e.event ≡ [] → is_held_back settings s line ≡ false → e.partition < partitions → length s.masters ≡ partitions → RunsAlone settings s line all all
+  pub event_alone : (e : At) → event_by line ≡ Some e → proposals (ruled_at (partition_object settings) s e.partition) e.event ≡ [] → is_held_back settings s line ≡ false → e.partition < partitions → length s.masters ≡ partitions → RunsAlone settings s line all all
   event_alone e is nothing on placed whole =
       let low : e.partition < length s.masters = omega (arith, placed, whole) in
       let its = as_event settings s line e is in
       let goes_so = event_goes settings s line e is nothing on low in
       record {
-        next = λ k. by_grid o k s line;
-        after = λ k. with_masters o k s line ruled ∙ its.after k ∙ goes_so k;
+        next = λ k. by_grid (partition_object settings) k s line;
+        after = λ k. with_masters (partition_object settings) k s line ruled ∙ its.after k ∙ goes_so k;
         run = λ k. refl;
-        text = λ k. text_with_masters settings k s line (by_grid o k s line) ruled ∙ its.text k (by_grid o k s line)
-            ∙ event_text settings s line e is nothing on low k (by_grid o k s line) (bounds.line_lines o k s.run line) (sym (goes_so k));
+        text = λ k. text_with_masters settings k s line (by_grid (partition_object settings) k s line) ruled ∙ its.text k (by_grid (partition_object settings) k s line)
+            ∙ event_text settings s line e is nothing on low k (by_grid (partition_object settings) k s line) (bounds.line_lines (partition_object settings) k s.run line) (sym (goes_so k));
         rules = λ k full rules. subst (Rules settings all) (goes_so k)
             (quiet_rules settings all k (counted s) e.partition (Asks e.event) ruled placed (asks_none settings s line e is nothing on low) (ap (λ (x : RuledRun). x.run.full) (goes_so k) ∙ full) (counted_rules settings all s rules));
       }
+
+  -- a line that proposes nothing, isn't held back and isn't taken apart
+  pub by_alone : ((e : At) → event_by line ≡ Some e → proposals (ruled_at (partition_object settings) s e.partition) e.event ≡ []) → ((p most : ℕ) → line ≢ ScriptLines.Flow p most) → ((most : ℕ) → line ≢ ScriptLines.FlowAll most) → ((member : ℕ) → line ≢ ScriptLines.Crash member) → ((member : ℕ) → line ≢ ScriptLines.Detect member)
+      → is_held_back settings s line ≡ false → is_of_masters line ≡ false → IsWithin s.run.members most_arriving line → length s.masters ≡ partitions → RunsAlone settings s line all all
+  by_alone nothing flow flow_all crash detect on other read whole = go (event_by line) refl
+    where
+      go : (e : Option At) → event_by line ≡ e → RunsAlone settings s line all all
+      go None none = own_alone (as_own settings s line none flow flow_all crash detect on other)
+      go (Some e) is = event_alone e is (nothing e is) on ((of_event settings s.run line e is).within s.run.members most_arriving read) whole
 
 -- a crash
 
@@ -119,9 +124,6 @@ module _ (o : Object Request Partition) (skips : List CallId) (m : ℕ) where
   crash_runs s r (p ∷ ps) same = crash_runs (goes o skips s p (Asks (event.Crash m))) (takes o skips r p (event.Crash m)) ps (crash_run s p ∙ ap (λ x. takes o skips x p (event.Crash m)) same)
 
 module _ (settings : Settings) (s : RuledRun) (m : ℕ) (all new : List Masters) (crashed : HaveCrashed m all new) (ruled : has_masters s ≡ true) where
-  abbrev o : Object Request Partition
-  o = partition_object settings
-
   abbrev l : Line Request
   l = Asks (event.Crash m)
 
@@ -129,8 +131,8 @@ module _ (settings : Settings) (s : RuledRun) (m : ℕ) (all new : List Masters)
   were_asked p low at =
       let its = crashed.each p at.masters at.there in
       let first = start p s.run.members s.run.backups in
-      let events = asked o first at.are.lines in
-      let same : written_events (asked o first (at.are.lines ++ l ∷ [])) ≡ written_events events ++ masters.Crash m ∷ [] = ap (λ es. written_events es) (asked_more o first at.are.lines l) ∙ map-append written_event events (masters.Crash m ∷ []) in
+      let events = asked (partition_object settings) first at.are.lines in
+      let same : written_events (asked (partition_object settings) first (at.are.lines ++ l ∷ [])) ≡ written_events events ++ masters.Crash m ∷ [] = ap (λ es. written_events es) (asked_more (partition_object settings) first at.are.lines l) ∙ map-append written_event events (masters.Crash m ∷ []) in
       record {
         masters = its.masters;
         there = its.there;
@@ -138,12 +140,12 @@ module _ (settings : Settings) (s : RuledRun) (m : ℕ) (all new : List Masters)
         stands = subst (λ es. StandsFor its.masters es) (sym same) (its.crashed.stands (written_events events) at.are.stands);
       }
 
-  pub crash_alone : RunsAlone settings s (line.Crash m) all new
+  pub crash_alone : RunsAlone settings s (ScriptLines.Crash m) all new
   crash_alone = record {
-    next = λ k. goes_in o k (counted s) l (numbers_below partitions);
-    after = λ k. with_masters o k s (line.Crash m) ruled;
-    run = λ k. crash_runs o k m (counted s) (next_line s.run) (numbers_below partitions) refl;
-    text = λ k. text_with_masters settings k s (line.Crash m) (goes_in o k (counted s) l (numbers_below partitions)) ruled;
+    next = λ k. goes_in (partition_object settings) k (counted s) l (numbers_below partitions);
+    after = λ k. with_masters (partition_object settings) k s (ScriptLines.Crash m) ruled;
+    run = λ k. crash_runs (partition_object settings) k m (counted s) (next_line s.run) (numbers_below partitions) refl;
+    text = λ k. text_with_masters settings k s (ScriptLines.Crash m) (goes_in (partition_object settings) k (counted s) l (numbers_below partitions)) ruled;
     rules = λ k full rules. goes_in_rules settings all new k (counted s) l crashed.count were_asked ruled full (counted_rules settings all s rules);
   }
 
@@ -155,9 +157,6 @@ pub record IsUnruled (settings : Settings) (s : RuledRun) (line : ScriptLine) : 
   pub text : (skips : List CallId) (next : RuledRun) → unruled_text settings skips s line next ≡ grid_text settings skips s line next
 
 module _ (settings : Settings) (s : RuledRun) (line : ScriptLine) (all : List Masters) (none : has_masters s ≡ false) where
-  abbrev o : Object Request Partition
-  o = partition_object settings
-
   no_rules : (next : RuledRun) → next.masters ≡ s.masters → next.run.members ≡ s.run.members → Rules settings all s → Rules settings all next
   no_rules next same members rules =
       let still : has_masters next ≡ false = ap (λ ws. are_some ws) same ∙ none in
@@ -170,22 +169,25 @@ module _ (settings : Settings) (s : RuledRun) (line : ScriptLine) (all : List Ma
 
   pub unruled_alone : IsUnruled settings s line → RunsAlone settings s line all all
   unruled_alone its = record {
-    next = λ k. by_grid o k s line;
-    after = λ k. without_masters o k s line none ∙ its.after k;
+    next = λ k. by_grid (partition_object settings) k s line;
+    after = λ k. without_masters (partition_object settings) k s line none ∙ its.after k;
     run = λ k. refl;
-    text = λ k. text_without_masters settings k s line (by_grid o k s line) none ∙ its.text k (by_grid o k s line);
-    rules = λ k full rules. no_rules (by_grid o k s line) refl ((counts.line_counted o k s.run line).members) rules;
+    text = λ k. text_without_masters settings k s line (by_grid (partition_object settings) k s line) none ∙ its.text k (by_grid (partition_object settings) k s line);
+    rules = λ k full rules. no_rules (by_grid (partition_object settings) k s line) refl ((counts.line_counted (partition_object settings) k s.run line).members) rules;
   }
 
-pub masters_later : (settings : Settings) (s : RuledRun) → s.run.lines ≢ 1 → IsUnruled settings s line.Masters
+pub masters_later : (settings : Settings) (s : RuledRun) → s.run.lines ≢ 1 → IsUnruled settings s ScriptLines.Masters
 masters_later settings s later =
     let is : (s.run.lines == 1) ≡ false = number_other s.run.lines 1 later in
     record {
-      after = λ k. ap (λ b. cond b (record (counted s) { masters = opening_masters s.run.members }) (by_grid (partition_object settings) k s line.Masters)) is;
+      after = λ k. ap (λ b. cond b (record (counted s) { masters = opening_masters s.run.members }) (by_grid (partition_object settings) k s ScriptLines.Masters)) is;
       text = λ k next. ap (λ b. cond b (ok_text next.run.lines) (nothing_text next.run.lines)) is;
     }
 
 -- each line but `masters` is the grid's
-pub is_unruled : (settings : Settings) (s : RuledRun) (l : ScriptLine) → l ≢ line.Masters → IsUnruled settings s l
-is_unruled settings s line.Masters other = absurd (other refl)
+pub is_unruled : (settings : Settings) (s : RuledRun) (l : ScriptLine) → l ≢ ScriptLines.Masters → IsUnruled settings s l
+is_unruled settings s ScriptLines.Masters other = absurd (other refl)
 is_unruled settings s l other = record { after = λ k. refl; text = λ k next. refl }
+
+pub unruled_as : (settings : Settings) (s : RuledRun) (l : ScriptLine) → l ≡ ScriptLines.Masters → IsUnruled settings s ScriptLines.Masters → IsUnruled settings s l
+unruled_as settings s l same = subst (IsUnruled settings s) (sym same)

@@ -189,7 +189,7 @@ module _ (settings : Settings) (s : RuledRun) (p : ℕ) where
             let all = gone_as parts whole.on in
             let k = taken.on.skips in
             let last : (delivering settings s p (number + 1) all.0.skips).run ≡ takes o step.skips by_then.run p (delivery_on l) =
-                ap (λ x. (delivering settings s p (number + 1) x).run) all.1 ∙ ap (λ (x : RuledRun). x.run) (sym (parts.leads whole.on.skips) ∙ whole.same.then_same ∙ one_step step.skips) in
+            ap (λ x. (delivering settings s p (number + 1) x).run) all.1 ∙ ap (λ (x : RuledRun). x.run) (sym (parts.leads whole.on.skips) ∙ whole.same.then_same ∙ one_step step.skips) in
             let one = took_one o step.skips by_then.run p l (had_room o k by_then.run p (delivery_on l) (ap (λ x. (takes o k by_then.run p x).full) (sym is) ∙ taken.on.on.amid.holds.goes_on)) in
             let before = did.counts in
             let counted = ap delivered last in
@@ -205,7 +205,7 @@ module _ (settings : Settings) (s : RuledRun) (p : ℕ) where
               full = ap (λ (x : RuledRun). x.run.full) (one_step full.skips) ∙ ap (λ x. (takes o full.skips by_then.run p x).full) (sym is) ∙ full.full;
             } in
             let far = up_as (λ k. sym (flowed_parts o k by_then p (suc zero) rest (suc rest) (omega arith)))
-                (gives_up_first settings by_then (delivering settings by_then p (suc zero)) (λ x. delivering settings x p rest) (told_by settings by_then p (suc zero)) (λ x. told_by settings x p rest) (so_tells by_then (suc zero)) (λ x. so_tells x rest) up) in
+            (gives_up_first settings by_then (delivering settings by_then p (suc zero)) (λ x. delivering settings x p rest) (told_by settings by_then p (suc zero)) (λ x. told_by settings x p rest) (so_tells by_then (suc zero)) (λ x. so_tells x rest) up) in
             up_as (so_parts number (suc rest) most (omega (arith, below))).leads
             (gives_up_then settings s (delivering settings s p number) (λ x. delivering settings x p (suc rest)) (told_by settings s p number) (λ x. told_by settings x p (suc rest)) (so_tells s number) (λ x. so_tells x (suc rest)) mid mid written so_far [] did.on far
             (λ t. flowed_run o t by_then p (suc rest) did.on.amid.grid.run))
@@ -261,7 +261,7 @@ module _ (settings : Settings) (s : RuledRun) (most : ℕ) where
         let all = gone_as (in_same n) whole.on in
         let next = delivering settings flowed_by_then n most flow.on.skips in
         let last : (delivering_in settings s most (n + 1) all.0.skips).run ≡ next.run =
-            ap (λ x. (delivering_in settings s most (n + 1) x).run) all.1 ∙ ap (λ (x : RuledRun). x.run) (sym ((in_same n).leads whole.on.skips) ∙ whole.same.then_same) in
+        ap (λ x. (delivering_in settings s most (n + 1) x).run) all.1 ∙ ap (λ (x : RuledRun). x.run) (sym ((in_same n).leads whole.on.skips) ∙ whole.same.then_same) in
         let counted = ap delivered last in
         let before = did.counts in
         let step = deliveries_counted flowed_by_then.run next.run ((flowed_goes (partition_object settings) flowed_by_then n most).by.grows flow.on.skips).events in
@@ -272,7 +272,7 @@ module _ (settings : Settings) (s : RuledRun) (most : ℕ) where
     pub gives_up_in : (all : ℕ) → n < all → GivesUp flowed_by_then (delivering settings flowed_by_then n most) → GivesUp s (delivering_in settings s most all)
     gives_up_in all below b =
         let now = gives_up_then settings s (delivering_in settings s most n) (λ x. delivering settings x n most) (told_in settings s most n) (λ x. told_by settings x n most) (in_tells n) (λ x. so_tells settings s n x most) mid new written so_far [] did.on b
-            (λ t. flowed_run (partition_object settings) t flowed_by_then n most did.on.amid.grid.run) in
+        (λ t. flowed_run (partition_object settings) t flowed_by_then n most did.on.amid.grid.run) in
         rest (all - (n + 1)) all (omega (arith, below)) (up_as (in_same n).leads now)
       where
         rest : (more last : ℕ) → (n + 1) + more ≡ last → GivesUp s (delivering_in settings s most (n + 1)) → GivesUp s (delivering_in settings s most last)

@@ -60,8 +60,8 @@ module _ (settings : Settings) (s : RuledRun) (p : ℕ) where
         let k = did.on.skips in
         let parts = between_parts o k s p number (most - number) most (omega (arith, below)) in
         let on = gone_at {other = handing settings s p most} {also = saying settings s p most} did.on
-            (sym (parts.leads ∙ between_none o k handed_by_then p (most - number) none))
-            (sym (parts.says ∙ ap (λ xs. saying settings s p number k ++ xs) (each_none o k handed_by_then p (most - number) none) ∙ append-nil (saying settings s p number k))) in
+        (sym (parts.leads ∙ between_none o k handed_by_then p (most - number) none))
+        (sym (parts.says ∙ ap (λ xs. saying settings s p number k ++ xs) (each_none o k handed_by_then p (most - number) none) ∙ append-nil (saying settings s p number k))) in
         let rest = handed_none o k handed_by_then p (most - number) none in
         let both = parts.handed in
         let before = did.count in
@@ -89,7 +89,7 @@ module _ (settings : Settings) (s : RuledRun) (p : ℕ) where
           let rest = most - suc number in
           let one = up_as (next_same handed_by_then l some).leads up in
           let far = up_as (λ k. sym (between_parts o k handed_by_then p (suc zero) rest (suc rest) (omega arith)).leads)
-              (gives_up_first settings handed_by_then (handing settings handed_by_then p (suc zero)) (λ x. handing settings x p rest) (saying settings handed_by_then p (suc zero)) (λ x. saying settings x p rest) (so_tells handed_by_then (suc zero)) (λ x. so_tells x rest) one) in
+          (gives_up_first settings handed_by_then (handing settings handed_by_then p (suc zero)) (λ x. handing settings x p rest) (saying settings handed_by_then p (suc zero)) (λ x. saying settings x p rest) (so_tells handed_by_then (suc zero)) (λ x. so_tells x rest) one) in
           up_as (so_parts number (suc rest) most (omega (arith, below))).leads
           (gives_up_then settings s (handing settings s p number) (λ x. handing settings x p (suc rest)) (saying settings s p number) (λ x. saying settings x p (suc rest)) (so_tells s number) (λ x. so_tells x (suc rest)) mid mid written so_far [] did.on far
           (λ t. between_run o t handed_by_then p (suc rest) did.on.amid.grid.run))

@@ -36,5 +36,10 @@ pub mod OneAsked
 pub mod ByGrid
 pub mod Proposals
 pub mod Finding
+pub mod Passing
+pub mod ServiceTakes
+pub mod Quietly
+pub mod Crashing
+pub mod EachPartition
 pub mod Reaching
 pub mod FlowParts

@@ -1,5 +1,5 @@
 -- A line of a grid with masters, taken apart: it is counted, what it asks for goes on from there, and behind that the grid stands as between two lines.
-use Rattle.std.proofs.Common.{◌≡◌, ℕ, ◌+◌, ◌<◌, ◌≤◌, Bool, true, false, cond, List, [], ◌∷◌, ◌++◌, length, slice_set, refl, ap, sym, ◌∙◌, subst, append_assoc, arith}
+use Rattle.std.proofs.Common.{◌≡◌, ℕ, ◌+◌, ◌<◌, ◌≤◌, Bool, true, false, cond, List, [], ◌++◌, length, get_or, refl, ap, sym, ◌∙◌, subst, append_assoc, arith}
 use Rattle.grid_base.specs.Objects.{Object}
 use Rattle.grid_base.specs.declared.names.CallId.{CallId}
 use Rattle.grid_base.specs.declared.calls.Request.{Request}
@@ -8,7 +8,8 @@ use Rattle.call_engine.specs.Calls.{Settings}
 use Rattle.call_engine.specs.Objects.{partition_object}
 use Rattle.partition_protocol.specs.Events.{Event}
 use Rattle.partition_protocol.proofs.Lists.{on_cond}
-use Rattle.masters_world.specs.Machine.{Ruled, Line, asked_by, masters_after, events_by}
+use Rattle.master_log.specs.declared.masters.Masters.{Masters}
+use Rattle.masters_world.specs.Machine.{Line, events_by}
 use Rattle.script_lang.specs.Limits.{most_lines}
 use Rattle.script_lang.specs.declared.line.Line.{Line as ScriptLine}
 use Rattle.script_lang.specs.declared.line.Line.TheVariants.{Comment}
@@ -28,9 +29,10 @@ use Rattle.ruled_run.specs.declared.grid.RuledGrid.{RuledGrid}
 use Rattle.ruled_run.specs.Runs.{RuledRun, has_masters, masters_at, ruled_at, meets_full_link, takes_each, given_up, goes, counted}
 use Rattle.ruled_run.specs.AfterLines.{unruled, ruled_line, after_line}
 use Rattle.ruled_run.specs.Printing.{unruled_text, ruled_text, line_text}
-use Rattle.ruled_run.specs.Grids.{Rules, Stands, MayRun, AreOfLine, HasRun, IsGivenUp}
+use Rattle.ruled_run.specs.Grids.{AreMasters, Rules, Stands, MayRun, AreOfLine, HasRun, IsGivenUp}
 use Rattle.ruled_run.specs.Steps.{IsAmid, MayAsk, Onward, Texts, HasGoneOn, GivesUp}
 use Rattle.ruled_run.proofs.Going.{single_at}
+use Rattle.ruled_run.proofs.MastersAsked.{AreThere, is_read, they_are}
 use Rattle.ruled_run.proofs.RuleLemmas.{counted_rules}
 
 -- what a grid with masters comes to at a line
@@ -52,6 +54,17 @@ module _ {V : Type 0} {T : V → Type 0} {form : FormOf V T} where
   pub may_count : (all : RuledGrid V T) (number : ℕ) (line : ScriptLine) → MayRun form all number line → grid.MayRun form all.grid number Comment
   may_count all number line may = record { settings = may.settings; run = may.run.run; stands = may.stands.grid; read = tt; next = may.next; within = may.within }
 
+  -- It is one of the grid's.
+  pub alone_may : (all new : RuledGrid V T) → new.grid ≡ all.grid → (number : ℕ) (line : ScriptLine) → MayRun form all number line → grid.MayRun form new.grid number line
+  alone_may all new same number line may = subst (λ x. grid.MayRun form x number line) (sym same)
+      (record { settings = may.settings; run = may.run.run; stands = may.stands.grid; read = may.read; next = may.next; within = may.within })
+
+  pub may_run_as : {all : RuledGrid V T} {number : ℕ} {line other : ScriptLine} → line ≡ other → MayRun form all number line → MayRun form all number other
+  may_run_as {all = all} {number = number} same = subst (MayRun form all number) same
+
+  pub has_run_as : {settings : Settings} {new : RuledGrid V T} {s : RuledRun} {line other : ScriptLine} {written text : List ℕ} → line ≡ other → HasRun form settings new s other written text → HasRun form settings new s line written text
+  has_run_as {settings = settings} {new = new} {s = s} {written = written} {text = text} same = subst (λ l. HasRun form settings new s l written text) (sym same)
+
   pub next_number : (all : RuledGrid V T) (number : ℕ) (line : ScriptLine) → MayRun form all number line → {settings : Settings} (s : RuledRun) → Stands form settings all s → number ≡ s.run.lines + 1
   next_number all number line may s stands = lines.next_number all.grid number Comment (may_count all number line may) s.run stands.grid
 
@@ -62,6 +75,13 @@ module _ {V : Type 0} {T : V → Type 0} {form : FormOf V T} where
     pub counted_amid : (new : RuledGrid V T) → new.masters ≡ all.masters → amid.IsAmid form settings new.grid (next_line s.run) → IsAmid form settings new (counted s)
     counted_amid new kept now = record { grid = now; masters = subst (λ ms. Rules settings ms (counted s)) (ap (λ ms. ms.items) (sym kept)) (counted_rules settings all.masters.items s stands.masters) }
 
+    -- the masters of a partition are there
+    pub stand_there : has_masters s ≡ true → (p : ℕ) → p < partitions → AreThere settings all.masters.items s p
+    stand_there is p low = record { placed = low; count = stands.masters.count; whole = stands.masters.ruled is; most = stands.masters.most; each = stands.masters.each is }
+
+    pub stand_read : has_masters s ≡ true → (p : ℕ) → p < partitions → (i : ℕ) (kept : Masters) → i ≡ p → kept ≡ get_or all.masters.items i kept → AreMasters settings kept s p
+    stand_read is p low i kept same read = let there = stand_there is p low in they_are settings all.masters.items s p there kept (is_read settings all.masters.items s p there i kept same read)
+
     -- one event at most, of what a line asks for in a partition
     pub single : has_masters s ≡ true → (p : ℕ) → p < partitions → (l : Line Request) → length (events_by (ruled_at (partition_object settings) s p) l) ≤ 1
     single is p low l =
@@ -69,7 +89,7 @@ module _ {V : Type 0} {T : V → Type 0} {form : FormOf V T} where
         single_at (partition_object settings) s p at.are.lines at.are.of_lines (subst (λ n. 1 ≤ n) at.are.size at.are.stands.some) stands.masters.most l
 
     module _ (limit : s.run.lines + 1 ≤ most_lines) where
-      pub may_ask : (new : RuledGrid V T) → has_masters s ≡ true → IsAmid form settings new (counted s) → (p : ℕ) → p < partitions → MayAsk form new p
+      abbrev pub may_ask : (new : RuledGrid V T) → has_masters s ≡ true → IsAmid form settings new (counted s) → (p : ℕ) → p < partitions → MayAsk form new p
       may_ask new is now p low = record {
         settings = settings;
         run = counted s;

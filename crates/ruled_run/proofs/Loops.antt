@@ -120,7 +120,7 @@ module _ (settings : Settings) (s : RuledRun) (l : Line Request) (quiet : AsksNo
     pub gives_up_in : (most : ℕ) → n < most → GivesUp gone_in (going settings gone_in n l) → GivesUp s (going_in settings s l most)
     gives_up_in most below b =
         let now = gives_up_then settings s (going_in settings s l n) (λ x. going settings x n l) (following_in settings s l n) (λ x. following settings x n l) (in_tells n) (λ x. one_tells settings x n l quiet) mid new written so_far [] a b
-            (λ t. goes_run (partition_object settings) t gone_in n l quiet a.amid.grid.run) in
+        (λ t. goes_run (partition_object settings) t gone_in n l quiet a.amid.grid.run) in
         rest (most - (n + 1)) most (omega (arith, below)) (up_as (in_same n).leads now)
       where
         rest : (more last : ℕ) → (n + 1) + more ≡ last → GivesUp s (going_in settings s l (n + 1)) → GivesUp s (going_in settings s l last)

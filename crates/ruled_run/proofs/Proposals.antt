@@ -169,17 +169,19 @@ module _ (settings : Settings) (s : RuledRun) where
   itself true x = refl
 
   pub held_delivery : (p f t i : ℕ) → is_held_back settings s (Deliver p f t i) ≡ (t == s.run.members)
-  held_delivery p f t i = let j = ruled_at (partition_object settings) s p in itself (t == j.world.members) (event.Deliver {C = Request} f t i) ∙ ap (λ n. t == n) (its_members settings s p)
+  held_delivery p f t i = let j = ruled_at (partition_object settings) s p in let e : Event Request = event.Deliver f t i in itself (t == j.world.members) e ∙ ap (λ n. t == n) (its_members settings s p)
 
   pub held_loss : (p f t i : ℕ) → is_held_back settings s (Lose p f t i) ≡ (t == s.run.members) && pending (ruled_at (partition_object settings) s p).masters
   held_loss p f t i =
       let j = ruled_at (partition_object settings) s p in
-      itself ((t == j.world.members) && pending j.masters) (event.Lose {C = Request} f t i) ∙ ap (λ n. (t == n) && pending j.masters) (its_members settings s p)
+      let e : Event Request = event.Lose f t i in
+      itself ((t == j.world.members) && pending j.masters) e ∙ ap (λ n. (t == n) && pending j.masters) (its_members settings s p)
 
   pub held_resending : (p end : ℕ) → is_held_back settings s (Resend p end) ≡ (end == s.run.members) && not (is_some (master (ruled_at (partition_object settings) s p).masters))
   held_resending p end =
       let j = ruled_at (partition_object settings) s p in
-      itself ((end == j.world.members) && not (is_some (master j.masters))) (event.Resend {C = Request} end) ∙ ap (λ n. (end == n) && not (is_some (master j.masters))) (its_members settings s p)
+      let e : Event Request = event.Resend end in
+      itself ((end == j.world.members) && not (is_some (master j.masters))) e ∙ ap (λ n. (end == n) && not (is_some (master j.masters))) (its_members settings s p)
 
   -- Of the others that propose nothing none is.
   pub not_held : (line : ScriptLine) → ((e : At) → event_by line ≡ Some e → proposals (ruled_at (partition_object settings) s e.partition) e.event ≡ []) → line ≢ Masters → ((most : ℕ) → line ≢ Rebalance most)
@@ -196,3 +198,11 @@ module _ (settings : Settings) (s : RuledRun) where
   not_held (Advance p) nothing masters rebalance deliver lose resend = absurd (let clash : proposals (ruled_at (partition_object settings) s p) event.Advance ≡ [] = nothing (record { partition = p; event = event.Advance }) refl in cc)
   not_held (Reopen p) nothing masters rebalance deliver lose resend = absurd (let clash : proposals (ruled_at (partition_object settings) s p) event.Reopen ≡ [] = nothing (record { partition = p; event = event.Reopen }) refl in cc)
   not_held line nothing masters rebalance deliver lose resend = refl
+
+-- nobody is there
+pub none_is : {X : Type 0} (is : Bool) (found there : Option X) → is_some found ≡ not is → found ≡ there → is ≡ not (is_some there)
+none_is is found there e same = twice is ∙ ap not (sym e) ∙ ap (λ x. not (is_some x)) same
+  where
+    twice : (b : Bool) → b ≡ not (not b)
+    twice true = refl
+    twice false = refl

@@ -98,10 +98,11 @@ module _ (settings : Settings) (k t : List CallId) (A : Run → Run → Type 0)
           let more = (between_goes o mid p most).by.grows k in
           let now = before s.run mid.run (flowed_between o k mid p most).run first more a in
           let is = same s (λ x. goes o x s p (handing_over l)) (goes_goes o s p (handing_over l) tt) now in
-          let then = rest mid (behind s.run mid.run (flowed_between o k mid p most).run first more a) in
-          (ap (λ n. suc n) (then.0 ∙ ap (λ (x : RuledRun). handed_over o t x p most) is),
-          ap (λ xs. xs ++ followed_each o k mid p most) (followed_same s p (handing_over l) tt now)
-          ∙ ap (λ xs. followed o t s p (handing_over l) ++ xs) (then.1 ∙ ap (λ (x : RuledRun). followed_each o t x p most) is))
+          let then = rest mid (behind s.run mid.run (flowed_between o k mid p most).run first more a) in (
+            ap (λ n. suc n) (then.0 ∙ ap (λ (x : RuledRun). handed_over o t x p most) is),
+            ap (λ xs. xs ++ followed_each o k mid p most) (followed_same s p (handing_over l) tt now)
+                ∙ ap (λ xs. followed o t s p (handing_over l) ++ xs) (then.1 ∙ ap (λ (x : RuledRun). followed_each o t x p most) is),
+          )
 
   -- a line that is the grid's own: the text of steps is told by the skips, and no other
 

@@ -145,12 +145,7 @@ impl RuledGrid {
 
     /// `masters`, as line 2: from here on the table service of each partition runs on the members. Costs, in each partition,
     /// the members and the links between them.
-    fn begin_masters(
-        &mut self,
-        alloc: Global,
-        number: u32,
-        out: &mut Vec<u8>,
-    ) -> Result<(), RunEnd>
+    fn begin_masters(&mut self, alloc: Global, number: u32, out: &mut Vec<u8>) -> Result<(), RunEnd>
         requires may { MayRun (boxed form) self.old number ScriptLines.Masters }
         requires second { number ≡ 2 }
         requires none { HasNoMasters (boxed form) self.old }

@@ -10,6 +10,7 @@ pub mod OneConnection
 pub mod Places
 pub mod Playing
 pub mod ReadBack
+pub mod RightDecisions
 pub mod RuledReadings
 pub mod ScriptLaws
 pub mod Sending

@@ -1,10 +1,12 @@
 -- What holds of the masters of the grid's runs holds of those of scripts.
-use Rattle.std.proofs.Common.{◌≡◌, ℕ, List, [], ◌∷◌, ◌++◌, refl, ap, sym, ◌∙◌, subst}
+use Rattle.std.proofs.Common.{◌≡◌, ℕ, List, [], ◌∷◌, ◌++◌, slice_get, refl, ap, sym, ◌∙◌, subst}
 use Rattle.grid_base.specs.declared.names.CallId.{CallId}
 use Rattle.call_engine.specs.Calls.{Settings}
 use Rattle.call_engine.specs.Objects.{partition_object}
 use Rattle.script_lang.specs.declared.line.Line.{Line}
 use Rattle.masters_protocol.specs.Claims.{IsSound}
+use Rattle.masters_protocol.specs.Machine.{Masters}
+use Rattle.masters_world.specs.Decisions.{Decision}
 use Rattle.ruled_run.specs.Laws.{ruled_with, ServesAsPublished, GoesOn, MastersAgree}
 use Rattle.ruled_run.specs.Runs.{RuledRun, has_masters, masters_at}
 use Rattle.ruled_run.specs.Standing.{IsRuled}
@@ -12,7 +14,8 @@ use Rattle.ruled_run.proofs.RuledLaws as ruled
 use Rattle.script_run.specs.Runs.{ScriptRun, begun, ruled_of, grid_line}
 use Rattle.script_run.specs.AfterLines.{after_line, after_lines}
 use Rattle.script_run.specs.Laws.{run_with, grid_lines}
-use Rattle.script_run.specs.Masters.{EveryRunIsRuled, EveryServiceServesAsPublished, EveryPublishedListGrows}
+use Rattle.script_run.specs.Masters.{TookRightly, EveryRunIsRuled, EveryServiceServesAsPublished, EveryPublishedListGrows}
+use Rattle.script_run.proofs.RightDecisions.{each_right}
 use Rattle.script_run.proofs.ScriptLaws.{every_run_is_the_grids}
 
 -- the lines that the grid runs, of a script's lines and then more
@@ -43,7 +46,13 @@ every_service_serves_as_published settings members backups skips lines some most
     let same = as_grid settings members backups skips lines in
     let has_its = ap has_masters (sym same) ∙ has in
     let its_lasts = ap (λ (x : RuledRun). x.run.full) (sym same) ∙ lasts in
+    let all = every_run_is_ruled settings members backups skips lines some most has lasts in
+    let its_own = all.stands p low in
     record {
+      right = λ k d there.
+          let s = run_with settings members backups skips lines in
+          subst (λ es. TookRightly (partition_object settings) p s.run.members s.run.backups es k d) its_own.happened
+          (each_right (partition_object settings) p s.run.members s.run.backups all.some all.most (all.lines p low) k d (ap (λ (w : Masters Decision). slice_get w.published k) its_own.masters ∙ there));
       serves = subst (λ (x : RuledRun). ServesAsPublished settings x p) (sym same) (ruled.every_service_serves_as_published settings members backups skips its some most has_its its_lasts p low);
       sound = subst (λ (x : RuledRun). IsSound (masters_at x p)) (sym same) (ruled.every_mastership_is_sound settings members backups skips its some most has_its its_lasts p low);
     }

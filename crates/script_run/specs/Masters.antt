@@ -1,24 +1,46 @@
 -- What holds of the masters of a script's grid, where its second line brings them, whatever its near clients do.
-use Rattle.std.specs.Prelude.{◌≡◌, ℕ, ◌<◌, ◌≤◌, true, false, List, ◌++◌}
+use Rattle.std.specs.Prelude.{◌≡◌, ℕ, ◌<◌, ◌≤◌, true, false, List, ◌∷◌, ◌++◌, length, filter, Some, slice_get}
+use Rattle.grid_base.specs.Objects.{Object}
 use Rattle.grid_base.specs.declared.names.CallId.{CallId}
+use Rattle.grid_base.specs.declared.calls.Request.{Request}
 use Rattle.call_engine.specs.Calls.{Settings}
 use Rattle.call_engine.specs.Objects.{partition_object}
+use Rattle.partition_protocol.specs.Events.{Event, run}
+use Rattle.partition_protocol.specs.World.{start}
 use Rattle.masters_protocol.specs.Claims.{IsSound}
+use Rattle.masters_world.specs.Decisions.{Decision, event_of, is_of_service}
+use Rattle.masters_world.specs.Claims.{IsRight}
 use Rattle.script_lang.specs.declared.line.Line.{Line}
-use Rattle.replay_run.specs.Runs.{partitions}
+use Rattle.replay_run.specs.Runs.{partitions, events_at}
 use Rattle.ruled_run.specs.Laws.{ServesAsPublished, GoesOn, MastersAgree}
 use Rattle.ruled_run.specs.Runs.{has_masters, masters_at}
 use Rattle.ruled_run.specs.Standing.{IsRuled}
 use Rattle.script_run.specs.Laws.{run_with}
 use Rattle.script_run.specs.Runs.{ScriptRun, ruled_of}
 
--- In one partition: the events that its table service took are the published list, in order, and the service alone over that list comes to
--- the partition's row, move and detected members. At most one live member gathers or serves, and what is published is a front of each live log.
+-- Of all that happened to a partition of n members: its service took this decision after k others, and right before it the decision was
+-- right. A message that it takes stood in its place, and a member that it says has crashed had.
+pub record TookRightly {State : Type 0} (o : Object Request State) (p n b : ℕ) (happened : List (Event Request)) (k : ℕ) (d : Decision) : Type 0 where
+  pub before : List (Event Request)
+  pub rest : List (Event Request)
+  pub whole : before ++ event_of n d ∷ rest ≡ happened
+  pub others : length (filter (is_of_service n) before) ≡ k
+  pub right : IsRight n (run o (start p n b) before) d
+
+-- In one partition: the events that its table service took are the published list, in order, each right as it was taken, and the service
+-- alone over that list comes to the partition's row, move and detected members. At most one live member gathers or serves, and what is
+-- published is a front of each live log.
 pub record IsServed (settings : Settings) (s : ScriptRun) (p : ℕ) : Type 0 where
   pub serves : ServesAsPublished settings (ruled_of s) p
+  pub right : (k : ℕ) (d : Decision) → slice_get (masters_at (ruled_of s) p).published k ≡ Some d
+      → TookRightly (partition_object settings) p s.run.members s.run.backups (events_at p s.run.events) k d
   pub sound : IsSound (masters_at (ruled_of s) p)
 
--- In each partition, where the grid has masters. A run may be given up between a publication and its event.
+-- Where the grid has masters, each partition stands for lines of its own, so all that holds of masters and of the service that they run holds
+-- of it. A run may be given up between a publication and its event.
+abbrev pub AreRuled : Settings → ScriptRun → Type 0
+AreRuled settings s = has_masters (ruled_of s) ≡ true → s.run.full ≡ false → IsRuled (partition_object settings) (ruled_of s)
+
 abbrev pub AllAreServed : Settings → ScriptRun → Type 0
 AllAreServed settings s = has_masters (ruled_of s) ≡ true → s.run.full ≡ false → (p : ℕ) → p < partitions → IsServed settings s p
 
@@ -33,10 +55,9 @@ AllGoOn settings first later = has_masters (ruled_of first) ≡ true → later.r
 
 -- whatever the processors, the queues' capacity, the lines after the first, and the calls that find no memory
 
--- each partition stands for lines of its own, so all that holds of masters and of the service that they run holds of it
 abbrev pub EveryRunIsRuled : Type 0
 EveryRunIsRuled = (settings : Settings) (members backups : ℕ) (skips : List CallId) (lines : List Line) → 1 ≤ members → members ≤ 8
-    → let s = run_with settings members backups skips lines in has_masters (ruled_of s) ≡ true → s.run.full ≡ false → IsRuled (partition_object settings) (ruled_of s)
+    → AreRuled settings (run_with settings members backups skips lines)
 
 abbrev pub EveryServiceServesAsPublished : Type 0
 EveryServiceServesAsPublished = (settings : Settings) (members backups : ℕ) (skips : List CallId) (lines : List Line) → 1 ≤ members → members ≤ 8

@@ -1,7 +1,22 @@
+use Rattle.std.proofs.Common.{arith}
 use Rattle.std.proofs.lemmas.Result.{on_ok_weaker}
 use Rattle.sample_run.specs.SampleRuns.{sample_settings, run_of}
-use Rattle.sample_run.proofs.Sampling.{reads, same_line, may_run, ran, given_up}
+use Rattle.sample_run.proofs.Sampling.{members_of, reads, same_line, may_run, ran, given_up}
 use Rattle.sample_run.proofs.lines.run_line.Goals as goal
+
+pub read-requires-clause-some : goal.read-requires-clause-some
+read-requires-clause-some g c =
+    let next = c.requires in
+    let members = c.members.ensures sample_settings (run_of next.stands.skips next.done) next.stands.stands.holds in
+    let four = members_of next.stands.skips next.done in
+    omega (arith, members, four)
+
+pub read-requires-clause-most : goal.read-requires-clause-most
+read-requires-clause-most g c =
+    let next = c.requires in
+    let members = c.members.ensures sample_settings (run_of next.stands.skips next.done) next.stands.stands.holds in
+    let four = members_of next.stands.skips next.done in
+    omega (arith, members, four)
 
 pub read-requires-clause-readable : goal.read-requires-clause-readable
 read-requires-clause-readable g c =

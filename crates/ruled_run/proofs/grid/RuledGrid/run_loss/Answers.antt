@@ -10,7 +10,7 @@ use Rattle.replay_run.proofs.Asking.{handed_on}
 use Rattle.ruled_run.specs.Runs.{masters_at, ruled_at, counted}
 use Rattle.ruled_run.proofs.AskedLines.{loss_publishes_nothing}
 use Rattle.ruled_run.proofs.LineParts.{may_count, next_number, few_lines, counted_amid, may_ask}
-use Rattle.ruled_run.proofs.MastersAsked.{are_there, within_all, masters_read, have_asked}
+use Rattle.ruled_run.proofs.MastersAsked.{are_there, masters_read, have_asked}
 use Rattle.ruled_run.proofs.OneAsked.{asked_ran}
 use Rattle.ruled_run.proofs.PublishedEvents.{none_follows}
 use Rattle.ruled_run.proofs.RuledMasters.{events_of, asked_so}
@@ -19,19 +19,8 @@ use Rattle.ruled_run.proofs.grid.RuledGrid.run_loss.Goals as goal
 pub count-requires : goal.count-requires
 count-requires g c = may_count c.args.self.now c.args.number (LoseLine c.args.partition c.args.from c.args.to c.args.place) c.requires.may
 
-pub index_mut-requires : goal.index_mut-requires
-index_mut-requires g c =
-    let all = c.args.self.now in
-    let line = LoseLine c.args.partition c.args.from c.args.to c.args.place in
-    let may = c.requires.may in
-    let placed = may.read.0 in
-    let amid = counted_amid all may.run may.stands c.count.new.self c.count.ensures.masters (c.in_ok-count.ensures.amid may.settings may.run.run may.stands.grid) in
-    let ask = may_ask all may.run may.stands (few_lines all c.args.number line may may.run may.stands) c.count.new.self (c.requires.ruled may.settings may.run may.stands) amid c.args.partition (omega (arith, placed)) in
-    let within = within_all may.settings c.count.new.self.masters.items (counted may.run) c.args.partition (are_there _ c.count.new.self c.args.partition ask may.settings (counted may.run) amid) in
-    omega (arith, within, c.from.ensures, c.count.new.self.masters.ok.0)
-
-pub lose-requires : goal.lose-requires
-lose-requires g c =
+pub lose-done-requires : goal.lose-done-requires
+lose-done-requires g c =
     let all = c.args.self.now in
     let line = LoseLine c.args.partition c.args.from c.args.to c.args.place in
     let may = c.requires.may in
@@ -61,7 +50,7 @@ returns-clause-ok g c = λ settings s stands.
     let amid = counted_amid all s stands mid c.count.ensures.masters (c.in_ok-count.ensures.amid settings s.run stands.grid) in
     let ask = may_ask all s stands limit mid ruled amid p (omega (arith, placed)) in
     let kept = c.index_mut.result.now in
-    let next = c.lose.new.self in
+    let next = c.lose-done.new.self in
     let new = record mid { masters = with_item mid.masters c.from.result next } in
     let there = are_there _ mid p ask settings (counted s) amid in
     let are = masters_read _ mid p ask settings (counted s) amid c.from.result kept c.from.ensures c.index_mut.ensures.value in
