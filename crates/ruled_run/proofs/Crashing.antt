@@ -1,5 +1,5 @@
 -- A member crashes as a master, partition after partition.
-use Rattle.std.proofs.Common.{◌≡◌, ℕ, zero, suc, ◌+◌, ◌<◌, ◌≤◌, Bool, true, false, nat_lt, List, [], ◌∷◌, length, Some, slice_get, slice_set, get_or, refl, ap, sym, ◌∙◌, subst, arith}
+use Rattle.std.proofs.Common.{◌≡◌, ℕ, zero, suc, ◌+◌, ◌<◌, ◌≤◌, Bool, true, false, nat_lt, List, [], ◌∷◌, length, Some, slice_get, slice_set, refl, ap, sym, ◌∙◌, subst, arith}
 use Rattle.std.proofs.lemmas.Option.{slice_get_within}
 use Rattle.call_engine.specs.Calls.{Settings}
 use Rattle.partition_protocol.proofs.Lists.{set_get_same, set_get_other}
@@ -11,7 +11,6 @@ use Rattle.masters_world.specs.Decisions.{Decision}
 use Rattle.master_wire.specs.declared.decision.Decision.{Decision as Written}
 use Rattle.master_log.specs.declared.masters.Masters.{Masters}
 use Rattle.master_log.specs.Standing.{StandsFor, HasRun}
-use Rattle.replay_run.specs.Runs.{partitions}
 use Rattle.ruled_run.specs.Runs.{RuledRun, are_some}
 use Rattle.ruled_run.specs.Grids.{Rules}
 use Rattle.ruled_run.specs.Parts.{HasCrashed, HasCrashedAt}

@@ -1,4 +1,4 @@
-use Rattle.std.proofs.Common.{◌≡◌, ◌∙◌, Err, sym, ap, arith}
+use Rattle.std.proofs.Common.{◌∙◌, Err, sym, ap, arith}
 use Rattle.replay_run.specs.declared.run_end.RunEnd.TheVariants.{InFlight}
 use Rattle.replay_run.proofs.Asking.{handed_on}
 use Rattle.ruled_run.proofs.FlowParts.{may_hand, handed_all}

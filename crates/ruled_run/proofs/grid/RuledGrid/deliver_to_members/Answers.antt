@@ -1,4 +1,4 @@
-use Rattle.std.proofs.Common.{◌≡◌, ◌∙◌, Err, sym, ap, refl, arith}
+use Rattle.std.proofs.Common.{◌∙◌, Err, sym, ap, refl, arith}
 use Rattle.replay_run.specs.Runs.{delivery_on}
 use Rattle.replay_run.specs.declared.run_end.RunEnd.TheVariants.{InFlight}
 use Rattle.replay_run.proofs.Asking.{handed_on}

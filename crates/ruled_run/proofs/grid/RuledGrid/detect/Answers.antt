@@ -1,4 +1,4 @@
-use Rattle.std.proofs.Common.{refl, sym, ◌∙◌, subst, arith}
+use Rattle.std.proofs.Common.{refl, sym, ◌∙◌, arith}
 use Rattle.partition_protocol.specs.Events.{Detect}
 use Rattle.masters_world.specs.Machine.{Asks}
 use Rattle.ruled_run.proofs.MastersAsked.{are_there}

@@ -8,7 +8,7 @@ use Rattle.replay_run.specs.declared.run_end.RunEnd.TheVariants.{InFlight, Memor
 use Rattle.replay_run.proofs.Asking.{handed_on}
 use Rattle.ruled_run.specs.Runs.{counted}
 use Rattle.ruled_run.proofs.EachPartition.{lines_then, at_last, may_ask_next, up_next, in_all_ran_on}
-use Rattle.ruled_run.proofs.LineParts.{may_count, next_number, few_lines, counted_amid}
+use Rattle.ruled_run.proofs.LineParts.{next_number, few_lines, counted_amid}
 use Rattle.ruled_run.proofs.Loops.{going_in, following_in, gone_in_none, gone_in_more}
 use Rattle.ruled_run.proofs.grid.RuledGrid.run_detection.Goals as goal
 

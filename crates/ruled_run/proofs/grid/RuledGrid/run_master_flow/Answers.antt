@@ -1,4 +1,4 @@
-use Rattle.std.proofs.Common.{◌∙◌, ◌++◌, Err, refl, sym, ap, arith}
+use Rattle.std.proofs.Common.{◌∙◌, ◌++◌, Err, ap, arith}
 use Rattle.script_lang.specs.declared.line.Line.TheVariants.{MasterFlow}
 use Rattle.replay_run.specs.declared.run_end.RunEnd.TheVariants.{InFlight}
 use Rattle.replay_run.proofs.Asking.{handed_on}

@@ -1,16 +1,16 @@
-use Rattle.std.proofs.Common.{◌≡◌, ◌<◌, ◌++◌, [], ◌∷◌, Err, refl, ap, sym, ◌∙◌, arith}
+use Rattle.std.proofs.Common.{◌≡◌, ◌++◌, [], ◌∷◌, Err, refl, ap, sym, ◌∙◌, arith}
 use Rattle.call_engine.specs.Objects.{partition_object}
-use Rattle.masters_world.specs.Machine.{Told, asked_by, masters_say}
+use Rattle.masters_world.specs.Machine.{Told}
 use Rattle.master_log.specs.Outcomes.{done_if}
 use Rattle.script_lang.specs.declared.line.Line.TheVariants.{Told as ToldLine}
 use Rattle.replay_run.specs.Runs.{partitions}
 use Rattle.replay_run.specs.Printing.{words_line}
-use Rattle.replay_run.specs.declared.run_end.RunEnd.TheVariants.{InFlight, Memory}
+use Rattle.replay_run.specs.declared.run_end.RunEnd.TheVariants.{InFlight}
 use Rattle.replay_run.proofs.Asking.{handed_on}
 use Rattle.ruled_run.specs.Printing.{master_words, said, outcome_words}
-use Rattle.ruled_run.specs.Runs.{masters_at, ruled_at, counted}
-use Rattle.ruled_run.proofs.EachPartition.{lines_then, at_last, may_ask_next, up_next, in_all_ran, first_says}
-use Rattle.ruled_run.proofs.LineParts.{may_count, next_number, few_lines, counted_amid}
+use Rattle.ruled_run.specs.Runs.{ruled_at, counted}
+use Rattle.ruled_run.proofs.EachPartition.{at_last, may_ask_next, up_next, in_all_ran, first_says}
+use Rattle.ruled_run.proofs.LineParts.{next_number, few_lines, counted_amid}
 use Rattle.ruled_run.proofs.Loops.{going_in, following_in, gone_in_none, gone_in_more}
 use Rattle.ruled_run.proofs.grid.RuledGrid.run_told.Goals as goal
 use Rattle.ruled_run.proofs.grid.RuledGrid.run_told.Goals.{then-partition-eq0, else-partition-eq0}
