@@ -1,5 +1,5 @@
 -- A line with masters that the grid runs as it stands: one that asks for no event, or for one that happens at once and of which the masters are asked nothing.
-use Rattle.std.proofs.Common.{◌≡◌, ◌≢◌, ℕ, ◌+◌, ◌<◌, ◌≤◌, Bool, true, false, true≢false, not, ◌&&◌, ◌==◌, is_some, cond, List, [], ◌∷◌, ◌++◌, map, length, Option, Some, None, slice_get, slice_set, unwrap_or, get_or, refl, ap, sym, ◌∙◌, subst, append-nil, arith}
+use Rattle.std.proofs.Common.{◌≡◌, ◌≢◌, ℕ, ◌+◌, ◌<◌, Bool, true, false, true≢false, not, ◌&&◌, ◌==◌, is_some, cond, List, [], ◌∷◌, ◌++◌, map, length, Some, None, slice_get, slice_set, unwrap_or, refl, ap, sym, ◌∙◌, subst, append-nil}
 use Rattle.std.specs.List.{flat_map}
 use Rattle.std.proofs.lemmas.Option.{slice_get-get_or}
 use Rattle.grid_base.specs.Objects.{Object}
@@ -16,11 +16,11 @@ use Rattle.partition_protocol.proofs.Lists.{set_itself}
 use Rattle.masters_protocol.specs.Machine.{Masters, master, pending}
 use Rattle.masters_protocol.specs.Machine as masters
 use Rattle.masters_world.specs.Decisions.{Decision, event_of}
-use Rattle.masters_world.specs.Machine.{Ruled, Asks, past, proposals, proposing, asked_by, at_once, at_once_of, masters_say, masters_after, published_by, events_by}
+use Rattle.masters_world.specs.Machine.{Ruled, Asks, past, proposals, proposing, asked_by, at_once_of, masters_say, masters_after, published_by, events_by}
 use Rattle.masters_world.proofs.Lists.{past_append}
 use Rattle.script_lang.specs.declared.line.Line.{Line as ScriptLine}
 use Rattle.script_lang.specs.declared.line.Line.TheVariants.{Grid, OpenConn, Arrive, Clock, Deliver, Lose, Repeat, Flow, FlowAll, Resend, Crash, Detect, Move, Join, Handover, Advance, Reopen, Rebalance, Dump, Links, Trail, Near, NearGet, NearFeed, Masters as MastersLine, Told, MasterDeliver, MasterLose, MasterResend, MasterFlow, Comment, End}
-use Rattle.replay_run.specs.Runs.{Run, At, partitions, events_at, world_at, takes, next_line, event_by}
+use Rattle.replay_run.specs.Runs.{Run, At, next_line, event_by}
 use Rattle.replay_run.specs.Appending.{new_messages}
 use Rattle.replay_run.specs.Printing.{nothing_text, words_line, words_of, done_word, outcome_at, outcome_text, line_messages, line_close, line_dump, line_links, entry_text, printed_by}
 use Rattle.replay_run.specs.Printing as grid

@@ -1,5 +1,5 @@
 -- A line that the grid runs as it stands, with masters or without.
-use Rattle.std.proofs.Common.{◌≡◌, ◌≢◌, ℕ, ◌+◌, ◌<◌, ◌≤◌, Bool, true, false, true≢false, cond, ◌==◌, List, [], ◌∷◌, ◌++◌, length, Option, Some, None, slice_get, refl, ap, sym, ◌∙◌, subst, arith}
+use Rattle.std.proofs.Common.{◌≡◌, ◌≢◌, ℕ, ◌<◌, ◌≤◌, true, false, true≢false, cond, ◌==◌, List, [], ◌∷◌, ◌++◌, length, Option, Some, None, refl, ap, sym, ◌∙◌, subst, arith}
 use Rattle.std.proofs.lemmas.List.{map-append}
 use Rattle.grid_base.specs.Objects.{Object}
 use Rattle.grid_base.specs.declared.names.CallId.{CallId}
@@ -10,11 +10,11 @@ use Rattle.call_engine.specs.Objects.{partition_object}
 use Rattle.partition_protocol.specs.Events.{Event}
 use Rattle.partition_protocol.specs.Events as event
 use Rattle.partition_protocol.specs.Service.{numbers_below}
-use Rattle.partition_protocol.proofs.RowFacts.{number_same, number_other}
+use Rattle.partition_protocol.proofs.RowFacts.{number_other}
 use Rattle.masters_protocol.specs.Machine as masters
 use Rattle.masters_world.specs.Machine.{Line, Asks, start, proposals, asked}
 use Rattle.master_log.specs.declared.masters.Masters.{Masters}
-use Rattle.master_log.specs.Standing.{StandsFor, size_of}
+use Rattle.master_log.specs.Standing.{StandsFor}
 use Rattle.script_lang.specs.declared.line.Line.{Line as ScriptLine}
 use Rattle.script_lang.specs.declared.line.Line.TheVariants as ScriptLines
 use Rattle.script_lang.specs.Lines.{IsWithin}
@@ -26,12 +26,12 @@ use Rattle.replay_run.specs.Printing.{ok_text, nothing_text, line_text as alone_
 use Rattle.replay_run.proofs.Bounds as bounds
 use Rattle.replay_run.proofs.LineCounts as counts
 use Rattle.ruled_run.specs.declared.grid.RuledGrid.{RuledGrid}
-use Rattle.ruled_run.specs.Runs.{RuledRun, are_some, has_masters, masters_at, ruled_at, meets_full_link, takes_each, goes, goes_in, counted, opening_masters}
-use Rattle.ruled_run.specs.AfterLines.{by_grid, unruled, ruled_line, after_line}
-use Rattle.ruled_run.specs.Printing.{grid_text, unruled_text, ruled_text, line_text}
+use Rattle.ruled_run.specs.Runs.{RuledRun, are_some, has_masters, ruled_at, takes_each, goes, goes_in, counted, opening_masters}
+use Rattle.ruled_run.specs.AfterLines.{by_grid, unruled, after_line}
+use Rattle.ruled_run.specs.Printing.{grid_text, unruled_text, line_text}
 use Rattle.ruled_run.specs.Written.{written_event, written_events}
-use Rattle.ruled_run.specs.Grids.{AreMasters, HasMastersAt, Rules, Stands, HasRun, IsGivenUp}
-use Rattle.ruled_run.specs.Parts.{is_held_back, is_of_masters, HasCrashedAt, HaveCrashed}
+use Rattle.ruled_run.specs.Grids.{HasMastersAt, Rules, Stands, HasRun, IsGivenUp}
+use Rattle.ruled_run.specs.Parts.{is_held_back, is_of_masters, HaveCrashed}
 use Rattle.ruled_run.proofs.AskedLines.{asked_more, crash_publishes_nothing, happens_at_once}
 use Rattle.replay_run.proofs.EventLines.{of_event}
 use Rattle.ruled_run.proofs.AtOnce.{IsOwn, as_event, as_own, asks_none, event_goes, event_text}

@@ -4,7 +4,6 @@ use Rattle.grid_base.specs.Objects.{Object}
 use Rattle.grid_base.specs.declared.names.CallId.{CallId}
 use Rattle.grid_base.specs.declared.calls.Request.{Request}
 use Rattle.object_store.specs.Partitions.{Partition}
-use Rattle.partition_protocol.specs.Events.{Event}
 use Rattle.partition_protocol.proofs.Lists.{on_if}
 use Rattle.partition_protocol.proofs.RowFacts.{less, not_less}
 use Rattle.masters_protocol.specs.Claims.{IsSound}

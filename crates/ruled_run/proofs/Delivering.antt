@@ -1,8 +1,7 @@
 -- `flow` where a grid has masters: one delivery after another, each of them the first message of the first link to a member that has one.
-use Rattle.std.proofs.Common.{◌≡◌, ◌≢◌, ℕ, zero, suc, ◌+◌, ◌-◌, ◌<◌, ◌≤◌, Bool, true, false, true≢false, not, ◌&&◌, ◌==◌, cond, List, [], ◌∷◌, ◌++◌, length, drop, count_by, Option, Some, None, refl, ap, sym, ◌∙◌, subst, append-nil, append_assoc, arith}
+use Rattle.std.proofs.Common.{◌≡◌, ℕ, zero, suc, ◌+◌, ◌-◌, ◌<◌, ◌≤◌, true, false, true≢false, not, ◌==◌, cond, List, [], ◌∷◌, ◌++◌, length, drop, Option, Some, None, refl, ap, sym, ◌∙◌, subst, append-nil, append_assoc, arith}
 use Rattle.std.proofs.lemmas.List.{drop_all}
 use Rattle.std.proofs.Math.Seq.{drop-append_seam}
-use Rattle.std.specs.List.{find}
 use Rattle.grid_base.specs.Objects.{Object}
 use Rattle.grid_base.specs.declared.names.CallId.{CallId}
 use Rattle.grid_base.specs.declared.calls.Request.{Request}
@@ -10,16 +9,14 @@ use Rattle.object_store.specs.Partitions.{Partition}
 use Rattle.call_engine.specs.Calls.{Settings}
 use Rattle.call_engine.specs.Objects.{partition_object}
 use Rattle.partition_protocol.specs.Events.{Event}
-use Rattle.partition_protocol.specs.Events as event
 use Rattle.partition_protocol.specs.Sequences.{IsFrontOf}
 use Rattle.partition_protocol.specs.Service.{numbers_below}
-use Rattle.partition_protocol.specs.World.{World}
 use Rattle.partition_protocol.proofs.Lists.{in_contains}
 use Rattle.partition_protocol.proofs.RowFacts.{false_or_not, both_left}
 use Rattle.partition_world.specs.declared.Link.{Link}
 use Rattle.partition_world.specs.declared.event.Happened.{Happened}
 use Rattle.partition_world.specs.LinkOrder.{links_of, is_busy}
-use Rattle.masters_world.specs.Machine.{Ruled, Line, Asks, asked_by, at_once_of}
+use Rattle.masters_world.specs.Machine.{Asks, asked_by, at_once_of}
 use Rattle.replay_run.specs.Runs.{Run, partitions, world_at, delivery_on, takes}
 use Rattle.replay_run.specs.Appending.{new_messages}
 use Rattle.replay_run.specs.Endings.{AreAmong, new_arrivals}
@@ -36,11 +33,11 @@ use Rattle.ruled_run.specs.Runs.{RuledRun, has_masters, ruled_at, takes_each, go
 use Rattle.ruled_run.specs.Grids.{Rules}
 use Rattle.ruled_run.specs.Steps.{IsAmid, Onward, Texts, HasGoneOn, GivesUp, HasFlowed}
 use Rattle.ruled_run.proofs.RuledRuns.{flowed_on}
-use Rattle.ruled_run.proofs.RuledGrowing.{RuledGoesBy, flowed_goes, flowed_in_goes}
+use Rattle.ruled_run.proofs.RuledGrowing.{flowed_goes, flowed_in_goes}
 use Rattle.ruled_run.proofs.RuleLemmas.{quiet_rules}
 use Rattle.ruled_run.proofs.Composing.{TellsBy, tells_by_run, gone_further, gives_up_then, gives_up_first, SameSteps, gone_at, gone_as, up_as}
-use Rattle.ruled_run.proofs.Loops.{goes_run, flowed_run}
-use Rattle.ruled_run.proofs.AtOnce.{asks_by_proposals, goes_at_once}
+use Rattle.ruled_run.proofs.Loops.{flowed_run}
+use Rattle.ruled_run.proofs.AtOnce.{goes_at_once}
 
 -- messages, of two parts of a line
 

@@ -1,11 +1,10 @@
 -- How many events a line with masters adds to a partition: one where it asks for something, and as many as are delivered where messages flow. The masters' own messages publish one decision at most, each.
-use Rattle.std.proofs.Common.{◌≡◌, ◌≢◌, ℕ, zero, suc, ◌+◌, ◌*◌, ◌≤◌, Bool, true, false, not, ◌&&◌, ◌==◌, cond, List, [], ◌∷◌, ◌++◌, map, length, slice_get, Option, Some, None, refl, ap, sym, ◌∙◌, subst, ⊎_elim, inl, inr, append-nil, arith}
-use Rattle.std.specs.List.{find}
+use Rattle.std.proofs.Common.{◌≡◌, ℕ, zero, suc, ◌≤◌, Bool, true, false, not, ◌&&◌, ◌==◌, cond, List, [], ◌∷◌, ◌++◌, map, length, slice_get, Option, Some, None, refl, ap, sym, ◌∙◌, subst, ⊎_elim, inl, inr, append-nil, arith}
 use Rattle.grid_base.specs.Objects.{Object}
 use Rattle.grid_base.specs.declared.names.CallId.{CallId}
 use Rattle.grid_base.specs.declared.calls.Request.{Request}
 use Rattle.object_store.specs.Partitions.{Partition}
-use Rattle.partition_protocol.specs.Events.{Event, Deliver, Crash, Detect}
+use Rattle.partition_protocol.specs.Events.{Event, Crash, Detect}
 use Rattle.partition_protocol.specs.Links.{link}
 use Rattle.partition_protocol.specs.Service.{numbers_below}
 use Rattle.partition_protocol.proofs.Lists.{on_if}

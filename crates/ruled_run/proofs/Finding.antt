@@ -1,5 +1,5 @@
 -- The first link to a member, found from end to end.
-use Rattle.std.proofs.Common.{◌≡◌, ◌≢◌, ℕ, zero, suc, ◌+◌, ◌<◌, ◌≤◌, Bool, true, false, true≢false, cond, not, ◌&&◌, ◌==◌, List, [], ◌∷◌, ◌++◌, map, length, Option, Some, None, option_map, refl, ap, sym, ◌∙◌, subst, ⊎_elim, append-nil, arith}
+use Rattle.std.proofs.Common.{◌≡◌, ◌≢◌, ℕ, zero, suc, ◌+◌, ◌<◌, ◌≤◌, Bool, true, false, cond, not, ◌&&◌, ◌==◌, List, [], ◌∷◌, ◌++◌, map, Option, Some, None, option_map, refl, ap, sym, ◌∙◌, ⊎_elim, append-nil, arith}
 use Rattle.std.specs.List.{find, flat_map}
 use Rattle.std.proofs.lemmas.List.{map-append}
 use Rattle.std.proofs.lemmas.Grind.{flat_map-append}
@@ -8,7 +8,7 @@ use Rattle.partition_protocol.specs.Service.{numbers_below}
 use Rattle.partition_protocol.specs.World.{World}
 use Rattle.partition_protocol.proofs.RowFacts.{number_same, number_other, number_cases}
 use Rattle.partition_world.specs.declared.Link.{Link}
-use Rattle.partition_world.specs.LinkOrder.{links_from, links_of, is_busy}
+use Rattle.partition_world.specs.LinkOrder.{links_from, is_busy}
 use Rattle.ruled_run.specs.Runs.{is_to_member, is_reached, member_reached, link_to_member}
 
 -- the first of two lists, and then of the other

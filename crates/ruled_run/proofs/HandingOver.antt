@@ -1,7 +1,6 @@
 -- `mflow`, message after message, as its loop takes it.
-use Rattle.std.proofs.Common.{◌≡◌, ℕ, zero, suc, ◌+◌, ◌-◌, ◌<◌, ◌≤◌, List, [], ◌++◌, Option, Some, None, refl, ap, sym, ◌∙◌, subst, append-nil, arith}
+use Rattle.std.proofs.Common.{◌≡◌, ℕ, zero, suc, ◌+◌, ◌-◌, ◌<◌, ◌≤◌, List, [], ◌++◌, Some, None, refl, ap, sym, ◌∙◌, append-nil, arith}
 use Rattle.grid_base.specs.Objects.{Object}
-use Rattle.grid_base.specs.declared.names.CallId.{CallId}
 use Rattle.grid_base.specs.declared.calls.Request.{Request}
 use Rattle.object_store.specs.Partitions.{Partition}
 use Rattle.call_engine.specs.Calls.{Settings}
@@ -9,13 +8,13 @@ use Rattle.call_engine.specs.Objects.{partition_object}
 use Rattle.partition_world.specs.declared.Link.{Link}
 use Rattle.replay_run.specs.Grids.{FormOf}
 use Rattle.ruled_run.specs.declared.grid.RuledGrid.{RuledGrid}
-use Rattle.ruled_run.specs.Runs.{RuledRun, masters_at, goes, link_between, handing_over, flowed_between}
-use Rattle.ruled_run.specs.Printing.{followed, handed_over, followed_each}
+use Rattle.ruled_run.specs.Runs.{RuledRun, masters_at, link_between, handing_over, flowed_between}
+use Rattle.ruled_run.specs.Printing.{handed_over, followed_each}
 use Rattle.ruled_run.specs.Steps.{IsAmid, Onward, Texts, HasGoneOn, GivesUp, going, following, HasFlowedBetween}
 use Rattle.ruled_run.proofs.RuledGrowing.{between_goes}
 use Rattle.ruled_run.proofs.SkippedTexts.{handed_alike}
-use Rattle.ruled_run.proofs.Composing.{TellsBy, GoSame, HasGoneFurther, gone_further, gives_up_then, gives_up_first, gone_nowhere, SameSteps, gone_at, gone_as, up_as}
-use Rattle.ruled_run.proofs.Loops.{one_tells, between_run, between_none, handed_none, each_none, AreParts, between_parts, IsOne, between_one}
+use Rattle.ruled_run.proofs.Composing.{TellsBy, gone_further, gives_up_then, gives_up_first, gone_nowhere, SameSteps, gone_at, gone_as, up_as}
+use Rattle.ruled_run.proofs.Loops.{between_run, between_none, handed_none, each_none, between_parts, between_one}
 
 abbrev pub handing : Settings → RuledRun → ℕ → ℕ → Onward
 handing settings s p n skips = flowed_between (partition_object settings) skips s p n

@@ -1,5 +1,5 @@
 -- What each event of some kind keeps, in some partitions, each line with masters keeps that brings no others: published decisions are of that kind, and so are deliveries.
-use Rattle.std.proofs.Common.{◌≡◌, ℕ, zero, suc, Bool, true, false, not, ◌&&◌, ◌==◌, List, [], ◌∷◌, ◌++◌, map, Option, Some, None, is_some, option_map, slice_set, refl, inl, inr}
+use Rattle.std.proofs.Common.{ℕ, zero, suc, not, ◌&&◌, ◌==◌, List, [], ◌∷◌, ◌++◌, map, Option, Some, None, is_some, option_map, slice_set, refl, inl, inr}
 use Rattle.grid_base.specs.Objects.{Object}
 use Rattle.grid_base.specs.declared.names.CallId.{CallId}
 use Rattle.grid_base.specs.declared.calls.Request.{Request}
@@ -20,7 +20,7 @@ use Rattle.replay_run.specs.AfterLines as alone
 use Rattle.replay_run.specs.Runs as grid
 use Rattle.replay_run.specs.Runs.{Run, At, partitions, world_at, takes, delivery_on, next_line, event_by}
 use Rattle.ruled_run.specs.Runs.{RuledRun, has_masters, opening_masters, masters_at, ruled_at, takes_each, meets_full_link, given_up, goes, goes_in, link_to_member, flowed, flowed_in, link_between, handing_over, flowed_between, counted}
-use Rattle.ruled_run.specs.AfterLines.{by_grid, unruled, Asked, as_asked, asked_at, by_partition, ruled_line, after_line}
+use Rattle.ruled_run.specs.AfterLines.{by_grid, unruled, Asked, as_asked, by_partition, ruled_line, after_line}
 use Rattle.ruled_run.proofs.RuledRuns.{flowed_on, between_on}
 
 -- events of a kind

@@ -1,19 +1,17 @@
 -- A line of a grid with masters, taken apart: it is counted, what it asks for goes on from there, and behind that the grid stands as between two lines.
-use Rattle.std.proofs.Common.{◌≡◌, ℕ, ◌+◌, ◌<◌, ◌≤◌, Bool, true, false, cond, List, [], ◌++◌, length, get_or, refl, ap, sym, ◌∙◌, subst, append_assoc, arith}
+use Rattle.std.proofs.Common.{◌≡◌, ℕ, ◌+◌, ◌<◌, ◌≤◌, true, false, cond, List, [], ◌++◌, length, get_or, refl, ap, sym, ◌∙◌, subst, append_assoc, arith}
 use Rattle.grid_base.specs.Objects.{Object}
 use Rattle.grid_base.specs.declared.names.CallId.{CallId}
 use Rattle.grid_base.specs.declared.calls.Request.{Request}
 use Rattle.object_store.specs.Partitions.{Partition}
 use Rattle.call_engine.specs.Calls.{Settings}
 use Rattle.call_engine.specs.Objects.{partition_object}
-use Rattle.partition_protocol.specs.Events.{Event}
-use Rattle.partition_protocol.proofs.Lists.{on_cond}
 use Rattle.master_log.specs.declared.masters.Masters.{Masters}
 use Rattle.masters_world.specs.Machine.{Line, events_by}
 use Rattle.script_lang.specs.Limits.{most_lines}
 use Rattle.script_lang.specs.declared.line.Line.{Line as ScriptLine}
 use Rattle.script_lang.specs.declared.line.Line.TheVariants.{Comment}
-use Rattle.replay_run.specs.Runs.{Run, partitions, next_line, takes}
+use Rattle.replay_run.specs.Runs.{partitions, next_line}
 use Rattle.replay_run.specs.Rebalancing.{most_line_events}
 use Rattle.replay_run.specs.Endings.{AreAmong, new_arrivals}
 use Rattle.replay_run.specs.declared.run_end.RunEnd.{RunEnd}
@@ -23,13 +21,13 @@ use Rattle.replay_run.specs.Grids as grid
 use Rattle.replay_run.specs.WorldCalls.{HasRoomAt}
 use Rattle.replay_run.specs.WorldCalls as amid
 use Rattle.replay_run.proofs.GridLines as lines
-use Rattle.replay_run.proofs.LineEnds.{comment_may_run, line_has_room, line_ends}
-use Rattle.replay_run.proofs.TakenApart.{TakesFew, TakesFewIn, few_none, few_in_none, few_in_given_up, few_in_wider, takes_one}
+use Rattle.replay_run.proofs.LineEnds.{line_has_room, line_ends}
+use Rattle.replay_run.proofs.TakenApart.{TakesFew, few_none}
 use Rattle.ruled_run.specs.declared.grid.RuledGrid.{RuledGrid}
-use Rattle.ruled_run.specs.Runs.{RuledRun, has_masters, masters_at, ruled_at, meets_full_link, takes_each, given_up, goes, counted}
+use Rattle.ruled_run.specs.Runs.{RuledRun, has_masters, ruled_at, counted}
 use Rattle.ruled_run.specs.AfterLines.{unruled, ruled_line, after_line}
 use Rattle.ruled_run.specs.Printing.{unruled_text, ruled_text, line_text}
-use Rattle.ruled_run.specs.Grids.{AreMasters, Rules, Stands, MayRun, AreOfLine, HasRun, IsGivenUp}
+use Rattle.ruled_run.specs.Grids.{AreMasters, Rules, Stands, MayRun, HasRun, IsGivenUp}
 use Rattle.ruled_run.specs.Steps.{IsAmid, MayAsk, Onward, Texts, HasGoneOn, GivesUp}
 use Rattle.ruled_run.proofs.Going.{single_at}
 use Rattle.ruled_run.proofs.MastersAsked.{AreThere, is_read, they_are}

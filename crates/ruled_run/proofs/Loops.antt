@@ -1,6 +1,5 @@
 -- What a line with masters does part by part, as its loops take it: partition after partition, or message after message.
-use Rattle.std.proofs.Common.{◌≡◌, ℕ, zero, suc, ◌+◌, ◌-◌, ◌<◌, ◌≤◌, Bool, true, false, List, [], ◌∷◌, ◌++◌, length, drop, Option, Some, None, refl, ap, sym, ◌∙◌, subst, append-nil, append_assoc, arith}
-use Rattle.std.proofs.Math.Seq.{drop-append_seam}
+use Rattle.std.proofs.Common.{◌≡◌, ℕ, zero, suc, ◌+◌, ◌-◌, ◌<◌, List, [], ◌∷◌, ◌++◌, length, Option, Some, None, refl, ap, sym, ◌∙◌, subst, append-nil, append_assoc, arith}
 use Rattle.grid_base.specs.Objects.{Object}
 use Rattle.grid_base.specs.declared.names.CallId.{CallId}
 use Rattle.grid_base.specs.declared.calls.Request.{Request}
@@ -8,28 +7,23 @@ use Rattle.object_store.specs.Partitions.{Partition}
 use Rattle.call_engine.specs.Calls.{Settings}
 use Rattle.call_engine.specs.Objects.{partition_object}
 use Rattle.partition_protocol.specs.Events.{Event}
-use Rattle.partition_protocol.specs.Sequences.{IsFrontOf}
 use Rattle.partition_protocol.specs.Service.{numbers_below}
 use Rattle.partition_world.specs.declared.Link.{Link}
-use Rattle.masters_world.specs.Machine.{Line, Asks, at_once, published_by}
-use Rattle.masters_world.specs.Machine as ruled
+use Rattle.masters_world.specs.Machine.{Line, at_once, published_by}
 use Rattle.partition_protocol.specs.Events as event
-use Rattle.replay_run.specs.Runs.{Run, Appended, world_at, delivery_on}
 use Rattle.replay_run.specs.Appending.{new_messages}
 use Rattle.replay_run.specs.ScriptRuns.{IsRun, run_given_up}
 use Rattle.replay_run.specs.WorldCalls.{texts_of}
 use Rattle.replay_run.proofs.EventRuns.{takes_run}
-use Rattle.replay_run.proofs.Growing.{Grows}
-use Rattle.replay_run.proofs.LineTexts.{texts-append}
 use Rattle.ruled_run.specs.declared.grid.RuledGrid.{RuledGrid}
-use Rattle.ruled_run.specs.Runs.{RuledRun, masters_at, ruled_at, goes, goes_in, link_to_member, flowed, flowed_in, link_between, handing_over, flowed_between}
+use Rattle.ruled_run.specs.Runs.{RuledRun, masters_at, ruled_at, goes, goes_in, flowed, flowed_in, link_between, handing_over, flowed_between}
 use Rattle.ruled_run.specs.Printing.{published_texts, followed, followed_in, handed_over, followed_each}
 use Rattle.ruled_run.specs.Steps.{IsAmid, Onward, Texts, HasGoneOn, GivesUp, going, following}
 use Rattle.replay_run.specs.Grids.{FormOf}
-use Rattle.ruled_run.proofs.RuledRuns.{AsksNoCall, goes_keeps, goes_in_keeps, flowed_keeps, flowed_in_keeps, between_keeps, flowed_on, between_on}
-use Rattle.ruled_run.proofs.RuledGrowing.{RuledGoesBy, goes_goes, goes_in_goes, flowed_goes, flowed_in_goes, between_goes}
-use Rattle.ruled_run.proofs.SkippedTexts.{followed_in_alike, handed_alike}
-use Rattle.ruled_run.proofs.Composing.{TellsBy, tells_by_run, same_run, GoSame, HasGoneFurther, gone_further, gives_up_then, gives_up_first, gone_nowhere, SameSteps, gone_as, up_as}
+use Rattle.ruled_run.proofs.RuledRuns.{AsksNoCall, goes_keeps, goes_in_keeps, flowed_keeps, flowed_in_keeps, between_keeps, between_on}
+use Rattle.ruled_run.proofs.RuledGrowing.{goes_goes, goes_in_goes}
+use Rattle.ruled_run.proofs.SkippedTexts.{followed_in_alike}
+use Rattle.ruled_run.proofs.Composing.{TellsBy, tells_by_run, gone_further, gives_up_then, gives_up_first, gone_nowhere, SameSteps, gone_as, up_as}
 
 -- what is asked for in one partition tells by where it leads
 pub one_tells : (settings : Settings) (s : RuledRun) (p : ℕ) (l : Line Request) → AsksNoCall l → TellsBy s (going settings s p l) (following settings s p l)

@@ -1,5 +1,5 @@
 -- A line that asks for something in one partition: what it comes to, and what is said of that.
-use Rattle.std.proofs.Common.{◌≡◌, ℕ, ◌+◌, ◌<◌, ◌≤◌, true, List, [], ◌∷◌, ◌++◌, map, length, refl, ap, sym, ◌∙◌, arith}
+use Rattle.std.proofs.Common.{◌≡◌, ℕ, ◌+◌, ◌<◌, ◌≤◌, true, List, [], ◌++◌, map, ap, sym, ◌∙◌, arith}
 use Rattle.grid_base.specs.Objects.{Object}
 use Rattle.grid_base.specs.declared.names.CallId.{CallId}
 use Rattle.grid_base.specs.declared.calls.Request.{Request}
@@ -10,13 +10,13 @@ use Rattle.masters_protocol.specs.Members.{Outcome}
 use Rattle.masters_world.specs.Machine.{Line, Asks, at_once}
 use Rattle.script_lang.specs.Limits.{most_lines}
 use Rattle.script_lang.specs.declared.line.Line.{Line as ScriptLine}
-use Rattle.replay_run.specs.Runs.{At, partitions, next_line}
+use Rattle.replay_run.specs.Runs.{At, partitions}
 use Rattle.replay_run.specs.Grids.{FormOf}
 use Rattle.replay_run.specs.Printing.{words_line}
 use Rattle.ruled_run.specs.declared.grid.RuledGrid.{RuledGrid}
 use Rattle.ruled_run.specs.Runs.{RuledRun, has_masters, ruled_at, goes, counted}
 use Rattle.ruled_run.specs.AfterLines.{ruled_line, after_line}
-use Rattle.ruled_run.specs.Printing.{master_words, event_words, said, outcome_words, followed, asked_text, ruled_text, line_text}
+use Rattle.ruled_run.specs.Printing.{master_words, event_words, said, outcome_words, followed, asked_text, ruled_text}
 use Rattle.ruled_run.specs.Grids.{Stands, HasRun, IsGivenUp}
 use Rattle.ruled_run.specs.Steps.{HasAsked, GivesUp, going, following}
 use Rattle.ruled_run.proofs.AtOnce.{IsEvent}

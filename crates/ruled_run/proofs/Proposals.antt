@@ -1,5 +1,5 @@
 -- What a line proposes, and whether it is held back.
-use Rattle.std.proofs.Common.{◌≡◌, ◌≢◌, ℕ, ◌+◌, ◌<◌, ◌≤◌, Bool, true, false, true≢false, cond, not, ◌&&◌, ◌==◌, List, [], ◌∷◌, map, length, Option, Some, None, is_some, option_map, slice_get, refl, ap, sym, ◌∙◌, subst, arith}
+use Rattle.std.proofs.Common.{◌≡◌, ◌≢◌, ℕ, Bool, true, false, cond, not, ◌&&◌, ◌==◌, List, [], ◌∷◌, map, Option, Some, None, is_some, option_map, slice_get, refl, ap, sym, ◌∙◌, subst}
 use Rattle.std.specs.Prelude.{option_to_list}
 use Rattle.grid_base.specs.declared.calls.Request.{Request}
 use Rattle.call_engine.specs.Calls.{Settings}
@@ -11,7 +11,7 @@ use Rattle.partition_table.specs.Rows.{is_empty}
 use Rattle.masters_protocol.specs.Machine.{master, pending}
 use Rattle.masters_world.specs.Decisions.{Decision}
 use Rattle.masters_world.specs.Decisions as decision
-use Rattle.masters_world.specs.Machine.{Ruled, taking, proposals, at_once_of}
+use Rattle.masters_world.specs.Machine.{Ruled, taking, proposals}
 use Rattle.master_wire.specs.declared.decision.Decision.{Decision as Written}
 use Rattle.script_lang.specs.declared.line.Line.{Line as ScriptLine}
 use Rattle.script_lang.specs.declared.line.Line.TheVariants.{Grid, OpenConn, Arrive, Clock, Deliver, Lose, Repeat, Flow, FlowAll, Resend, Crash, Detect, Move, Join, Handover, Advance, Reopen, Rebalance, Dump, Links, Trail, Near, NearGet, NearFeed, Masters, Told, MasterDeliver, MasterLose, MasterResend, MasterFlow, Comment, End}
@@ -20,10 +20,9 @@ use Rattle.replay_run.specs.Grids.{FormOf}
 use Rattle.ruled_run.specs.declared.grid.RuledGrid.{RuledGrid}
 use Rattle.ruled_run.specs.Runs.{RuledRun, ruled_at}
 use Rattle.ruled_run.specs.Grids.{Stands}
-use Rattle.ruled_run.specs.Steps.{Proposes, ProposesAt}
 use Rattle.ruled_run.specs.Written.{as_written}
 use Rattle.ruled_run.specs.Answers.{Decided, decision_by}
-use Rattle.ruled_run.specs.Parts.{ProposesNothing, IsProposalOf, is_later, is_held_back}
+use Rattle.ruled_run.specs.Parts.{IsProposalOf, is_held_back}
 use Rattle.ruled_run.proofs.RuledMasters.{world_formed}
 
 -- the service's number is the number of members

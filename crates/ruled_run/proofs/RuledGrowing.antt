@@ -6,7 +6,7 @@ use Rattle.grid_base.specs.declared.calls.Request.{Request}
 use Rattle.object_store.specs.Partitions.{Partition}
 use Rattle.partition_protocol.specs.Events.{Event, Crash, Detect}
 use Rattle.partition_protocol.specs.Service.{numbers_below}
-use Rattle.partition_protocol.proofs.Lists.{In, in_left, in_right, in_cases}
+use Rattle.partition_protocol.proofs.Lists.{in_left, in_right, in_cases}
 use Rattle.partition_protocol.proofs.RowFacts.{false_or_not}
 use Rattle.partition_world.specs.declared.Link.{Link}
 use Rattle.masters_protocol.specs.Machine.{Masters}
@@ -17,7 +17,6 @@ use Rattle.script_lang.specs.declared.line.Line.TheVariants as line
 use Rattle.replay_run.specs.Runs.{Run, Arrival, partitions, world_at, is_skipped, takes, delivery_on, next_line}
 use Rattle.replay_run.specs.Runs as grid
 use Rattle.replay_run.specs.AfterLines as alone
-use Rattle.replay_run.specs.SkippedCalls.{IsTold, TellsOfNoSkip}
 use Rattle.replay_run.proofs.Growing.{Grows, grows_trans, told_still, Agree, GoesBy, goes_quietly, goes_on, goes_nowhere, goes_then, takes_goes, line_goes}
 use Rattle.ruled_run.specs.Runs.{RuledRun, opening_masters, has_masters, masters_at, ruled_at, takes_each, meets_full_link, given_up, goes, goes_in, link_to_member, flowed, flowed_in, link_between, handing_over, flowed_between, counted}
 use Rattle.ruled_run.specs.AfterLines.{by_grid, unruled, Asked, asked_at, by_partition, ruled_line, after_line, after_lines}

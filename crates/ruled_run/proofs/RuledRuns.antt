@@ -1,5 +1,5 @@
 -- The run of a grid with masters is a run: each event of a partition is taken as the grid takes it, and none is a call.
-use Rattle.std.proofs.Common.{◌≡◌, ℕ, zero, suc, ◌≤◌, Bool, true, false, not, ◌&&◌, ◌==◌, cond, List, [], ◌∷◌, ◌++◌, map, Option, Some, None, is_some, option_map, slice_set, refl, arith}
+use Rattle.std.proofs.Common.{◌≡◌, ℕ, zero, suc, ◌≤◌, not, ◌&&◌, ◌==◌, List, [], ◌∷◌, ◌++◌, map, Option, Some, None, is_some, option_map, slice_set, refl, arith}
 use Rattle.grid_base.specs.Objects.{Object}
 use Rattle.grid_base.specs.declared.names.CallId.{CallId}
 use Rattle.grid_base.specs.declared.calls.Request.{Request}
@@ -30,7 +30,7 @@ use Rattle.replay_run.proofs.RunFacts.{RunOk}
 use Rattle.replay_run.proofs.RunsOfLines.{run_ok}
 use Rattle.ruled_run.specs.Laws.{ruled_with, EveryRuledRunIsARun, EveryRunIsLinearizable, EveryCallCountsOnce}
 use Rattle.ruled_run.specs.Runs.{RuledRun, begun, has_masters, opening_masters, masters_at, ruled_at, takes_each, meets_full_link, given_up, goes, goes_in, link_to_member, flowed, flowed_in, link_between, handing_over, flowed_between, counted}
-use Rattle.ruled_run.specs.AfterLines.{by_grid, unruled, Asked, as_asked, asked_at, asked_in_all, by_partition, by_all, ruled_line, after_line, after_lines}
+use Rattle.ruled_run.specs.AfterLines.{by_grid, unruled, Asked, as_asked, asked_at, by_partition, ruled_line, after_line, after_lines}
 
 -- no call
 

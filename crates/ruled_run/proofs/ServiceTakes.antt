@@ -1,5 +1,5 @@
 -- The message at a place of a link to the table service, as it is read in a grid's world.
-use Rattle.std.proofs.Common.{◌≡◌, ℕ, ◌<◌, ◌≤◌, List, [], ◌∷◌, map, length, get_or, Some, None, slice_get, false, refl, ap, sym, ◌∙◌}
+use Rattle.std.proofs.Common.{◌≡◌, ℕ, ◌<◌, ◌≤◌, List, [], ◌∷◌, map, length, get_or, slice_get, false, refl, ap, sym, ◌∙◌}
 use Rattle.std.proofs.lemmas.Option.{slice_get_past, slice_get_read}
 use Rattle.grid_base.specs.declared.calls.Request.{Request}
 use Rattle.call_engine.specs.Calls.{Settings}

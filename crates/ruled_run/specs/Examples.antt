@@ -4,7 +4,7 @@ use Rattle.std.specs.Fmt.{digits}
 use Rattle.call_engine.specs.Calls.{Settings}
 use Rattle.call_engine.specs.Objects.{partition_object}
 use Rattle.script_lang.specs.declared.line.Line.{Line}
-use Rattle.script_lang.specs.declared.line.Line.TheVariants.{Crash, Move, Deliver, Flow, Rebalance, Masters, Told, MasterDeliver, MasterFlow}
+use Rattle.script_lang.specs.declared.line.Line.TheVariants.{Crash, Move, Rebalance, Masters, Told, MasterDeliver, MasterFlow}
 use Rattle.replay_run.specs.Dumps.{number}
 use Rattle.replay_run.specs.Printing.{words_line}
 use Rattle.ruled_run.specs.AfterLines.{after_line, run_with}

@@ -10,7 +10,7 @@ use Rattle.masters_world.specs.Machine.{Line, start, asked}
 use Rattle.script_lang.specs.Limits.{most_lines}
 use Rattle.script_lang.specs.Lines.{IsWithin}
 use Rattle.script_lang.specs.declared.line.Line.{Line as ScriptLine}
-use Rattle.replay_run.specs.Runs.{Run, partitions}
+use Rattle.replay_run.specs.Runs.{partitions}
 use Rattle.replay_run.specs.Endings.{AreAmong, new_arrivals}
 use Rattle.replay_run.specs.Grids.{FormOf, most_arriving}
 use Rattle.replay_run.specs.Grids as grid

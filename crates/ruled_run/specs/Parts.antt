@@ -1,10 +1,8 @@
 -- What a line of a grid with masters is taken apart into: what it proposes, whether it is held back, and a crash of its masters.
 use Rattle.std.specs.Prelude.{◌≡◌, ℕ, Bool, true, false, List, [], ◌∷◌, ◌++◌, length, Option, Some, None, slice_get}
-use Rattle.grid_base.specs.declared.calls.Request.{Request}
 use Rattle.call_engine.specs.Calls.{Settings}
 use Rattle.call_engine.specs.Objects.{partition_object}
 use Rattle.partition_table.specs.Rows.{is_empty}
-use Rattle.partition_protocol.specs.Events.{Event}
 use Rattle.partition_protocol.specs.World.{map_or}
 use Rattle.masters_protocol.specs.Machine.{Crash}
 use Rattle.masters_protocol.specs.Machine as masters
@@ -14,7 +12,7 @@ use Rattle.master_log.specs.declared.masters.Masters.{Masters}
 use Rattle.master_log.specs.Standing.{StandsFor, size_of}
 use Rattle.script_lang.specs.declared.line.Line.{Line as ScriptLine}
 use Rattle.script_lang.specs.declared.line.Line.TheVariants as line
-use Rattle.replay_run.specs.Runs.{At, partitions, event_by}
+use Rattle.replay_run.specs.Runs.{At, event_by}
 use Rattle.replay_run.specs.Grids.{FormOf}
 use Rattle.ruled_run.specs.declared.grid.RuledGrid.{RuledGrid}
 use Rattle.ruled_run.specs.Runs.{RuledRun, has_masters, ruled_at}

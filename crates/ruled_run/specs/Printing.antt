@@ -11,18 +11,17 @@ use Rattle.partition_protocol.specs.World.{World}
 use Rattle.partition_protocol.specs.Events.{Event, Detect, happens, run}
 use Rattle.partition_protocol.specs.Service.{numbers_below}
 use Rattle.masters_protocol.specs.Members as masters
-use Rattle.masters_protocol.specs.Machine.{Masters}
 use Rattle.masters_world.specs.Decisions.{Decision, event_of}
 use Rattle.masters_world.specs.Machine.{Ruled, Line, Asks, Told, asked_by, masters_say, at_once, published_by}
 use Rattle.script_lang.specs.declared.line.Line.{Line as ScriptLine}
 use Rattle.script_lang.specs.declared.line.Line.TheVariants as line
-use Rattle.replay_run.specs.Dumps.{number, line_end}
+use Rattle.replay_run.specs.Dumps.{number}
 use Rattle.replay_run.specs.Runs.{partitions}
 use Rattle.replay_run.specs.Appending.{appended_text, new_messages}
 use Rattle.replay_run.specs.Printing.{ok_text, nothing_text, flow_text, words_line, words_of, fate_words, done_word, deliveries}
 use Rattle.replay_run.specs.Printing as grid
 use Rattle.ruled_run.specs.Runs.{RuledRun, has_masters, masters_at, ruled_at, goes, link_between, handing_over, counted}
-use Rattle.ruled_run.specs.AfterLines.{Asked, asked_at, after_line}
+use Rattle.ruled_run.specs.AfterLines.{Asked, asked_at}
 
 -- what the masters answer
 

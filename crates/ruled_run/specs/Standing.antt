@@ -1,9 +1,9 @@
 -- A partition with its masters stands for a list of lines of its own: what `masters_world` proves of every list of lines holds of it.
-use Rattle.std.specs.Prelude.{◌≡◌, ℕ, ◌<◌, ◌≤◌, true, false, List, length, map, filter}
+use Rattle.std.specs.Prelude.{◌≡◌, ℕ, ◌<◌, ◌≤◌, List, length}
 use Rattle.grid_base.specs.Objects.{Object}
 use Rattle.grid_base.specs.declared.calls.Request.{Request}
 use Rattle.masters_world.specs.Machine.{Line, start, after, events}
-use Rattle.replay_run.specs.Runs.{Run, partitions, events_at}
+use Rattle.replay_run.specs.Runs.{partitions, events_at}
 use Rattle.ruled_run.specs.Runs.{RuledRun, masters_at}
 
 -- The masters are those of these lines, and what happened to the partition is what these lines make happen.

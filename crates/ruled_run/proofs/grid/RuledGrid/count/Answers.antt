@@ -1,13 +1,7 @@
 use Rattle.std.proofs.Common.{◌∙◌, Err, ap}
 use Rattle.std.proofs.lemmas.Result.{on_ok_weaker}
-use Rattle.replay_run.specs.declared.run_end.RunEnd.{RunEnd}
-use Rattle.replay_run.specs.declared.run_end.RunEnd.TheVariants.{InFlight, Memory}
 use Rattle.replay_run.proofs.LineEnds.{comment_ran, comment_goes_on}
 use Rattle.ruled_run.proofs.LineParts.{only_memory}
-use Rattle.ruled_run.proofs.AtOnce.{past_itself}
-use Rattle.ruled_run.proofs.Loops.{one_tells}
-use Rattle.ruled_run.proofs.HandingOver.{none_handed}
-use Rattle.ruled_run.proofs.Delivering.{none_in}
 use Rattle.ruled_run.proofs.grid.RuledGrid.count.Goals as goal
 
 pub returns-clause-amid : goal.returns-clause-amid

@@ -3,7 +3,6 @@ use Rattle.script_lang.specs.Lines.{IsWithin}
 use Rattle.masters_protocol.specs.Machine.{master, pending}
 use Rattle.partition_protocol.proofs.RowFacts.{number_same, number_other}
 use Rattle.replay_run.specs.Grids.{most_arriving}
-use Rattle.call_engine.specs.Objects.{partition_object}
 use Rattle.ruled_run.specs.Parts.{is_held_back}
 use Rattle.ruled_run.specs.Runs.{masters_at}
 use Rattle.ruled_run.proofs.LineParts.{stand_read}

@@ -1,4 +1,4 @@
-use Rattle.std.proofs.Common.{◌≡◌, ◌∙◌, ◌++◌, Err, refl, ap, sym, append-nil, arith}
+use Rattle.std.proofs.Common.{◌≡◌, ◌∙◌, ◌++◌, Err, refl, ap, arith}
 use Rattle.master_member.specs.Outcomes.{outcome_of}
 use Rattle.masters_world.specs.Machine.{MasterDeliver}
 use Rattle.script_lang.specs.declared.line.Line.TheVariants.{MasterDeliver as DeliverLine}

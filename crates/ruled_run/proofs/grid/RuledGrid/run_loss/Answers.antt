@@ -1,4 +1,4 @@
-use Rattle.std.proofs.Common.{◌≡◌, ◌∙◌, [], length, Err, refl, ap, sym, append-nil, arith}
+use Rattle.std.proofs.Common.{◌≡◌, [], length, Err, refl, ap, sym, append-nil, arith}
 use Rattle.std.specs.Vec.{with_item}
 use Rattle.call_engine.specs.Objects.{partition_object}
 use Rattle.master_log.specs.Outcomes.{done_if}

@@ -1,4 +1,4 @@
-use Rattle.std.proofs.Common.{◌≡◌, ◌∙◌, ◌++◌, Err, refl, ap, arith}
+use Rattle.std.proofs.Common.{◌≡◌, ◌∙◌, ◌++◌, Err, ap}
 use Rattle.masters_world.specs.Machine.{Asks}
 use Rattle.replay_run.specs.Runs.{At}
 use Rattle.replay_run.specs.Grids.{most_arriving}

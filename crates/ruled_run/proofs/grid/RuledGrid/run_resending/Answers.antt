@@ -1,4 +1,4 @@
-use Rattle.std.proofs.Common.{◌≡◌, ◌∙◌, ◌++◌, [], Err, refl, ap, sym, append-nil, arith}
+use Rattle.std.proofs.Common.{◌≡◌, [], Err, refl, ap, sym, append-nil, arith}
 use Rattle.master_log.specs.Outcomes.{done_if}
 use Rattle.masters_world.specs.Machine.{MasterResend}
 use Rattle.script_lang.specs.declared.line.Line.TheVariants.{MasterResend as ResendLine}

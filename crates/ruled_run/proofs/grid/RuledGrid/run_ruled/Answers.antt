@@ -1,4 +1,4 @@
-use Rattle.std.proofs.Common.{◌∙◌, sym, ap, subst}
+use Rattle.std.proofs.Common.{◌∙◌, sym, subst}
 use Rattle.script_lang.specs.Lines.{IsWithin}
 use Rattle.replay_run.specs.Grids.{most_arriving}
 use Rattle.ruled_run.specs.Parts.{IsProposalOf}

@@ -1,7 +1,6 @@
 use Rattle.std.proofs.Common.{◌≡◌, ◌++◌, [], ◌∷◌, Err, refl, ap, sym, ◌∙◌, arith}
-use Rattle.grid_base.specs.declared.calls.Request.{Request}
 use Rattle.call_engine.specs.Objects.{partition_object}
-use Rattle.masters_world.specs.Machine.{Line, Told}
+use Rattle.masters_world.specs.Machine.{Told}
 use Rattle.master_log.specs.Outcomes.{done_if}
 use Rattle.script_lang.specs.declared.line.Line.TheVariants.{Told as ToldLine}
 use Rattle.replay_run.specs.Runs.{partitions}
@@ -68,7 +67,7 @@ returns-clause-ok g c = λ settings s stands.
     let all = c.args.self.now in
     let may = c.requires.may in
     let line = ToldLine c.args.member c.args.crashed in
-    let l : Line Request = Told c.args.member c.args.crashed in
+    let l = Told c.args.member c.args.crashed in
     let o = partition_object settings in
     let past = c.loop-partition-test.false in
     let end = c.loop-partition.auto.partition-end in
