@@ -124,10 +124,16 @@ module _ (forms : List ProcessorForm) (skips : List CallId) where
 
 pub prints_decisions : (forms : List ProcessorForm) (status : Status) (first left before after : Option (List ℕ)) → ReadsAndWrites forms status first left before after → PrintsDecisions forms status first left before after
 prints_decisions forms status first left before after writes script told =
-    let w = writes script told in
-    (w.0, w.1, w.2, w.3, w.4, record {
-      replayed = w.5;
-      ruled = holds_after AreRuled every_run_is_ruled none_ruled forms w.0 (lines_of script);
-      served = holds_after AllAreServed every_service_serves_as_published none_served forms w.0 (lines_of script);
-      goes_on = all_go_on forms w.0 (lines_of script);
-    })
+    let w = writes script told in (
+      w.0,
+      w.1,
+      w.2,
+      w.3,
+      w.4,
+      record {
+        replayed = w.5;
+        ruled = holds_after AreRuled every_run_is_ruled none_ruled forms w.0 (lines_of script);
+        served = holds_after AllAreServed every_service_serves_as_published none_served forms w.0 (lines_of script);
+        goes_on = all_go_on forms w.0 (lines_of script);
+      },
+    )
