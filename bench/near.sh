@@ -6,14 +6,17 @@
 # look-ups: a miss is there a look-up and an entry, and no get. Run it from anywhere, after `rt run` in crates/grid and in
 # crates/near_looks has built the programs: bench/near.sh [ENTRIES..]. GRID and LOOKS name other ones.
 #
-# Two scripts fill the same cache and then make FEW and MANY look-ups, and what they differ in is what the look-ups cost.
-# BY says in what:
+# A script fills a cache and then makes MANY look-ups. BY says in what these are counted:
 #
-#     time            nanoseconds of processor time. RUNS says how often the scripts run, grid and peer by turns; the fastest run
-#                     of each counts
-#     instructions    as valgrind counts them in one run each. They don't vary, nor hang on what else the machine does
+#     time            nanoseconds of processor time, from when the cache is full to the last look-up (near_run.py). RUNS says how
+#                     often a script runs, grid and peer by turns; the fastest run of each counts
+#     instructions    as valgrind counts them in one run with FEW look-ups and one with MANY: what they differ in. They don't vary,
+#                     nor hang on what else the machine does
 #     lines           lines of memory of 64 bytes that valgrind finds neither in a first cache of 48 KB nor in a second of 2 MB,
-#                     as a processor's own are: what a look-up has to wait for, from a cache that processors share or from memory
+#                     as a processor's own are: what a look-up has to wait for, from a cache that processors share or from memory.
+#                     `alone`, since a script's end, which gives back each entry in the order of use, would be counted too
+#
+# `alone` are as many look-ups, 30 times over, so that they can be timed, and that each entry was looked up in the shorter run too.
 set -euo pipefail
 
 cd "$(dirname "$0")/.."
@@ -30,20 +33,21 @@ for program in "$GRID" "$LOOKS"; do
     fi
 done
 case $BY in
-    time | instructions | lines) ;;
+    time | instructions) kinds=(hits misses alone) ;;
+    lines) kinds=(alone) ;;
     *) echo "BY is time, instructions or lines" >&2; exit 1 ;;
 esac
 DIR=$(mktemp -d)
 trap 'rm -r "$DIR"' EXIT
 g++ -std=c++17 -O2 -o "$DIR/peer" bench/near_peer.cpp
 
-# Writes a script that fills a cache of so many entries and then looks so many keys up, that are kept or not.
-write_script() {
+# Writes a part of a script: `fill` makes a cache of so many entries and fills it, and the others look so many keys up.
+write_part() {
     python3 - "$1" "$2" "$3" <<'PY'
 import struct
 import sys
 
-kind, entries, lookups = sys.argv[1], int(sys.argv[2]), int(sys.argv[3])
+part, entries, lookups = sys.argv[1], int(sys.argv[2]), int(sys.argv[3])
 TOGETHER = 100
 
 # A key's first four bytes are a hash, which says its partition; these have no content.
@@ -62,16 +66,24 @@ def look_up(numbers, feeds):
 def shuffled(place):
     return place * 7919 % entries
 
-print("grid 1 0 10")
-print("open 0 0")
-print("near 0 6d", entries)
-look_up(range(entries), feeds=True)
-if kind == "hits":
+if part == "fill":
+    print("grid 1 0 10")
+    print("open 0 0")
+    print("near 0 6d", entries)
+    look_up(range(entries), feeds=True)
+if part == "hits":
     look_up((shuffled(place) for place in range(lookups)), feeds=False)
-if kind == "misses":
+if part == "misses":
     look_up(range(entries, entries + lookups), feeds=True)
-print("end")
 PY
+}
+
+# The program that runs a script.
+words_of() {
+    case $1 in
+        grid) echo "$GRID replay" ;;
+        peer) echo "$DIR/peer" ;;
+    esac
 }
 
 # Runs the grid or its peer on a script, or so many look-ups of a cache alone; in front of it whatever else is given.
@@ -81,16 +93,16 @@ run_on() {
     case $kind/$who in
         alone/grid) "$@" "$LOOKS" "$entries" "$work" > "$DIR/transcript" ;;
         alone/peer) "$@" "$DIR/peer" "$entries" "$work" > "$DIR/transcript" ;;
-        */grid) "$@" "$GRID" replay < "$work" > "$DIR/transcript" ;;
-        */peer) "$@" "$DIR/peer" < "$work" > "$DIR/transcript" ;;
+        # shellcheck disable=SC2046
+        *) "$@" $(words_of "$who") < "$work" > "$DIR/transcript" ;;
     esac
 }
 
-# The microseconds of processor time that a run takes.
-microseconds_of() {
+# The nanoseconds of processor time that a run takes.
+nanoseconds_of() {
     local TIMEFORMAT='%U %S'
     { time run_on "$1" "$2"; } 2> "$DIR/time" || { echo "$1 ended badly on $2" >&2; exit 1; }
-    awk '{ printf "%d\n", ($1 + $2) * 1000000 }' "$DIR/time"
+    awk '{ printf "%d\n", ($1 + $2) * 1000000000 }' "$DIR/time"
 }
 
 # The instructions, or the lines of memory, of a run.
@@ -108,35 +120,46 @@ counted_of() {
     esac
 }
 
-# What few and many look-ups cost the grid and its peer: in files named by both, of each run.
+# What a look-up costs in one run of a full cache.
+timed_look() {
+    # shellcheck disable=SC2046
+    bench/near_run.py "$DIR/fill" "$DIR/$kind" $(words_of "$1")
+}
+
+# What a look-up costs by the difference of a run with few look-ups and one with many.
+differing_look() {
+    local few=$((30 * FEW)) many=$((30 * MANY)) looks=$((30 * (MANY - FEW))) cost=counted_of
+    if [ "$kind" != alone ]; then
+        few=$DIR/few many=$DIR/many looks=$((MANY - FEW))
+        { cat "$DIR/fill"; write_part "$kind" "$entries" "$FEW"; } > "$few"
+        cat "$DIR/fill" "$DIR/$kind" > "$many"
+    fi
+    [ "$BY" != time ] || cost=nanoseconds_of
+    awk -v few="$($cost "$1" "$few")" -v many="$($cost "$1" "$many")" -v looks="$looks" \
+        'BEGIN { printf "%.1f\n", (many - few) / looks }'
+}
+
+look_of() {
+    if [ "$BY/$kind" = time/hits ] || [ "$BY/$kind" = time/misses ]; then timed_look "$1"; else differing_look "$1"; fi
+}
+
+# What a look-up costs the grid and its peer, in each run: in files named by both.
 measure() {
-    local who work runs=1
+    local runs=1
     [ "$BY" != time ] || runs=$RUNS
     rm -f "$DIR"/cost.*
     for _ in $(seq "$runs"); do
-        for work in few many; do
-            for who in grid peer; do
-                cost_of "$who" "${!work}" >> "$DIR/cost.$who.$work"
-            done
+        for who in grid peer; do
+            look_of "$who" >> "$DIR/cost.$who"
         done
     done
 }
 
-cost_of() {
-    if [ "$BY" = time ]; then microseconds_of "$@"; else counted_of "$@"; fi
-}
-
-least() {
-    sort -n "$1" | head -n 1
-}
-
 # Prints what a look-up costs the grid, or its peer.
 tell() {
-    awk -v kind="$kind" -v entries="$entries" -v who="$1" -v by="$BY" -v looks="$looks" \
-        -v few="$(least "$DIR/cost.$1.few")" -v many="$(least "$DIR/cost.$1.many")" 'BEGIN {
-            each = (many - few) / looks
+    awk -v kind="$kind" -v entries="$entries" -v who="$1" -v by="$BY" -v each="$(sort -n "$DIR/cost.$1" | head -n 1)" 'BEGIN {
             if (by == "time") {
-                printf "%8s %10d %6s %20.0f %16.0f\n", kind, entries, who, 1000 * each, (each > 0 ? 1000000 / each : 0)
+                printf "%8s %10d %6s %20.0f %16.0f\n", kind, entries, who, each, (each > 0 ? 1000000000 / each : 0)
             } else {
                 printf "%8s %10d %6s %20.1f\n", kind, entries, who, each
             }
@@ -149,16 +172,9 @@ case $BY in
     *) printf '%8s %10s %6s %20s\n' look-ups entries who "$BY/look-up" ;;
 esac
 for entries in "$@"; do
-    for kind in hits misses alone; do
-        few=$DIR/few many=$DIR/many looks=$((MANY - FEW))
-        if [ "$kind" = alone ]; then
-            # A look-up alone is so short that it takes more of them to be timed.
-            times=$([ "$BY" = time ] && echo 30 || echo 1)
-            few=$((times * FEW)) many=$((times * MANY)) looks=$((times * looks))
-        else
-            write_script "$kind" "$entries" "$FEW" > "$few"
-            write_script "$kind" "$entries" "$MANY" > "$many"
-        fi
+    write_part fill "$entries" 0 > "$DIR/fill"
+    for kind in "${kinds[@]}"; do
+        [ "$kind" = alone ] || write_part "$kind" "$entries" "$MANY" > "$DIR/$kind"
         measure
         tell grid
         tell peer

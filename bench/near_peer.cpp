@@ -14,6 +14,7 @@
 #include <string>
 #include <string_view>
 #include <unordered_map>
+#include <unistd.h>
 #include <utility>
 
 namespace {
@@ -111,6 +112,22 @@ void look(unsigned long entries, unsigned long looks) {
     std::printf("%lu hits\n", hits);
 }
 
+// Runs the lines of the standard input. What comes of those that were read at once is printed before more is read.
+void run_script(Cache &cache) {
+    std::string text;
+    char piece[65536];
+    unsigned long number = 0;
+    for (ssize_t count; (count = read(STDIN_FILENO, piece, sizeof piece)) > 0;) {
+        text.append(piece, static_cast<std::size_t>(count));
+        std::size_t begin = 0;
+        for (std::size_t end; (end = text.find('\n', begin)) != std::string::npos; begin = end + 1) {
+            run(cache, ++number, std::string_view(text).substr(begin, end - begin));
+        }
+        text.erase(0, begin);
+        std::fflush(stdout);
+    }
+}
+
 } // namespace
 
 int main(int count, char **words) {
@@ -119,11 +136,6 @@ int main(int count, char **words) {
         return EXIT_SUCCESS;
     }
     Cache cache;
-    unsigned long number = 0;
-    char line[4096];
-    while (std::fgets(line, sizeof line, stdin) != nullptr) {
-        std::string_view text(line);
-        run(cache, ++number, text.substr(0, text.find('\n')));
-    }
+    run_script(cache);
     return EXIT_SUCCESS;
 }

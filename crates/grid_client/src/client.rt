@@ -239,9 +239,10 @@ impl GridClient {
         Ok(sending)
     }
 
-    /// The connection on which the get of a key goes, and the key's partition.
-    fn place_of(&self, key: &Bytes) -> Result<(u32, PartitionId), ClientRefused>
-        ensures place { IfOk result (λ place. (place.1 ≡ partition_of_key key.now) × (target place.1 self.now ≡ Some place.0)) }
+    /// The partition of a key that can be looked up, or why it can't. Takes constant time.
+    fn partition_of(&self, key: &Bytes) -> Result<PartitionId, ClientRefused>
+        ensures partition { IfOk result (λ partition. partition ≡ partition_of_key key.now) }
+        ensures goes { IfOk result (λ partition. IsSome (target partition self.now)) }
         ensures listens { OnOk result (IsSome self.now.near) }
         ensures ok { OnOk result (refusal_of key.now self.now ≡ None) }
         ensures err { IfErr result (λ why. refusal_of key.now self.now ≡ Some why) }
@@ -252,29 +253,31 @@ impl GridClient {
         if self.near.is_none() {
             return Err(ClientRefused::NoNear);
         }
-        let partition = partition_of(hash);
-        match self.target(partition) {
-            Some(conn) => Ok((conn, partition)),
-            None => Err(ClientRefused::NoConnection),
+        if self.connections.is_empty() {
+            return Err(ClientRefused::NoConnection);
         }
+        Ok(partition_of(hash))
     }
 
     /// Looks a key of the near map up: the value that is kept, or the get that asks for it, whose answer is kept unless it is
     /// overtaken. `ShortKey` where it has fewer than eight bytes, `NoNear` where nothing is kept of any map, `NoConnection`
     /// where no connection is attached. What is refused changes nothing, but that want of memory to copy a value that is kept
-    /// brings its entry to the front.
+    /// brings its entry to the front. A hit costs constant time and a copy of the value; a miss goes over the known rows.
     pub fn near_get(&mut self, key: &Bytes) -> Result<NearLook, ClientRefused>
         ensures ok { IfOk result (λ look. HasLookedUp key.now self.old self.new look) }
         ensures refused { (why : ClientRefusedOf) → refusal_of key.now self.old ≡ Some why → result ≡ Err why }
         ensures why { IfErr result (λ why. (refusal_of key.now self.old ≡ Some why) ⊎ (why ≡ ClientRefused.Memory)) }
         ensures err { OnErr result ((self.new ≡ self.old) ⊎ (self.new ≡ looked key.now self.old)) }
     {
-        let place = self.place_of(key)?;
+        let partition = self.partition_of(key)?;
         let found = self.look(key)?;
         match found {
             Some(value) => Ok(NearLook::Hit(value)),
             None => {
-                let sending = self.miss(place.0, place.1, key)?;
+                let Some(conn) = self.target(partition) else {
+                    unreachable!()
+                };
+                let sending = self.miss(conn, partition, key)?;
                 Ok(NearLook::Miss(sending))
             }
         }
