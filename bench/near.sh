@@ -1,10 +1,11 @@
 #!/usr/bin/env bash
-# What a look-up of a near client costs whose cache is full, with `grid replay`: `hits` of keys that it keeps, in an order
-# that isn't that of their last use, and `misses` of keys that it doesn't, whose answers it is handed after every 100
-# look-ups, so that each takes the place of the entry that wasn't used for longest; and `alone` hits of a cache without a script
-# (crates/near_looks). Beside it in the same run stands what any C++ program would keep entries in (near_peer.cpp), with the same
-# look-ups: a miss is there a look-up and an entry, and no get. Run it from anywhere, after `rt run` in crates/grid and in
-# crates/near_looks has built the programs: bench/near.sh [ENTRIES..]. GRID and LOOKS name other ones.
+# What a look-up of a near client costs whose cache is full, with `grid replay`: `ordered` hits, each of the entry that wasn't used
+# for longest; `scattered` hits, in an order that is neither that of their last use nor that in memory; `misses` of keys that it
+# doesn't keep, whose answers it is handed after every 100 look-ups, so that each takes the place of an entry; and scattered hits
+# of a cache `alone`, without a script (crates/near_looks). Beside it in the same run stands what any C++ program would keep entries
+# in (near_peer.cpp), with the same look-ups: a miss is there a look-up and an entry, and no get. Run it from anywhere, after
+# `rt run` in crates/grid and in crates/near_looks has built the programs: bench/near.sh [ENTRIES..]. GRID and LOOKS name other
+# ones, and KINDS some of the four.
 #
 # A script fills a cache and then makes MANY look-ups. BY says in what these are counted:
 #
@@ -33,8 +34,8 @@ for program in "$GRID" "$LOOKS"; do
     fi
 done
 case $BY in
-    time | instructions) kinds=(hits misses alone) ;;
-    lines) kinds=(alone) ;;
+    time | instructions) KINDS=${KINDS:-ordered scattered misses alone} ;;
+    lines) KINDS=alone ;;
     *) echo "BY is time, instructions or lines" >&2; exit 1 ;;
 esac
 DIR=$(mktemp -d)
@@ -62,29 +63,24 @@ def look_up(numbers, feeds):
     if feeds:
         print("nearfeed 0 1000000")
 
-# Keys come in an order that isn't the one in which they were kept.
-def shuffled(place):
-    return place * 7919 % entries
+# Between the number of a key and that of the next one.
+STEPS = {"ordered": 1, "scattered": 7919}
 
 if part == "fill":
     print("grid 1 0 10")
     print("open 0 0")
     print("near 0 6d", entries)
     look_up(range(entries), feeds=True)
-if part == "hits":
-    look_up((shuffled(place) for place in range(lookups)), feeds=False)
+if part in STEPS:
+    look_up((place * STEPS[part] % entries for place in range(lookups)), feeds=False)
 if part == "misses":
     look_up(range(entries, entries + lookups), feeds=True)
 PY
 }
 
-# The program that runs a script.
-words_of() {
-    case $1 in
-        grid) echo "$GRID replay" ;;
-        peer) echo "$DIR/peer" ;;
-    esac
-}
+# The words by which the grid or its peer runs a script.
+grid=("$GRID" replay)
+peer=("$DIR/peer")
 
 # Runs the grid or its peer on a script, or so many look-ups of a cache alone; in front of it whatever else is given.
 run_on() {
@@ -92,9 +88,9 @@ run_on() {
     shift 2
     case $kind/$who in
         alone/grid) "$@" "$LOOKS" "$entries" "$work" > "$DIR/transcript" ;;
-        alone/peer) "$@" "$DIR/peer" "$entries" "$work" > "$DIR/transcript" ;;
-        # shellcheck disable=SC2046
-        *) "$@" $(words_of "$who") < "$work" > "$DIR/transcript" ;;
+        alone/peer) "$@" "${peer[@]}" "$entries" "$work" > "$DIR/transcript" ;;
+        */grid) "$@" "${grid[@]}" < "$work" > "$DIR/transcript" ;;
+        */peer) "$@" "${peer[@]}" < "$work" > "$DIR/transcript" ;;
     esac
 }
 
@@ -120,10 +116,12 @@ counted_of() {
     esac
 }
 
-# What a look-up costs in one run of a full cache.
+# What a look-up costs in one run, once the cache is full.
 timed_look() {
-    # shellcheck disable=SC2046
-    bench/near_run.py "$DIR/fill" "$DIR/$kind" $(words_of "$1")
+    case $1 in
+        grid) bench/near_run.py "$DIR/fill" "$DIR/$kind" "${grid[@]}" ;;
+        peer) bench/near_run.py "$DIR/fill" "$DIR/$kind" "${peer[@]}" ;;
+    esac
 }
 
 # What a look-up costs by the difference of a run with few look-ups and one with many.
@@ -140,7 +138,7 @@ differing_look() {
 }
 
 look_of() {
-    if [ "$BY/$kind" = time/hits ] || [ "$BY/$kind" = time/misses ]; then timed_look "$1"; else differing_look "$1"; fi
+    if [ "$BY" = time ] && [ "$kind" != alone ]; then timed_look "$1"; else differing_look "$1"; fi
 }
 
 # What a look-up costs the grid and its peer, in each run: in files named by both.
@@ -159,21 +157,21 @@ measure() {
 tell() {
     awk -v kind="$kind" -v entries="$entries" -v who="$1" -v by="$BY" -v each="$(sort -n "$DIR/cost.$1" | head -n 1)" 'BEGIN {
             if (by == "time") {
-                printf "%8s %10d %6s %20.0f %16.0f\n", kind, entries, who, each, (each > 0 ? 1000000000 / each : 0)
+                printf "%9s %10d %6s %20.0f %16.0f\n", kind, entries, who, each, (each > 0 ? 1000000000 / each : 0)
             } else {
-                printf "%8s %10d %6s %20.1f\n", kind, entries, who, each
+                printf "%9s %10d %6s %20.1f\n", kind, entries, who, each
             }
         }'
 }
 
 [ $# -gt 0 ] || set -- 10 1000 100000
 case $BY in
-    time) printf '%8s %10s %6s %20s %16s\n' look-ups entries who nanoseconds/look-up look-ups/second ;;
-    *) printf '%8s %10s %6s %20s\n' look-ups entries who "$BY/look-up" ;;
+    time) printf '%9s %10s %6s %20s %16s\n' look-ups entries who nanoseconds/look-up look-ups/second ;;
+    *) printf '%9s %10s %6s %20s\n' look-ups entries who "$BY/look-up" ;;
 esac
 for entries in "$@"; do
     write_part fill "$entries" 0 > "$DIR/fill"
-    for kind in "${kinds[@]}"; do
+    for kind in $KINDS; do
         [ "$kind" = alone ] || write_part "$kind" "$entries" "$MANY" > "$DIR/$kind"
         measure
         tell grid
