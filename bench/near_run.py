@@ -1,11 +1,12 @@
 #!/usr/bin/env python3
-"""Says what the last lines of a script cost a program, in nanoseconds of processor time each:
+"""Says what the look-ups of a script's last lines cost a program, in nanoseconds of processor time each:
 
     bench/near_run.py FIRST LAST PROGRAM [WORD..]
 
-FIRST and LAST are files. The program is handed the lines of FIRST, and once it has printed what comes of them, those of LAST. What
-it has used by then and what it has used in the end differ by what the lines of LAST cost. What it does as it begins and as it ends, as
-to give back what the lines of FIRST made, isn't in it. The program prints what comes of each line behind the line's number.
+FIRST and LAST are files. The program is handed the lines of FIRST, and once it has printed what comes of them, those of LAST, which
+look up with `nearget`. What it has used by then and what it has used in the end differ by what the lines of LAST cost. What it does
+as it begins and as it ends, as to give back what the lines of FIRST made, isn't in it. The program prints what comes of each line
+behind the line's number.
 """
 
 from __future__ import annotations
