@@ -1,6 +1,6 @@
 #!/usr/bin/env bash
-# Does a look-up of a near client take as much work in a full cache of 100,000 entries as in one of 10? Counts the instructions of a
-# hit with valgrind (bench/near.sh), in a script and of the cache alone. Run it from anywhere, after `rt ci`, or `rt run` in
+# Do the instructions of a near client's hit grow with a full cache, from 10 to 100,000 entries? It says nothing of time, which does
+# (README.md). Counts them with valgrind (bench/near.sh), in a script and of the cache alone. Run it from anywhere, after `rt ci`, or `rt run` in
 # crates/grid and in crates/near_looks, has built the programs: tests/near.sh. GRID and LOOKS name other ones. The last line is
 # 'N passed, M failed', and the exit status is 0 where none failed.
 set -u
@@ -20,7 +20,7 @@ growth() {
         END { if (sizes == 3 && least > 0) printf "%d\n", 100 * (most - least) / least; else print 100 }' "$room/looks"
 }
 
-# In a script the numbers of later lines have more digits, which is a hundredth or two.
+# They differed by two hundredths in a script when this was written; to go over the known rows at each hit made it twenty-four.
 check() {
     local hundredths
     hundredths=$(growth "$1")
