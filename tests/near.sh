@@ -1,8 +1,8 @@
 #!/usr/bin/env bash
-# Do the instructions of a near client's hit grow with a full cache, from 10 to 100,000 entries? It says nothing of time, which does
-# (README.md). Counts them with valgrind (bench/near.sh), in a script and of the cache alone. Run it from anywhere, after `rt ci`, or `rt run` in
-# crates/grid and in crates/near_looks, has built the programs: tests/near.sh. GRID and LOOKS name other ones. The last line is
-# 'N passed, M failed', and the exit status is 0 where none failed.
+# Do the instructions of a near client's hit grow with a full cache, from 10 to 100,000 entries? It says nothing of time, which
+# does grow (README.md). Counts them with valgrind (bench/near.sh), in a script and of the cache alone. Run it from anywhere, after
+# `rt ci`, or `rt run` in crates/grid and in crates/near_looks, has built the programs: tests/near.sh. GRID and LOOKS name other
+# ones. The last line is 'N passed, M failed', and the exit status is 0 where none failed.
 set -u
 cd "$(dirname "$0")/.." || exit 1
 
@@ -20,7 +20,7 @@ growth() {
         END { if (sizes == 3 && least > 0) printf "%d\n", 100 * (most - least) / least; else print 100 }' "$room/looks"
 }
 
-# They differed by two hundredths in a script when this was written; to go over the known rows at each hit made it twenty-four.
+# They differed by two hundredths in a script when this was written; to go over the known rows at each hit made it twenty-seven.
 check() {
     local hundredths
     hundredths=$(growth "$1")
