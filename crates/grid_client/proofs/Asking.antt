@@ -6,7 +6,7 @@ use Rattle.std.proofs.lemmas.Bool.Decides.{nat_tests}
 use Rattle.session_core.specs.Places.{partition_of_key}
 use Rattle.grid_client.specs.Nears.{Near, Value, hit, used, opened}
 use Rattle.grid_client.specs.Calls.{is_refused, asked_call, again, sending_of}
-use Rattle.grid_client.specs.Connections.{is_to, target_of}
+use Rattle.grid_client.specs.Connections.{is_to, first_of, target_of}
 use Rattle.grid_client.specs.States.{State, target, asking, looked, opening_look_up, refusal_of, get_of, HasHit, HasMissed, HasOpened, HasRetried, HasRetriedAt}
 use Rattle.grid_client.specs.declared.calls.Call.{Call}
 use Rattle.grid_client.specs.declared.connections.Connection.{Connection}
@@ -26,6 +26,10 @@ no_target leader (c ∷ cs) none = by (find (is_to leader) (c ∷ cs)) none
 
 pub target_nowhere : (leader : Option ℕ) (cs : List Connection) → cs ≡ [] → target_of leader cs ≡ None
 target_nowhere leader cs is = ap (target_of leader) is
+
+pub no_first : (leader : Option ℕ) (cs : List Connection) → first_of cs ≡ None → target_of leader cs ≡ None
+no_first leader [] none = refl
+no_first leader (c ∷ cs) none = absurd cc
 
 -- ---- look-ups
 

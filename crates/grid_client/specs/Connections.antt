@@ -23,6 +23,9 @@ abbrev pub is_to : Option ℕ → Connection → Bool
 is_to None c = false
 is_to (Some member) c = option_map_or (λ uuid. uuid == member + 1) c.uuid false
 
+abbrev pub first_of : List Connection → Option ℕ
+first_of cs = option_map (λ (c : Connection). c.conn) (slice_get cs 0)
+
 -- the connection on which a call goes: the first to the member that leads, or else the first
 abbrev pub target_of : Option ℕ → List Connection → Option ℕ
 target_of leader cs = option_map (λ (c : Connection). c.conn) (option_or (find (is_to leader) cs) (slice_get cs 0))

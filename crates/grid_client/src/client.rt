@@ -8,12 +8,12 @@ ghost use Rattle.grid_client.specs.Nears.{Near, hit};
 ghost use Rattle.grid_client.specs.declared.heard.ClientRefused.{ClientRefused as ClientRefusedOf};
 ghost use Rattle.grid_client.specs.Calls.{asked_call, number_in};
 ghost use Rattle.grid_client.specs.Rows.{known_in};
-ghost use Rattle.grid_client.specs.Connections.{is_conn};
+ghost use Rattle.grid_client.specs.Connections.{is_conn, first_of};
 ghost use Rattle.grid_client.specs.States.{new_client, IsAttached, attached, target, asking, near_at_first, HasAsked, get_of, refusal_of, HasLookedUp, HasOpened, looked, opening_look_up, MayHaveRetried, HasRetriedAt};
 ghost use Rattle.session_core.specs.Places.{partition_of_key};
 
 use crate::calls::{Call, number_in, refused_place};
-use crate::connections::{Connection, attach, is_attached, target_of};
+use crate::connections::{Connection, attach, first_of, is_attached, target_of, target_or};
 use crate::heard::{ClientRefused, NearLook, Sending};
 use crate::near::NearMap;
 use crate::rows::{known_in, leader_in};
@@ -56,6 +56,14 @@ impl Model for GridClient {
       calls = c.calls.items;
       next = c.next;
     } };
+}
+
+/// How the get of a key goes: its partition, and the first connection, on which it goes where none is to the partition's
+/// leader.
+#[derive(Clone, Copy, Debug)]
+struct Route {
+    partition: PartitionId,
+    first: u32,
 }
 
 /// The near cache of a map, of so many entries.
@@ -239,10 +247,10 @@ impl GridClient {
         Ok(sending)
     }
 
-    /// The partition of a key that can be looked up, or why it can't. Takes constant time.
-    fn partition_of(&self, key: &Bytes) -> Result<PartitionId, ClientRefused>
-        ensures partition { IfOk result (λ partition. partition ≡ partition_of_key key.now) }
-        ensures goes { IfOk result (λ partition. IsSome (target partition self.now)) }
+    /// How the get of a key would go that can be looked up, or why it can't be. Takes constant time.
+    fn route_of(&self, key: &Bytes) -> Result<Route, ClientRefused>
+        ensures partition { IfOk result (λ route. route.partition ≡ partition_of_key key.now) }
+        ensures first { IfOk result (λ route. first_of self.now.connections ≡ Some route.first) }
         ensures listens { OnOk result (IsSome self.now.near) }
         ensures ok { OnOk result (refusal_of key.now self.now ≡ None) }
         ensures err { IfErr result (λ why. refusal_of key.now self.now ≡ Some why) }
@@ -253,10 +261,20 @@ impl GridClient {
         if self.near.is_none() {
             return Err(ClientRefused::NoNear);
         }
-        if self.connections.is_empty() {
+        let Some(first) = first_of(&self.connections) else {
             return Err(ClientRefused::NoConnection);
-        }
-        Ok(partition_of(hash))
+        };
+        let partition = partition_of(hash);
+        Ok(Route { partition, first })
+    }
+
+    /// The connection on which the calls of a route's partition go.
+    fn target_by(&self, route: &Route) -> u32
+        requires { first_of self.now.connections ≡ Some route.now.first }
+        ensures { target route.now.partition self.now ≡ Some result }
+    {
+        let leader = leader_in(route.partition, &self.rows);
+        target_or(leader, &self.connections, route.first)
     }
 
     /// Looks a key of the near map up: the value that is kept, or the get that asks for it, whose answer is kept unless it is
@@ -267,17 +285,16 @@ impl GridClient {
         ensures ok { IfOk result (λ look. HasLookedUp key.now self.old self.new look) }
         ensures refused { (why : ClientRefusedOf) → refusal_of key.now self.old ≡ Some why → result ≡ Err why }
         ensures why { IfErr result (λ why. (refusal_of key.now self.old ≡ Some why) ⊎ (why ≡ ClientRefused.Memory)) }
+        ensures kept { (why : ClientRefusedOf) → refusal_of key.now self.old ≡ Some why → self.new ≡ self.old }
         ensures err { OnErr result ((self.new ≡ self.old) ⊎ (self.new ≡ looked key.now self.old)) }
     {
-        let partition = self.partition_of(key)?;
+        let route = self.route_of(key)?;
         let found = self.look(key)?;
         match found {
             Some(value) => Ok(NearLook::Hit(value)),
             None => {
-                let Some(conn) = self.target(partition) else {
-                    unreachable!()
-                };
-                let sending = self.miss(conn, partition, key)?;
+                let conn = self.target_by(&route);
+                let sending = self.miss(conn, route.partition, key)?;
                 Ok(NearLook::Miss(sending))
             }
         }

@@ -4,7 +4,7 @@ ghost use Rattle.std.specs.Prelude.{◌≡◌, ◌++◌, List, ℕ, false, lengt
 ghost use Rattle.std.specs.List.{find, position, position_or_len, list_any};
 ghost use Rattle.message_frames.specs.MessageReaders.{standing};
 ghost use Rattle.message_frames.specs.Messages.{fault_of};
-ghost use Rattle.grid_client.specs.Connections.{is_conn, new_connection, placed, is_to, target_of, with_uuid, with_reader};
+ghost use Rattle.grid_client.specs.Connections.{is_conn, new_connection, placed, is_to, first_of, target_of, with_uuid, with_reader};
 ghost use Rattle.grid_client.specs.Hearing.{messages_by};
 ghost use Rattle.grid_client.specs.declared.connections.Connection.{Connection as ConnectionOf};
 
@@ -83,17 +83,33 @@ fn to_leader(leader: Option<MemberId>, connections: &[Connection]) -> Option<&Co
     connections.iter().find(|c| c.is_to(leader))
 }
 
-/// The connection on which a call goes: the first to the member that leads, or else the first.
-pub(crate) fn target_of(leader: Option<MemberId>, connections: &[Connection]) -> Option<u32>
-    ensures { result ≡ target_of leader connections.now }
+/// The first connection.
+pub(crate) fn first_of(connections: &[Connection]) -> Option<u32>
+    ensures { result ≡ first_of connections.now }
 {
-    if let Some(connection) = to_leader(leader, connections) {
-        return Some(connection.conn);
-    }
     match connections.first() {
         Some(connection) => Some(connection.conn),
         None => None,
     }
+}
+
+/// The connection on which a call goes: the first to the member that leads, or else the first of all, which is given.
+pub(crate) fn target_or(leader: Option<MemberId>, connections: &[Connection], first: u32) -> u32
+    requires { first_of connections.now ≡ Some first }
+    ensures { target_of leader connections.now ≡ Some result }
+{
+    match to_leader(leader, connections) {
+        Some(connection) => connection.conn,
+        None => first,
+    }
+}
+
+/// The connection on which a call goes: the first to the member that leads, or else the first.
+pub(crate) fn target_of(leader: Option<MemberId>, connections: &[Connection]) -> Option<u32>
+    ensures { result ≡ target_of leader connections.now }
+{
+    let first = first_of(connections)?;
+    Some(target_or(leader, connections, first))
 }
 
 /// The place of the connection of a number.
