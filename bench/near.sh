@@ -1,16 +1,17 @@
 #!/usr/bin/env bash
-# What a look-up of a near client costs whose cache is full, with `grid replay`: `ordered` hits, each of the entry that wasn't used
-# for longest; `scattered` hits, in an order that is neither that of their last use nor that in memory; `misses` of keys that it
-# doesn't keep, whose answers it is handed after every 100 look-ups, so that each takes the place of an entry; and scattered hits
-# of a cache `alone`, without a script (crates/near_looks). Beside it in the same run stands what any C++ program would keep entries
-# in (near_peer.cpp), with the same look-ups: a miss is there a look-up and an entry, and no get. Run it from anywhere, after
-# `rt run` in crates/grid and in crates/near_looks has built the programs: bench/near.sh [ENTRIES..]. GRID and LOOKS name other
-# ones, and KINDS some of the four.
+# What a look-up of a near client costs whose cache is full, with `grid replay`: `hot` hits, of the same ten keys, however many
+# others are kept; `ordered` hits, each of the entry that wasn't used for longest; `scattered` hits, of all keys in an order that is
+# neither that of their last use nor that in memory; `misses` of keys that it doesn't keep, whose answers it is handed after every
+# 100 look-ups, so that each takes the place of an entry; and scattered hits of a cache `alone`, without a script
+# (crates/near_looks). Beside it in the same run stands what any C++ program would keep entries in (near_peer.cpp), with the same
+# look-ups: a miss is there a look-up and an entry, and no get. `memory` looks nothing up: it says how long one wait for memory takes
+# in as many places as there are entries (near_memory.cpp). Run it from anywhere, after `rt run` in crates/grid and in
+# crates/near_looks has built the programs: bench/near.sh [ENTRIES..]. GRID and LOOKS name other ones, and KINDS some of the six.
 #
 # A script fills a cache and then makes MANY look-ups. BY says in what these are counted:
 #
 #     time            nanoseconds of processor time, from when the cache is full to the last look-up (near_run.py). RUNS says how
-#                     often a script runs, grid and peer by turns; the fastest run of each counts
+#                     often a script runs, sizes, grid and peer by turns; the fastest run of each counts
 #     instructions    as valgrind counts them in one run with FEW look-ups and one with MANY: what they differ in. They don't vary,
 #                     nor hang on what else the machine does
 #     lines           lines of memory of 64 bytes that valgrind finds neither in a first cache of 48 KB nor in a second of 2 MB,
@@ -34,13 +35,15 @@ for program in "$GRID" "$LOOKS"; do
     fi
 done
 case $BY in
-    time | instructions) KINDS=${KINDS:-ordered scattered misses alone} ;;
+    time) KINDS=${KINDS:-hot ordered scattered misses alone memory} ;;
+    instructions) KINDS=${KINDS:-hot ordered scattered misses alone} ;;
     lines) KINDS=alone ;;
     *) echo "BY is time, instructions or lines" >&2; exit 1 ;;
 esac
 DIR=$(mktemp -d)
 trap 'rm -r "$DIR"' EXIT
 g++ -std=c++17 -O2 -o "$DIR/peer" bench/near_peer.cpp
+g++ -std=c++17 -O2 -o "$DIR/near_memory" bench/near_memory.cpp
 
 # Writes a part of a script: `fill` makes a cache of so many entries and fills it, and the others look so many keys up.
 write_part() {
@@ -50,6 +53,7 @@ import sys
 
 part, entries, lookups = sys.argv[1], int(sys.argv[2]), int(sys.argv[3])
 TOGETHER = 100
+HOT = 10
 
 # A key's first four bytes are a hash, which says its partition; these have no content.
 def key_of(number):
@@ -64,7 +68,7 @@ def look_up(numbers, feeds):
         print("nearfeed 0 1000000")
 
 # Between the number of a key and that of the next one.
-STEPS = {"ordered": 1, "scattered": 7919}
+STEPS = {"hot": max(1, entries // HOT), "ordered": 1, "scattered": 7919}
 
 if part == "fill":
     print("grid 1 0 10")
@@ -118,9 +122,10 @@ counted_of() {
 
 # What a look-up costs in one run, once the cache is full.
 timed_look() {
+    local fill=$DIR/fill.$entries looks=$DIR/$kind.$entries
     case $1 in
-        grid) bench/near_run.py "$DIR/fill" "$DIR/$kind" "${grid[@]}" ;;
-        peer) bench/near_run.py "$DIR/fill" "$DIR/$kind" "${peer[@]}" ;;
+        grid) bench/near_run.py "$fill" "$looks" "${grid[@]}" ;;
+        peer) bench/near_run.py "$fill" "$looks" "${peer[@]}" ;;
     esac
 }
 
@@ -129,8 +134,8 @@ differing_look() {
     local few=$((30 * FEW)) many=$((30 * MANY)) looks=$((30 * (MANY - FEW))) cost=counted_of
     if [ "$kind" != alone ]; then
         few=$DIR/few many=$DIR/many looks=$((MANY - FEW))
-        { cat "$DIR/fill"; write_part "$kind" "$entries" "$FEW"; } > "$few"
-        cat "$DIR/fill" "$DIR/$kind" > "$many"
+        { cat "$DIR/fill.$entries"; write_part "$kind" "$entries" "$FEW"; } > "$few"
+        cat "$DIR/fill.$entries" "$DIR/$kind.$entries" > "$many"
     fi
     [ "$BY" != time ] || cost=nanoseconds_of
     awk -v few="$($cost "$1" "$few")" -v many="$($cost "$1" "$many")" -v looks="$looks" \
@@ -138,24 +143,39 @@ differing_look() {
 }
 
 look_of() {
-    if [ "$BY" = time ] && [ "$kind" != alone ]; then timed_look "$1"; else differing_look "$1"; fi
+    case $BY/$kind in
+        time/memory) "$DIR/near_memory" "$entries" ;;
+        */alone | instructions/*) differing_look "$1" ;;
+        *) timed_look "$1" ;;
+    esac
 }
 
-# What a look-up costs the grid and its peer, in each run: in files named by both.
-measure() {
-    local runs=1
-    [ "$BY" != time ] || runs=$RUNS
-    rm -f "$DIR"/cost.*
-    for _ in $(seq "$runs"); do
-        for who in grid peer; do
-            look_of "$who" >> "$DIR/cost.$who"
+# Who looks up: to wait for memory is the same for both.
+sides() {
+    [ "$kind" = memory ] || echo grid
+    echo peer
+}
+
+# Does something for each size, kind and side, in this order.
+for_each() {
+    for entries in "${sizes[@]}"; do
+        for kind in $KINDS; do
+            for who in $(sides); do
+                "$@"
+            done
         done
     done
 }
 
-# Prints what a look-up costs the grid, or its peer.
+# What a look-up costs in one run more, in a file of its size, kind and side.
+measure() {
+    look_of "$who" >> "$DIR/cost.$entries.$kind.$who"
+}
+
+# Prints what a look-up costs.
 tell() {
-    awk -v kind="$kind" -v entries="$entries" -v who="$1" -v by="$BY" -v each="$(sort -n "$DIR/cost.$1" | head -n 1)" 'BEGIN {
+    awk -v kind="$kind" -v entries="$entries" -v who="$who" -v by="$BY" \
+        -v each="$(sort -n "$DIR/cost.$entries.$kind.$who" | head -n 1)" 'BEGIN {
             if (by == "time") {
                 printf "%9s %10d %6s %20.0f %16.0f\n", kind, entries, who, each, (each > 0 ? 1000000000 / each : 0)
             } else {
@@ -164,17 +184,19 @@ tell() {
         }'
 }
 
-[ $# -gt 0 ] || set -- 10 1000 100000
+sizes=("$@")
+[ $# -gt 0 ] || sizes=(10 1000 100000)
+for entries in "${sizes[@]}"; do
+    for part in fill $KINDS; do
+        write_part "$part" "$entries" "$MANY" > "$DIR/$part.$entries"
+    done
+done
+[ "$BY" = time ] || RUNS=1
+for _ in $(seq "$RUNS"); do
+    for_each measure
+done
 case $BY in
     time) printf '%9s %10s %6s %20s %16s\n' look-ups entries who nanoseconds/look-up look-ups/second ;;
     *) printf '%9s %10s %6s %20s\n' look-ups entries who "$BY/look-up" ;;
 esac
-for entries in "$@"; do
-    write_part fill "$entries" 0 > "$DIR/fill"
-    for kind in $KINDS; do
-        [ "$kind" = alone ] || write_part "$kind" "$entries" "$MANY" > "$DIR/$kind"
-        measure
-        tell grid
-        tell peer
-    done
-done
+for_each tell

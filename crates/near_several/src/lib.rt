@@ -6,9 +6,9 @@
 //! there. `Claims` has what holds of each value that it hits. The functions compute nothing: their contracts are the laws.
 #![tactic(auto)]
 
+ghost use Rattle.std.specs.Prelude.{List, ℕ};
 ghost use Rattle.grid_base.specs.Objects.{Object};
 ghost use Rattle.near_protocol.specs.Keyed.{Keyed};
-ghost use Rattle.std.specs.Prelude.{List, ℕ};
 ghost use Rattle.grid_client.specs.Nears.{Value};
 ghost use Rattle.near_several.specs.Claims.{EveryHitIsAfter, EveryHitOfAClientIsAfter};
 
@@ -16,7 +16,7 @@ ghost use Rattle.near_several.specs.Claims.{EveryHitIsAfter, EveryHitOfAClientIs
 /// that is the reply of a get of the client which was answered and stands in the trail of the key's partition, after each
 /// write that an invalidation of the key named which the client has handled on any connection.
 ///
-/// That it also stands after each answered write where nothing is unread holds on one connection alone
+/// That it also stands after each answered write, once the client has read on, is proved of one connection alone
 /// (`every_hit_stands` of `near_protocol`).
 pub fn every_hit_is_after<C, S, K, V>()
     ensures { (o : Object C S) (l : Keyed C S K V) → EveryHitIsAfter o l }
