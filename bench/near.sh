@@ -45,13 +45,17 @@ trap 'rm -r "$DIR"' EXIT
 g++ -std=c++17 -O2 -o "$DIR/peer" bench/near_peer.cpp
 g++ -std=c++17 -O2 -o "$DIR/near_memory" bench/near_memory.cpp
 
-# Writes a part of a script: `fill` makes a cache of so many entries and fills it, and the others look so many keys up.
+sizes=("$@")
+[ $# -gt 0 ] || sizes=(10 1000 100000)
+
+# Writes a part of a script: `fill` makes a cache of so many entries and fills it, and the others look so many keys up. Look-ups stand
+# at the same lines for all sizes, so that the numbers of lines, which are printed, have as many digits.
 write_part() {
-    python3 - "$1" "$2" "$3" <<'PY'
+    python3 - "$1" "$2" "$3" "${sizes[@]}" <<'PY'
 import struct
 import sys
 
-part, entries, lookups = sys.argv[1], int(sys.argv[2]), int(sys.argv[3])
+part, entries, lookups, *sizes = sys.argv[1], *map(int, sys.argv[2:])
 TOGETHER = 100
 HOT = 10
 
@@ -70,8 +74,12 @@ def look_up(numbers, feeds):
 # Between the number of a key and that of the next one.
 STEPS = {"hot": max(1, entries // HOT), "ordered": 1, "scattered": 7919}
 
+def lines_of(keys):
+    return keys + keys // TOGETHER
+
 if part == "fill":
     print("grid 1 0 10")
+    print("# as many lines as it takes to fill the largest\n" * (max(map(lines_of, sizes)) - lines_of(entries)), end="")
     print("open 0 0")
     print("near 0 6d", entries)
     look_up(range(entries), feeds=True)
@@ -184,8 +192,6 @@ tell() {
         }'
 }
 
-sizes=("$@")
-[ $# -gt 0 ] || sizes=(10 1000 100000)
 for entries in "${sizes[@]}"; do
     for part in fill $KINDS; do
         write_part "$part" "$entries" "$MANY" > "$DIR/$part.$entries"

@@ -38,10 +38,10 @@ measure() {
     bench/near.sh 10 1000 100000 >"$room/looks" 2>"$room/err" || cat "$room/err"
 }
 
-# They differed by two hundredths in a script when this was written; to go over the known rows at each hit made it twenty-seven.
+# They differed by less than one hundredth when this was written; to go over the known rows at each hit made it twenty-seven.
 BY=instructions KINDS='scattered alone' MANY=25000 measure
-check scattered 5
-check alone 5
+check scattered 2
+check alone 2
 
 # The fastest of nine runs of each size. A clock is never as sure as a count: hence the wide bound.
 BY=time KINDS=hot RUNS=9 measure
