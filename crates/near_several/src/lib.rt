@@ -22,8 +22,8 @@ pub fn every_hit_is_after<C, S, K, V>()
     ensures { (o : Object C S) (l : Keyed C S K V) → EveryHitIsAfter o l }
 {}
 
-/// The same of a client of `grid_client`, where it goes with such a run: it does so with each call and each message by that
-/// crate's laws.
+/// The same of a client of `grid_client`, where it goes with such a run. That each of its calls and messages does to what it
+/// keeps what the machine's does is said by that crate's laws; that what it is sent is what the machine hears is supposed.
 pub fn every_hit_of_a_client_is_after<C, S>()
     ensures { (o : Object C S) (l : Keyed C S (List ℕ) Value) → EveryHitOfAClientIsAfter o l }
 {}
