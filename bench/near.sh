@@ -3,10 +3,10 @@
 # others are kept; `ordered` hits, each of the entry that wasn't used for longest; `scattered` hits, of all keys in an order that is
 # neither that of their last use nor that in memory; `misses` of keys that it doesn't keep, whose answers it is handed after every
 # 100 look-ups, so that each takes the place of an entry; and scattered hits of a cache `alone`, without a script
-# (crates/near_looks). Beside it in the same run stands what any C++ program would keep entries in (near_peer.cpp), with the same
+# (crates/near_bench). Beside it in the same run stands what any C++ program would keep entries in (near_peer.cpp), with the same
 # look-ups: a miss is there a look-up and an entry, and no get. `memory` looks nothing up: it says how long one wait for memory takes
 # in as many places as there are entries (near_memory.cpp). Run it from anywhere, after `rt run` in crates/grid and in
-# crates/near_looks has built the programs: bench/near.sh [ENTRIES..]. GRID and LOOKS name other ones, and KINDS some of the six.
+# crates/near_bench has built the programs: bench/near.sh [ENTRIES..]. GRID and LOOKS name other ones, and KINDS some of the six.
 #
 # A script fills a cache and then makes MANY look-ups. BY says in what these are counted:
 #
@@ -23,7 +23,7 @@ set -euo pipefail
 
 cd "$(dirname "$0")/.."
 GRID=${GRID:-crates/grid/out/grid}
-LOOKS=${LOOKS:-crates/near_looks/out/near_looks}
+LOOKS=${LOOKS:-crates/near_bench/out/near_bench}
 RUNS=${RUNS:-7}
 FEW=${FEW:-5000}
 MANY=${MANY:-95000}

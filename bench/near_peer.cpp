@@ -6,7 +6,7 @@
 //
 // It reads the lines of such a script alone: `near 0 NAME CAP` makes an empty cache, and `nearget 0 KEY` looks a key up. A
 // miss is answered null at once, and kept. It prints what the grid prints of them, but for the bytes of messages, and `ok` for
-// each other line. With two words it does what `near_looks` does.
+// each other line. With two words it does what `near_bench` does.
 #include <cstdio>
 #include <cstdlib>
 #include <list>

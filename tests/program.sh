@@ -128,7 +128,7 @@ run replay <"$room/message"
 ended 'a message too long' 0 "$(long_message_closes)" ''
 
 # Words that are composed: they are those of scenarios, and one of each message. And words that nobody says.
-data=crates/compose_script/data
+data=crates/compose_lines/data
 for words in "$data"/*/*.words; do
     name=${words#"$data/"}
     name=${name%.words}

@@ -14,7 +14,7 @@ from serving.server import TOP, Run, free_ports, program, run_program
 SOURCE = Path(__file__).with_name("interrupt.c")
 
 SCRIPT = (TOP / "crates/grid/stdin").read_bytes()
-WORDS = (TOP / "crates/compose_script/data/sessions/put_then_get.words").read_bytes()
+WORDS = (TOP / "crates/compose_lines/data/sessions/put_then_get.words").read_bytes()
 CONTROL = b"crash 2\ndetect 2\nadvance 5\nend\n"
 
 

@@ -1,6 +1,7 @@
-//! Lines of words: reads what each says, and writes the line of a script that it stands for.
+//! `grid compose`: reads a script in words, and writes the script that they stand for, line by line.
 #![tactic(auto)]
 
+mod command;
 mod composer;
 mod data;
 mod numbers;
@@ -8,4 +9,5 @@ mod options;
 mod reading;
 mod what;
 
+pub use command::compose_command;
 pub use composer::{Composed, Composer};

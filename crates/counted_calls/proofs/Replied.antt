@@ -18,7 +18,7 @@ use Rattle.live_grid.specs.Control.{controls_in, is_control}
 use Rattle.live_grid.specs.Histories.{cells, live_key, outcome_after}
 use Rattle.live_grid.specs.Outcomes.{LiveTells, IsRefusedIn}
 use Rattle.live_grid.specs.Plans.{IsPlanOf}
-use Rattle.live_histories.specs.Uncontrolled.{IsUncontrolled, IsExecuted, first_leader}
+use Rattle.live_history_laws.specs.Uncontrolled.{IsUncontrolled, IsExecuted, first_leader}
 use Rattle.counted_calls.specs.Calls.{call_of, id_of, request_of}
 use Rattle.counted_calls.specs.Gathered.{IsCounted}
 use Rattle.counted_calls.specs.Sessions.{Ran}

@@ -17,11 +17,11 @@ use Rattle.live_grid.specs.declared.plan.GridPlan.{GridPlan}
 use Rattle.live_grid.specs.Outcomes.{IsRepliedIn, LiveTells}
 use Rattle.live_grid.specs.Plans.{IsPlanOf, settings_for}
 use Rattle.live_grid.specs.Stored.{stored_in}
-use Rattle.live_histories.specs.Entries.{asks_of, object_trail}
-use Rattle.live_histories.specs.Fitting.{Fits}
-use Rattle.live_histories.specs.Leaving.{left_of}
-use Rattle.live_histories.specs.Names.{AreNamedOnce}
-use Rattle.live_histories.specs.Reopenings.{reopened}
+use Rattle.live_history_laws.specs.Entries.{asks_of, object_trail}
+use Rattle.live_history_laws.specs.Fitting.{Fits}
+use Rattle.live_history_laws.specs.Leaving.{left_of}
+use Rattle.live_history_laws.specs.Names.{AreNamedOnce}
+use Rattle.live_history_laws.specs.Reopenings.{reopened}
 use Rattle.counted_calls.specs.Calls.{call_of, calls_in, id_of, name_of}
 use Rattle.counted_calls.specs.Counts.{AreAnswered, AreCounted, IsAdding, number_stored}
 use Rattle.counted_calls.specs.Gathered.{AreGathered, IsCounted}

@@ -28,10 +28,10 @@ use Rattle.live_grid.specs.declared.plan.GridPlan.{GridPlan}
 use Rattle.live_grid.specs.Histories.{live_key}
 use Rattle.live_grid.specs.Plans.{settings_for}
 use Rattle.live_grid.specs.Stored.{something_of}
-use Rattle.live_histories.specs.Entries.{HasEntry, StandsBefore, asks_of, object_trail}
-use Rattle.live_histories.specs.Fitting.{Fits, StandsAs}
-use Rattle.live_histories.specs.Names.{AreNamedOnce}
-use Rattle.live_histories.specs.Reopenings.{reopened, resets_in}
+use Rattle.live_history_laws.specs.Entries.{HasEntry, StandsBefore, asks_of, object_trail}
+use Rattle.live_history_laws.specs.Fitting.{Fits, StandsAs}
+use Rattle.live_history_laws.specs.Names.{AreNamedOnce}
+use Rattle.live_history_laws.specs.Reopenings.{reopened, resets_in}
 use Rattle.counted_calls.specs.Calls.{calls_from, calls_in, id_of, is_call, is_call_from, name_of, one as the_one, owner_of, request_of}
 use Rattle.counted_calls.specs.Gathered.{AreGathered, IsCounted}
 use Rattle.counted_calls.specs.Sessions.{Ran, WasTold, event_of as run_as}

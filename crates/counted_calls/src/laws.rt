@@ -13,7 +13,7 @@ ghost use Rattle.counted_calls.specs.Gathered.{AreGathered};
 use crate::requests::PARTITION;
 use entry_processors::laws::every_number_has_one_value;
 use live_grid::laws::a_member_is_gone_by_a_crash;
-use live_histories::{
+use live_history_laws::{
     every_live_history_is_linearizable, no_two_live_calls_have_one_name,
     what_is_stored_is_what_the_history_leaves, without_an_operator_every_call_is_executed,
 };

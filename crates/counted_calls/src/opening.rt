@@ -8,9 +8,8 @@ ghost use Rattle.counted_calls.specs.Gathered.{HasGathered};
 use crate::requests::{LEADER, SESSIONS};
 use crate::stage::Stage;
 use crate::threads::Caller;
-use call_environment::Environment;
 use grid_base::Memory;
-use live_grid::GridPass;
+use live_grid::{Environment, GridPass};
 use std::alloc::AllocError;
 
 /// A session of each connection at the leader, of a grid in which nothing has happened.

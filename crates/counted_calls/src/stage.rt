@@ -5,9 +5,8 @@ ghost use Rattle.hand_cell.specs.Calls.{plan_of};
 ghost use Rattle.live_grid.specs.Grids.{place_of};
 ghost use Rattle.live_grid.specs.Plans.{settings_for};
 
-use call_environment::{Environment, Shared};
 use grid_base::Bytes;
-use live_grid::LiveGrid;
+use live_grid::{Environment, LiveGrid, Shared};
 use std::alloc::Global;
 
 /// What the threads of a count share: memory, the grid, the environment in which calls are run, which means what the grid's

@@ -7,9 +7,8 @@ ghost use Rattle.counted_calls.specs.Callers.{MayMake, HasMadeAll, MayAllMake, H
 use crate::calling::make_calls;
 use crate::requests::{LEADER, SESSIONS, THREAD};
 use crate::stage::Stage;
-use call_environment::Environment;
 use grid_base::Memory;
-use live_grid::LiveWorld;
+use live_grid::{Environment, LiveWorld};
 use partition_threads::{OpenGate, THREADS, WorkerTokens, worker};
 use session_calls::SessionPass;
 use std::alloc::AllocError;

@@ -11,8 +11,7 @@ mod telling_doors;
 
 use crate::progress::Progress;
 use crate::telling_doors::TellingDoors;
-use compose_script::compose_command;
-use draw_run::draw_command;
+use compose_lines::compose_command;
 use entry_processors::{Add, AddUpTo, Append, Clear, Form, Processor, SetIfGreater};
 use explain_run::explain_command;
 use grid_base::Memory;
@@ -20,6 +19,7 @@ use grid_cli::Status;
 use grid_edge::{Clock, Doors, StdClock, StdSink, StdSource};
 use grid_sample::Watch;
 use grid_server::grid_top;
+use run_chart::draw_command;
 use serve_options::{OptionsRefused, help_of_serve, read_options, why_refused};
 use std::alloc::Global;
 use std::io::ErrorKind;

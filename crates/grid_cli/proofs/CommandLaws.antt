@@ -14,11 +14,11 @@ use Rattle.call_engine.specs.Objects.{partition_object}
 use Rattle.replay_run.specs.Runs.{Run, next_line}
 use Rattle.replay_run.specs.Printing.{ok_text, appended_text, entry_text, all_entries}
 use Rattle.replay_run.specs.Printing as grid
-use Rattle.ruled_run.specs.Runs.{RuledRun, has_masters}
-use Rattle.ruled_run.specs.AfterLines.{unruled, ruled_line}
-use Rattle.ruled_run.specs.AfterLines as ruled
-use Rattle.ruled_run.specs.Printing.{ruled_text, unruled_text}
-use Rattle.ruled_run.specs.Printing as told
+use Rattle.masters_run.specs.Runs.{RuledRun, has_masters}
+use Rattle.masters_run.specs.AfterLines.{unruled, ruled_line}
+use Rattle.masters_run.specs.AfterLines as ruled
+use Rattle.masters_run.specs.Printing.{ruled_text, unruled_text}
+use Rattle.masters_run.specs.Printing as told
 use Rattle.script_run.specs.Runs.{ScriptRun, begun, ruled_of}
 use Rattle.script_run.specs.AfterLines.{after_line, after_lines}
 use Rattle.script_run.specs.Printing.{line_text}

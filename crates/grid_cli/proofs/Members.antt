@@ -10,9 +10,9 @@ use Rattle.script_lang.specs.declared.line.Line.{Line}
 use Rattle.replay_run.proofs.EventRuns.{takes_kept}
 use Rattle.replay_run.proofs.LineCounts.{IsCounted, line_counted}
 use Rattle.replay_run.proofs.RunsOfLines.{run_ok}
-use Rattle.ruled_run.specs.Runs.{RuledRun}
-use Rattle.ruled_run.specs.AfterLines.{after_line}
-use Rattle.ruled_run.proofs.RuledRuns.{line_keeps}
+use Rattle.masters_run.specs.Runs.{RuledRun}
+use Rattle.masters_run.specs.AfterLines.{after_line}
+use Rattle.masters_run.proofs.RuledRuns.{line_keeps}
 
 -- with masters or without, it is one line more
 pub ruled_line_counted : (o : Object Request Partition) (skips : List CallId) (s : RuledRun) (line : Line) → IsCounted s.run (after_line o skips s line).run

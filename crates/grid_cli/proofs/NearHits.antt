@@ -16,8 +16,8 @@ use Rattle.script_lang.proofs.Ranges.{IsWithin-words_of}
 use Rattle.replay_run.specs.Runs.{Run}
 use Rattle.script_run.specs.Runs.{ScriptRun, begun, ruled_of, grid_line}
 use Rattle.script_run.specs.AfterLines.{after_line, after_lines}
-use Rattle.near_scripts.specs.HitsStand.{HitsStand, AreLines}
-use Rattle.near_scripts.proofs.Theorem.{every_hit_of_a_script_stands}
+use Rattle.near_script_laws.specs.HitsStand.{HitsStand, AreLines}
+use Rattle.near_script_laws.proofs.Theorem.{every_hit_of_a_script_stands}
 use Rattle.grid_cli.specs.Scripts.{Cut, stops, onto, within, last_cut, cut_pieces, lines_of}
 use Rattle.grid_cli.specs.Transcripts.{settings}
 use Rattle.grid_cli.specs.Progress.{run_after, begun_by, capacity_by, capacity_of, run_of}

@@ -12,10 +12,10 @@ use Rattle.script_lang.specs.declared.refusal.LineWhy.{LineWhy}
 use Rattle.replay_run.specs.Runs.{Appended}
 use Rattle.replay_run.specs.Appending.{appended_text}
 use Rattle.replay_run.specs.Printing.{ok_text, nothing_text}
-use Rattle.ruled_run.specs.Runs.{RuledRun}
-use Rattle.ruled_run.specs.AfterLines as ruled
-use Rattle.ruled_run.specs.Printing as ruled_text
-use Rattle.ruled_run.proofs.KeptLines.{bytes_after, comment_after}
+use Rattle.masters_run.specs.Runs.{RuledRun}
+use Rattle.masters_run.specs.AfterLines as ruled
+use Rattle.masters_run.specs.Printing as ruled_text
+use Rattle.masters_run.proofs.KeptLines.{bytes_after, comment_after}
 use Rattle.script_run.specs.Runs.{ScriptRun, Look, Unmade, Hit, Miss, begun, ruled_of, can_begin, is_near_connection, look, asked_line}
 use Rattle.script_run.specs.NearClients.{opening_of, get_sent}
 use Rattle.script_run.specs.AfterLines as script

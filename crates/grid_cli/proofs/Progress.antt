@@ -12,8 +12,8 @@ use Rattle.call_engine.specs.Calls.{Settings}
 use Rattle.call_engine.specs.Objects.{partition_object}
 use Rattle.replay_run.specs.Runs.{Arrival, is_skipped}
 use Rattle.replay_run.specs.Printing.{ok_text}
-use Rattle.ruled_run.specs.Grids.{AreOfLine}
-use Rattle.ruled_run.proofs.RuledRuns.{ruled_run}
+use Rattle.masters_run.specs.Grids.{AreOfLine}
+use Rattle.masters_run.proofs.RuledRuns.{masters_run}
 use Rattle.script_run.specs.Runs.{ScriptRun, begun, ruled_of, grid_line}
 use Rattle.script_run.specs.AfterLines.{after_line}
 use Rattle.script_run.specs.Printing.{line_text}
@@ -98,7 +98,7 @@ module _ (forms : List ProcessorForm) (capacity : ℕ) (r : ScriptRun) (skips : 
   grows = subst (λ (x : ScriptRun). Grows r.run x.run) after (whole_line_grows by k r line)
 
   next_is : IsRun o next.run
-  next_is = subst (λ (x : ScriptRun). IsRun o x.run) after (ruled_run k (ruled_of r) is asked)
+  next_is = subst (λ (x : ScriptRun). IsRun o x.run) after (masters_run k (ruled_of r) is asked)
 
   counts : IsCounted r.run next.run
   counts = subst (λ (x : ScriptRun). IsCounted r.run x.run) after (ruled_line_counted o k (ruled_of r) asked)

@@ -18,11 +18,11 @@ use Rattle.script_lang.specs.declared.line.Line.TheVariants as line
 use Rattle.replay_run.specs.Runs.{Appended, partitions}
 use Rattle.replay_run.specs.Appending.{appended_text, new_messages}
 use Rattle.replay_run.specs.Printing.{ok_text, flow_text, words_line, deliveries}
-use Rattle.ruled_run.specs.Runs.{RuledRun, opening_masters, has_masters, masters_at, ruled_at, goes, goes_in, flowed, flowed_in, link_between, handing_over, flowed_between, counted}
-use Rattle.ruled_run.specs.AfterLines.{by_grid, unruled, Asked, asked_at, by_partition, ruled_line, after_line}
-use Rattle.ruled_run.specs.Printing.{published_texts, followed, followed_in, handed_over, followed_each, outcome_words, asked_text_of, flowed_text, ruled_text, unruled_text, line_text}
-use Rattle.ruled_run.proofs.RuledRuns.{AsksNoCall, between_on, IsQuietAsked, asked_quiet}
-use Rattle.ruled_run.proofs.RuledGrowing.{goes_goes, goes_in_goes, flowed_goes, flowed_in_goes}
+use Rattle.masters_run.specs.Runs.{RuledRun, opening_masters, has_masters, masters_at, ruled_at, goes, goes_in, flowed, flowed_in, link_between, handing_over, flowed_between, counted}
+use Rattle.masters_run.specs.AfterLines.{by_grid, unruled, Asked, asked_at, by_partition, ruled_line, after_line}
+use Rattle.masters_run.specs.Printing.{published_texts, followed, followed_in, handed_over, followed_each, outcome_words, asked_text_of, flowed_text, ruled_text, unruled_text, line_text}
+use Rattle.masters_run.proofs.RuledRuns.{AsksNoCall, between_on, IsQuietAsked, asked_quiet}
+use Rattle.masters_run.proofs.RuledGrowing.{goes_goes, goes_in_goes, flowed_goes, flowed_in_goes}
 use Rattle.grid_cli.specs.PrintedRuns.{HasPart}
 use Rattle.grid_cli.proofs.Parts.{part_left, part_right, behind_outcome, new_part}
 use Rattle.grid_cli.proofs.GridPrints.{something_printed, line_prints}

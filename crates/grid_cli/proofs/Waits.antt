@@ -8,16 +8,16 @@ use Rattle.script_lang.specs.Lines.{line_of}
 use Rattle.script_lang.specs.declared.line.Line.{Line}
 use Rattle.script_lang.specs.declared.line.Line.TheVariants.{Grid}
 use Rattle.script_lang.specs.declared.refusal.LineWhy.{LineWhy}
-use Rattle.ruled_run.specs.Laws.{ruled_with}
-use Rattle.ruled_run.specs.Runs.{RuledRun}
-use Rattle.ruled_run.proofs.RuledWaiters.{every_waiter_stays}
+use Rattle.masters_run.specs.Laws.{ruled_with}
+use Rattle.masters_run.specs.Runs.{RuledRun}
+use Rattle.masters_run.proofs.RuledWaiters.{every_waiter_stays}
 use Rattle.script_run.specs.AfterLines.{after_lines}
 use Rattle.script_run.specs.Laws.{grid_lines}
 use Rattle.script_run.specs.Runs.{ScriptRun, begun, ruled_of}
 use Rattle.script_run.proofs.MastersLaws.{grid_lines-append}
 use Rattle.script_run.proofs.ScriptLaws.{every_run_is_the_grids}
-use Rattle.waiting_runs.proofs.RuledLines.{every_partition_goes_by_its_machine, every_partition_goes_on}
-use Rattle.waiting_runs.proofs.SilentWaiters.{every_waiter_changes_nothing}
+use Rattle.masters_run.proofs.RuledLines.{every_partition_goes_by_its_machine, every_partition_goes_on}
+use Rattle.masters_run.proofs.SilentWaiters.{every_waiter_changes_nothing}
 use Rattle.grid_cli.specs.Progress.{run_after, begun_by, capacity_by, capacity_of, run_of}
 use Rattle.grid_cli.specs.Scripts.{lines_of}
 use Rattle.grid_cli.specs.Statuses.{ReadsAndWrites}

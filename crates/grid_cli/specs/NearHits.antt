@@ -3,7 +3,7 @@ use Rattle.std.specs.Prelude.{◌≡◌, ℕ, List, Option, Some}
 use Rattle.std.specs.Io.KnownBytes.{append_known, prepend_known}
 use Rattle.grid_base.specs.declared.names.CallId.{CallId}
 use Rattle.entry_processors.specs.Processors.{ProcessorForm}
-use Rattle.near_scripts.specs.HitsStand.{HitsStand}
+use Rattle.near_script_laws.specs.HitsStand.{HitsStand}
 use Rattle.grid_cli.specs.Commands.{run_of_script, settings_in}
 use Rattle.grid_cli.specs.Statuses.{HasReplayed}
 use Rattle.grid_cli.specs.declared.status.Status.{Status}

@@ -8,8 +8,8 @@ use Rattle.call_engine.specs.Objects.{partition_object}
 use Rattle.partition_protocol.specs.Sequences.{IsFrontOf}
 use Rattle.replay_run.specs.Runs.{Run, Waiter, partitions, as_machine}
 use Rattle.replay_run.specs.Staying.{HasNoTurn}
-use Rattle.waiting_runs.specs.ByMachine.{GoesByItsMachine}
-use Rattle.waiting_runs.specs.Silent.{ChangesNothing}
+use Rattle.masters_run.specs.ByMachine.{GoesByItsMachine}
+use Rattle.masters_run.specs.Silent.{ChangesNothing}
 use Rattle.grid_cli.specs.Commands.{run_of_script, settings_in}
 use Rattle.grid_cli.specs.Statuses.{HasReplayed}
 use Rattle.grid_cli.specs.declared.status.Status.{Status}

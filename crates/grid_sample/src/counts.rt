@@ -6,14 +6,13 @@ ghost use Rattle.live_grid.specs.Plans.{settings_in};
 ghost use Rattle.grid_sample.specs.Samples.{counted_text, HasCountedAs, StopsAtCounts, Writes};
 
 use crate::watched::{Watch, Watched};
-use call_environment::{Environment, Shared};
 use counted_calls::{Counted, count_calls};
 use entry_processors::Form;
 use grid_base::{Bytes, Memory};
 use grid_cli::Status;
 use grid_edge::{Sink, write_all};
 use itoa::Buffer;
-use live_grid::{GridPass, LiveGrid};
+use live_grid::{Environment, GridPass, LiveGrid, Shared};
 use std::alloc::Global;
 use std::sync::Wait;
 use std::thread::Threads;

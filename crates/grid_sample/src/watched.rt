@@ -1,7 +1,7 @@
 //! Who is told how far a sample has come.
 use call_engine::GridShelf;
-use call_environment::Environment;
 use grid_base::{Executed, Memory, Moment, Request};
+use live_grid::Environment;
 use sample_run::{LineWatch, Unwatched};
 use std::alloc::Global;
 

@@ -5,11 +5,10 @@ ghost use Rattle.grid_server.specs.Serving.{operator};
 ghost use Rattle.grid_server.specs.Tasks.{HasOperated, HasHeard};
 
 use crate::stage::Stage;
-use call_environment::Environment;
 use grid_cli::Status;
 use grid_edge::{Sink, Source, Wakes};
 use live_control::serve_control;
-use live_grid::GridPass;
+use live_grid::{Environment, GridPass};
 use std::sync::Wait;
 
 /// Runs the control script.

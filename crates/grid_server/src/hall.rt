@@ -8,9 +8,8 @@ ghost use Rattle.grid_server.specs.Serving.{at_doors};
 ghost use Rattle.grid_server.specs.Tasks.{HasServedClients};
 
 use crate::stage::Stage;
-use call_environment::Environment;
 use grid_edge::{Clock, DoorFault, Doors};
-use live_grid::LiveWorld;
+use live_grid::{Environment, LiveWorld};
 use live_server::{Connections, serve};
 use std::sync::Wait;
 

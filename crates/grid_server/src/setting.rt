@@ -5,10 +5,9 @@ ghost use Rattle.live_grid.specs.Grids.{IsGridPassOf, place_of};
 ghost use Rattle.live_grid.specs.Plans.{settings_for, settings_in};
 ghost use Rattle.grid_server.specs.Settings.{AreWorkers, IsSetting};
 
-use call_environment::{Environment, Shared};
 use entry_processors::Form;
 use grid_base::Memory;
-use live_grid::{GridPass, LiveGrid, LiveWorld};
+use live_grid::{Environment, GridPass, LiveGrid, LiveWorld, Shared};
 use live_server::Connections;
 use partition_threads::WorkerTokens;
 use serve_options::ServeOptions;

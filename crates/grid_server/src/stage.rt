@@ -5,8 +5,7 @@ ghost use Rattle.hand_cell.specs.Calls.{plan_of};
 ghost use Rattle.live_grid.specs.Grids.{place_of};
 ghost use Rattle.live_grid.specs.Plans.{settings_for};
 
-use call_environment::{Environment, Shared};
-use live_grid::LiveGrid;
+use live_grid::{Environment, LiveGrid, Shared};
 use live_server::Closing;
 use serve_options::ServeOptions;
 use std::alloc::Global;

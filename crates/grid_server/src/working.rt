@@ -4,7 +4,7 @@ ghost use Rattle.grid_server.specs.Settings.{IsWorker};
 
 use crate::setting::Worker;
 use crate::stage::Stage;
-use call_environment::Environment;
+use live_grid::Environment;
 use partition_threads::{Gate, worker as work};
 use std::sync::Wait;
 

@@ -9,6 +9,7 @@ mod answers;
 mod control;
 mod control_turns;
 mod copies;
+mod environment;
 mod grid;
 mod handing;
 pub mod laws;
@@ -20,6 +21,7 @@ mod settling;
 mod world;
 
 pub use copies::Record;
+pub use environment::{Environment, Shared};
 pub use grid::{GridPass, LiveGrid};
 pub use plan::GridPlan;
 pub use world::LiveWorld;

@@ -7,7 +7,7 @@
 //! (`Machine`), what holds of every run (`Claims`), and runs that are computed (`Examples`).
 //! The functions here and in `laws` compute nothing. Their contracts are what holds of every run, for any object.
 //!
-//! It is for scripts in which masters on the members take the place of the one table service (`ruled_run`), and
+//! It is for scripts in which masters on the members take the place of the one table service (`masters_run`), and
 //! docs/MASTERS.md says its rules in words.
 #![tactic(auto)]
 

@@ -11,7 +11,7 @@ use Rattle.call_engine.specs.Calls.{Settings}
 use Rattle.call_engine.specs.Env.{settings_of}
 use Rattle.call_engine.specs.Objects.{partition_object}
 use Rattle.wait_sets.specs.declared.waiter.Waiter.{Waiter as ListedWaiter}
-use Rattle.wait_lists.specs.Lists.{place_of, list_at, with_list}
+use Rattle.wait_sets.specs.Lists.{place_of, list_at, with_list}
 use Rattle.replay_run.specs.declared.grid.Grid.{Grid}
 use Rattle.replay_run.specs.declared.tally.Reception.TheVariants.{Taken}
 use Rattle.replay_run.specs.Runs.{Run, Waiter, partitions, waits, waiter_at}

@@ -15,8 +15,8 @@ use Rattle.call_engine.specs.Objects.{partition_object}
 use Rattle.partition_world.specs.Recorders.{KeepsAll}
 use Rattle.partition_world.specs.Worlds.{steps_of, run_of, waiting}
 use Rattle.replica_node.specs.Calls.{refused_as}
-use Rattle.wait_lists.specs.declared.spot.Spot.{Spot}
-use Rattle.wait_lists.specs.declared.turn.Turn.TheVariants.{Call, Refusal, Silence}
+use Rattle.wait_sets.specs.declared.spot.Spot.{Spot}
+use Rattle.wait_sets.specs.declared.turn.Turn.TheVariants.{Call, Refusal, Silence}
 use Rattle.replay_run.specs.declared.grid.Grid.{Grid}
 use Rattle.replay_run.specs.declared.tally.Reception.{Reception}
 use Rattle.replay_run.specs.declared.tally.Reception.TheVariants.{Refused as WasRefused}

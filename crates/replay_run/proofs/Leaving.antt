@@ -11,7 +11,7 @@ use Rattle.call_engine.specs.Objects.{partition_object}
 use Rattle.partition_world.specs.LinkOrder.{links_of}
 use Rattle.wait_sets.specs.declared.waiter.Waiter.{Waiter as ListedWaiter}
 use Rattle.wait_sets.specs.WaitSets.{is_of}
-use Rattle.wait_lists.specs.Lists.{place_of}
+use Rattle.wait_sets.specs.Lists.{place_of}
 use Rattle.replay_run.specs.declared.grid.Grid.{Grid}
 use Rattle.replay_run.specs.declared.tally.Reception.TheVariants.{Taken}
 use Rattle.replay_run.specs.Runs.{Run, Waiter, partitions, connection_of, is_open, events_at, is_waiter, without, ending, leaves, is_waiting_on, left_by, left_so_often, forsaken}

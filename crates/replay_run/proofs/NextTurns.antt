@@ -22,13 +22,13 @@ use Rattle.waiting_protocol.specs.Machine as machine
 use Rattle.waiting_protocol.specs.LineClaims.{standing}
 use Rattle.wait_sets.specs.declared.waiter.Waiter.{Waiter as ListedWaiter}
 use Rattle.wait_sets.specs.Laws.{meant, all_meant, grid_terms}
-use Rattle.wait_lists.specs.declared.turn.Standing.{Standing}
-use Rattle.wait_lists.specs.declared.turn.Turn.{Turn}
-use Rattle.wait_lists.specs.declared.turn.Turn.TheVariants.{Call, Refusal, Silence}
-use Rattle.wait_lists.specs.Lists.{place_of, list_at, with_list}
-use Rattle.wait_lists.specs.Turns.{TakesTurn}
-use Rattle.wait_lists.specs.Laws.{standing_as, request_of, IsFate, StandsSo, LeavesAsPicked}
-use Rattle.wait_lists.proofs.Partitions.{every_turn_is_its_lists}
+use Rattle.wait_sets.specs.declared.turn.Standing.{Standing}
+use Rattle.wait_sets.specs.declared.turn.Turn.{Turn}
+use Rattle.wait_sets.specs.declared.turn.Turn.TheVariants.{Call, Refusal, Silence}
+use Rattle.wait_sets.specs.Lists.{place_of, list_at, with_list}
+use Rattle.wait_sets.specs.Turns.{TakesTurn}
+use Rattle.wait_sets.specs.ListLaws.{standing_as, request_of, IsFate, StandsSo, LeavesAsPicked}
+use Rattle.wait_sets.proofs.Partitions.{every_turn_is_its_lists}
 use Rattle.replay_run.specs.declared.grid.Grid.{Grid}
 use Rattle.replay_run.specs.Runs.{Run, Waiter, partitions, events_at, moment_of, world_at, is_waiter, without, as_machine, fate_now, is_its_turn}
 use Rattle.replay_run.specs.ScriptRuns.{IsRun}

@@ -7,7 +7,7 @@ use Rattle.std.proofs.lemmas.List.{length-replicate}
 use Rattle.std.proofs.lemmas.List.Elements.{All-head, All-tail}
 use Rattle.wait_sets.specs.declared.waiter.Waiter.{Waiter as ListedWaiter}
 use Rattle.replay_run.specs.Runs.{Run, Waiter, begun, partitions}
-use Rattle.wait_lists.specs.Lists.{place_of, list_at}
+use Rattle.wait_sets.specs.Lists.{place_of, list_at}
 use Rattle.replay_run.specs.Grids.{HasWaiters, as_listed, waits_at}
 
 pub waiters_alike : (lists : List (List ListedWaiter)) (r next : Run) → next.members ≡ r.members → next.waiters ≡ r.waiters → HasWaiters lists r → HasWaiters lists next

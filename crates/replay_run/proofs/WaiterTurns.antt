@@ -13,9 +13,9 @@ use Rattle.waiting_protocol.specs.Machine.{is_over}
 use Rattle.call_engine.specs.Calls.{Settings}
 use Rattle.call_engine.specs.Objects.{partition_object}
 use Rattle.wait_sets.specs.declared.waiter.Waiter.{Waiter as ListedWaiter}
-use Rattle.wait_lists.specs.Lists.{list_at}
-use Rattle.wait_lists.specs.declared.spot.Spot.{Spot}
-use Rattle.wait_lists.specs.declared.turn.Turn.{Turn}
+use Rattle.wait_sets.specs.Lists.{list_at}
+use Rattle.wait_sets.specs.declared.spot.Spot.{Spot}
+use Rattle.wait_sets.specs.declared.turn.Turn.{Turn}
 use Rattle.replay_run.specs.declared.grid.Grid.{Grid}
 use Rattle.replay_run.specs.Runs.{Run, Waiter, partitions, events_at, without, ending, leaves_so, fate_now, is_its_turn, next_in_turn, served_in, served_so_often}
 use Rattle.replay_run.specs.Tables.{opened_at}

@@ -25,7 +25,7 @@ use Rattle.call_engine.specs.Limits.{RequestFits}
 use Rattle.call_engine.specs.Objects.{partition_object}
 use Rattle.partition_world.specs.LinkOrder.{links_of}
 use Rattle.wait_sets.specs.declared.waiter.Waiter.{Waiter as ListedWaiter}
-use Rattle.wait_lists.specs.Lists.{list_at}
+use Rattle.wait_sets.specs.Lists.{list_at}
 use Rattle.replay_run.specs.Runs.{Run, Connection, Waiter, Appended, partitions, connection_of, messages_on, bytes_of, events_at, listening}
 use Rattle.replay_run.specs.AfterLines.{after_line}
 use Rattle.replay_run.specs.Counts.{is_refused, is_out_of_memory}

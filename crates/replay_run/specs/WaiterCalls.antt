@@ -9,9 +9,9 @@ use Rattle.call_engine.specs.Objects.{partition_object}
 use Rattle.partition_world.specs.LinkOrder.{links_of}
 use Rattle.replica_node.specs.Calls.{refused_as}
 use Rattle.waiting_protocol.specs.Machine.{Fate, IsRefused, Leaves, is_made}
-use Rattle.wait_lists.specs.declared.spot.Spot.{Spot}
-use Rattle.wait_lists.specs.declared.turn.Turn.{Turn}
-use Rattle.wait_lists.specs.declared.turn.Turn.TheVariants.{Call, Refusal, Silence}
+use Rattle.wait_sets.specs.declared.spot.Spot.{Spot}
+use Rattle.wait_sets.specs.declared.turn.Turn.{Turn}
+use Rattle.wait_sets.specs.declared.turn.Turn.TheVariants.{Call, Refusal, Silence}
 use Rattle.replay_run.specs.declared.grid.Grid.{Grid}
 use Rattle.replay_run.specs.Appending.{new_messages}
 use Rattle.replay_run.specs.Endings.{AreAmong, new_arrivals}

@@ -38,7 +38,7 @@ use partition_world::{CallOutcome, Event, Happened, Recorder, World};
 use script_lang::Line;
 use session_core::Item;
 use std::alloc::Global;
-use wait_lists::Spot;
+use wait_sets::Spot;
 
 /// The error that answers a call which was not run: its number, and the version of the row that its
 /// member knows.

@@ -28,7 +28,7 @@ use grid_base::{MemberId, Memory, PARTITIONS, PartitionId, Request, Shelf};
 use partition_world::{Event, Happened, Link, Records, World};
 use script_lang::Line;
 use std::alloc::Global;
-use wait_lists::Spot;
+use wait_sets::Spot;
 
 /// What happens to a member in all partitions.
 #[derive(Clone, Copy)]

@@ -22,7 +22,7 @@ use listeners::Listeners;
 use partition_world::{Link, Recorder, World};
 use script_lang::Line;
 use std::alloc::Global;
-use wait_lists::WaitLists;
+use wait_sets::WaitLists;
 
 /// The worlds of all partitions, the connections to their members and who listens on them, each member's clock, and how
 /// many lines were run.

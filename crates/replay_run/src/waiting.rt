@@ -12,7 +12,7 @@ ghost use Rattle.replay_run.specs.Tallies.{tallied_later};
 ghost use Rattle.replay_run.specs.Grids.{boxed, AreFew, Holds, IsCounting};
 ghost use Rattle.replay_run.specs.WorldCalls.{HasCallRoom, GivesUpSo, HasRoomAt, texts_of};
 ghost use Rattle.replay_run.specs.WaiterCalls.{IsBetween, HasServed, HasTakenOut, by_turns, by_leaving, MayLeave, HasHandledCall, by_waiting};
-ghost use Rattle.wait_lists.specs.declared.turn.Turn.TheVariants.{Call as Called};
+ghost use Rattle.wait_sets.specs.declared.turn.Turn.TheVariants.{Call as Called};
 ghost use Rattle.partition_protocol.specs.Service.{numbers_below};
 ghost use Rattle.replica_node.specs.Calls.{refused_as};
 ghost use Rattle.replay_run.specs.declared.tally.Reception.TheVariants.{Refused as WasRefused};
@@ -27,8 +27,7 @@ use crate::tally::Reception;
 use grid_base::{MemberId, Memory, PARTITIONS, PartitionRefused, Request};
 use partition_world::Event;
 use std::alloc::Global;
-use wait_lists::{Spot, Turn, standing_of};
-use wait_sets::{Waiter, deadline_of};
+use wait_sets::{Spot, Turn, Waiter, deadline_of, standing_of};
 
 /// The member at which an event may make waiters leave: the one that takes a message, or that crashes.
 pub(crate) fn stirred_by(event: &Event<Request>) -> Option<MemberId>

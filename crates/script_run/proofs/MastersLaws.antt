@@ -7,10 +7,10 @@ use Rattle.script_lang.specs.declared.line.Line.{Line}
 use Rattle.masters_protocol.specs.Claims.{IsSound}
 use Rattle.masters_protocol.specs.Machine.{Masters}
 use Rattle.masters_world.specs.Decisions.{Decision}
-use Rattle.ruled_run.specs.Laws.{ruled_with, ServesAsPublished, GoesOn, MastersAgree}
-use Rattle.ruled_run.specs.Runs.{RuledRun, has_masters, masters_at}
-use Rattle.ruled_run.specs.Standing.{IsRuled}
-use Rattle.ruled_run.proofs.RuledLaws as ruled
+use Rattle.masters_run.specs.Laws.{ruled_with, ServesAsPublished, GoesOn, MastersAgree}
+use Rattle.masters_run.specs.Runs.{RuledRun, has_masters, masters_at}
+use Rattle.masters_run.specs.Standing.{IsRuled}
+use Rattle.masters_run.proofs.RuledLaws as ruled
 use Rattle.script_run.specs.Runs.{ScriptRun, begun, ruled_of, grid_line}
 use Rattle.script_run.specs.AfterLines.{after_line, after_lines}
 use Rattle.script_run.specs.Laws.{run_with, grid_lines}

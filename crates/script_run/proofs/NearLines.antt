@@ -13,8 +13,8 @@ use Rattle.script_lang.specs.declared.line.Line.TheVariants.{Arrive, Near, NearG
 use Rattle.replay_run.specs.Grids.{FormOf, most_arriving}
 use Rattle.replay_run.specs.Printing.{ok_text, nothing_text, words_line}
 use Rattle.replay_run.specs.Runs.{connection_of}
-use Rattle.ruled_run.specs.Printing as ruled_text
-use Rattle.ruled_run.proofs.KeptLines.{line_lines, bytes_text}
+use Rattle.masters_run.specs.Printing as ruled_text
+use Rattle.masters_run.proofs.KeptLines.{line_lines, bytes_text}
 use Rattle.script_run.specs.declared.client.NearClient.{NearClient as KeptClient}
 use Rattle.script_run.specs.declared.grid.ScriptGrid.{ScriptGrid}
 use Rattle.script_run.specs.NearClients.{NearClient, opening_of, new_near, used, get_sent, missed, piece, told, fed}

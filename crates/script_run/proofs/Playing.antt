@@ -13,11 +13,11 @@ use Rattle.replay_run.specs.Appending.{new_messages}
 use Rattle.replay_run.specs.Grids.{FormOf, most_arriving}
 use Rattle.replay_run.specs.Printing.{nothing_text}
 use Rattle.replay_run.specs.Runs.{Run, Appended}
-use Rattle.ruled_run.specs.Grids as ruled
-use Rattle.ruled_run.specs.Grids.{AreOfLine}
-use Rattle.ruled_run.specs.Printing as ruled_text
-use Rattle.ruled_run.specs.Runs.{RuledRun}
-use Rattle.ruled_run.proofs.KeptLines.{line_lines}
+use Rattle.masters_run.specs.Grids as ruled
+use Rattle.masters_run.specs.Grids.{AreOfLine}
+use Rattle.masters_run.specs.Printing as ruled_text
+use Rattle.masters_run.specs.Runs.{RuledRun}
+use Rattle.masters_run.proofs.KeptLines.{line_lines}
 use Rattle.script_run.specs.declared.grid.ScriptGrid.{ScriptGrid}
 use Rattle.script_run.specs.NearClients.{NearClient}
 use Rattle.script_run.specs.Outputs.{appends}

@@ -9,7 +9,7 @@ use Rattle.masters_world.specs.Decisions.{Decision, event_of, is_of_service}
 use Rattle.masters_world.specs.Machine.{Ruled, Line, start, published_by, events_by, after, events}
 use Rattle.masters_world.specs.Claims.{IsWellRuled, IsRight, Publishes}
 use Rattle.masters_world.proofs.Theorem.{every_run_is_well_ruled, after_append, events_append}
-use Rattle.ruled_run.proofs.AskedLines.{published_goes, well_formed_after}
+use Rattle.masters_run.proofs.AskedLines.{published_goes, well_formed_after}
 use Rattle.script_run.specs.Masters.{TookRightly}
 
 -- what stands in a list with one more at its end stands in the list, or is that one

@@ -24,12 +24,12 @@ use Rattle.replay_run.specs.Appending.{appended_text, new_messages}
 use Rattle.replay_run.specs.Dumps.{number}
 use Rattle.replay_run.specs.Printing.{nothing_text, ok_text, words_line, done_word, flow_text, deliveries}
 use Rattle.replay_run.specs.WorldCalls.{is_quiet}
-use Rattle.ruled_run.specs.Runs.{RuledRun, has_masters, opening_masters, masters_at, ruled_at, takes_each, meets_full_link, given_up, goes, goes_in, link_between, handing_over, flowed_between, counted}
-use Rattle.ruled_run.specs.AfterLines.{by_grid, unruled, ruled_line, after_line}
-use Rattle.ruled_run.specs.Printing.{master_words, event_words, said, outcome_words, published_words, published_text, published_texts, followed, followed_in, handed_over, followed_each, ruled_text, unruled_text, line_text}
-use Rattle.ruled_run.proofs.AskedLines.{loss_publishes_nothing, resending_publishes_nothing}
-use Rattle.ruled_run.proofs.RuledRuns.{AsksNoCall, between_on}
-use Rattle.ruled_run.proofs.RuledGrowing.{goes_goes, goes_in_goes, between_goes}
+use Rattle.masters_run.specs.Runs.{RuledRun, has_masters, opening_masters, masters_at, ruled_at, takes_each, meets_full_link, given_up, goes, goes_in, link_between, handing_over, flowed_between, counted}
+use Rattle.masters_run.specs.AfterLines.{by_grid, unruled, ruled_line, after_line}
+use Rattle.masters_run.specs.Printing.{master_words, event_words, said, outcome_words, published_words, published_text, published_texts, followed, followed_in, handed_over, followed_each, ruled_text, unruled_text, line_text}
+use Rattle.masters_run.proofs.AskedLines.{loss_publishes_nothing, resending_publishes_nothing}
+use Rattle.masters_run.proofs.RuledRuns.{AsksNoCall, between_on}
+use Rattle.masters_run.proofs.RuledGrowing.{goes_goes, goes_in_goes, between_goes}
 use Rattle.script_run.specs.Outputs.{sent_to, appends}
 use Rattle.script_run.specs.Reading.{Tells}
 use Rattle.script_run.proofs.LineReadings.{none_new, reads_parted, quiet_words, quiet_done, quiet_fate, reads_ok, reads_nothing, reads_flow, reads_fated, reads_flowed, reads_text, quiet_none as quiet_alone}

@@ -15,13 +15,13 @@ use Rattle.replay_run.specs.Skips.{AgreeOn}
 use Rattle.replay_run.specs.Counts.{CountsOnce}
 use Rattle.replay_run.proofs.Growing.{Grows, grows_trans, goes_nowhere}
 use Rattle.replay_run.proofs.Skipped.{none_before}
-use Rattle.ruled_run.specs.Runs.{RuledRun}
-use Rattle.ruled_run.specs.Printing as ruled_text
-use Rattle.ruled_run.proofs.KeptLines.{bytes_text}
-use Rattle.ruled_run.proofs.RuledGrowing.{ruled_line_grows}
-use Rattle.ruled_run.proofs.RuledRuns as ruled
-use Rattle.ruled_run.proofs.RuledSkips as skipped
-use Rattle.ruled_run.proofs.SkippedTexts as line
+use Rattle.masters_run.specs.Runs.{RuledRun}
+use Rattle.masters_run.specs.Printing as ruled_text
+use Rattle.masters_run.proofs.KeptLines.{bytes_text}
+use Rattle.masters_run.proofs.RuledGrowing.{ruled_line_grows}
+use Rattle.masters_run.proofs.RuledRuns as ruled
+use Rattle.masters_run.proofs.RuledSkips as skipped
+use Rattle.masters_run.proofs.SkippedTexts as line
 use Rattle.script_run.specs.Runs.{ScriptRun, Look, Unmade, Hit, Miss, begun, ruled_of, is_near_connection, look, grid_line, nears_by}
 use Rattle.script_run.specs.AfterLines.{noting, after_line, after_lines}
 use Rattle.script_run.specs.Printing.{line_text, look_text}

@@ -21,10 +21,10 @@ use Rattle.replay_run.proofs.EventRuns.{Kept, takes_kept, served_in_kept, flowed
 use Rattle.replay_run.proofs.Rebalanced.{rebalanced_kept}
 use Rattle.replay_run.proofs.Bounds.{event_kept}
 use Rattle.replay_run.proofs.Lines.{handled_all_come}
-use Rattle.ruled_run.specs.Runs.{RuledRun}
-use Rattle.ruled_run.specs.AfterLines as ruled
-use Rattle.ruled_run.proofs.KeptLines.{bytes_after}
-use Rattle.ruled_run.proofs.RuledRuns.{line_keeps}
+use Rattle.masters_run.specs.Runs.{RuledRun}
+use Rattle.masters_run.specs.AfterLines as ruled
+use Rattle.masters_run.proofs.KeptLines.{bytes_after}
+use Rattle.masters_run.proofs.RuledRuns.{line_keeps}
 use Rattle.script_run.specs.Runs.{is_silent, is_new, takes}
 use Rattle.script_run.specs.Grids.{has_spoken, AreSpoken}
 

@@ -6,7 +6,7 @@ use Rattle.call_engine.specs.Objects.{partition_object}
 use Rattle.script_lang.specs.declared.line.Line.{Line}
 use Rattle.replay_run.specs.Appending.{new_messages}
 use Rattle.replay_run.specs.Runs.{Appended}
-use Rattle.ruled_run.specs.AfterLines as ruled
+use Rattle.masters_run.specs.AfterLines as ruled
 use Rattle.script_run.specs.NearClients.{NearClient}
 use Rattle.script_run.specs.Outputs.{sent_to}
 use Rattle.script_run.specs.Runs.{ScriptRun, ruled_of, grid_line, nears_by}

@@ -13,9 +13,9 @@ use Rattle.script_lang.specs.declared.line.Line.{Line}
 use Rattle.script_lang.specs.declared.line.Line.TheVariants.{Arrive, Comment}
 use Rattle.replay_run.specs.Runs.{Run, Connection, connection_of}
 use Rattle.replay_run.specs.Grids.{FormOf, most_arriving}
-use Rattle.ruled_run.specs.Printing as ruled_text
-use Rattle.ruled_run.specs.Grids as ruled
-use Rattle.ruled_run.specs.Grids.{AreOfLine}
+use Rattle.masters_run.specs.Printing as ruled_text
+use Rattle.masters_run.specs.Grids as ruled
+use Rattle.masters_run.specs.Grids.{AreOfLine}
 use Rattle.script_run.specs.declared.client.NearClient.{NearClient as KeptClient}
 use Rattle.script_run.specs.declared.grid.ScriptGrid.{ScriptGrid}
 use Rattle.script_run.specs.NearClients.{NearClient}

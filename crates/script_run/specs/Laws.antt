@@ -4,7 +4,7 @@ use Rattle.grid_base.specs.declared.names.CallId.{CallId}
 use Rattle.call_engine.specs.Calls.{Settings}
 use Rattle.call_engine.specs.Objects.{partition_object}
 use Rattle.script_lang.specs.declared.line.Line.{Line}
-use Rattle.ruled_run.specs.AfterLines as ruled
+use Rattle.masters_run.specs.AfterLines as ruled
 use Rattle.replay_run.specs.Linearizability.{IsLinearizable}
 use Rattle.replay_run.specs.SkippedCalls.{TellsOfSkips, TellsOfNoSkip}
 use Rattle.replay_run.specs.Counts.{CountsOnce}

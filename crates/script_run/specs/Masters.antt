@@ -12,9 +12,9 @@ use Rattle.masters_world.specs.Decisions.{Decision, event_of, is_of_service}
 use Rattle.masters_world.specs.Claims.{IsRight}
 use Rattle.script_lang.specs.declared.line.Line.{Line}
 use Rattle.replay_run.specs.Runs.{partitions, events_at}
-use Rattle.ruled_run.specs.Laws.{ServesAsPublished, GoesOn, MastersAgree}
-use Rattle.ruled_run.specs.Runs.{has_masters, masters_at}
-use Rattle.ruled_run.specs.Standing.{IsRuled}
+use Rattle.masters_run.specs.Laws.{ServesAsPublished, GoesOn, MastersAgree}
+use Rattle.masters_run.specs.Runs.{has_masters, masters_at}
+use Rattle.masters_run.specs.Standing.{IsRuled}
 use Rattle.script_run.specs.Laws.{run_with}
 use Rattle.script_run.specs.Runs.{ScriptRun, ruled_of}
 

@@ -13,7 +13,7 @@ use Rattle.script_lang.specs.declared.line.Line.TheVariants.{Arrive, Near, NearG
 use Rattle.replay_run.specs.Dumps.{number, value_text}
 use Rattle.replay_run.specs.Runs.{Run}
 use Rattle.replay_run.specs.Printing.{ok_text, nothing_text, words_line, does_nothing, line_messages, line_close}
-use Rattle.ruled_run.specs.Printing as ruled
+use Rattle.masters_run.specs.Printing as ruled
 use Rattle.script_run.specs.NearClients.{NearClient, opening_of, get_sent, piece, told}
 use Rattle.script_run.specs.Runs.{ScriptRun, ruled_of, Look, Unmade, Hit, Miss, near_of, is_near_connection, can_begin, look}
 

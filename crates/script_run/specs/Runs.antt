@@ -12,7 +12,7 @@ use Rattle.replay_run.specs.Runs.{Run, Connection, connection_of, is_open, takes
 use Rattle.replay_run.specs.Runs as grid
 use Rattle.masters_protocol.specs.Machine.{Masters}
 use Rattle.masters_world.specs.Decisions.{Decision}
-use Rattle.ruled_run.specs.Runs.{RuledRun}
+use Rattle.masters_run.specs.Runs.{RuledRun}
 use Rattle.script_run.specs.NearClients.{NearClient, is_near, opening_of, new_near, value_kept, used, get_sent, missed, fed}
 
 -- the run of the grid; the masters of its partitions, where its table service runs on its members; and the near clients in the order in which they came

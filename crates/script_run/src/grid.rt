@@ -14,8 +14,8 @@ use crate::client::{NearClient, note_all};
 use crate::outputs::appends;
 use entry_processors::Processor;
 use grid_base::Memory;
+use masters_run::RuledGrid;
 use replay_run::{RunEnd, push_nothing};
-use ruled_run::RuledGrid;
 use script_lang::Line;
 use std::alloc::Global;
 

@@ -1,6 +1,6 @@
 use Rattle.std.proofs.Common.{ℕ, length}
 use Rattle.call_engine.specs.Calls.{Settings}
-use Rattle.wait_lists.specs.Lists.{list_at}
+use Rattle.wait_sets.specs.Lists.{list_at}
 use Rattle.replay_run.specs.Runs.{Run}
 use Rattle.replay_run.specs.Grids.{boxed}
 use Rattle.replay_run.specs.WaiterCalls.{IsBetween}

@@ -1,8 +1,8 @@
 use Rattle.std.proofs.Common.{◌≡◌, true, false, ap, sym, ◌∙◌}
 use Rattle.std.proofs.lemmas.Result.{on_ok_weaker}
 use Rattle.call_engine.specs.Objects.{partition_object}
-use Rattle.ruled_run.specs.Runs.{RuledRun}
-use Rattle.ruled_run.proofs.KeptLines.{comment_after}
+use Rattle.masters_run.specs.Runs.{RuledRun}
+use Rattle.masters_run.proofs.KeptLines.{comment_after}
 use Rattle.script_run.specs.Runs.{ruled_of}
 use Rattle.script_run.proofs.grid.ScriptGrid.count.Goals as goal
 

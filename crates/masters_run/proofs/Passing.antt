@@ -1,0 +1,135 @@
+-- A line that is counted, and does nothing else to the grid: it is held back, or it brings the masters.
+use Rattle.std.proofs.Common.{◌≡◌, ℕ, zero, suc, ◌+◌, ◌<◌, ◌≤◌, true, false, true≢false, cond, ◌==◌, List, [], ◌∷◌, ◌++◌, map, length, Option, Some, None, Result, Ok, Err, slice_get, refl, ap, sym, ◌∙◌, subst, ⊎_elim, append-nil, arith}
+use Rattle.std.specs.Prelude.{codes, OnOk}
+use Rattle.std.proofs.lemmas.Bool.{cases_eq}
+use Rattle.std.proofs.lemmas.List.{drop_all}
+use Rattle.grid_base.specs.Objects.{Object}
+use Rattle.grid_base.specs.declared.names.CallId.{CallId}
+use Rattle.grid_base.specs.declared.calls.Request.{Request}
+use Rattle.object_store.specs.Partitions.{Partition}
+use Rattle.call_engine.specs.Calls.{Settings}
+use Rattle.call_engine.specs.Objects.{partition_object}
+use Rattle.partition_table.specs.Rows.{is_empty}
+use Rattle.partition_protocol.specs.World.{map_or}
+use Rattle.partition_protocol.proofs.Lists.{in_contains}
+use Rattle.partition_protocol.proofs.RowFacts.{number_same}
+use Rattle.masters_world.specs.Machine.{Asks, proposals, proposing, asked_by, at_once_of}
+use Rattle.master_log.specs.declared.masters.Masters.{Masters}
+use Rattle.master_log.specs.Standing.{StandsFor, size_of}
+use Rattle.script_lang.specs.Limits.{most_lines}
+use Rattle.script_lang.specs.Lines.{IsWithin}
+use Rattle.script_lang.specs.declared.line.Line.{Line as ScriptLine}
+use Rattle.script_lang.specs.declared.line.Line.TheVariants as ScriptLines
+use Rattle.replay_run.specs.Runs.{At, partitions, next_line, event_by}
+use Rattle.replay_run.specs.Appending.{new_messages}
+use Rattle.replay_run.specs.Grids.{FormOf, most_arriving}
+use Rattle.replay_run.specs.Printing.{ok_text, nothing_text, words_line}
+use Rattle.replay_run.specs.WorldCalls.{texts_of}
+use Rattle.replay_run.specs.WorldCalls as amid
+use Rattle.replay_run.proofs.EventLines.{of_event}
+use Rattle.replay_run.proofs.TableChanges.{got_before, got_last}
+use Rattle.replay_run.proofs.TakenApart.{few_none}
+use Rattle.masters_run.specs.declared.grid.RuledGrid.{RuledGrid}
+use Rattle.masters_run.specs.Runs.{RuledRun, has_masters, opening_masters, ruled_at, takes_each, goes, counted}
+use Rattle.masters_run.specs.AfterLines.{by_grid, ruled_line, after_line}
+use Rattle.masters_run.specs.Printing.{event_words, said, outcome_words, followed, ruled_text, line_text}
+use Rattle.masters_run.specs.Grids.{Stands, HasRun}
+use Rattle.masters_run.specs.Parts.{is_later, is_held_back}
+use Rattle.masters_run.proofs.AtOnce.{as_event, asks_by_proposals, goes_at_once, followed_at_once, says_at_once}
+use Rattle.masters_run.proofs.LineParts.{with_masters, text_with_masters, without_masters, text_without_masters, counted_amid, stands_then}
+use Rattle.masters_run.proofs.RuleLemmas.{opening_rules}
+
+some_at : {X : Type 0} (xs : List X) (p : ℕ) → p < length xs → (x : X) × (slice_get xs p ≡ Some x)
+some_at [] p low = absurd (omega (arith, low))
+some_at (x ∷ xs) zero low = (x, refl)
+some_at (x ∷ xs) (suc p) low = some_at xs p (omega (arith, low))
+
+-- a line that is held back
+
+pub record PassesBy (settings : Settings) (s : RuledRun) (line : ScriptLine) : Type 0 where
+  pub after : (skips : List CallId) → ruled_line (partition_object settings) skips s line ≡ counted s
+  pub text : (skips : List CallId) → ruled_text settings skips s line (counted s) ≡ nothing_text (s.run.lines + 1)
+
+module _ (settings : Settings) (s : RuledRun) (whole : length s.masters ≡ partitions) where
+  abbrev o : Object Request Partition
+  o = partition_object settings
+
+  empty_none : {X : Type 0} (xs : List X) → is_empty xs ≡ true → xs ≡ []
+  empty_none [] is = refl
+  empty_none (x ∷ xs) is = absurd (true≢false (sym is))
+
+  event_passes : (line : ScriptLine) (e : At) → event_by line ≡ Some e → e.partition < partitions → proposals (ruled_at o s e.partition) e.event ≡ [] → is_later settings s e ≡ true → PassesBy settings s line
+  event_passes line e is placed nothing later =
+      let its = as_event settings s line e is in
+      let j = ruled_at o s e.partition in
+      let none : asked_by j (Asks e.event) ≡ [] = asks_by_proposals j e.event its.no_crash ∙ ap (λ ds. proposing ds) nothing in
+      let nothing_now : at_once_of j e.event ≡ [] = empty_none (at_once_of j e.event) later in
+      let low : e.partition < length s.masters = omega (arith, placed, whole) in
+      let stays : (k : List CallId) → goes o k (counted s) e.partition (Asks e.event) ≡ counted s = λ k.
+      goes_at_once o (counted s) e.partition e.event none k low ∙ ap (λ es. record (counted s) { run = takes_each o k (next_line s.run) e.partition es }) nothing_now in
+      record {
+        after = λ k. its.after k ∙ stays k;
+        text = λ k.
+            (let words : outcome_words o j (Asks e.event) ≡ codes "nothing" = says_at_once o (counted s) e.partition e.event none ∙ ap (λ es. said [] (map (event_words o j.world) es)) nothing_now in
+            let rest : followed o k (counted s) e.partition (Asks e.event) ≡ [] =
+            followed_at_once o (counted s) e.partition e.event none k ∙ ap (λ (x : RuledRun). texts_of (new_messages (next_line s.run) x.run)) (stays k) ∙ ap texts_of (drop_all (length s.run.appended) s.run.appended (omega arith)) in
+            its.text k (counted s) ∙ (λ i. words_line (s.run.lines + 1) (words i) ++ rest i) ∙ append-nil (nothing_text (s.run.lines + 1)));
+      }
+
+  held_event : (line : ScriptLine) (x : Option At) → event_by line ≡ x → map_or x false (is_later settings s) ≡ true → ((e : At) → event_by line ≡ Some e → proposals (ruled_at o s e.partition) e.event ≡ []) → IsWithin s.run.members most_arriving line → PassesBy settings s line
+  held_event line None is held nothing read = absurd (true≢false (sym held))
+  held_event line (Some e) is held nothing read = event_passes line e is ((of_event settings s.run line e is).within s.run.members most_arriving read) (nothing e is) held
+
+  pub passes : (line : ScriptLine) → is_held_back settings s line ≡ true → ((e : At) → event_by line ≡ Some e → proposals (ruled_at o s e.partition) e.event ≡ []) → IsWithin s.run.members most_arriving line → PassesBy settings s line
+  passes ScriptLines.Masters held nothing read = record { after = λ k. refl; text = λ k. refl }
+  passes (ScriptLines.Rebalance most) held nothing read = record { after = λ k. refl; text = λ k. refl }
+  passes line held nothing read = held_event line (event_by line) refl held nothing read
+
+module _ {V : Type 0} {T : V → Type 0} {form : FormOf V T} {settings : Settings} (all new : RuledGrid V T) (s : RuledRun) (stands : Stands form settings all s) (limit : s.run.lines + 1 ≤ most_lines) where
+  -- The line was counted, and nothing else.
+  pub passed : (line : ScriptLine) → has_masters s ≡ true → PassesBy settings s line → new.masters ≡ all.masters → amid.IsAmid form settings new.grid (next_line s.run) → (number : ℕ) (written text : List ℕ) → number ≡ s.run.lines + 1 → text ≡ written ++ nothing_text number
+      → HasRun form settings new s line written text
+  passed line ruled its kept now number written text at_line is =
+      let o = partition_object settings in
+      let there = counted_amid all s stands new kept now in
+      let after : after_line o [] s line ≡ counted s = with_masters o [] s line ruled ∙ its.after [] in
+      record {
+        skips = [];
+        of_line = λ id c. absurd (in_contains id [] c);
+        stands = subst (Stands form settings new) (sym after) (stands_then all s stands limit new (counted s) 0 0 (few_none (next_line s.run)) (omega arith) (omega arith) there);
+        added = is ∙ ap (λ n. written ++ nothing_text n) at_line ∙ ap (λ xs. written ++ xs) (sym (ap (λ x. line_text settings [] s line x) after ∙ text_with_masters settings [] s line (counted s) ruled ∙ its.text []));
+      }
+
+  -- The masters begin, at the second line.
+  pub begins : has_masters s ≡ false → s.run.lines ≡ 1 → amid.IsAmid form settings new.grid (next_line s.run) → length new.masters.items ≡ partitions
+      → ((p : ℕ) (kept : Masters) → slice_get new.masters.items p ≡ Some kept → (size_of kept ≡ s.run.members) × StandsFor kept [])
+      → (number : ℕ) (written text : List ℕ) → number ≡ s.run.lines + 1 → text ≡ written ++ ok_text number → HasRun form settings new s ScriptLines.Masters written text
+  begins none one now count each number written text at_line is =
+      let o = partition_object settings in
+      let next : RuledRun = record (counted s) { masters = opening_masters s.run.members } in
+      let first : (s.run.lines == 1) ≡ true = number_same s.run.lines 1 one in
+      let after : after_line o [] s ScriptLines.Masters ≡ next = without_masters o [] s ScriptLines.Masters none ∙ ap (λ b. cond b next (by_grid o [] s ScriptLines.Masters)) first in
+      let rules = opening_rules settings new.masters.items next refl (stands.begun one) count stands.masters.most
+      (λ p low. let there = some_at new.masters.items p (omega (arith, low, count)) in let its = each p there.0 there.1 in (there.0, there.1, its.0, its.1)) in
+      record {
+        skips = [];
+        of_line = λ id c. absurd (in_contains id [] c);
+        stands = subst (Stands form settings new) (sym after) (stands_then all s stands limit new next 0 0 (few_none (next_line s.run)) (omega arith) (omega arith) (record { grid = now; masters = rules }));
+        added = is ∙ ap (λ n. written ++ ok_text n) at_line
+            ∙ ap (λ xs. written ++ xs) (sym (ap (λ x. line_text settings [] s ScriptLines.Masters x) after ∙ text_without_masters settings [] s ScriptLines.Masters next none ∙ ap (λ b. cond b (ok_text (s.run.lines + 1)) (nothing_text (s.run.lines + 1))) first));
+      }
+
+pub on_ok_two : {T E P Q R : Type 0} (r : Result T E) → (P → Q → R) → OnOk r P → OnOk r Q → OnOk r R
+on_ok_two (Ok x) f p q = f p q
+on_ok_two (Err e) f p q = tt
+
+-- One partition more has its masters.
+pub opened_more : (before : List Masters) (new : Masters) (members : ℕ) → ((p : ℕ) (masters : Masters) → slice_get before p ≡ Some masters → (size_of masters ≡ members) × StandsFor masters []) → size_of new ≡ members → StandsFor new []
+    → (p : ℕ) (masters : Masters) → slice_get (before ++ new ∷ []) p ≡ Some masters → (size_of masters ≡ members) × StandsFor masters []
+opened_more before new members each size stands p masters there = ⊎_elim last (λ apart. each p masters (sym (got_before before new p apart) ∙ there)) (cases_eq p (length before))
+  where
+    last : p ≡ length before → (size_of masters ≡ members) × StandsFor masters []
+    last e =
+        let both : Some new ≡ Some masters = sym (got_last before new) ∙ ap (slice_get (before ++ new ∷ [])) (sym e) ∙ there in
+        let one : new ≡ masters = cc in
+        subst (λ (m : Masters). (size_of m ≡ members) × StandsFor m []) one (size, stands)

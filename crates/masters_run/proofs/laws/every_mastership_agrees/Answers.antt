@@ -1,0 +1,6 @@
+-- It is the law of the lemmas.
+use Rattle.masters_run.proofs.laws.every_mastership_agrees.Goals as goal
+use Rattle.masters_run.proofs.RuledLaws.{every_mastership_agrees}
+
+pub returns : goal.returns
+returns c = every_mastership_agrees

@@ -1,0 +1,13 @@
+pub mod Runs
+pub mod AfterLines
+pub mod Printing
+pub mod Standing
+pub mod Laws
+pub mod Examples
+pub mod Written
+pub mod Answers
+pub mod Grids
+pub mod Steps
+pub mod Parts
+pub mod ByMachine
+pub mod Silent

@@ -1,5 +1,0 @@
-use Rattle.near_runs.proofs.Hearings.{every_answer_is_heard, every_refusal_is_heard}
-use Rattle.near_runs.proofs.every_answer_is_heard.Goals as goal
-
-pub returns : goal.returns
-returns c = record { answer = every_answer_is_heard; refusal = every_refusal_is_heard }

@@ -1,5 +1,0 @@
-use Rattle.near_runs.proofs.Proper.{every_line_stays_proper}
-use Rattle.near_runs.proofs.every_line_stays_proper.Goals as goal
-
-pub returns : goal.returns
-returns c = every_line_stays_proper

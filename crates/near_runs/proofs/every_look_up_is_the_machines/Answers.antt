@@ -1,5 +1,0 @@
-use Rattle.near_runs.proofs.Looks.{hits, misses}
-use Rattle.near_runs.proofs.every_look_up_is_the_machines.Goals as goal
-
-pub returns : goal.returns
-returns c = record { hit = hits; miss = misses }

@@ -1,5 +1,0 @@
-use Rattle.near_runs.proofs.Maps.{every_map_is_keyed}
-use Rattle.near_runs.proofs.every_map_is_keyed.Goals as goal
-
-pub returns : goal.returns
-returns c = every_map_is_keyed

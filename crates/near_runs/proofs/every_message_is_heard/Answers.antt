@@ -1,5 +1,0 @@
-use Rattle.near_runs.proofs.Clients.{every_message_is_heard}
-use Rattle.near_runs.proofs.every_message_is_heard.Goals as goal
-
-pub returns : goal.returns
-returns c = every_message_is_heard

@@ -1,5 +1,0 @@
-use Rattle.near_runs.proofs.Attaching.{every_opening_attaches}
-use Rattle.near_runs.proofs.every_opening_attaches.Goals as goal
-
-pub returns : goal.returns
-returns c = every_opening_attaches

@@ -1,5 +1,0 @@
-use Rattle.near_runs.proofs.OwnLines.{every_opening_line_is_followed, every_get_line_is_followed}
-use Rattle.near_runs.proofs.every_own_line_is_followed.Goals as goal
-
-pub returns : goal.returns
-returns c = record { opening = every_opening_line_is_followed; get = every_get_line_is_followed }

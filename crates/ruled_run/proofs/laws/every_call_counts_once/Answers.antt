@@ -1,6 +1,0 @@
--- It is the law of the lemmas.
-use Rattle.ruled_run.proofs.laws.every_call_counts_once.Goals as goal
-use Rattle.ruled_run.proofs.RuledRuns.{every_call_counts_once}
-
-pub returns : goal.returns
-returns c = every_call_counts_once

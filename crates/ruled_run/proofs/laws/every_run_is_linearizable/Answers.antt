@@ -1,6 +1,0 @@
--- It is the law of the lemmas.
-use Rattle.ruled_run.proofs.laws.every_run_is_linearizable.Goals as goal
-use Rattle.ruled_run.proofs.RuledRuns.{every_run_is_linearizable}
-
-pub returns : goal.returns
-returns c = every_run_is_linearizable

@@ -1,6 +1,0 @@
--- It is the law of the lemmas.
-use Rattle.ruled_run.proofs.laws.every_run_is_ruled.Goals as goal
-use Rattle.ruled_run.proofs.RuledLaws.{every_run_is_ruled}
-
-pub returns : goal.returns
-returns c = every_run_is_ruled

@@ -1,6 +1,0 @@
--- It is the law of the lemmas.
-use Rattle.ruled_run.proofs.laws.every_service_serves_as_published.Goals as goal
-use Rattle.ruled_run.proofs.RuledLaws.{every_service_serves_as_published}
-
-pub returns : goal.returns
-returns c = every_service_serves_as_published

@@ -1,6 +1,0 @@
--- It is the law of the lemmas.
-use Rattle.ruled_run.proofs.laws.every_skipped_call_is_told.Goals as goal
-use Rattle.ruled_run.proofs.RuledSkips.{every_skipped_call_is_told}
-
-pub returns : goal.returns
-returns c = every_skipped_call_is_told

@@ -1,6 +1,0 @@
--- It is the law of the lemmas.
-use Rattle.ruled_run.proofs.laws.every_waiter_stays.Goals as goal
-use Rattle.ruled_run.proofs.RuledWaiters.{every_waiter_stays}
-
-pub returns : goal.returns
-returns c = every_waiter_stays

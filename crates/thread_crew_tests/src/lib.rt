@@ -1,5 +1,0 @@
-//! Tests of crews of threads.
-#![tactic(auto)]
-
-#[cfg(test)]
-mod crews;

@@ -1,4 +1,0 @@
-pub mod Slots
-pub mod Looks
-pub mod Worlds
-pub mod Partitions

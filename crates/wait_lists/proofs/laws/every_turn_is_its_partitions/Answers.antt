@@ -1,5 +1,0 @@
-use Rattle.wait_lists.proofs.laws.every_turn_is_its_partitions.Goals as goal
-use Rattle.wait_lists.proofs.Partitions.{every_turn_is_its_partitions}
-
-pub returns : goal.returns
-returns c = λ settings. every_turn_is_its_partitions settings

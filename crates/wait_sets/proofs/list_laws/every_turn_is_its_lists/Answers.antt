@@ -1,0 +1,5 @@
+use Rattle.wait_sets.proofs.list_laws.every_turn_is_its_lists.Goals as goal
+use Rattle.wait_sets.proofs.Partitions.{every_turn_is_its_lists}
+
+pub returns : goal.returns
+returns c = λ settings. every_turn_is_its_lists settings

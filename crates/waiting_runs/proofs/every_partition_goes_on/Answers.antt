@@ -1,6 +1,0 @@
--- It is the law of the lemmas.
-use Rattle.waiting_runs.proofs.every_partition_goes_on.Goals as goal
-use Rattle.waiting_runs.proofs.RuledLines.{every_partition_goes_on}
-
-pub returns : goal.returns
-returns c = every_partition_goes_on

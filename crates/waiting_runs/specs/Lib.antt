@@ -1,2 +1,0 @@
-pub mod ByMachine
-pub mod Silent
