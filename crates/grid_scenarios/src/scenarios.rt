@@ -16,7 +16,10 @@ use crashes::{
 };
 use members::{BACKUPS, MASTERS, MOVES, PROMOTIONS, REBALANCING, REOPENINGS};
 use objects::{DUMPS, EXPIRY, LOCKS, MAX_IDLE, OBJECT_CALLS, PROCESSORS, QUEUES};
-use random::{OUTSIDE_BYTES, OUTSIDE_MASTERS, OUTSIDE_OBJECTS, OUTSIDE_REPLICATION, RANDOM};
+use random::{
+    OUTSIDE_BYTES, OUTSIDE_MASTERS, OUTSIDE_OBJECTS, OUTSIDE_REPLICATION, OUTSIDE_SESSIONS,
+    OUTSIDE_UNKNOWN_CLIENTS, RANDOM,
+};
 
 /// The scenarios of a folder.
 #[derive(Clone, Copy, Debug)]
@@ -26,7 +29,7 @@ pub(crate) struct Subject {
 }
 
 /// All of them, in the order in which they run.
-pub(crate) const SUBJECTS: [Subject; 29] = [
+pub(crate) const SUBJECTS: [Subject; 31] = [
     Subject {
         folder: "sessions",
         scenarios: SESSIONS,
@@ -126,6 +129,14 @@ pub(crate) const SUBJECTS: [Subject; 29] = [
     Subject {
         folder: "outside_bytes",
         scenarios: OUTSIDE_BYTES,
+    },
+    Subject {
+        folder: "outside_unknown_clients",
+        scenarios: OUTSIDE_UNKNOWN_CLIENTS,
+    },
+    Subject {
+        folder: "outside_sessions",
+        scenarios: OUTSIDE_SESSIONS,
     },
     Subject {
         folder: "outside_objects",

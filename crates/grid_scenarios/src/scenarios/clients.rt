@@ -5,6 +5,7 @@ pub(crate) const LISTENERS: &[(&str, u8)] = &[
     ("registrations_are_served", 0),
     ("registrations_that_are_refused", 0),
     ("registrations_among_calls", 0),
+    ("a_put_tells_its_own_connection_first", 0),
     ("changes_are_told_with_their_values", 0),
     ("changes_are_told_without_their_values", 0),
     ("expired_values_are_told_once_met", 0),

@@ -90,6 +90,8 @@ pub(crate) const REOPENINGS: &[(&str, u8)] = &[
 
 /// Plans that deal the primaries out evenly: their steps, and when there is no plan.
 pub(crate) const REBALANCING: &[(&str, u8)] = &[
+    ("a_new_grid_is_even", 0),
+    ("one_member_has_its_target", 0),
     ("the_plan_after_a_crash", 0),
     ("all_steps_of_a_plan", 0),
     ("some_steps_of_a_plan", 0),
@@ -106,6 +108,9 @@ pub(crate) const REBALANCING: &[(&str, u8)] = &[
     ("a_held_put_is_answered_by_a_step", 0),
     ("lost_messages_are_sent_again_by_a_step", 0),
     ("contents_go_with_their_partition", 0),
+    ("values_are_kept_through_all_steps", 0),
+    ("a_step_delivers_what_is_in_flight", 0),
+    ("a_step_ends_after_four_turns", 0),
     ("listeners_and_waiters", 0),
     ("random_01", 0),
     ("random_02", 0),

@@ -10,6 +10,52 @@ pub(crate) const OUTSIDE_BYTES: &[(&str, u8)] = &[
     ("sessions_06", 0),
 ];
 
+/// Random scripts of an outside program, of clients that call before they have made themselves known, and are refused.
+pub(crate) const OUTSIDE_UNKNOWN_CLIENTS: &[(&str, u8)] = &[
+    ("01", 0),
+    ("02", 0),
+    ("03", 2),
+    ("04", 0),
+    ("05", 0),
+    ("06", 0),
+    ("07", 0),
+    ("08", 0),
+    ("09", 0),
+    ("10", 0),
+    ("11", 0),
+    ("12", 0),
+    ("13", 0),
+    ("14", 0),
+    ("15", 0),
+    ("16", 0),
+    ("17", 0),
+    ("18", 0),
+    ("19", 0),
+    ("20", 0),
+    ("21", 0),
+    ("22", 0),
+    ("23", 0),
+];
+
+/// Random scripts of an outside program, of sessions on one member and the calls in them.
+pub(crate) const OUTSIDE_SESSIONS: &[(&str, u8)] = &[
+    ("01", 0),
+    ("02", 0),
+    ("03", 0),
+    ("04", 0),
+    ("05", 0),
+    ("06", 0),
+    ("07", 0),
+    ("08", 0),
+    ("09", 0),
+    ("10", 0),
+    ("11", 0),
+    ("12", 0),
+    ("13", 0),
+    ("14", 0),
+    ("15", 0),
+];
+
 /// Random scripts of an outside program, of objects on one member.
 pub(crate) const OUTSIDE_OBJECTS: &[(&str, u8)] = &[
     ("01", 0),
