@@ -1,7 +1,7 @@
 #!/usr/bin/env bash
 # Does a near client's hit take longer with a full cache of 1,000 or 100,000 entries than with one of 10? By the instructions that
 # valgrind counts it may not, in a script and of the cache alone; nor by the clock, where the same ten keys are looked up in each.
-# Of look-ups of all keys by the clock it says nothing: these wait for memory, and do take longer (README.md). It runs
+# Of look-ups of all keys by the clock it says nothing: these wait for memory, and do take longer (docs/COSTS.md). It runs
 # bench/near.sh. Run it from anywhere, after `rt ci`, or `rt run` in crates/grid and in crates/near_bench, has built the programs:
 # tests/near.sh. GRID and LOOKS name other ones. The last line is 'N passed, M failed', and the exit status is 0 where none failed.
 set -u
