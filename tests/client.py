@@ -17,9 +17,27 @@ from serving.server import TOP, end_when_told, program
 
 sys.path.insert(0, str(TOP / "clients" / "python"))
 
-from client_tests import codecs, crashes, locks, maps, outcomes, pages, queues, refusals  # noqa: E402
+from client_tests import (  # noqa: E402
+    batches,
+    codecs,
+    crashes,
+    forks,
+    jobs,
+    locks,
+    maps,
+    outcomes,
+    packages,
+    pages,
+    queues,
+    refusals,
+    restarts,
+    services,
+    tasks,
+)
 
-MODULES = (codecs, maps, queues, locks, refusals, outcomes, crashes, pages)
+DATA = (codecs, maps, queues, locks, batches, jobs)
+FAULTS = (refusals, outcomes, forks, crashes, restarts)
+MODULES = (*DATA, *FAULTS, tasks, packages, services, pages)
 
 TESTS: list[Test] = [test for module in MODULES for test in module.TESTS]
 

@@ -2,13 +2,13 @@
 
 from __future__ import annotations
 
-import json
-from typing import Any
+import struct
+from typing import Any, cast
 
-from grid_client import BYTES, NUMBERS, TEXT, Codec, TooLarge, UnreadableValue, partition_of
+from grid_client import BYTES, JSON, NUMBERS, TEXT, Codec, TooLarge, UnreadableValue, partition_of, partitions
 from grid_client.partitions import murmur3
 from serving.checks import Checks
-from serving.server import Server
+from serving.server import Server, run_program
 
 from client_tests.shared import client_of, raises
 
@@ -26,15 +26,16 @@ HASHES = (
 )
 
 
-class Json(Codec[object]):
-    """Values as JSON, as a user may write it."""
+class Commas(Codec[list[str]]):
+    """Lists of words, with commas between them, as a user may write it."""
 
-    def encode(self, value: object) -> bytes:
-        return json.dumps(value).encode()
+    def encode(self, value: list[str]) -> bytes:
+        if not isinstance(value, list):
+            raise TypeError("only lists of words are carried")
+        return ",".join(value).encode()
 
-    def decode(self, data: bytes) -> object:
-        value: object = json.loads(data)
-        return value
+    def decode(self, data: bytes) -> list[str]:
+        return data.decode().split(",")
 
 
 def hashes_are_murmur3(checks: Checks) -> None:
@@ -83,14 +84,71 @@ def codecs_read_what_they_write(checks: Checks) -> None:
         raises(checks, f"{data!r}", UnreadableValue, codec.from_value, data)
 
 
+def codecs_refuse_what_they_do_not_carry(checks: Checks) -> None:
+    """A value or a key of another type raises a `TypeError` that names the key and the codec, and nothing is stored or sent."""
+    nothing_of_json: list[Any] = [(1, 2), {1: "a"}, {"a": {2}}, b"bytes", [object()], 1j]
+    refused: list[tuple[Codec[Any], list[Any]]] = [
+        (BYTES, ["text", 5, [1, 2], None, 1.5]),
+        (TEXT, [b"bytes", 5, ["a"], None, 1.5]),
+        (NUMBERS, ["5", 1.5, [5], None, b"5", True]),
+        (JSON, nothing_of_json),
+    ]
+    with Server(members=1, backups=0) as server, client_of(server) as client:
+        for codec, values in refused:
+            m, name = client.map("m", values=codec), type(codec).__name__
+            for value in values:
+                error = raises(checks, f"{value!r} by {name}", TypeError, m.put, "anna", value)
+                checks.holds(f"what is told of {value!r}", "'anna'" in str(error) and name in str(error), "key and codec", error)
+                raises(checks, f"{value!r} in a queue by {name}", TypeError, client.queue("q", values=codec).offer, value)
+                raises(checks, f"the key {value!r} by {name}", TypeError, client.map("m", keys=codec).get, value)
+        raises(checks, "a number to be added that is none", TypeError, client.map("m", values=NUMBERS).add, "anna", cast(int, 1.5))
+        raises(checks, "a text that UTF-8 hasn't", ValueError, client.map("m", values=TEXT).put, "anna", "\ud800")
+        raises(checks, "a number that JSON hasn't", ValueError, client.map("m", values=JSON).put, "anna", float("nan"))
+        checks.equal("what is stored", (None, 0), (client.map("m").get("anna"), client.queue("q").size()))
+
+
+def json_comes_back_as_it_was(checks: Checks) -> None:
+    """What JSON carries is read as it was written, and keys that are equal are one key."""
+    parts: list[Any] = [True, False, 0, -5, 2**70, 1.5, "", "\u00e4\u20ac", [], {}, [1, [2, {"a": None}]]]
+    values = [*parts, {"b": 1, "a": [True]}]
+    with Server(members=1, backups=0) as server, client_of(server) as client:
+        m = client.map("m", keys=JSON, values=JSON)
+        for value in values:
+            m[value] = value
+            checks.equal(f"{value!r}", (value, type(value)), (m[value], type(m[value])))
+        checks.equal("an equal key", {"b": 1, "a": [True]}, m[{"a": [True], "b": 1}])
+        checks.equal("its bytes", JSON.mark + b'{"a":[true],"b":1}', JSON.to_key({"b": 1, "a": [True]}))
+        client.map("m", keys=JSON)["faulty"] = JSON.mark + b"no JSON"
+        raises(checks, "what isn't JSON", UnreadableValue, m.__getitem__, "faulty")
+
+
+def keys_are_those_of_words(checks: Checks) -> None:
+    """Keys have the bytes that `grid compose` gives the same words, so they meet."""
+    script = b"grid 1 0 10\nopen 0 0\nsay 0 hello client 7\nsay 0 get m text:anna\nsay 0 get m number:-5\nend\n"
+    composed = run_program(["compose"], script).out
+    for key in (TEXT.to_key("anna"), NUMBERS.to_key(-5)):
+        checks.holds(f"the key {key.hex()} and its partition", key.hex() in composed, "in the script", composed)
+        checks.holds("its partition", struct.pack("<i", partition_of(key)).hex() in composed, "in the script", composed)
+
+
 def a_codec_may_be_a_users_own(checks: Checks) -> None:
     """A class with `encode` and `decode` serves for values, and for keys too."""
     with Server() as server, client_of(server) as client:
-        m = client.map("m", keys=Json(), values=Json())
-        m[["a", 1]] = {"items": [1, 2]}
-        checks.equal("what is read", {"items": [1, 2]}, m[["a", 1]])
-        client.map("m", keys=Json())[["a", 2]] = b"no JSON"
-        raises(checks, "what isn't its own", UnreadableValue, m.__getitem__, ["a", 2])
+        m = client.map("m", keys=Commas(), values=Commas())
+        m[["a", "1"]] = ["pens", "ink"]
+        checks.equal("what is read", ["pens", "ink"], m[["a", "1"]])
+        client.map("m", keys=Commas())[["a", "2"]] = b"\xff"
+        raises(checks, "what isn't its own", UnreadableValue, m.__getitem__, ["a", "2"])
+        raises(checks, "what it doesn't carry", TypeError, m.put, ["a"], cast(list[str], "pens"))
+
+
+def partitions_are_kept_of_keys_seen_before(checks: Checks) -> None:
+    """A partition is the same the second time, and of long keys and of many none are kept."""
+    keys = [TEXT.to_key("k" * length) for length in range(300)]
+    checks.equal("partitions", [partition_of(key) for key in keys], [partition_of(key) for key in keys])
+    for number in range(partitions.MOST_KEPT + 10):
+        partition_of(NUMBERS.to_key(number))
+    checks.equal("how many are kept", partitions.MOST_KEPT, partitions._kept.cache_info().currsize)
 
 
 def large_values_are_carried_or_refused(checks: Checks) -> None:
@@ -109,6 +167,10 @@ TESTS = (
     hashes_are_murmur3,
     the_server_finds_the_same_partitions,
     codecs_read_what_they_write,
+    codecs_refuse_what_they_do_not_carry,
+    json_comes_back_as_it_was,
+    keys_are_those_of_words,
+    partitions_are_kept_of_keys_seen_before,
     a_codec_may_be_a_users_own,
     large_values_are_carried_or_refused,
 )

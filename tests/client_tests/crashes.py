@@ -9,14 +9,14 @@ from collections.abc import Callable, Iterator, Sequence
 from contextlib import contextmanager
 from functools import partial
 
-from grid_client import NUMBERS, GridClient, GridError, OutcomeUnknown
+from grid_client import NUMBERS, ConnectionLost, GridClient, GridError, OutcomeUnknown
 from serving.checks import Checks
 from serving.client import wait_until
 from serving.columns import Column
 from serving.operating import Operator, begin_moves, finish_moves
 from serving.server import Server
 
-from client_tests.shared import all_running, client_of
+from client_tests.shared import all_running, client_of, raises
 
 # How long a call may take where a member's crash isn't detected yet.
 HASTE = 1.0
@@ -141,7 +141,24 @@ def threads_share_a_client(checks: Checks) -> None:
         checks.equal("the items", list(range(64)), sorted(item for item in items if item is not None))
 
 
+def a_crash_is_told_of_one_call_alone(checks: Checks) -> None:
+    """Of several connections that were open to a member as it crashed, the first call finds that out; none is lost on the others."""
+    with Server() as server, client_of(server) as client:
+        operator = Operator(server)
+        member = client._members[0]
+        for connection in [member.take() for _ in range(4)]:
+            member.give(connection)
+        for line in ("crash 0", "detect 0"):
+            operator.order(line)
+        queues = [client.queue("q", partition=partition) for partition in range(0, 30, 3)]
+        raises(checks, "the first call", ConnectionLost, queues[0].poll)
+        checks.equal("the others", [None] * 9, [queue.poll() for queue in queues[1:]])
+        values = client.map("m").get_all([f"key {number}" for number in range(40)])
+        checks.equal("many at once", {}, values)
+
+
 TESTS = (
+    a_crash_is_told_of_one_call_alone,
     threads_share_a_client,
     moves_are_not_noticed,
     no_acknowledged_write_is_lost,

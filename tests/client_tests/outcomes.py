@@ -2,19 +2,19 @@
 
 from __future__ import annotations
 
+import socket
 import struct
 import time
 from functools import partial
+from typing import Any, cast
 
-from grid_client import ClientClosed, ConnectionLost, GridClient, NotSent, OutcomeUnknown, ProtocolFault, WrongTarget
-from grid_client.members import Address, Manner, Member
-from grid_client.spans import Deadline
-from grid_client.wire import Kind, Request
+from grid_client import TEXT, ClientClosed, ConnectionLost, GridClient, OutcomeUnknown, ProtocolFault, WrongTarget, connections
 from serving import wire
 from serving.checks import Checks
 from serving.client import wait_until
+from serving.server import Server
 
-from client_tests.fakes import Behaviour, FakeMember, ending, finding_nothing, in_turn, refusing, silent
+from client_tests.fakes import Behaviour, Call, FakeMember, ending, finding_nothing, in_turn, refusing, silent
 from client_tests.shared import SHORT, Running, raises
 
 
@@ -55,17 +55,89 @@ def a_call_without_an_answer_ends_in_its_time(checks: Checks) -> None:
         checks.equal("the next call", None, client.map("m").put("k", b"v"))
 
 
-def a_call_waits_for_the_connection_no_longer_than_its_time(checks: Checks) -> None:
-    """A call that isn't answered keeps the connection from other threads' calls. Those weren't sent where their time is up."""
-    with FakeMember(silent) as fake:
-        member = Member(Address(*fake.address), Manner("dev", 1, 2))
-        request = Request(Kind.POLL, 0, frames=(b"q",))
-        first = Running(lambda: member.ask(request, Deadline(30)))
+def a_held_call_keeps_no_other_one(checks: Checks) -> None:
+    """While one thread's call has no answer, others are answered: on connections of their own, or on the same one, where there are
+    no more and the member answers others first."""
+
+    def backwards(call: Call) -> bytes:
+        """Answers two calls at once, the last one first."""
+        calls = fake.calls[call.place - 1 : call.place + 1] if call.place % 2 else []
+        return b"".join(finding_nothing(one) for one in reversed(calls))
+
+    with FakeMember(in_turn(silent, finding_nothing)) as fake, GridClient([fake.address], timeout=20) as client:
+        held = Running(lambda: client.map("m").put("k", b"v"))
         until_called(fake)
-        raises(checks, "another call", NotSent, member.ask, request, Deadline(SHORT))
-        raises(checks, "the first one", OutcomeUnknown, first.result)
-        checks.equal("calls", 1, len(fake.calls))
-        member.close()
+        checks.equal("others", [None] * 3, [client.map("m").get("k") for _ in range(3)])
+        checks.equal("whether the first one is held", False, held.ends_within(0))
+    raises(checks, "the held one", ConnectionLost, held.result)
+    with FakeMember(backwards) as fake, GridClient([fake.address], connections=1) as client:
+        first = Running(lambda: client.map("m").get("k"))
+        until_called(fake)
+        checks.equal("the second one", None, client.map("m").get("k"))
+        checks.equal("the first one", None, first.result())
+        checks.equal("connections", 1, len(fake.connections))
+
+
+class CountedSocket:
+    """A socket that notes which of its methods are called."""
+
+    def __init__(self, inner: socket.socket) -> None:
+        self.inner = inner
+        self.called: list[str] = []
+
+    def __getattr__(self, name: str) -> Any:
+        self.called.append(name)
+        return getattr(self.inner, name)
+
+
+def a_call_is_one_send_and_one_receive(checks: Checks) -> None:
+    """A call whose connection was used a moment ago makes no other system call."""
+    moment = connections.IDLE
+    setattr(connections, "IDLE", 60.0)
+    try:
+        with Server(members=1) as server, GridClient.local(1, server.port) as client:
+            m = client.map("m")
+            m["k"] = b"v"
+            connection = client._members[0].take()
+            counted = CountedSocket(connection._socket)
+            connection._socket = cast(socket.socket, counted)
+            client._members[0].give(connection)
+            for _ in range(5):
+                m.get("k")
+            checks.equal("what was called", ["send", "recv"] * 5, counted.called)
+            del counted.called[:]
+            m.get_all(["k", "j", "i"])
+            checks.equal("what was called for three keys at once", ["send", "recv"], counted.called[:2])
+    finally:
+        setattr(connections, "IDLE", moment)
+
+
+def answers_find_their_callers(checks: Checks) -> None:
+    """Eight threads share one connection, and each gets the values of its own keys."""
+    with Server() as server, GridClient.local(3, server.port, connections=1) as client:
+        m = client.map("m", values=TEXT)
+
+        def put_and_get(thread: int) -> None:
+            for turn in range(30):
+                m[f"{thread} {turn}"] = f"{thread} {turn}"
+                if m[f"{thread} {turn}"] != f"{thread} {turn}":
+                    raise AssertionError("the value of another key")
+
+        for one in [Running(partial(put_and_get, thread)) for thread in range(8)]:
+            checks.equal("a thread", None, one.result())
+
+
+def a_call_may_have_a_time_of_its_own(checks: Checks) -> None:
+    """With `timeout` a call ends in that time, be it that its answer doesn't come or that no member takes it."""
+    begin = time.monotonic()
+    with FakeMember(in_turn(silent, finding_nothing)) as member, GridClient([member.address], timeout=60) as client:
+        m = client.map("m")
+        raises(checks, "a call without an answer", OutcomeUnknown, m.put, "k", b"v", timeout=0.1)
+        checks.equal("one behind it", None, m.get("k", timeout=20))
+        raises(checks, "a timeout of no time", ValueError, m.get, "k", timeout=0)
+    with FakeMember(refusing(8, 1)) as member, GridClient([member.address], retry_for=60) as client:
+        raises(checks, "a call that nobody takes", WrongTarget, client.queue("q").poll, timeout=0.1)
+    checks.at_most("seconds", 10, time.monotonic() - begin)
 
 
 def until_called(member: FakeMember) -> None:
@@ -73,11 +145,12 @@ def until_called(member: FakeMember) -> None:
 
 
 def an_idle_connection_that_ended_is_not_a_lost_call(checks: Checks) -> None:
-    """A connection that ended while nobody called is opened anew, without a word."""
+    """A connection that ended a moment ago, while nobody called, is opened anew, without a word."""
     with FakeMember(finding_nothing) as member, GridClient([member.address]) as client:
         for _ in range(3):
             checks.equal("a put", None, client.map("m").put("k", b"v"))
             member.end_connections()
+            time.sleep(0.01)
         checks.equal("calls", 3, len(member.calls))
 
 
@@ -131,6 +204,7 @@ def a_member_that_does_not_live_gets_no_call(checks: Checks) -> None:
         with GridClient([crashed.address, other.address], retry_for=20) as client:
             crashed.lives = False
             crashed.end_connections()
+            time.sleep(0.01)
             polling = Running(client.queue("q", partition=0).poll)
             checks.equal("a call that goes on", False, polling.ends_within(0.2))
             crashed.lives = True
@@ -141,7 +215,10 @@ TESTS = (
     a_call_that_may_have_been_executed_is_not_sent_again,
     reads_are_made_again_where_that_is_wished,
     a_call_without_an_answer_ends_in_its_time,
-    a_call_waits_for_the_connection_no_longer_than_its_time,
+    a_held_call_keeps_no_other_one,
+    a_call_is_one_send_and_one_receive,
+    answers_find_their_callers,
+    a_call_may_have_a_time_of_its_own,
     an_idle_connection_that_ended_is_not_a_lost_call,
     what_is_no_answer_is_told,
     a_closed_client_makes_no_calls,

@@ -27,6 +27,7 @@ from serving.server import TOP, Server, program
 
 BUILT = "crates/grid/out/grid"
 FIRST_PORT = 5701
+STAYS = "--stay"
 PAGES = (*sorted((TOP / "docs" / "guide").glob("*.md")), TOP / "clients" / "python" / "README.md")
 
 FENCE = re.compile(r"^```(.*)$")
@@ -61,11 +62,12 @@ class PageServer(Server):
     """A server that is started by the words of a page."""
 
     def __init__(self, words: list[str]) -> None:
-        options = dict(zip(words[::2], words[1::2], strict=True))
+        named = [word for word in words if word != STAYS]
+        options = dict(zip(named[::2], named[1::2], strict=True))
         options.pop("--port", None)
         self.members = int(options.get("--members", "3"))
         self.limits = None
-        self.options = [word for option in options.items() for word in option]
+        self.options = [word for option in options.items() for word in option] + [word for word in words if word == STAYS]
         self.start()
 
 
@@ -190,6 +192,13 @@ def headings_of(page: Path) -> set[str]:
     return {re.sub(r"[^\w\- ]", "", title.lower()).replace(" ", "-") for title in titles}
 
 
+def every_server_stays(checks: Checks) -> None:
+    """A server that a page starts stays where its console ends, as that of a script does at once."""
+    for page in PAGES:
+        begun = [block.text for block in blocks_of(page.read_text()) if block.text.startswith(f"{BUILT} serve")]
+        checks.equal(f"servers of {page.name} that don't stay", [], [text for text in begun if STAYS not in text])
+
+
 def every_page_is_linked(checks: Checks) -> None:
     """Each page of the guide is linked from its first page, and links another one."""
     first = TOP / "docs" / "guide" / "start.md"
@@ -199,4 +208,4 @@ def every_page_is_linked(checks: Checks) -> None:
         checks.at_least(f"links of {page.name} to others", 1, len(re.findall(r"\]\([\w-]+\.md", page.read_text())))
 
 
-TESTS: tuple[Test, ...] = (*map(test_of, PAGES), links_lead_somewhere, every_page_is_linked)
+TESTS: tuple[Test, ...] = (*map(test_of, PAGES), links_lead_somewhere, every_server_stays, every_page_is_linked)

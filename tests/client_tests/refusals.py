@@ -18,8 +18,8 @@ from grid_client import (
     WrongPartition,
     WrongTarget,
 )
-from grid_client.members import Address, Manner, Member
-from grid_client.spans import Deadline
+from grid_client.addresses import Address, Manner
+from grid_client.members import Member
 from grid_client.wire import Answer, Kind, Request
 from serving.checks import Checks
 from serving.operating import Operator
@@ -70,7 +70,7 @@ def a_server_refuses_what_is_no_call(checks: Checks) -> None:
     with Server() as server:
         member = Member(Address("127.0.0.1", server.port), Manner("dev", 1, 30))
         for what, request, wanted in messages:
-            answer = member.ask(request, Deadline(30))
+            answer = member.ask(request)
             checks.equal(what, wanted, type(answer.refusal))
         checks.equal("the partitions that the last one tells", (6, 5), partitions_told(answer))
         member.close()
@@ -94,7 +94,9 @@ def a_client_needs_members_of_its_cluster(checks: Checks) -> None:
     for members in faulty:
         raises(checks, f"a client of {members}", ValueError, GridClient, members)
     raises(checks, "a timeout of no time", ValueError, GridClient, nobody, timeout=0)
-    raises(checks, "retries for less than no time", ValueError, GridClient, nobody, retry_for=-1)
+    for span in (0, -1):
+        raises(checks, f"retries for {span} seconds", ValueError, GridClient, nobody, retry_for=span)
+    raises(checks, "an address in place of a list", TypeError, GridClient, "127.0.0.1:5701")
     for number in (-1, 2**128):
         raises(checks, f"a client with the number {number}", ValueError, GridClient, nobody, number=number)
 
@@ -107,7 +109,7 @@ def a_call_goes_on_to_who_takes_it(checks: Checks) -> None:
                 m = client.map("m")
                 for _ in range(3):
                     m.remove("k")
-            with GridClient([one.address, other.address], retry_for=0) as client:
+            with GridClient([one.address, other.address], retry_for=SHORT) as client:
                 checks.equal("a client that asks each member once", None, client.map("m").remove("k"))
         checks.equal(f"calls that were taken, by refusal {number}", 4, len(other.calls))
         checks.at_most(f"calls that were refused with {number}", 2, len(one.calls))

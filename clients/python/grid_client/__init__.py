@@ -8,8 +8,9 @@
 
 README.md beside this package has a program for each use, and docs/guide of the repository a page."""
 
+from .calls import Processor
 from .client import GridClient
-from .codecs import BYTES, NUMBERS, TEXT, Codec
+from .codecs import BYTES, JSON, NUMBERS, TEXT, Codec
 from .errors import (
     BadCall,
     Busy,
@@ -17,6 +18,7 @@ from .errors import (
     ConnectionLost,
     Exhausted,
     GridError,
+    GridRestarted,
     KeyLocked,
     LeaseEnded,
     LockTimeout,
@@ -38,12 +40,16 @@ from .errors import (
     WrongPartition,
     WrongTarget,
 )
-from .maps import Map, Processor
+from .maps import Map
 from .partitions import partition_of
+from .pipelines import Later, Pipeline
 from .queues import Queue
+from .repeats import again
+from .version import __version__
 
 __all__ = [
     "BYTES",
+    "JSON",
     "NUMBERS",
     "TEXT",
     "BadCall",
@@ -54,7 +60,9 @@ __all__ = [
     "Exhausted",
     "GridClient",
     "GridError",
+    "GridRestarted",
     "KeyLocked",
+    "Later",
     "LeaseEnded",
     "LockTimeout",
     "Map",
@@ -64,6 +72,7 @@ __all__ = [
     "NotSent",
     "OutcomeUnknown",
     "PartitionLost",
+    "Pipeline",
     "Processor",
     "ProtocolFault",
     "Queue",
@@ -77,5 +86,7 @@ __all__ = [
     "WrongCluster",
     "WrongPartition",
     "WrongTarget",
+    "__version__",
+    "again",
     "partition_of",
 ]

@@ -37,6 +37,11 @@ class ProtocolFault(OutcomeUnknown):
     """A member sent bytes that aren't the answer to the call. It may have been executed, or not."""
 
 
+class GridRestarted(GridError):
+    """The grid came back empty since the client's last call: its process was ended and started again. The call wasn't sent. It
+    is raised once, of a client with `tell_restarts`, and further calls go on with what is there now."""
+
+
 class LockTimeout(GridError):
     """Another owner kept the lock for as long as was to be waited. The caller doesn't have it."""
 

@@ -1,175 +1,28 @@
-"""The members of a grid, each with the one connection that the client keeps to it."""
+"""The members of a grid, each with the connections that the client keeps to it."""
 
 from __future__ import annotations
 
-import itertools
-import random
-import socket
 import threading
-from collections.abc import Iterator
-from contextlib import contextmanager, suppress
-from dataclasses import dataclass
+from collections.abc import Callable
 from time import monotonic
 from typing import Final
 
-from . import wire
-from .errors import ClientClosed, ConnectionLost, NotSent, OutcomeUnknown, TooLarge, WrongCluster
-from .partitions import PARTITIONS
-from .spans import Deadline, Span
-from .wire import Answer, Kind, Request
-
-PIECE: Final = 1 << 16
+from .addresses import Address, Manner
+from .connections import Connection
+from .errors import ClientClosed, ConnectionLost, GridError, NotSent, OutcomeUnknown
+from .logs import log
+from .wire import Answer, Request
 
 # How many seconds a member is left alone that couldn't be reached, or whose connection ended in place of an answer.
 LEFT_ALONE: Final = 1.0
 
 
-def probe() -> Request:
-    """A read of a queue that nobody has. A member that has crashed still accepts connections, and ends them at the first call:
-    this one shows that it lives, also where it refuses it."""
-    return Request(Kind.SIZE, random.randrange(PARTITIONS), frames=(b"",))
+class Health:
+    """Whether a member answered last."""
 
-
-@dataclass(frozen=True)
-class Address:
-    """Where a member listens."""
-
-    host: str
-    port: int
-
-    @classmethod
-    def of(cls, given: str | tuple[str, int]) -> Address:
-        """From "HOST:PORT", or from both."""
-        if not isinstance(given, str):
-            return cls(*given)
-        host, colon, port = given.rpartition(":")
-        if not (host and colon and port.isascii() and port.isdigit()):
-            raise ValueError(f"'{given}' is no address: 'HOST:PORT' is wanted")
-        return cls(host, int(port))
-
-    def __str__(self) -> str:
-        return f"{self.host}:{self.port}"
-
-
-@dataclass(frozen=True)
-class Manner:
-    """How members are called: the cluster that is wanted, the client's own number, which owns its locks, and how long a member is
-    waited for, for a connection and for an answer."""
-
-    cluster: str
-    client: int
-    timeout: Span
-
-
-class _Connection:
-    """A connection to a member that lives, on which the client has made itself known. One thread at a time has it."""
-
-    def __init__(self, address: Address, manner: Manner) -> None:
-        self._address = address
-        self._timeout = manner.timeout
-        self._has = bytearray()
-        self._correlations = itertools.count(1)
-        deadline = Deadline(manner.timeout)
-        self._socket = socket.create_connection((address.host, address.port), deadline.for_socket())
-        try:
-            self._socket.setsockopt(socket.IPPROTO_TCP, socket.TCP_NODELAY, 1)
-            self._make_known(manner, deadline)
-        except BaseException:
-            self.close()
-            raise
-
-    def _make_known(self, manner: Manner, deadline: Deadline) -> None:
-        request = wire.authentication(manner.cluster, manner.client)
-        if not self._exchange(wire.PREFIX, request, deadline).check_accepted():
-            raise WrongCluster(f"{self._address} doesn't belong to the cluster '{manner.cluster}'")
-        self._exchange(b"", probe(), deadline)
-
-    def ask(self, request: Request) -> Answer:
-        return self._exchange(b"", request, Deadline(self._timeout))
-
-    def _exchange(self, prefix: bytes, request: Request, deadline: Deadline) -> Answer:
-        correlation = next(self._correlations)
-        self._send(prefix + request.spelled(correlation), deadline)
-        return wire.read_answer(self._receive(deadline), request, correlation)
-
-    def _send(self, message: bytes, deadline: Deadline) -> None:
-        """Sends a message. Where that fails the member hasn't the whole of it, and so can't execute it."""
-        rest = memoryview(message)
-        try:
-            while rest:
-                self._socket.settimeout(deadline.for_socket())
-                rest = rest[self._socket.send(rest) :]
-        except OSError as error:
-            raise NotSent(f"{self._address} took only a part of the call: {error}") from error
-
-    def _receive(self, deadline: Deadline) -> bytes:
-        """The next message, whole."""
-        while (length := wire.message_length(self._has)) is None:
-            self._has += self._piece(deadline)
-        message = bytes(self._has[:length])
-        del self._has[:length]
-        return message
-
-    def _piece(self, deadline: Deadline) -> bytes:
-        try:
-            self._socket.settimeout(deadline.for_socket())
-            piece = self._socket.recv(PIECE)
-        except TimeoutError as error:
-            raise OutcomeUnknown(f"{self._address} didn't answer in time") from error
-        except OSError as error:
-            raise ConnectionLost(f"the connection to {self._address} broke before the answer: {error}") from error
-        if not piece:
-            raise ConnectionLost(f"{self._address} ended the connection before it answered")
-        return piece
-
-    def is_over(self) -> bool:
-        """Whether something comes though nothing was asked: the end, as a rule."""
-        try:
-            self._socket.settimeout(0)
-            self._socket.recv(1, socket.MSG_PEEK)
-        except BlockingIOError:
-            return False
-        except OSError:
-            return True
-        return True
-
-    def wake(self) -> None:
-        """Ends the connection under a thread that waits for it."""
-        with suppress(OSError):
-            self._socket.shutdown(socket.SHUT_RDWR)
-
-    def close(self) -> None:
-        self._socket.close()
-
-
-class Member:
-    """A member. Its connection is opened as it is first needed, and again once it was lost. Many threads may call it: each has
-    the connection to itself until its call is answered."""
-
-    def __init__(self, address: Address, manner: Manner) -> None:
+    def __init__(self, address: Address) -> None:
         self.address: Final = address
-        self._manner = manner
-        self._turn = threading.Lock()
-        self._connection: _Connection | None = None
-        self._is_closed = False
         self._failed_at: float | None = None
-
-    def ask(self, request: Request, turn_until: Deadline) -> Answer:
-        """The member's answer. Other threads' calls are waited for until the deadline. Raises `NotSent` where the call can't have
-        reached the member, and `OutcomeUnknown` where it may have."""
-        with self._turn_within(turn_until):
-            connection = self._connected()
-            try:
-                answer = connection.ask(request)
-            except TooLarge:
-                raise
-            except BaseException as error:
-                self._drop()
-                if isinstance(error, ConnectionLost):
-                    self._failed_at = monotonic()
-                raise
-            self._failed_at = None
-            return answer
 
     @property
     def is_doubtful(self) -> bool:
@@ -181,41 +34,141 @@ class Member:
         """Whether that was a moment ago."""
         return self._failed_at is not None and monotonic() < self._failed_at + LEFT_ALONE
 
-    def close(self) -> None:
-        """Ends the connection, and calls under way with it."""
-        self._is_closed = True
-        if (connection := self._connection) is not None:
-            connection.wake()
-        with self._turn:
-            self._drop()
+    def answered(self) -> None:
+        self._failed_at = None
 
-    @contextmanager
-    def _turn_within(self, deadline: Deadline) -> Iterator[None]:
-        if not self._turn.acquire(timeout=deadline.left()):
-            raise NotSent(f"other threads' calls kept the connection to {self.address} until the time was up")
+    def failed(self) -> None:
+        self._failed_at = monotonic()
+
+
+class Member(Health):
+    """A member. Connections to it are opened as they are needed, and again once they were lost. Many threads may call it: a call
+    has a connection to itself, up to the most that a client has, and from then on calls share them."""
+
+    def __init__(self, address: Address, manner: Manner, reconnected: Callable[[], None] | None = None) -> None:
+        super().__init__(address)
+        self._manner = manner
+        self._reconnected = reconnected
+        self._was_lost = False
+        self._is_closed = False
+        self.renew()
+
+    def renew(self) -> None:
+        """Has no connection from now on."""
+        self._turn = threading.Lock()
+        self._idle: list[Connection] = []
+        self._all: list[Connection] = []
+        self._opening = 0
+        self._failed_at = None
+
+    def leave(self) -> None:
+        """Leaves the connections to the process that this one is a copy of."""
+        for connection in self._all:
+            connection.close()
+        self.renew()
+
+    def ask(self, request: Request, patience: float | None = None) -> Answer:
+        """The member's answer, which is waited for as long as `patience` says, or the client's timeout. Raises `NotSent` where the
+        call can't have reached the member, and `OutcomeUnknown` where it may have."""
+        connection = self.take()
         try:
-            yield
+            answer = connection.ask(request, patience)
+            self._failed_at = None
+            return answer
+        except ConnectionLost:
+            self.failed()
+            raise
         finally:
-            self._turn.release()
+            self.give(connection)
 
-    def _connected(self) -> _Connection:
-        if self._connection is not None and self._connection.is_over():
-            self._drop()
-        if self._connection is None and not self._is_closed:
-            self._connection = self._connect()
-        if self._connection is None or self._is_closed:
-            self._drop()
-            raise ClientClosed("the client is closed")
-        return self._connection
+    def failed(self) -> None:
+        """A connection ended in place of an answer, or none was opened. Others that stand idle may have ended too: a call isn't
+        lost on them."""
+        super().failed()
+        self._end_idle()
 
-    def _connect(self) -> _Connection:
+    def close(self) -> None:
+        """Ends the connections, and calls under way with them."""
+        self._is_closed = True
+        self._end_idle()
+        for connection in list(self._all):
+            connection.wake()
+
+    def _end_idle(self) -> None:
+        with self._turn:
+            idle, self._idle = self._idle, []
+            self._all = [connection for connection in self._all if connection not in idle]
+        for connection in idle:
+            connection.close()
+
+    def take(self) -> Connection:
+        """A connection, which is to be given back."""
+        while True:
+            with self._turn:
+                connection = self._idle.pop() if self._idle else None
+                if connection is not None:
+                    connection.callers = 1
+            if connection is None:
+                return self._shared() or self._opened()
+            if not connection.is_over():
+                return connection
+            connection.is_fit = False
+            self.give(connection)
+
+    def _shared(self) -> Connection | None:
+        """A connection that others use too, where there are as many as a client has. None where one is to be opened."""
+        with self._turn:
+            if self._is_closed:
+                raise ClientClosed("the client is closed")
+            fit = [connection for connection in self._all if connection.is_fit]
+            if not fit or len(self._all) + self._opening < self._manner.connections:
+                self._opening += 1
+                return None
+            connection = min(fit, key=lambda it: it.callers)
+            connection.callers += 1
+            return connection
+
+    def _opened(self) -> Connection:
+        """A new connection. The place for it was counted."""
+        connection = None
         try:
-            return _Connection(self.address, self._manner)
+            connection = Connection(self.address, self._manner)
+            log.debug("connected to %s", self.address)
         except (OSError, NotSent, OutcomeUnknown) as error:
-            self._failed_at = monotonic()
+            self.failed()
             raise NotSent(f"no connection to {self.address}: {error}") from error
+        finally:
+            with self._turn:
+                self._opening -= 1
+                if connection is not None:
+                    self._all.append(connection)
+        self._was_opened(connection)
+        return connection
 
-    def _drop(self) -> None:
-        if self._connection is not None:
-            self._connection.close()
-            self._connection = None
+    def _was_opened(self, connection: Connection) -> None:
+        """Behind a lost connection the grid may be another one."""
+        was_lost, self._was_lost = self._was_lost, False
+        try:
+            if self._is_closed:
+                raise ClientClosed("the client is closed")
+            if was_lost and self._reconnected is not None:
+                self._reconnected()
+        except GridError:
+            self.give(connection)
+            raise
+
+    def give(self, connection: Connection) -> None:
+        """Gives a connection back."""
+        with self._turn:
+            connection.callers -= 1
+            if connection.callers:
+                return
+            if connection.is_fit and not self._is_closed:
+                self._idle.append(connection)
+                return
+            if connection in self._all:
+                self._all.remove(connection)
+            self._was_lost = True
+        connection.close()
+        if not self._is_closed:
+            log.warning("lost a connection to %s", self.address)

@@ -22,6 +22,14 @@ def seconds(span: Span) -> float:
     return span.total_seconds() if isinstance(span, timedelta) else float(span)
 
 
+def some_seconds(span: Span, what: str) -> float:
+    """A span that has to be more than nothing."""
+    given = seconds(span)
+    if not given > 0:
+        raise ValueError(f"{what} of {span} seconds: it has to be more than 0")
+    return given
+
+
 def milliseconds(span: Span | None, what: str) -> int:
     """A span as the server takes it: whole milliseconds, at least one, and 0 for no end."""
     if span is None:
@@ -35,6 +43,8 @@ def milliseconds(span: Span | None, what: str) -> int:
 class Deadline:
     """The moment at which a time is up."""
 
+    __slots__ = ("_end",)
+
     def __init__(self, span: Span) -> None:
         self._end = time.monotonic() + seconds(span)
 
@@ -45,16 +55,15 @@ class Deadline:
     def is_over(self) -> bool:
         return self.left() == 0
 
-    def for_socket(self) -> float:
-        """As `left`, but never 0, which a socket takes for not waiting at all."""
-        return max(self.left(), 0.001)
+    def pause(self, longest: float) -> float | None:
+        """How many seconds to rest before the next attempt: so many, or what is left, and None where nothing is. So the last
+        attempt comes when the time is up, and not before."""
+        left = self.left()
+        return min(left, longest) if left else None
 
-    def rest(self, pause: float) -> bool:
-        """Sleeps for that many seconds, or does nothing where fewer are left. Whether it slept."""
-        if self.left() <= pause:
-            return False
-        time.sleep(pause)
-        return True
+    def pause_within(self, longest: float) -> float | None:
+        """As `pause`, for attempts that themselves have to end in time: None where the next one would have none."""
+        return longest if self.left() > longest else None
 
 
 def growing_pauses() -> Iterator[float]:
