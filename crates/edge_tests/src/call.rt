@@ -1,5 +1,6 @@
 //! A client over TCP, and the ends of its connection at the doors.
-ghost use Rattle.std.specs.Prelude.{◌≡◌, ◌≤◌, ◌+◌, IfSome, OnOk};
+ghost use Rattle.std.specs.Prelude.{length, ◌≡◌, ◌<◌, ◌≤◌, ◌+◌, IfSome, OnOk};
+ghost use Rattle.edge_tests.specs.Returns.{AreBelow};
 
 use grid_edge::{Accepted, Doors, Ready, ReadySink, ReadySource};
 use std::io::{self, Read, Write};
@@ -28,10 +29,12 @@ fn free_port(rt: &HostRuntime) -> io::Result<u16> {
 }
 
 /// Opens the doors at ports that nobody uses, and gives the first port, if it finds some.
+#[tactic(auto, using(crate::proofs::Returns::none_at_opening))]
 pub(crate) fn open_somewhere(doors: &mut Doorway<'_>, rt: &HostRuntime, members: u8) -> Option<u16>
     requires some { 1 ≤ members }
     requires most { members ≤ 8 }
-    ensures opened { IfSome result (λ port. doors.new.accepted ≡ 0) }
+    ensures opened { IfSome result (λ port. length doors.new.listed.arrivals ≡ 0) }
+    ensures none_back { IfSome result (λ port. AreBelow doors.new.listed.returns 0) }
     ensures port { IfSome result (λ port. port ≤ 65528) }
 {
     for _ in 0..100 {
@@ -44,9 +47,11 @@ pub(crate) fn open_somewhere(doors: &mut Doorway<'_>, rt: &HostRuntime, members:
 }
 
 /// Waits for a connection. The answer is none where the doors fail.
+#[tactic(auto, using(crate::proofs::Returns::kept, crate::proofs::Returns::kept_at_arrival))]
 pub(crate) fn next_caller(doors: &mut Doorway<'_>) -> Option<(u8, TcpSource, TcpSink)>
-    requires { doors.old.accepted ≤ 1000 }
-    ensures { IfSome result (λ _. doors.new.accepted ≡ doors.old.accepted + 1) }
+    requires { length doors.old.listed.arrivals ≤ 1000 }
+    ensures came { IfSome result (λ _. length doors.new.listed.arrivals ≡ length doors.old.listed.arrivals + 1) }
+    ensures kept { IfSome result (λ _. doors.new.listed.returns ≡ doors.old.listed.returns) }
 {
     for _ in 0..100 {
         match doors.accept() {
@@ -108,22 +113,26 @@ pub(crate) struct Call {
 pub(crate) fn play(rt: &HostRuntime, steps: &[Step], heard: &[u8]) -> Result<(), Missed> {
     let mut doors = TcpDoors::new(rt);
     match open_somewhere(&mut doors, rt, 1) {
-        Some(port) => play_at(&mut doors, rt, port, steps, heard),
+        Some(port) => play_at(&mut doors, rt, port, 0, steps, heard),
         None => Err(Missed::Coming),
     }
 }
 
-/// Lets in a client of the member whose port this is, and takes the steps. Gives the connection back, which ends the next wait at
-/// once: the client has heard just this.
+/// Lets in a client of the member whose port this is, after so many others, and takes the steps. Gives the connection back, which
+/// ends the next wait at once: the client has heard just this.
 pub(crate) fn play_at(
     doors: &mut Doorway<'_>,
     rt: &HostRuntime,
     port: u16,
+    others: u32,
     steps: &[Step],
     heard: &[u8],
 ) -> Result<(), Missed>
-    requires { doors.old.accepted ≤ 1000 }
-    ensures { OnOk result (doors.new.accepted ≡ doors.old.accepted + 1) }
+    requires others { length doors.old.listed.arrivals ≡ others }
+    requires few { others ≤ 1000 }
+    requires below { AreBelow doors.old.listed.returns others }
+    ensures came { OnOk result (length doors.new.listed.arrivals ≡ others + 1) }
+    ensures below { OnOk result (AreBelow doors.new.listed.returns (others + 1)) }
 {
     let Some(mut call) = let_in(doors, rt, port) else {
         return Err(Missed::Coming);
@@ -131,7 +140,7 @@ pub(crate) fn play_at(
     if let Some(number) = call.take_all(doors, rt, steps) {
         return Err(Missed::Step(number));
     }
-    if call.ends_so(doors, heard) {
+    if call.ends_so(doors, others, heard) {
         Ok(())
     } else {
         Err(Missed::End)
@@ -140,8 +149,9 @@ pub(crate) fn play_at(
 
 /// Lets in a client of the member whose port this is.
 pub(crate) fn let_in(doors: &mut Doorway<'_>, rt: &HostRuntime, port: u16) -> Option<Call>
-    requires { doors.old.accepted ≤ 1000 }
-    ensures { IfSome result (λ _. doors.new.accepted ≡ doors.old.accepted + 1) }
+    requires { length doors.old.listed.arrivals ≤ 1000 }
+    ensures came { IfSome result (λ _. length doors.new.listed.arrivals ≡ length doors.old.listed.arrivals + 1) }
+    ensures kept { IfSome result (λ _. doors.new.listed.returns ≡ doors.old.listed.returns) }
 {
     let client = connect(rt, port);
     let (_, from, to) = next_caller(doors)?;
@@ -166,7 +176,8 @@ impl Call {
         rt: &HostRuntime,
         steps: &[Step],
     ) -> Option<usize>
-        ensures { doors.new.accepted ≡ doors.old.accepted }
+        ensures same { length doors.new.listed.arrivals ≡ length doors.old.listed.arrivals }
+        ensures kept { doors.new.listed.returns ≡ doors.old.listed.returns }
     {
         for number in 0..steps.len() {
             if !self.take(doors, rt, steps[number]) {
@@ -177,8 +188,10 @@ impl Call {
     }
 
     /// Takes a step, and says whether it came out so.
+    #[tactic(auto, using(crate::proofs::Returns::kept))]
     fn take(&mut self, doors: &mut Doorway<'_>, rt: &HostRuntime, step: Step) -> bool
-        ensures { doors.new.accepted ≡ doors.old.accepted }
+        ensures same { length doors.new.listed.arrivals ≡ length doors.old.listed.arrivals }
+        ensures kept { doors.new.listed.returns ≡ doors.old.listed.returns }
     {
         match step {
             Step::Says(bytes) => self.says(bytes),
@@ -201,13 +214,16 @@ impl Call {
         }
     }
 
-    /// Gives the connection back, and says whether that ends a wait, and the client has heard just this.
-    fn ends_so(self, doors: &mut Doorway<'_>, heard: &[u8]) -> bool
-        requires { 1 ≤ doors.old.accepted }
-        ensures { doors.new.accepted ≡ doors.old.accepted }
+    /// Gives the connection, which has this number, back, and says whether that ends a wait, and the client has heard just this.
+    #[tactic(auto, using(crate::proofs::Returns::is_out, crate::proofs::Returns::kept, crate::proofs::Returns::below_after_return))]
+    fn ends_so(self, doors: &mut Doorway<'_>, number: u32, heard: &[u8]) -> bool
+        requires came { number < length doors.old.listed.arrivals }
+        requires below { AreBelow doors.old.listed.returns number }
+        ensures same { length doors.new.listed.arrivals ≡ length doors.old.listed.arrivals }
+        ensures below { AreBelow doors.new.listed.returns (number + 1) }
     {
         let Call { client, from, to } = self;
-        doors.give_back(0, from, to, false);
+        doors.give_back(number, from, to, false);
         doors.wait(LONG).is_ok() && has_heard(client, heard)
     }
 
@@ -227,8 +243,10 @@ impl Call {
 }
 
 /// Whether a short wait lasts to its end.
+#[tactic(auto, using(crate::proofs::Returns::kept))]
 fn wait_in_vain(doors: &mut Doorway<'_>, rt: &HostRuntime) -> bool
-    ensures { doors.new.accepted ≡ doors.old.accepted }
+    ensures same { length doors.new.listed.arrivals ≡ length doors.old.listed.arrivals }
+    ensures kept { doors.new.listed.returns ≡ doors.old.listed.returns }
 {
     let Ok(start) = Instant::now(rt) else {
         return false;

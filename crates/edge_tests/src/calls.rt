@@ -1,4 +1,4 @@
-ghost use Rattle.std.specs.Prelude.{◌≡◌, ◌≤◌};
+ghost use Rattle.std.specs.Prelude.{length, ◌≡◌, ◌≤◌};
 
 use crate::call::Step::{
     Arrives, HasPlace, Leaves, ReadFails, Reads, ReadsNothing, Says, Stops, Wait, WaitInVain,
@@ -132,8 +132,8 @@ fn gives_a_place_again(doors: &mut Doorway<'_>, rt: &HostRuntime) -> bool {
         Wait(LONG),
         Reads(8, b"again"),
     ];
-    match play_at(doors, rt, port, &first, b"") {
-        Ok(()) => play_at(doors, rt, port, &second, b"").is_ok(),
+    match play_at(doors, rt, port, 0, &first, b"") {
+        Ok(()) => play_at(doors, rt, port, 1, &second, b"").is_ok(),
         Err(_) => false,
     }
 }
@@ -171,8 +171,10 @@ fn count_all(mut client: TcpStream) -> u64 {
 }
 
 /// Writes once there is room.
+#[tactic(auto, using(crate::proofs::Returns::kept))]
 fn write_next(doors: &mut Doorway<'_>, to: &mut TcpSink, from: &[u8]) -> bool
-    ensures { doors.new.accepted ≡ doors.old.accepted }
+    ensures same { length doors.new.listed.arrivals ≡ length doors.old.listed.arrivals }
+    ensures kept { doors.new.listed.returns ≡ doors.old.listed.returns }
 {
     for _ in 0..1000 {
         match to.write_ready(from) {
@@ -185,6 +187,7 @@ fn write_next(doors: &mut Doorway<'_>, to: &mut TcpSink, from: &[u8]) -> bool
 }
 
 /// Whether a full sink goes on once the client reads, who then gets all.
+#[tactic(auto, using(crate::proofs::Returns::is_out))]
 fn goes_on<T: Threads>(doors: &mut Doorway<'_>, rt: &HostRuntime, threads: &T) -> bool {
     let Some(port) = open_somewhere(doors, rt, 1) else {
         return false;

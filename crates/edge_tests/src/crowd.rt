@@ -1,5 +1,5 @@
 //! Many connections at once.
-ghost use Rattle.std.specs.Prelude.{◌≡◌};
+ghost use Rattle.std.specs.Prelude.{length, ◌≡◌};
 
 use crate::call::{Call, Doorway, LONG, let_in, open_somewhere};
 use grid_edge::{Doors, Ready, ReadySink, ReadySource};
@@ -11,7 +11,7 @@ const MANY: usize = 300;
 
 /// Lets in many.
 fn gather(doors: &mut Doorway<'_>, rt: &HostRuntime, port: u16) -> Option<Vec<Call>>
-    requires { doors.old.accepted ≡ 0 }
+    requires { length doors.old.listed.arrivals ≡ 0 }
 {
     let mut calls = Vec::new(rt.alloc());
     for _ in 0..MANY {

@@ -1,4 +1,4 @@
-ghost use Rattle.std.specs.Prelude.{◌≡◌, ◌≤◌, ◌+◌, IfSome};
+ghost use Rattle.std.specs.Prelude.{length, ◌≡◌, ◌≤◌, ◌+◌, IfSome};
 
 use crate::call::Step::{Arrives, Reads, Says, Wait};
 use crate::call::{Doorway, LONG, connect, has_heard, let_in, next_caller, open_somewhere};
@@ -9,8 +9,8 @@ use tcp_edge::TcpDoors;
 
 /// The member of the next connection, which is closed at once.
 fn next_member(doors: &mut Doorway<'_>) -> Option<u8>
-    requires { doors.old.accepted ≤ 1000 }
-    ensures { IfSome result (λ _. doors.new.accepted ≡ doors.old.accepted + 1) }
+    requires { length doors.old.listed.arrivals ≤ 1000 }
+    ensures { IfSome result (λ _. length doors.new.listed.arrivals ≡ length doors.old.listed.arrivals + 1) }
 {
     let (member, _, _) = next_caller(doors)?;
     Some(member)

@@ -1,16 +1,18 @@
 -- What contracts see of a source and a sink in memory.
-use Rattle.std.specs.Prelude.{◌≡◌, ℕ, ◌+◌, ◌≤◌, List, ◌++◌, length, drop}
+use Rattle.std.specs.Prelude.{◌≡◌, ℕ, ◌+◌, ◌≤◌, List, ◌++◌, length, take, drop}
+use Rattle.grid_edge.specs.Given.{Given, after_piece}
 use Rattle.grid_edge.specs.Plan.{Plan, after_call, after_fault}
 
--- the bytes that are left, the most that one call gives, and which calls fail
+-- what was given, the bytes that are left, the most that one call gives, and which calls fail
 pub record Input : Type 0 where
+  pub given : Given
   pub left : List ℕ
   pub most : ℕ
   pub plan : Plan
 
--- after a call that gave n bytes
-abbrev pub after_read : Input → ℕ → Input
-after_read input n = record input { left = drop n input.left; plan = after_call input.plan }
+-- after a call with so much room that gave n bytes
+abbrev pub after_read : Input → (room n : ℕ) → Input
+after_read input room n = record input { given = after_piece input.given room n (take n input.left); left = drop n input.left; plan = after_call input.plan }
 
 -- after a call that failed
 abbrev pub after_failed_read : Input → Input
@@ -36,3 +38,12 @@ pub record TakesNothing (old new : Output) : Type 0 where
   pub room : old.room ≤ new.room
   pub most : new.most ≡ old.most
   pub plan : new.plan ≡ after_fault old.plan
+
+-- the bytes of a steady source: what was given, and what is left
+pub record Steady : Type 0 where
+  pub given : Given
+  pub left : List ℕ
+
+-- after a call with so much room that gave n bytes
+abbrev pub after_steady_read : Steady → (room n : ℕ) → Steady
+after_steady_read steady room n = record { given = after_piece steady.given room n (take n steady.left); left = drop n steady.left }

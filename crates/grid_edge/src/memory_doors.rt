@@ -8,10 +8,10 @@ use crate::count::next_count;
 use crate::doors::{Accepted, DoorFault, Doors, Opening, Wakes};
 use crate::plan::FaultPlan;
 use crate::ready::{ReadySink, ReadySource};
+use ghost_list::GhostList;
 use grid_base::{MemberId, Memory};
 use std::collections::VecDeque;
 use std::marker::Model;
-use std::snapshot::Snapshot;
 use std::thread;
 
 /// A connection that was given back.
@@ -23,14 +23,6 @@ pub struct Returned<F, T> {
     pub memory: bool,
 }
 
-// A connection as it was accepted.
-#[derive(Drop)]
-struct Arrival<F, T> {
-    member: MemberId,
-    from: Snapshot<F>,
-    to: Snapshot<T>,
-}
-
 /// Doors that a list of connections comes through, one an `accept`. Contracts see the list, and which calls fail.
 /// They keep the connections that are given back.
 #[derive(Drop)]
@@ -38,22 +30,22 @@ pub struct MemoryDoors<F, T> {
     waiting: VecDeque<(MemberId, F, T)>,
     plan: FaultPlan,
     opening: Option<Opening>,
-    accepted: Vec<Arrival<F, T>>,
+    accepted: GhostList<(MemberId, F, T)>,
     returned: Vec<Returned<F, T>>,
     looks: u64,
 }
 
 impl<F, T> Model for MemoryDoors<F, T> {
-    ghost use Rattle.std.specs.Prelude.{map, vec_len, vec_capacity};
+    ghost use Rattle.std.specs.Prelude.{length, map, vec_capacity};
     ghost use Rattle.std.specs.VecDeque.{deque_len};
     ghost use Rattle.grid_edge.specs.MemoryDoors.{Doorway};
     ghost use Rattle.grid_edge.specs.Room.{HasRoom};
 
     ghost Value = { Doorway F T };
 
-    ghost view = { λ d. record { waiting = d.waiting.items; plan = d.plan; opening = d.opening; accepted = map (λ a. (a.member, a.from.value, a.to.value)) d.accepted.items; returned = d.returned.items; looks = d.looks } };
+    ghost view = { λ d. record { waiting = d.waiting.items; plan = d.plan; opening = d.opening; accepted = d.accepted.items; returned = d.returned.items; looks = d.looks } };
 
-    ghost invariant = { λ d. HasRoom (deque_len d.waiting) (vec_len d.accepted) (vec_capacity d.accepted) (map (λ given. given.number) d.returned.items) (vec_capacity d.returned) };
+    ghost invariant = { λ d. HasRoom (deque_len d.waiting) (length d.accepted.items) (map (λ r. r.number) d.returned.items) (vec_capacity d.returned) };
 }
 
 impl<F, T> MemoryDoors<F, T> {
@@ -65,14 +57,12 @@ impl<F, T> MemoryDoors<F, T> {
         T: Drop,
         ensures { IfOk result (λ doors. doors ≡ doorway_of list.items fails.items) }
     {
-        let alloc = *list.allocator();
-        let accepted = Vec::with_capacity(alloc, list.len())?;
-        let returned = Vec::with_capacity(alloc, list.len())?;
+        let returned = Vec::with_capacity(*list.allocator(), list.len())?;
         Ok(MemoryDoors {
             waiting: VecDeque::from(list),
             plan: FaultPlan::new(fails),
             opening: None,
-            accepted,
+            accepted: GhostList::new(),
             returned,
             looks: 0,
         })
@@ -108,7 +98,7 @@ impl<F: ReadySource + Send + Drop, T: ReadySink + Send + Drop> Doors for MemoryD
 
     ghost empty_looks = { λ d. d.looks };
 
-    ghost book = { λ d. book_of (record { left = F.left; read_faults = F.faults; taken = T.taken; write_faults = T.faults }) d };
+    ghost book = { λ d. book_of (record { given = F.given; read_faults = F.faults; taken = T.taken; write_faults = T.faults }) d };
 
     ghost counted = { λ d. Prim.search (rules, common_steps) };
 
@@ -122,7 +112,7 @@ impl<F: ReadySource + Send + Drop, T: ReadySink + Send + Drop> Doors for MemoryD
         }
         self.plan.count_call();
         self.opening = Some(Opening { members, port });
-        self.accepted.clear();
+        self.accepted = GhostList::new();
         self.returned.clear();
         Ok(())
     }
@@ -140,20 +130,17 @@ impl<F: ReadySource + Send + Drop, T: ReadySink + Send + Drop> Doors for MemoryD
             self.count_look();
             return Ok(Accepted::NotYet);
         };
-        let Some((member, from, to)) = self.waiting.pop_front() else {
+        let Some(visit) = self.waiting.pop_front() else {
             self.count_look();
             return Ok(Accepted::NotYet);
         };
-        if member >= opening.members {
+        if visit.0 >= opening.members {
             self.plan.count_fault();
             return Err(DoorFault);
         }
         self.plan.count_call();
-        self.accepted.push_reserved(Arrival {
-            member,
-            from: Snapshot::of(&from),
-            to: Snapshot::of(&to),
-        });
+        self.accepted = self.accepted.with(&visit);
+        let (member, from, to) = visit;
         Ok(Accepted::Come { member, from, to })
     }
 

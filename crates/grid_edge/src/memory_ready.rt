@@ -2,6 +2,7 @@
 ghost use Rattle.std.specs.Prelude.{◌≡◌, ◌↔◌, ◌⊎◌, ◌<◌, ◌≤◌, length, take, drop, OnSome, IsTrue, IsErr};
 ghost use Rattle.std.specs.Io.KnownBytes.{prepend_known, append_known, IsAtEnd};
 ghost use Rattle.grid_edge.specs.Faults.{Rose, count_after, HasCause};
+ghost use Rattle.grid_edge.specs.Given.{after_piece};
 ghost use Rattle.grid_edge.specs.Plan.{plan_of, FailsNext};
 ghost use Rattle.grid_edge.specs.Ready.{IfBytes, UnlessBytes, IsNotYet, HasWaited};
 ghost use Rattle.grid_edge.specs.Unready.{unready_of, WaitsNext, after_wait};
@@ -72,15 +73,18 @@ impl<S: Source> ReadySource for MemoryReady<S> {
 
     ghost unready = { λ s. s.moments };
 
-    ghost left = { λ s. S.left s.stream };
+    ghost given = { λ s. S.given s.stream };
 
-    /// Costs a read of the stream, and a look through the numbers of the calls.
+    /// Where the stream tells what it has left, it gives the front of that. Costs a read of the stream, and a look
+    /// through the numbers of the calls.
     fn read_ready(&mut self, into: &mut [u8]) -> Result<Ready, ReadFault>
         ensures waits { IsNotYet result ↔ WaitsNext self.old }
         ensures failed { FailsNext self.old.plan → IsErr result ⊎ WaitsNext self.old }
         ensures after { self.new.plan.calls ≡ count_after self.old.plan.calls }
 
         ensures within { IfBytes result (λ n. n ≤ length into.new) }
+        ensures given { IfBytes result (λ n. S.given self.new.stream ≡ after_piece (S.given self.old.stream) (length into.new) n (take n into.new)) }
+        ensures none_given { UnlessBytes result (S.given self.new.stream ≡ S.given self.old.stream) }
         ensures bytes { IfBytes result (λ n. S.left self.old.stream ≡ prepend_known (take n into.new) (S.left self.new.stream)) }
         ensures end { IfBytes result (λ n. n ≡ 0 → 0 < length into.new → IsAtEnd (S.left self.old.stream)) }
         ensures beyond { IfBytes result (λ n. OnSome (S.left self.old.stream) (drop n into.new ≡ drop n into.old)) }
@@ -152,15 +156,26 @@ impl<S: Sink> ReadySink for MemoryReady<S> {
 
 /// It is ready at each call.
 impl ReadySource for MemorySource {
-    ghost use Rattle.std.specs.Prelude.{Some};
+    ghost use Rattle.std.specs.Prelude.{[], ◌++◌};
 
     ghost faults = { λ s. s.plan.faults };
 
     ghost unready = { λ _. 0 };
 
-    ghost left = { λ s. Some s.left };
+    ghost given = { λ s. s.given };
 
-    fn read_ready(&mut self, into: &mut [u8]) -> Result<Ready, ReadFault> {
+    /// It gives the front of what is left.
+    fn read_ready(&mut self, into: &mut [u8]) -> Result<Ready, ReadFault>
+        ensures within { IfBytes result (λ n. n ≤ length into.new) }
+        ensures given { IfBytes result (λ n. self.new.given ≡ after_piece self.old.given (length into.new) n (take n into.new)) }
+        ensures none_given { UnlessBytes result (self.new.given ≡ self.old.given) }
+        ensures bytes { IfBytes result (λ n. self.old.left ≡ take n into.new ++ self.new.left) }
+        ensures end { IfBytes result (λ n. n ≡ 0 → 0 < length into.new → self.old.left ≡ []) }
+        ensures beyond { IfBytes result (λ n. drop n into.new ≡ drop n into.old) }
+        ensures none { UnlessBytes result (self.new.left ≡ self.old.left) }
+        ensures cause { HasCause self.old.plan.faults self.new.plan.faults result }
+        ensures waited { HasWaited 0 0 result }
+    {
         let count = self.read(into)?;
         Ok(Ready::Bytes(count))
     }

@@ -1,7 +1,8 @@
 // Streams that answer at once.
-ghost use Rattle.std.specs.Prelude.{◌≡◌, ℕ, ◌<◌, ◌≤◌, List, length, take, drop, Option, OnSome};
-ghost use Rattle.std.specs.Io.KnownBytes.{prepend_known, append_known, IsAtEnd};
+ghost use Rattle.std.specs.Prelude.{◌≡◌, ℕ, ◌<◌, ◌≤◌, List, length, take, Option};
+ghost use Rattle.std.specs.Io.KnownBytes.{append_known};
 ghost use Rattle.grid_edge.specs.Faults.{HasCause};
+ghost use Rattle.grid_edge.specs.Given.{Given, after_piece};
 ghost use Rattle.grid_edge.specs.Ready.{IfBytes, UnlessBytes, HasWaited};
 
 use crate::{ReadFault, WriteFault};
@@ -23,17 +24,15 @@ pub trait ReadySource {
     /// How often nothing had come. It is such a count too.
     ghost unready: { Self → ℕ };
 
-    /// The bytes that are left to read, where the source tells them.
-    ghost left: { Self → Option (List ℕ) };
+    /// What reads have given so far.
+    ghost given: { Self → Given };
 
     /// As `Source::read`, with `Bytes` for its count. Where nothing is there to be read yet the answer is
     /// `NotYet`; after that, and after a fault, the buffer may hold anything.
     fn read_ready(&mut self, into: &mut [u8]) -> Result<Ready, ReadFault>
         ensures within { IfBytes result (λ n. n ≤ length into.new) }
-        ensures bytes { IfBytes result (λ n. left self.old ≡ prepend_known (take n into.new) (left self.new)) }
-        ensures end { IfBytes result (λ n. n ≡ 0 → 0 < length into.new → IsAtEnd (left self.old)) }
-        ensures beyond { IfBytes result (λ n. OnSome (left self.old) (drop n into.new ≡ drop n into.old)) }
-        ensures none { UnlessBytes result (left self.new ≡ left self.old) }
+        ensures given { IfBytes result (λ n. given self.new ≡ after_piece (given self.old) (length into.new) n (take n into.new)) }
+        ensures none_given { UnlessBytes result (given self.new ≡ given self.old) }
         ensures cause { HasCause (faults self.old) (faults self.new) result }
         ensures waited { HasWaited (unready self.old) (unready self.new) result };
 }

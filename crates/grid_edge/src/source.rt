@@ -2,6 +2,7 @@
 ghost use Rattle.std.specs.Prelude.{◌≡◌, ℕ, ◌<◌, ◌≤◌, List, length, take, drop, Option, IfOk, OnErr, OnSome};
 ghost use Rattle.std.specs.Io.KnownBytes.{prepend_known, IsAtEnd};
 ghost use Rattle.grid_edge.specs.Faults.{HasCause};
+ghost use Rattle.grid_edge.specs.Given.{Given, after_piece};
 
 use thiserror::Error;
 
@@ -15,6 +16,9 @@ pub trait Source {
     /// How many faults there were. The count never falls, and may stop at the last value of a `u64`.
     ghost faults: { Self → ℕ };
 
+    /// What reads have given so far.
+    ghost given: { Self → Given };
+
     /// The bytes that are left to read, where the source tells them.
     ghost left: { Self → Option (List ℕ) };
 
@@ -22,6 +26,9 @@ pub trait Source {
     /// buffer that isn't empty is the end. After a fault the buffer may hold anything.
     fn read(&mut self, into: &mut [u8]) -> Result<usize, ReadFault>
         ensures within { IfOk result (λ n. n ≤ length into.new) }
+
+        ensures given { IfOk result (λ n. given self.new ≡ after_piece (given self.old) (length into.new) n (take n into.new)) }
+        ensures none_given { OnErr result (given self.new ≡ given self.old) }
 
         // What it gives is the front of what was left, and the rest is left. So a source that tells its bytes
         // goes on telling them, and one that doesn't never begins to.

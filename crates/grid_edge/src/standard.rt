@@ -1,86 +1,102 @@
-// The process's standard streams, which tell nothing of their bytes.
-ghost use Rattle.std.specs.Prelude.{◌≡◌, ◌≤◌, ◌<◌, ℕ, None, IfOk, length};
+// The process's standard streams. They tell what was read and written, and not what is left.
+ghost use Rattle.std.specs.Prelude.{◌≡◌, ◌≤◌, ◌<◌, ℕ, [], None, Some, IfOk, length};
+ghost use Rattle.grid_edge.specs.Given.{none_given};
 ghost use Rattle.std.specs.Io.KnownBytes.{ReadConsumes, WriteAppends};
 
 use crate::count::next_count;
+use crate::given::{ReadRecord, WriteRecord};
 use crate::{ReadFault, Sink, Source, WriteFault};
 use std::io::{ErrorKind, Read, Stdin, Stdout, Write};
 use std::marker::Model;
 
-/// Standard input. Contracts see how many reads have failed, up to the last value of a `u64`.
+/// Standard input. Contracts see what was read, and how many reads have failed, up to the last value of a `u64`.
 #[derive(Drop)]
 pub struct StdSource {
     stdin: Stdin,
+    gave: ReadRecord,
     faults: u64,
 }
 
 impl Model for StdSource {
-    ghost use Rattle.std.specs.Prelude.{ℕ};
+    ghost use Rattle.grid_edge.specs.Standard.{StdInput};
 
-    ghost Value = { ℕ };
+    ghost Value = { StdInput };
 
-    ghost view = { λ s. s.faults };
+    ghost view = { λ s. record { given = s.gave; faults = s.faults } };
 }
 
 impl StdSource {
     /// Reads from standard input.
     pub fn new(stdin: Stdin) -> Self
-        ensures { result ≡ 0 }
+        ensures { result ≡ record { given = none_given; faults = 0 } }
     {
-        StdSource { stdin, faults: 0 }
+        StdSource {
+            stdin,
+            gave: ReadRecord::new(),
+            faults: 0,
+        }
     }
 }
 
 impl Source for StdSource {
-    ghost faults = { λ s. s };
+    ghost faults = { λ s. s.faults };
+
+    ghost given = { λ s. s.given };
 
     ghost left = { λ _. None };
 
     /// Costs a system call, and another one for each time that it is interrupted.
     fn read(&mut self, into: &mut [u8]) -> Result<usize, ReadFault> {
         let given = read_again(&mut self.stdin, into);
-        if given.is_err() {
-            self.faults = next_count(self.faults);
+        match given {
+            Ok(count) => self.gave.note(into.len(), &into[..count]),
+            Err(_) => self.faults = next_count(self.faults),
         }
         given
     }
 }
 
-/// Standard output. Contracts see how many writes have failed, up to the last value of a `u64`.
+/// Standard output. Contracts see what was written, and how many writes have failed, up to the last value of a `u64`.
 #[derive(Drop)]
 pub struct StdSink {
     stdout: Stdout,
+    took: WriteRecord,
     faults: u64,
 }
 
 impl Model for StdSink {
-    ghost use Rattle.std.specs.Prelude.{ℕ};
+    ghost use Rattle.grid_edge.specs.Standard.{StdOutput};
 
-    ghost Value = { ℕ };
+    ghost Value = { StdOutput };
 
-    ghost view = { λ s. s.faults };
+    ghost view = { λ s. record { taken = s.took; faults = s.faults } };
 }
 
 impl StdSink {
     /// Writes to standard output.
     pub fn new(stdout: Stdout) -> Self
-        ensures { result ≡ 0 }
+        ensures { result ≡ record { taken = []; faults = 0 } }
     {
-        StdSink { stdout, faults: 0 }
+        StdSink {
+            stdout,
+            took: WriteRecord::new(),
+            faults: 0,
+        }
     }
 }
 
 impl Sink for StdSink {
-    ghost faults = { λ s. s };
+    ghost faults = { λ s. s.faults };
 
-    ghost taken = { λ _. None };
+    ghost taken = { λ s. Some s.taken };
 
     /// A write that takes nothing of a piece counts as a fault. Costs a system call, and another one for
     /// each time that it is interrupted.
     fn write(&mut self, from: &[u8]) -> Result<usize, WriteFault> {
         let written = write_again(&mut self.stdout, from);
-        if written.is_err() {
-            self.faults = next_count(self.faults);
+        match written {
+            Ok(count) => self.took.note(&from[..count]),
+            Err(_) => self.faults = next_count(self.faults),
         }
         written
     }

@@ -1,2 +1,4 @@
 pub mod Attempt
+pub mod Entries
+pub mod Streams
 pub mod TcpDoors

@@ -1,13 +1,21 @@
 -- What contracts see of the doors.
-use Rattle.std.specs.Prelude.{ℕ, Option, None, Some}
+use Rattle.std.specs.Prelude.{ℕ, List, [], length, Option, None, Some}
 use Rattle.grid_edge.specs.declared.doors.Opening.{Opening}
-use Rattle.grid_edge.specs.Doors.{Book}
+use Rattle.grid_edge.specs.Doors.{Arrival, Return, Book}
 use Rattle.tcp_edge.specs.declared.hall.Hall.{Hall}
 
--- the last opening that went well, how many came since, and the counts of faults and of empty looks
+-- the connections that came, and those that were given back
+pub record Listed : Type 0 where
+  pub arrivals : List Arrival
+  pub returns : List Return
+
+abbrev pub none_listed : Listed
+none_listed = record { arrivals = []; returns = [] }
+
+-- the last opening that went well, which connections came since, which were given back, and the counts of faults and of empty looks
 pub record TcpDoorway : Type 0 where
   pub opening : Option Opening
-  pub accepted : ℕ
+  pub listed : Listed
   pub faults : ℕ
   pub looks : ℕ
 
@@ -17,8 +25,8 @@ opening_of (Some hall) = Some hall.entrance.opening
 
 -- after an opening that went well
 abbrev pub opened_for : TcpDoorway → Opening → TcpDoorway
-opened_for d opening = record d { opening = Some opening; accepted = 0 }
+opened_for d opening = record d { opening = Some opening; listed = none_listed }
 
--- they tell which opening it was and how many came, and not which ones
+-- they tell which opening it was, how many came and which ones, and which were given back
 abbrev pub book_of : TcpDoorway → Book
-book_of d = record { opening = d.opening; accepted = d.accepted; arrivals = None; returns = None }
+book_of d = record { opening = d.opening; accepted = length d.listed.arrivals; arrivals = Some d.listed.arrivals; returns = Some d.listed.returns }

@@ -6,6 +6,7 @@
 
 mod doors;
 mod entrance;
+mod entries;
 mod hall;
 mod reports;
 mod stream;

@@ -3,10 +3,12 @@ ghost use Rattle.std.specs.Prelude.{◌≡◌, ◌≤◌, ◌<◌, length};
 ghost use Rattle.grid_edge.specs.Faults.{HasCause};
 ghost use Rattle.grid_edge.specs.Ready.{IfBytes, HasWaited};
 ghost use Rattle.tcp_edge.specs.declared.stream.Attempt.TheVariants.{Moved};
-ghost use Rattle.tcp_edge.specs.Attempt.{IfMoved};
+ghost use Rattle.tcp_edge.specs.Attempt.{IfMoved, AttemptConsumes, AttemptAppends, AttemptGives, AttemptTakes};
 
 use crate::reports::Reports;
-use grid_edge::{ReadFault, Ready, ReadySink, ReadySource, WriteFault, next_count};
+use grid_edge::{
+    ReadFault, ReadRecord, Ready, ReadySink, ReadySource, WriteFault, WriteRecord, next_count,
+};
 use mio::net::TcpStream;
 use std::alloc::AllocError;
 use std::io::{ErrorKind, Read, Write};
@@ -52,6 +54,7 @@ impl Counts {
     // The answer to a call that came to this, once it is counted.
     fn answer<E: Drop>(&mut self, attempt: Attempt, fault: E) -> Result<Ready, E>
         ensures bytes { IfBytes result (λ n. attempt ≡ Moved n) }
+        ensures moved { IfMoved attempt (λ n. result ≡ Ok (Ready.Bytes n)) }
         ensures cause { HasCause self.old.faults self.new.faults result }
         ensures waited { HasWaited self.old.unready self.new.unready result }
     {
@@ -99,8 +102,8 @@ impl Wait {
     }
 }
 
-/// What comes from a client. Contracts see how many reads have failed and how many found nothing, each up to the
-/// last value of a `u64`.
+/// What comes from a client. Contracts see what reads gave, how many have failed and how many found nothing, each up to
+/// the last value of a `u64`.
 #[derive(Drop)]
 pub struct TcpSource {
     stream: Arc<TcpStream>,
@@ -108,32 +111,34 @@ pub struct TcpSource {
     reports: Arc<Reports>,
     wait: Wait,
     counts: Counts,
+    gave: ReadRecord,
 }
 
-/// What goes to a client. Contracts see how many writes have failed and how many found no room, each up to the last
-/// value of a `u64`.
+/// What goes to a client. Contracts see what writes took, how many have failed and how many found no room, each up to
+/// the last value of a `u64`.
 #[derive(Drop)]
 pub struct TcpSink {
     stream: Arc<TcpStream>,
     reports: Arc<Reports>,
     wait: Wait,
     counts: Counts,
+    took: WriteRecord,
 }
 
 impl Model for TcpSource {
-    ghost use Rattle.tcp_edge.specs.declared.stream.Counts.{Counts};
+    ghost use Rattle.tcp_edge.specs.Streams.{TcpInput};
 
-    ghost Value = { Counts };
+    ghost Value = { TcpInput };
 
-    ghost view = { λ s. s.counts };
+    ghost view = { λ s. record { given = s.gave; faults = s.counts.faults; unready = s.counts.unready } };
 }
 
 impl Model for TcpSink {
-    ghost use Rattle.tcp_edge.specs.declared.stream.Counts.{Counts};
+    ghost use Rattle.tcp_edge.specs.Streams.{TcpOutput};
 
-    ghost Value = { Counts };
+    ghost Value = { TcpOutput };
 
-    ghost view = { λ s. s.counts };
+    ghost view = { λ s. record { taken = s.took; faults = s.counts.faults; unready = s.counts.unready } };
 }
 
 /// The two ends of this connection, which has this place at the poll that reports of it.
@@ -147,6 +152,7 @@ pub(crate) fn ends(
         reports: Arc::try_clone(&reports)?,
         wait: Wait::new(),
         counts: Counts::new(),
+        took: WriteRecord::new(),
     };
     let from = TcpSource {
         stream,
@@ -154,6 +160,7 @@ pub(crate) fn ends(
         reports,
         wait: Wait::new(),
         counts: Counts::new(),
+        gave: ReadRecord::new(),
     };
     Ok((from, to))
 }
@@ -175,13 +182,11 @@ impl TcpSource {
 }
 
 impl ReadySource for TcpSource {
-    ghost use Rattle.std.specs.Prelude.{None};
-
     ghost faults = { λ s. s.faults };
 
     ghost unready = { λ s. s.unready };
 
-    ghost left = { λ _. None };
+    ghost given = { λ s. s.given };
 
     /// Costs a system call, and another one for each time that it is interrupted. Once all that had come was read it costs
     /// none, and comes to `NotYet`, until a `wait` at the doors reports something.
@@ -190,7 +195,7 @@ impl ReadySource for TcpSource {
         let ended = self.reports.has_ended();
         let mut attempt = Attempt::WouldBlock;
         if !self.wait.goes_on(reported) {
-            attempt = try_read(&mut &*self.stream, into);
+            attempt = try_read(&mut &*self.stream, into, &mut self.gave);
             self.wait.note(attempt, reported);
             if !ended && attempt.is_short_of(into.len()) {
                 self.wait.drained(reported);
@@ -201,13 +206,13 @@ impl ReadySource for TcpSource {
 }
 
 impl ReadySink for TcpSink {
-    ghost use Rattle.std.specs.Prelude.{None};
+    ghost use Rattle.std.specs.Prelude.{Some};
 
     ghost faults = { λ s. s.faults };
 
     ghost unready = { λ s. s.unready };
 
-    ghost taken = { λ _. None };
+    ghost taken = { λ s. Some s.taken };
 
     /// A write that takes nothing of a piece counts as a fault. Costs a system call, and another one for each time
     /// that it is interrupted. Once there was no room it costs none, and comes to `NotYet`, until a `wait` at the doors
@@ -216,20 +221,27 @@ impl ReadySink for TcpSink {
         let reported = self.reports.writable();
         let mut attempt = Attempt::WouldBlock;
         if !self.wait.goes_on(reported) {
-            attempt = try_write(&mut &*self.stream, from);
+            attempt = try_write(&mut &*self.stream, from, &mut self.took);
             self.wait.note(attempt, reported);
         }
         self.counts.answer(attempt, WriteFault)
     }
 }
 
-// Reads once, and again where the read was interrupted.
-fn try_read<R: Read>(reader: &mut R, into: &mut [u8]) -> Attempt
-    ensures { IfMoved result (λ n. n ≤ length into.new) }
+// Reads once, and again where the read was interrupted. What came is noted: where the reader tells its bytes, these are
+// the ones that it gave.
+#[tactic(auto, using(crate::proofs::Attempts::Consumes_since))]
+fn try_read<R: Read>(reader: &mut R, into: &mut [u8], gave: &mut ReadRecord) -> Attempt
+    ensures within { IfMoved result (λ n. n ≤ length into.new) }
+    ensures bytes { AttemptConsumes (R.remaining reader.old) (R.remaining reader.new) result into.new }
+    ensures noted { AttemptGives gave.old gave.new result into.new }
 {
     for _ in 0..u64::MAX {
         match reader.read(into) {
-            Ok(count) => return Attempt::Moved(count),
+            Ok(count) => {
+                gave.note(into.len(), &into[..count]);
+                return Attempt::Moved(count);
+            }
             Err(error) => match error.kind() {
                 ErrorKind::Interrupted => {}
                 ErrorKind::WouldBlock => return Attempt::WouldBlock,
@@ -240,15 +252,22 @@ fn try_read<R: Read>(reader: &mut R, into: &mut [u8]) -> Attempt
     Attempt::Failed
 }
 
-// Writes once, and again where the write was interrupted.
-fn try_write<W: Write>(writer: &mut W, from: &[u8]) -> Attempt
+// Writes once, and again where the write was interrupted. What went is noted: where the writer tells its bytes, these
+// are the ones that it took.
+#[tactic(auto, using(crate::proofs::Attempts::Appends_since))]
+fn try_write<W: Write>(writer: &mut W, from: &[u8], took: &mut WriteRecord) -> Attempt
     ensures within { IfMoved result (λ n. n ≤ length from.now) }
     ensures progress { IfMoved result (λ n. 0 < length from.now → 0 < n) }
+    ensures bytes { AttemptAppends (W.contents writer.old) (W.contents writer.new) result from.now }
+    ensures noted { AttemptTakes took.old took.new result from.now }
 {
     for _ in 0..u64::MAX {
         match writer.write(from) {
             Ok(0) if !from.is_empty() => break,
-            Ok(count) => return Attempt::Moved(count),
+            Ok(count) => {
+                took.note(&from[..count]);
+                return Attempt::Moved(count);
+            }
             Err(error) => match error.kind() {
                 ErrorKind::Interrupted => {}
                 ErrorKind::WouldBlock => return Attempt::WouldBlock,

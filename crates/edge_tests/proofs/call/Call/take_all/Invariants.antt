@@ -1,6 +1,6 @@
-use Rattle.std.proofs.Common.{◌≡◌}
+use Rattle.std.proofs.Common.{length, ◌≡◌}
 use Rattle.edge_tests.proofs.call.Call.take_all.Given as goal
 
--- nobody came so far
+-- nobody came so far, and none was given back
 abbrev pub invariant-loop-number : goal.invariant-loop-number
-invariant-loop-number l = l.doors.accepted ≡ l.fn.doors.accepted
+invariant-loop-number l = (length l.doors.listed.arrivals ≡ length l.fn.doors.listed.arrivals) × (l.doors.listed.returns ≡ l.fn.doors.listed.returns)
