@@ -1,10 +1,10 @@
-//! How passes are split and joined.
+//! How passes are split and joined, and learn of each other.
 ghost use Rattle.std.specs.Prelude.{◌≡◌, []};
 ghost use Rattle.hand_cell.specs.Names.{left_names, given_names, MayGive, both_names};
 ghost use Rattle.hand_cell.specs.Rule.{view_of, named_view, idle_view, longer_of, IsSamePass, Extends};
 ghost use Rattle.hand_cell.specs.Inside.{IsIdle};
 ghost use Rattle.hand_cell.specs.Told.{with_names, having_seen};
-ghost use Rattle.hand_cell.specs.Calls.{IsPassOf};
+ghost use Rattle.hand_cell.specs.Calls.{IsPassOf, HasLearned};
 
 use crate::cell::Cell;
 use crate::names::Names;
@@ -51,6 +51,19 @@ impl<T: Stands> Cell<T> {
     {
         let Pass { place } = other;
         self.merge(&mut pass.place, place);
+    }
+
+    /// Lets a pass see all that another pass of its cell has seen. Each keeps its names, and the other has seen what it
+    /// had. The pass has then seen the longer of what the two had seen, which the other begins.
+    ///
+    /// It waits for nobody, and takes no memory. It costs three loads of the cell's counters and writes nothing.
+    pub fn learn(&self, pass: &mut Pass<T>, from: &mut Pass<T>)
+        requires cell { IsPassOf self.now pass.old × IsPassOf self.now from.old }
+        ensures learned { HasLearned T.key_of pass.old from.old pass.new }
+        ensures same { from.new ≡ from.old }
+    {
+        let part = self.split(from, Names::Nothing);
+        self.join(pass, part);
     }
 
     fn merge(&self, place: &mut Place<T>, other: Place<T>)

@@ -9,3 +9,4 @@ pub mod WholeCalls
 pub mod Places
 mod Refusing
 mod Starting
+mod Learned

@@ -4,3 +4,4 @@ pub mod Openings
 pub mod Clause
 pub mod Calls
 pub mod Laws
+pub mod Learning

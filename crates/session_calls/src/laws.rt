@@ -1,6 +1,7 @@
 //! What holds of each call of a session. Nothing runs here.
 ghost use Rattle.partition_threads.specs.declared.workplace.Workplace.{Workplace};
 ghost use Rattle.session_calls.specs.Laws.{StartedMayFinish, UnfinishedMayFinish, CallsEndAsStarted};
+ghost use Rattle.session_calls.specs.Learning.{CallsStandInOrder};
 
 use hand_cell::Served;
 
@@ -16,4 +17,11 @@ pub fn every_started_call_may_be_finished<T: Served>()
 /// why not.
 pub fn every_call_ends_as_it_was_started<T: Served>()
     ensures { (place : Workplace T T.Plan T.Event T.Outcome) → CallsEndAsStarted T.key_of T.call_of T.tells place }
+{}
+
+/// What `SessionPass::teach` and `SessionPass::learn` give two calls of one partition. The first one's session taught
+/// passes once the call had its outcome, and the second one's session learned from these before the call was started.
+/// Then the first one's event stands before the second one's, or one of them wasn't run.
+pub fn every_call_stands_after_those_learned_of<T: Served>()
+    ensures { (place : Workplace T T.Plan T.Event T.Outcome) → CallsStandInOrder T.key_of T.call_of T.tells place }
 {}

@@ -6,16 +6,23 @@
 //!
 //! `SessionPass::open` splits a session's passes off those of a grid, and `SessionPass::close` joins them again. Whole
 //! lists of passes are shared out by `split_passes` and `join_passes`.
+//!
+//! A session learns what other sessions' calls have seen, by way of passes that stand between them: `SessionPass::teach`
+//! after a call, and `SessionPass::learn` before the next one.
 #![tactic(auto)]
 
 mod calls;
 mod laws;
+mod learning;
 mod opening;
 mod session;
 mod sharing;
 mod slots;
 
 pub use calls::{Finished, Unstarted};
-pub use laws::{every_call_ends_as_it_was_started, every_started_call_may_be_finished};
+pub use laws::{
+    every_call_ends_as_it_was_started, every_call_stands_after_those_learned_of,
+    every_started_call_may_be_finished,
+};
 pub use session::{SessionPass, Started};
 pub use sharing::{join_passes, split_passes, split_tokens};
