@@ -2,6 +2,7 @@
 use Rattle.std.proofs.Common.{◌≡◌, ℕ, zero, suc, ◌+◌, ◌≤◌, Bool, true, false, cond, List, [], ◌∷◌, ◌++◌, length, take, drop, Option, Some, None, Result, Ok, Err, refl, ap, sym, ◌∙◌, subst, arith, ◌⊎◌, inl, inr, ⊎_elim, append-nil, append_assoc}
 use Rattle.std.specs.List.{flat_map}
 use Rattle.grid_base.specs.declared.names.CallId.{CallId}
+use Rattle.grid_edge.specs.Given.{Given}
 use Rattle.script_lang.specs.Lines.{line_of, is_end, IsWithin}
 use Rattle.script_lang.proofs.Ranges.{IsWithin-words_of}
 use Rattle.script_lang.specs.declared.line.Line.{Line}
@@ -26,13 +27,14 @@ use Rattle.replay_run.specs.Linearizability.{IsLinearizable}
 use Rattle.grid_cli.specs.Scripts.{lines_of, limit_of}
 use Rattle.grid_cli.specs.Transcripts.{Transcript, settings, Ending, Ended, Refused, TooLong, first_line, later_lines, after_first, following, refused, too_long}
 use Rattle.grid_cli.specs.Progress.{run_of, run_after, begun_by, capacity_by, capacity_of}
-use Rattle.grid_cli.specs.Statuses.{whole, Writes, ReadsAndWrites}
-use Rattle.grid_cli.specs.Commands.{ClosesWith, PrintsHistories, settings_in}
+use Rattle.grid_cli.specs.Statuses.{whole, Writes, HasReplayed, ReadsAndWrites}
+use Rattle.grid_cli.specs.Commands.{ClosesWith, TellsHistories, PrintsHistories, settings_in}
 use Rattle.grid_cli.specs.declared.status.LimitWhat.{LimitWhat}
 use Rattle.grid_cli.specs.declared.status.LimitWhat.TheVariants.{InFlight}
 use Rattle.grid_cli.specs.declared.status.Status.{Status}
 use Rattle.grid_cli.specs.declared.status.Status.TheVariants.{Done, Usage}
 use Rattle.grid_cli.proofs.Progress.{continued, later_line, run_line}
+use Rattle.grid_cli.proofs.ReadLaws.{prints_also}
 use Rattle.grid_cli.proofs.ReplayRuns.{nothing_said}
 use Rattle.script_run.proofs.ScriptLaws.{every_run_is_linearizable}
 
@@ -236,21 +238,16 @@ done_closes forms skips script read text is =
     let closes = lines_close forms skips (limit_of script) (lines_of script) (ap ended_in is) in
     (closes.0, subst (λ (t : Transcript). ClosesWith (settings_in forms script) (run_of forms skips (take closes.0 (lines_of script))).run t.text) is closes.1)
 
-pub prints_histories : (forms : List ProcessorForm) (status : Status) (first left before after : Option (List ℕ)) → ReadsAndWrites forms status first left before after → PrintsHistories forms status first left before after
-prints_histories forms status first left before after writes script told =
-    let w = writes script told in (
-      w.0,
-      w.1,
-      w.2,
-      w.3,
-      w.4,
-      record {
-        replayed = w.5;
-        linearizable = first_linearize forms w.0 (lines_of script);
-        closes = λ done. done_closes forms w.0 script w.1 w.2 (subst (λ s. Writes forms s w.0 script w.1 w.2) done w.5.writes);
-      },
-    )
+tells_histories : (forms : List ProcessorForm) (status : Status) (skips : List CallId) (script read text : List ℕ) → HasReplayed forms status skips script read text → TellsHistories forms status skips script read text
+tells_histories forms status skips script read text replayed = record {
+  replayed = replayed;
+  linearizable = first_linearize forms skips (lines_of script);
+  closes = λ done. done_closes forms skips script read text (subst (λ s. Writes forms s skips script read text) done replayed.writes);
+}
+
+pub prints_histories : (forms : List ProcessorForm) (status : Status) (first now : Given) (before after : Option (List ℕ)) → ReadsAndWrites forms status first now before after → PrintsHistories forms status first now before after
+prints_histories forms status = prints_also (HasReplayed forms status) (TellsHistories forms status) (tells_histories forms status)
 
 -- where the words are no command
-pub nothing_printed : (forms : List ProcessorForm) (first before : Option (List ℕ)) → PrintsHistories forms Usage first first before before
+pub nothing_printed : (forms : List ProcessorForm) (first : Given) (before : Option (List ℕ)) → PrintsHistories forms Usage first first before before
 nothing_printed forms first before = prints_histories forms Usage first first before before (nothing_said forms first before)

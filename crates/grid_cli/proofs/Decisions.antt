@@ -1,6 +1,7 @@
 -- What the masters of a replayed script publish is what its table service does.
 use Rattle.std.proofs.Common.{◌≡◌, ℕ, zero, suc, ◌≤◌, true, false, List, [], ◌∷◌, ◌++◌, take, Option, Result, Ok, Err, refl, ap, sym, ◌∙◌, subst, arith}
 use Rattle.grid_base.specs.declared.names.CallId.{CallId}
+use Rattle.grid_edge.specs.Given.{Given}
 use Rattle.entry_processors.specs.Processors.{ProcessorForm}
 use Rattle.call_engine.specs.Calls.{Settings}
 use Rattle.script_lang.specs.Lines.{line_of}
@@ -12,14 +13,15 @@ use Rattle.script_run.specs.Laws.{run_with}
 use Rattle.script_run.specs.Masters.{AreRuled, AllAreServed, AllGoOn}
 use Rattle.script_run.specs.Runs.{ScriptRun, begun}
 use Rattle.script_run.proofs.MastersLaws.{every_run_is_ruled, every_service_serves_as_published, every_published_list_grows}
-use Rattle.grid_cli.specs.Decisions.{PrintsDecisions}
+use Rattle.grid_cli.specs.Decisions.{TellsDecisions, PrintsDecisions}
 use Rattle.grid_cli.specs.Progress.{run_after, begun_by, capacity_by, capacity_of, run_of}
 use Rattle.grid_cli.specs.Scripts.{lines_of}
-use Rattle.grid_cli.specs.Statuses.{ReadsAndWrites}
+use Rattle.grid_cli.specs.Statuses.{HasReplayed, ReadsAndWrites}
 use Rattle.grid_cli.specs.Transcripts.{settings}
 use Rattle.grid_cli.specs.declared.status.Status.{Status}
 use Rattle.grid_cli.proofs.CommandLaws.{first_within, run_of_lines}
 use Rattle.grid_cli.proofs.Progress.{run_line}
+use Rattle.grid_cli.proofs.ReadLaws.{prints_also}
 
 -- The lines that run of some texts, and of more.
 pub record AreRunOn (s : Settings) (skips : List CallId) (r : ScriptRun) (texts later : List (List ℕ)) : Type 0 where
@@ -122,18 +124,13 @@ module _ (forms : List ProcessorForm) (skips : List CallId) where
   all_go_on (text ∷ texts) (suc lines) zero within = absurd (omega (arith, within))
   all_go_on (text ∷ texts) (suc lines) (suc later) within = run_goes_on text lines later texts (omega (arith, within)) (line_of true 0 text) refl
 
-pub prints_decisions : (forms : List ProcessorForm) (status : Status) (first left before after : Option (List ℕ)) → ReadsAndWrites forms status first left before after → PrintsDecisions forms status first left before after
-prints_decisions forms status first left before after writes script told =
-    let w = writes script told in (
-      w.0,
-      w.1,
-      w.2,
-      w.3,
-      w.4,
-      record {
-        replayed = w.5;
-        ruled = holds_after AreRuled every_run_is_ruled none_ruled forms w.0 (lines_of script);
-        served = holds_after AllAreServed every_service_serves_as_published none_served forms w.0 (lines_of script);
-        goes_on = all_go_on forms w.0 (lines_of script);
-      },
-    )
+tells_decisions : (forms : List ProcessorForm) (status : Status) (skips : List CallId) (script read text : List ℕ) → HasReplayed forms status skips script read text → TellsDecisions forms status skips script read text
+tells_decisions forms status skips script read text replayed = record {
+  replayed = replayed;
+  ruled = holds_after AreRuled every_run_is_ruled none_ruled forms skips (lines_of script);
+  served = holds_after AllAreServed every_service_serves_as_published none_served forms skips (lines_of script);
+  goes_on = all_go_on forms skips (lines_of script);
+}
+
+pub prints_decisions : (forms : List ProcessorForm) (status : Status) (first now : Given) (before after : Option (List ℕ)) → ReadsAndWrites forms status first now before after → PrintsDecisions forms status first now before after
+prints_decisions forms status = prints_also (HasReplayed forms status) (TellsDecisions forms status) (tells_decisions forms status)

@@ -7,6 +7,7 @@ pub mod Cuts
 pub mod ReplayLaws
 pub mod ReplaySteps
 pub mod ReplayEnds
+pub mod ReadLaws
 pub mod ReplayRuns
 pub mod CommandLaws
 pub mod Parts

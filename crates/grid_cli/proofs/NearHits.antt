@@ -2,6 +2,7 @@
 use Rattle.std.proofs.Common.{◌≡◌, ℕ, zero, suc, ◌+◌, ◌-◌, ◌<◌, ◌≤◌, ◌^◌, Bool, true, false, cond, ◌==◌, nat_lt, List, [], ◌∷◌, length, take, Option, None, Result, Ok, Err, refl, ap, sym, ◌∙◌, subst, inl, inr, arith, lit<, lit≤}
 use Rattle.std.proofs.lemmas.Bool.Decides.{nat_tests}
 use Rattle.grid_base.specs.declared.names.CallId.{CallId}
+use Rattle.grid_edge.specs.Given.{Given}
 use Rattle.entry_processors.specs.Processors.{ProcessorForm}
 use Rattle.call_engine.specs.Calls.{Settings}
 use Rattle.call_engine.specs.Objects.{partition_object}
@@ -21,13 +22,14 @@ use Rattle.near_script_laws.proofs.Theorem.{every_hit_of_a_script_stands}
 use Rattle.grid_cli.specs.Scripts.{Cut, stops, onto, within, last_cut, cut_pieces, lines_of}
 use Rattle.grid_cli.specs.Transcripts.{settings}
 use Rattle.grid_cli.specs.Progress.{run_after, begun_by, capacity_by, capacity_of, run_of}
-use Rattle.grid_cli.specs.Statuses.{ReadsAndWrites}
-use Rattle.grid_cli.specs.NearHits.{PrintsHits}
+use Rattle.grid_cli.specs.Statuses.{HasReplayed, ReadsAndWrites}
+use Rattle.grid_cli.specs.NearHits.{TellsHits, PrintsHits}
 use Rattle.grid_cli.specs.declared.status.Status.{Status}
 use Rattle.grid_cli.specs.declared.status.LimitWhat.TheVariants.{Bytes, Lines, Line as LineLimit}
 use Rattle.grid_cli.proofs.CommandLaws.{first_within}
 use Rattle.grid_cli.proofs.LineLimits.{within_more}
 use Rattle.grid_cli.proofs.Members.{members_stay}
+use Rattle.grid_cli.proofs.ReadLaws.{prints_also}
 
 -- ---- the lines of a script are within its limits
 
@@ -189,7 +191,8 @@ first_stand forms skips [] (suc lines) short = none_stands (settings forms 0) 1 
 first_stand forms skips (text ∷ texts) zero short = none_stands (settings forms (capacity_of (text ∷ texts))) 1 0
 first_stand forms skips (text ∷ texts) (suc lines) short = run_stands forms skips (text ∷ take lines texts) (first_short (suc lines) most_lines (text ∷ texts) short)
 
-pub prints_hits : (forms : List ProcessorForm) (status : Status) (first left before after : Option (List ℕ)) → ReadsAndWrites forms status first left before after → PrintsHits forms status first left before after
-prints_hits forms status first left before after writes script told =
-    let w = writes script told in
-    (w.0, w.1, w.2, w.3, w.4, record { replayed = w.5; hits = λ lines. first_stand forms w.0 (lines_of script) lines (lines_short script) })
+tells_hits : (forms : List ProcessorForm) (status : Status) (skips : List CallId) (script read text : List ℕ) → HasReplayed forms status skips script read text → TellsHits forms status skips script read text
+tells_hits forms status skips script read text replayed = record { replayed = replayed; hits = λ lines. first_stand forms skips (lines_of script) lines (lines_short script) }
+
+pub prints_hits : (forms : List ProcessorForm) (status : Status) (first now : Given) (before after : Option (List ℕ)) → ReadsAndWrites forms status first now before after → PrintsHits forms status first now before after
+prints_hits forms status = prints_also (HasReplayed forms status) (TellsHits forms status) (tells_hits forms status)

@@ -1,6 +1,7 @@
 -- The calls of a replayed script wait by the rule.
 use Rattle.std.proofs.Common.{◌≡◌, ℕ, zero, suc, ◌≤◌, true, false, List, [], ◌∷◌, ◌++◌, take, Option, Result, Ok, Err, refl, ap, sym, ◌∙◌, subst, arith}
 use Rattle.grid_base.specs.declared.names.CallId.{CallId}
+use Rattle.grid_edge.specs.Given.{Given}
 use Rattle.entry_processors.specs.Processors.{ProcessorForm}
 use Rattle.call_engine.specs.Calls.{Settings}
 use Rattle.call_engine.specs.Objects.{partition_object}
@@ -20,12 +21,13 @@ use Rattle.masters_run.proofs.RuledLines.{every_partition_goes_by_its_machine, e
 use Rattle.masters_run.proofs.SilentWaiters.{every_waiter_changes_nothing}
 use Rattle.grid_cli.specs.Progress.{run_after, begun_by, capacity_by, capacity_of, run_of}
 use Rattle.grid_cli.specs.Scripts.{lines_of}
-use Rattle.grid_cli.specs.Statuses.{ReadsAndWrites}
+use Rattle.grid_cli.specs.Statuses.{HasReplayed, ReadsAndWrites}
 use Rattle.grid_cli.specs.Transcripts.{settings}
-use Rattle.grid_cli.specs.Waits.{WaitByTheRule, GoOnByTheRule, PrintsWaits}
+use Rattle.grid_cli.specs.Waits.{WaitByTheRule, GoOnByTheRule, TellsWaits, PrintsWaits}
 use Rattle.grid_cli.specs.declared.status.Status.{Status}
 use Rattle.grid_cli.proofs.CommandLaws.{first_within, run_of_lines}
 use Rattle.grid_cli.proofs.Decisions.{AreRunOn, are_run_on}
+use Rattle.grid_cli.proofs.ReadLaws.{prints_also}
 
 -- unless the run was given up
 abbrev Waits : Settings → List CallId → ScriptRun → Type 0
@@ -118,7 +120,8 @@ module _ (forms : List ProcessorForm) (skips : List CallId) where
   all_go_on [] (suc lines) (suc later) some within = runs_go_on (settings forms 0) 1 0 skips 0 0 [] (omega arith) (omega arith)
   all_go_on (text ∷ texts) (suc lines) (suc later) some within = run_goes_on text lines later texts (omega (arith, within)) (line_of true 0 text) refl
 
-pub prints_waits : (forms : List ProcessorForm) (status : Status) (first left before after : Option (List ℕ)) → ReadsAndWrites forms status first left before after → PrintsWaits forms status first left before after
-prints_waits forms status first left before after writes script told =
-    let w = writes script told in
-    (w.0, w.1, w.2, w.3, w.4, record { replayed = w.5; waits = all_wait forms w.0 (lines_of script); goes_on = all_go_on forms w.0 (lines_of script) })
+tells_waits : (forms : List ProcessorForm) (status : Status) (skips : List CallId) (script read text : List ℕ) → HasReplayed forms status skips script read text → TellsWaits forms status skips script read text
+tells_waits forms status skips script read text replayed = record { replayed = replayed; waits = all_wait forms skips (lines_of script); goes_on = all_go_on forms skips (lines_of script) }
+
+pub prints_waits : (forms : List ProcessorForm) (status : Status) (first now : Given) (before after : Option (List ℕ)) → ReadsAndWrites forms status first now before after → PrintsWaits forms status first now before after
+prints_waits forms status = prints_also (HasReplayed forms status) (TellsWaits forms status) (tells_waits forms status)

@@ -1,9 +1,9 @@
 -- What the program's commands are, and what a replay says of the histories that it prints.
-use Rattle.std.specs.Prelude.{◌≡◌, ℕ, Bool, false, List, [], ◌∷◌, ◌++◌, take, Option, Some, codes, String, string_bytes}
+use Rattle.std.specs.Prelude.{◌≡◌, ℕ, Bool, false, List, [], ◌∷◌, ◌++◌, take, Option, codes, String, string_bytes}
 use Rattle.std.specs.List.{flat_map}
-use Rattle.std.specs.Io.KnownBytes.{append_known, prepend_known}
 use Rattle.std.specs.declared.alloc.Global.{Global}
 use Rattle.grid_base.specs.declared.names.CallId.{CallId}
+use Rattle.grid_edge.specs.Given.{Given}
 use Rattle.script_lang.specs.Words.{are_same}
 use Rattle.entry_processors.specs.Processors.{ProcessorForm}
 use Rattle.call_engine.specs.Calls.{Settings}
@@ -15,6 +15,7 @@ use Rattle.replay_run.specs.Linearizability.{IsLinearizable}
 use Rattle.grid_cli.specs.Scripts.{lines_of}
 use Rattle.grid_cli.specs.Progress.{run_of, capacity_of}
 use Rattle.grid_cli.specs.Transcripts.{settings}
+use Rattle.grid_cli.specs.ReadScripts.{Prints}
 use Rattle.grid_cli.specs.Statuses.{HasReplayed}
 use Rattle.grid_cli.specs.declared.status.Status.{Status}
 use Rattle.grid_cli.specs.declared.status.Status.TheVariants.{Done}
@@ -45,7 +46,6 @@ pub record TellsHistories (forms : List ProcessorForm) (status : Status) (skips 
   -- and with the line `end` the text closes with all of them
   pub closes : status ≡ Done → (lines : ℕ) × ClosesWith (settings_in forms script) (run_of_script forms skips script lines).run text
 
--- What was written tells histories of the script that the source told, for some calls that found no memory.
-abbrev pub PrintsHistories : List ProcessorForm → Status → Option (List ℕ) → Option (List ℕ) → Option (List ℕ) → Option (List ℕ) → Type 0
-PrintsHistories forms status first left before after = (script : List ℕ) → first ≡ Some script
-    → (skips : List CallId) × (read text : List ℕ) × (first ≡ prepend_known read left) × (after ≡ append_known before text) × TellsHistories forms status skips script read text
+-- What was written tells histories of the script that was read, for some calls that found no memory.
+abbrev pub PrintsHistories : List ProcessorForm → Status → (first now : Given) → (before after : Option (List ℕ)) → Type 0
+PrintsHistories forms status = Prints (TellsHistories forms status)

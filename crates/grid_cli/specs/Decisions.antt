@@ -1,10 +1,11 @@
 -- What holds of the masters of a replayed script, where its second line has the table service run on the members.
-use Rattle.std.specs.Prelude.{◌≡◌, ℕ, ◌≤◌, List, Option, Some}
-use Rattle.std.specs.Io.KnownBytes.{append_known, prepend_known}
+use Rattle.std.specs.Prelude.{ℕ, ◌≤◌, List, Option}
 use Rattle.grid_base.specs.declared.names.CallId.{CallId}
+use Rattle.grid_edge.specs.Given.{Given}
 use Rattle.entry_processors.specs.Processors.{ProcessorForm}
 use Rattle.script_run.specs.Masters.{AreRuled, AllAreServed, AllGoOn}
 use Rattle.grid_cli.specs.Commands.{run_of_script, settings_in}
+use Rattle.grid_cli.specs.ReadScripts.{Prints}
 use Rattle.grid_cli.specs.Statuses.{HasReplayed}
 use Rattle.grid_cli.specs.declared.status.Status.{Status}
 
@@ -19,7 +20,6 @@ pub record TellsDecisions (forms : List ProcessorForm) (status : Status) (skips 
   -- From whichever line to whichever later one: what was published stays, and no version of a row is made twice.
   pub goes_on : (lines later : ℕ) → lines ≤ later → AllGoOn (settings_in forms script) (run_of_script forms skips script lines) (run_of_script forms skips script later)
 
--- What was written tells decisions of the script that the source told, for some calls that found no memory.
-abbrev pub PrintsDecisions : List ProcessorForm → Status → Option (List ℕ) → Option (List ℕ) → Option (List ℕ) → Option (List ℕ) → Type 0
-PrintsDecisions forms status first left before after = (script : List ℕ) → first ≡ Some script
-    → (skips : List CallId) × (read text : List ℕ) × (first ≡ prepend_known read left) × (after ≡ append_known before text) × TellsDecisions forms status skips script read text
+-- What was written tells decisions of the script that was read, for some calls that found no memory.
+abbrev pub PrintsDecisions : List ProcessorForm → Status → (first now : Given) → (before after : Option (List ℕ)) → Type 0
+PrintsDecisions forms status = Prints (TellsDecisions forms status)

@@ -3,10 +3,12 @@ pub mod Decisions
 pub mod NearHits
 pub mod PrintedRuns
 pub mod Progress
+pub mod ReadScripts
 pub mod Replays
 pub mod Scripts
 pub mod SkippedCalls
 pub mod Statuses
+pub mod ToldScripts
 pub mod Transcribing
 pub mod Transcripts
 pub mod Waits

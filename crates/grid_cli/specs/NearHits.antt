@@ -1,10 +1,11 @@
 -- What a value is worth that a near client of a script hits.
-use Rattle.std.specs.Prelude.{◌≡◌, ℕ, List, Option, Some}
-use Rattle.std.specs.Io.KnownBytes.{append_known, prepend_known}
+use Rattle.std.specs.Prelude.{ℕ, List, Option}
 use Rattle.grid_base.specs.declared.names.CallId.{CallId}
+use Rattle.grid_edge.specs.Given.{Given}
 use Rattle.entry_processors.specs.Processors.{ProcessorForm}
 use Rattle.near_script_laws.specs.HitsStand.{HitsStand}
 use Rattle.grid_cli.specs.Commands.{run_of_script, settings_in}
+use Rattle.grid_cli.specs.ReadScripts.{Prints}
 use Rattle.grid_cli.specs.Statuses.{HasReplayed}
 use Rattle.grid_cli.specs.declared.status.Status.{Status}
 
@@ -14,7 +15,6 @@ pub record TellsHits (forms : List ProcessorForm) (status : Status) (skips : Lis
   pub replayed : HasReplayed forms status skips script read text
   pub hits : (lines : ℕ) → HitsStand (settings_in forms script) (run_of_script forms skips script lines)
 
--- What was written tells hits of the script that the source told, for some calls that found no memory.
-abbrev pub PrintsHits : List ProcessorForm → Status → Option (List ℕ) → Option (List ℕ) → Option (List ℕ) → Option (List ℕ) → Type 0
-PrintsHits forms status first left before after = (script : List ℕ) → first ≡ Some script
-    → (skips : List CallId) × (read text : List ℕ) × (first ≡ prepend_known read left) × (after ≡ append_known before text) × TellsHits forms status skips script read text
+-- What was written tells hits of the script that was read, for some calls that found no memory.
+abbrev pub PrintsHits : List ProcessorForm → Status → (first now : Given) → (before after : Option (List ℕ)) → Type 0
+PrintsHits forms status = Prints (TellsHits forms status)

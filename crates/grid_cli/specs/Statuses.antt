@@ -1,7 +1,7 @@
 -- The statuses of a command, and what is read of a script and written of its transcript at each.
-use Rattle.std.specs.Prelude.{◌≡◌, ℕ, ◌≤◌, List, [], ◌++◌, length, Option, Some, None}
-use Rattle.std.specs.Io.KnownBytes.{append_known, prepend_known}
+use Rattle.std.specs.Prelude.{◌≡◌, ℕ, ◌≤◌, List, [], ◌++◌, length, Option, None}
 use Rattle.grid_base.specs.declared.names.CallId.{CallId}
+use Rattle.grid_edge.specs.Given.{Given}
 use Rattle.partition_protocol.specs.Sequences.{IsFrontOf}
 use Rattle.script_lang.specs.declared.refusal.LineWhy.TheVariants.{NoEnd}
 use Rattle.grid_cli.specs.declared.status.Status.{Status}
@@ -9,6 +9,7 @@ use Rattle.grid_cli.specs.declared.status.Status.TheVariants.{Done, Usage, Scrip
 use Rattle.script_lang.specs.Words.{whole_lines}
 use Rattle.entry_processors.specs.Processors.{ProcessorForm}
 use Rattle.grid_cli.specs.Scripts.{lines_of}
+use Rattle.grid_cli.specs.ReadScripts.{Prints}
 use Rattle.grid_cli.specs.Transcripts.{Transcript, Ending, Ended, Refused, TooLong, transcript, first_line, following, refused}
 
 abbrev pub exit_status : Status → ℕ
@@ -65,8 +66,6 @@ pub record HasReplayed (forms : List ProcessorForm) (status : Status) (skips : L
   pub writes : Writes forms status skips script read text
   pub stops : StopsInLastPiece forms skips script read text
 
--- Where the source tells its script, what was read is what it has no longer left, what was written is what the sink has
--- taken since, and both are what a run of the script has, for some calls that found no memory.
-abbrev pub ReadsAndWrites : List ProcessorForm → Status → Option (List ℕ) → Option (List ℕ) → Option (List ℕ) → Option (List ℕ) → Type 0
-ReadsAndWrites forms status first left before after = (script : List ℕ) → first ≡ Some script
-    → (skips : List CallId) × (read text : List ℕ) × (first ≡ prepend_known read left) × (after ≡ append_known before text) × HasReplayed forms status skips script read text
+-- What was read and what was written is what a run of the script has, for some calls that found no memory.
+abbrev pub ReadsAndWrites : List ProcessorForm → Status → (first now : Given) → (before after : Option (List ℕ)) → Type 0
+ReadsAndWrites forms status = Prints (HasReplayed forms status)

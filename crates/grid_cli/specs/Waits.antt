@@ -1,7 +1,7 @@
 -- What holds of the calls that wait in a replayed script.
-use Rattle.std.specs.Prelude.{◌≡◌, ℕ, ◌<◌, ◌≤◌, false, List, Option, Some, Contains}
-use Rattle.std.specs.Io.KnownBytes.{append_known, prepend_known}
+use Rattle.std.specs.Prelude.{◌≡◌, ℕ, ◌<◌, ◌≤◌, false, List, Option, Contains}
 use Rattle.grid_base.specs.declared.names.CallId.{CallId}
+use Rattle.grid_edge.specs.Given.{Given}
 use Rattle.entry_processors.specs.Processors.{ProcessorForm}
 use Rattle.call_engine.specs.Calls.{Settings}
 use Rattle.call_engine.specs.Objects.{partition_object}
@@ -11,6 +11,7 @@ use Rattle.replay_run.specs.Staying.{HasNoTurn}
 use Rattle.masters_run.specs.ByMachine.{GoesByItsMachine}
 use Rattle.masters_run.specs.Silent.{ChangesNothing}
 use Rattle.grid_cli.specs.Commands.{run_of_script, settings_in}
+use Rattle.grid_cli.specs.ReadScripts.{Prints}
 use Rattle.grid_cli.specs.Statuses.{HasReplayed}
 use Rattle.grid_cli.specs.declared.status.Status.{Status}
 
@@ -36,7 +37,6 @@ pub record TellsWaits (forms : List ProcessorForm) (status : Status) (skips : Li
   pub goes_on : (lines later : ℕ) → 1 ≤ lines → lines ≤ later → let first = run_of_script forms skips script lines in let last = run_of_script forms skips script later in
       last.run.full ≡ false → GoOnByTheRule (settings_in forms script) skips first.run last.run
 
--- What was written is of a script that the source told, whose calls wait by the rule, for some calls that found no memory.
-abbrev pub PrintsWaits : List ProcessorForm → Status → Option (List ℕ) → Option (List ℕ) → Option (List ℕ) → Option (List ℕ) → Type 0
-PrintsWaits forms status first left before after = (script : List ℕ) → first ≡ Some script
-    → (skips : List CallId) × (read text : List ℕ) × (first ≡ prepend_known read left) × (after ≡ append_known before text) × TellsWaits forms status skips script read text
+-- What was written is of the script that was read, whose calls wait by the rule, for some calls that found no memory.
+abbrev pub PrintsWaits : List ProcessorForm → Status → (first now : Given) → (before after : Option (List ℕ)) → Type 0
+PrintsWaits forms status = Prints (TellsWaits forms status)

@@ -1,5 +1,6 @@
 ghost use Rattle.std.specs.Prelude.{◌≡◌, ◌≢◌, ◌↔◌, ℕ, List, map, Some, false, true};
 ghost use Rattle.grid_edge.specs.Faults.{Rose};
+ghost use Rattle.grid_cli.specs.ReadScripts.{ReadsWhatIsLeft};
 ghost use Rattle.grid_cli.specs.Statuses.{ReadsAndWrites};
 ghost use Rattle.grid_cli.specs.Commands.{is_replay, PrintsHistories};
 ghost use Rattle.grid_cli.specs.NearHits.{PrintsHits};
@@ -39,25 +40,27 @@ pub fn replay_command<S: Source, K: Sink>(
     // A fault is told only where the source or the sink had one.
     ensures read_fault { result ≡ Status.ReadFault → Rose (S.faults script.old) (S.faults script.new) }
     ensures write_fault { result ≡ Status.WriteFault → Rose (K.faults out.old) (K.faults out.new) }
-    // What was written is the script's transcript, or as much of it as the status says. What was read is what the
-    // source has no longer left: no piece more than the one in which the run came to its end.
-    ensures text { ReadsAndWrites (map form processors.items) result (S.left script.old) (S.left script.new) (K.taken out.old) (K.taken out.new) }
+    // What was written is a transcript, or as much of it as the status says: that of each script that begins with what was
+    // read, or of that alone where the source has ended. No piece more was read than the one in which the run came to its end.
+    ensures text { ReadsAndWrites (map form processors.items) result (S.given script.old) (S.given script.new) (K.taken out.old) (K.taken out.new) }
+    // A source in memory also tells what it has left: what was read, it has no longer.
+    ensures left { ReadsWhatIsLeft (S.given script.old) (S.given script.new) (S.left script.old) (S.left script.new) }
     // What is printed for each entry of a map and each queue is the history of one that one thread used, with every answered
     // call in it once.
     // Whatever the status, and whichever line prints it.
-    ensures headline { PrintsHistories (map form processors.items) result (S.left script.old) (S.left script.new) (K.taken out.old) (K.taken out.new) }
+    ensures headline { PrintsHistories (map form processors.items) result (S.given script.old) (S.given script.new) (K.taken out.old) (K.taken out.new) }
     // A value that a near client hits is the reply of a get of its own in the key's history, after each write that an
     // invalidation named which it has heard; where it has read all that was sent to it of the key, after each answered write
     // of a version that its member knows.
-    ensures hits { PrintsHits (map form processors.items) result (S.left script.old) (S.left script.new) (K.taken out.old) (K.taken out.new) }
+    ensures hits { PrintsHits (map form processors.items) result (S.given script.old) (S.given script.new) (K.taken out.old) (K.taken out.new) }
     // Where the script's second line has masters run the table service: what the service of each partition did is what its
     // masters published, in order, and that alone gives the partition's row, whoever was master. What is published stays, no
     // version of a row is made twice, and no two live members are master of a partition.
-    ensures decisions { PrintsDecisions (map form processors.items) result (S.left script.old) (S.left script.new) (K.taken out.old) (K.taken out.new) }
+    ensures decisions { PrintsDecisions (map form processors.items) result (S.given script.old) (S.given script.new) (K.taken out.old) (K.taken out.new) }
     // After each line calls wait by the rule: each partition has come to what it is by lines of its machine that bring the
     // waiting calls of the script there and no other, and goes on by more of them; nothing is to be done with whoever still
     // waits; and it has changed nothing: without it the same would have happened to all others.
-    ensures waits { PrintsWaits (map form processors.items) result (S.left script.old) (S.left script.new) (K.taken out.old) (K.taken out.new) }
+    ensures waits { PrintsWaits (map form processors.items) result (S.given script.old) (S.given script.new) (K.taken out.old) (K.taken out.new) }
 {
     if !is_replay_command(words) {
         return Status::Usage;

@@ -9,7 +9,10 @@ mod status;
 mod transcriber;
 
 pub use command::replay_command;
-pub use laws::{every_message_is_printed, every_transcript_that_tells_of_no_skip_has_none};
+pub use laws::{
+    every_claim_holds_where_told, every_message_is_printed,
+    every_transcript_that_tells_of_no_skip_has_none,
+};
 pub use print::{push_limit, push_refused};
 pub use script_lang::{Line, LineWhy, read_line};
 pub use status::{LimitWhat, Status};

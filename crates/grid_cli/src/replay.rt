@@ -6,6 +6,7 @@ ghost use Rattle.entry_processors.specs.Processors.{ProcessorForm};
 ghost use Rattle.script_lang.specs.Words.{whole_lines, unfinished};
 ghost use Rattle.script_lang.specs.Pieces.{IsOnePiece};
 ghost use Rattle.grid_cli.specs.Scripts.{limit_in};
+ghost use Rattle.grid_cli.specs.ReadScripts.{ReadsWhatIsLeft};
 ghost use Rattle.grid_cli.specs.Statuses.{ReadsAndWrites, most_piece};
 ghost use Rattle.grid_cli.specs.Transcribing.{Concludes};
 ghost use Rattle.grid_cli.specs.Replays.{HasRead, Takes, StopsIn, ended_line, last_line};
@@ -154,7 +155,8 @@ fn run_pieces<S: Source, K: Sink>(
 ) -> Status
     requires some { 0 < length buffer.old }
     requires size { length buffer.old ≤ most_piece }
-    ensures text { ReadsAndWrites (map form processors.items) result (S.left script.old) (S.left script.new) (K.taken out.old) (K.taken out.new) }
+    ensures text { ReadsAndWrites (map form processors.items) result (S.given script.old) (S.given script.new) (K.taken out.old) (K.taken out.new) }
+    ensures left { ReadsWhatIsLeft (S.given script.old) (S.given script.new) (S.left script.old) (S.left script.new) }
     ensures runs { result ≢ Status.Usage }
     ensures doorless { result ≢ Status.DoorFault }
     ensures read_fault { result ≡ Status.ReadFault → Rose (S.faults script.old) (S.faults script.new) }
@@ -188,11 +190,12 @@ pub(crate) fn run_script<S: Source, K: Sink>(
     script: &mut S,
     out: &mut K,
 ) -> Status
-    ensures text { ReadsAndWrites (map form processors.items) result (S.left script.old) (S.left script.new) (K.taken out.old) (K.taken out.new) }
-    ensures headline { PrintsHistories (map form processors.items) result (S.left script.old) (S.left script.new) (K.taken out.old) (K.taken out.new) }
-    ensures hits { PrintsHits (map form processors.items) result (S.left script.old) (S.left script.new) (K.taken out.old) (K.taken out.new) }
-    ensures decisions { PrintsDecisions (map form processors.items) result (S.left script.old) (S.left script.new) (K.taken out.old) (K.taken out.new) }
-    ensures waits { PrintsWaits (map form processors.items) result (S.left script.old) (S.left script.new) (K.taken out.old) (K.taken out.new) }
+    ensures text { ReadsAndWrites (map form processors.items) result (S.given script.old) (S.given script.new) (K.taken out.old) (K.taken out.new) }
+    ensures left { ReadsWhatIsLeft (S.given script.old) (S.given script.new) (S.left script.old) (S.left script.new) }
+    ensures headline { PrintsHistories (map form processors.items) result (S.given script.old) (S.given script.new) (K.taken out.old) (K.taken out.new) }
+    ensures hits { PrintsHits (map form processors.items) result (S.given script.old) (S.given script.new) (K.taken out.old) (K.taken out.new) }
+    ensures decisions { PrintsDecisions (map form processors.items) result (S.given script.old) (S.given script.new) (K.taken out.old) (K.taken out.new) }
+    ensures waits { PrintsWaits (map form processors.items) result (S.given script.old) (S.given script.new) (K.taken out.old) (K.taken out.new) }
     ensures runs { result ≢ Status.Usage }
     ensures doorless { result ≢ Status.DoorFault }
     ensures read_fault { result ≡ Status.ReadFault → Rose (S.faults script.old) (S.faults script.new) }

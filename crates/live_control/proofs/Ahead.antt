@@ -53,3 +53,7 @@ front_of_more came rest = go (nat_lt most_bytes (length came)) refl
 
 pub front_then : (xs ys zs : List ℕ) → IsFrontOf xs ys → IsFrontOf ys zs → IsFrontOf xs zs
 front_then xs ys zs a b = (a.0 ++ b.0, sym (append_assoc xs a.0 b.0) ∙ (ap (λ (l : List ℕ). l ++ b.0) a.1 ∙ b.1))
+
+-- more came behind what had come
+pub more_given : (first now later read more : List ℕ) → now ≡ first ++ read → later ≡ now ++ more → later ≡ first ++ (read ++ more)
+more_given first now later read more before came = came ∙ (ap (λ (l : List ℕ). l ++ more) before ∙ append_assoc first read more)

@@ -1,7 +1,7 @@
 -- Looking for the next line in what came.
 use Rattle.std.proofs.Common.{◌≡◌, ℕ, ◌+◌, ◌≤◌, ◌<◌, ◌==◌, ◌⊎◌, inl, Bool, true, false, List, [], ◌∷◌, ◌++◌, length, take, drop, Option, Some, None, Err, refl, ap, sym, ◌∙◌, subst, arith, append-nil, append_assoc, length-append, vec_len}
 use Rattle.std.proofs.lemmas.List.{length-take, take_all, take-append-le}
-use Rattle.std.specs.Io.KnownBytes.{IsAtEnd}
+use Rattle.grid_edge.specs.Given.{Given}
 use Rattle.memchr.specs.Find.{Nowhere, NoneBefore, Passes, is_byte}
 use Rattle.partition_protocol.specs.Sequences.{IsFrontOf}
 use Rattle.script_lang.specs.Limits.{most_bytes, most_lines}
@@ -20,21 +20,21 @@ use Rattle.grid_cli.specs.Statuses.{most_piece}
 use Rattle.live_control.specs.declared.lines.Came.{Came}
 use Rattle.live_control.specs.declared.lines.Came.TheVariants.{Line, Nothing, Limit, Fault, NoMemory}
 use Rattle.live_control.specs.declared.lines.LineReader.{LineReader}
-use Rattle.live_control.specs.Reading.{ahead, told, IsAmid, IsAt, AreFirst, AreLinesOf, HasCome, HasLooked, ComesNext, IsKept, IsPast, IsSameBut, HasLonger, up_to}
+use Rattle.live_control.specs.Reading.{ahead, IsAmid, IsAt, AreFirst, AreLinesOf, HasCome, HasLooked, ComesNext, IsKept, IsPast, IsSameBut, HasLonger, up_to}
 use Rattle.live_control.proofs.Ahead.{between_front, between_rest, between_none, front_of_more, front_then, is_within, is_past}
 
 -- before anything came
 nothing_within : IsWithin []
 nothing_within = record { goes_on = λ past rest. refl; few = omega arith; room = inl refl }
 
-pub at_start : (reader : LineReader) (left : Option (List ℕ)) → vec_len reader.piece ≡ most_piece → reader.from ≡ 0 → reader.to ≡ 0 → reader.lines ≡ 0 → reader.bytes ≡ 0 → reader.is_over ≡ false → reader.has_ended ≡ false → HasCome reader left [] [] []
-at_start reader left size from to lines bytes over going = record {
+pub at_start : (reader : LineReader) (source : Given) → vec_len reader.piece ≡ most_piece → reader.from ≡ 0 → reader.to ≡ 0 → reader.lines ≡ 0 → reader.bytes ≡ 0 → reader.is_over ≡ false → reader.has_ended ≡ false → HasCome reader source [] [] []
+at_start reader source size from to lines bytes over going = record {
   size = size;
   placed = omega (arith, from, to);
   inside = omega (arith, to);
   few = omega (arith, bytes);
   count = lines;
-  at = subst (λ (b : Bool). IsAt b reader left [] [] []) (sym going) (record {
+  at = subst (λ (b : Bool). IsAt b reader source [] [] []) (sym going) (record {
     looked = [];
     whole = sym (between_none reader.piece.items reader.from reader.to (omega (arith, from, to)));
     within = nothing_within;
@@ -46,8 +46,8 @@ at_start reader left size from to lines bytes over going = record {
 }
 
 -- the line is another one
-pub other_line : (reader new : LineReader) (left : Option (List ℕ)) (came : List ℕ) (given : List (List ℕ)) (rest : List ℕ) → new ≡ record reader { line = new.line } → HasCome reader left came given rest → HasCome new left came given rest
-other_line reader new left came given rest is h = subst (λ (r : LineReader). HasCome r left came given rest) (sym is) (record {
+pub other_line : (reader new : LineReader) (source : Given) (came : List ℕ) (given : List (List ℕ)) (rest : List ℕ) → new ≡ record reader { line = new.line } → HasCome reader source came given rest → HasCome new source came given rest
+other_line reader new source came given rest is h = subst (λ (r : LineReader). HasCome r source came given rest) (sym is) (record {
   size = h.size;
   placed = h.placed;
   inside = h.inside;
@@ -56,46 +56,42 @@ other_line reader new left came given rest is h = subst (λ (r : LineReader). Ha
   at = at_it reader.has_ended h.at;
 })
   where
-    at_it : (b : Bool) → IsAt b reader left came given rest → IsAt b (record reader { line = new.line }) left came given rest
+    at_it : (b : Bool) → IsAt b reader source came given rest → IsAt b (record reader { line = new.line }) source came given rest
     at_it true at = at
     at_it false at = record { looked = at.looked; whole = at.whole; within = at.within; lines = at.lines; left = at.left; bytes = at.bytes; over = at.over }
 
 -- a script that has ended
-pub ended_at : (reader : LineReader) (left : Option (List ℕ)) (came : List ℕ) (given : List (List ℕ)) (rest : List ℕ) → HasCome reader left came given rest → reader.has_ended ≡ true → AreLinesOf given came × IsAtEnd left
-ended_at reader left came given rest h ended = subst (λ (b : Bool). IsAt b reader left came given rest) ended h.at
+pub ended_at : (reader : LineReader) (source : Given) (came : List ℕ) (given : List (List ℕ)) (rest : List ℕ) → HasCome reader source came given rest → reader.has_ended ≡ true → AreLinesOf given came × (source.ended ≡ true)
+ended_at reader source came given rest h ended = subst (λ (b : Bool). IsAt b reader source came given rest) ended h.at
 
 -- why there is no line
-pub no_line : (why : Came) (reader : LineReader) (left : Option (List ℕ)) (came : List ℕ) (given : List (List ℕ)) → HasLooked (Err why) reader left came given → ComesNext why reader left came given
-no_line (Limit what) reader left came given h = h
-no_line NoMemory reader left came given h = h
-no_line Line reader left came given h = absurd h
-no_line Nothing reader left came given h = absurd h
-no_line Fault reader left came given h = absurd h
+pub no_line : (why : Came) (reader : LineReader) (source : Given) (came : List ℕ) (given : List (List ℕ)) → HasLooked (Err why) reader source came given → ComesNext why reader source came given
+no_line (Limit what) reader source came given h = h
+no_line NoMemory reader source came given h = h
+no_line Line reader source came given h = absurd h
+no_line Nothing reader source came given h = absurd h
+no_line Fault reader source came given h = absurd h
 
 -- a script that goes on
-pub amid : (reader : LineReader) (left : Option (List ℕ)) (came : List ℕ) (given : List (List ℕ)) (rest : List ℕ) → HasCome reader left came given rest → reader.has_ended ≡ false → IsAmid reader came given rest
-amid reader left came given rest h going = subst (λ (b : Bool). IsAt b reader left came given rest) going h.at
+pub amid : (reader : LineReader) (source : Given) (came : List ℕ) (given : List (List ℕ)) (rest : List ℕ) → HasCome reader source came given rest → reader.has_ended ≡ false → IsAmid reader came given rest
+amid reader source came given rest h going = subst (λ (b : Bool). IsAt b reader source came given rest) going h.at
 
-pub still_amid : (reader : LineReader) (left : Option (List ℕ)) (came : List ℕ) (given : List (List ℕ)) (rest : List ℕ) → reader.has_ended ≡ false → IsAmid reader came given rest → IsAt reader.has_ended reader left came given rest
-still_amid reader left came given rest going h = subst (λ (b : Bool). IsAt b reader left came given rest) (sym going) h
+pub still_amid : (reader : LineReader) (source : Given) (came : List ℕ) (given : List (List ℕ)) (rest : List ℕ) → reader.has_ended ≡ false → IsAmid reader came given rest → IsAt reader.has_ended reader source came given rest
+still_amid reader source came given rest going h = subst (λ (b : Bool). IsAt b reader source came given rest) (sym going) h
 
 -- the lines that were given are the script's first
-pub first_lines : (reader : LineReader) (left : Option (List ℕ)) (came : List ℕ) (given : List (List ℕ)) (rest : List ℕ) → HasCome reader left came given rest → AreFirst given left came
-first_lines reader left came given rest h = go reader.has_ended h.at
+pub first_lines : (reader : LineReader) (source : Given) (came : List ℕ) (given : List (List ℕ)) (rest : List ℕ) → HasCome reader source came given rest → AreFirst given source came
+first_lines reader source came given rest h = go reader.has_ended h.at
   where
-    at_end : (l : Option (List ℕ)) → IsAtEnd l → told l ≡ []
-    at_end None is = refl
-    at_end (Some bytes) is = is
+    go : (b : Bool) → IsAt b reader source came given rest → AreFirst given source came
+    go true is more may = ([], append-nil given ∙ sym (ap lines_of (ap (λ (l : List ℕ). came ++ l) (may is.1) ∙ append-nil came) ∙ ap (λ (c : Cut). c.lines) is.0))
+    go false is more may =
+        subst (λ (ls : List (List ℕ)). IsFrontOf ls (lines_of (came ++ more))) is.lines
+        (lines_begin is.looked is.within (came ++ more) (front_then _ (take most_bytes came) _ (ahead reader, sym is.whole) (front_of_more came more)))
 
-    go : (b : Bool) → IsAt b reader left came given rest → AreFirst given left came
-    go true is = ([], append-nil given ∙ sym (ap lines_of (ap (λ (l : List ℕ). came ++ l) (at_end left is.1) ∙ append-nil came) ∙ ap (λ (c : Cut). c.lines) is.0))
-    go false is =
-        subst (λ (ls : List (List ℕ)). AreFirst ls left came) is.lines
-        (lines_begin is.looked is.within (came ++ told left) (front_then _ (take most_bytes came) _ (ahead reader, sym is.whole) (front_of_more came (told left))))
-
-module _ (old : LineReader) (left : Option (List ℕ)) (came : List ℕ) (given : List (List ℕ)) (h : HasCome old left came given old.line.items) (going : old.has_ended ≡ false) where
+module _ (old : LineReader) (source : Given) (came : List ℕ) (given : List (List ℕ)) (h : HasCome old source came given old.line.items) (going : old.has_ended ≡ false) where
   pub a : IsAmid old came given old.line.items
-  a = amid old left came given old.line.items h going
+  a = amid old source came given old.line.items h going
 
   pub few_lines : length given ≤ most_lines
   few_lines = subst (λ (ls : List (List ℕ)). length ls ≤ most_lines) a.lines a.within.few
@@ -111,9 +107,9 @@ module _ (old : LineReader) (left : Option (List ℕ)) (came : List ℕ) (given 
 
   -- bytes that weren't kept
   pub not_kept : (why : Came) (new : LineReader) (end : ℕ) → IsSameBut old new → IsKept old new end (Err why)
-      → ((what : LimitWhat) → limit_in old.lines (old.line.items ++ up_to old end) ≡ Some what → (rest : List ℕ) → cut (came ++ rest) ≡ record { lines = given; limit = Some what }) → HasLooked (Err why) new left came given
+      → ((what : LimitWhat) → limit_in old.lines (old.line.items ++ up_to old end) ≡ Some what → (rest : List ℕ) → cut (came ++ rest) ≡ record { lines = given; limit = Some what }) → HasLooked (Err why) new source came given
   not_kept (Limit what) new end same k past = record { count = same.lines ∙ h.count; few = few_lines; past = past what k }
-  not_kept NoMemory new end same k past = first_lines old left came given old.line.items h
+  not_kept NoMemory new end same k past = first_lines old source came given old.line.items h
   not_kept Line new end same k past = absurd k
   not_kept Nothing new end same k past = absurd k
   not_kept Fault new end same k past = absurd k
@@ -137,7 +133,7 @@ module _ (old : LineReader) (left : Option (List ℕ)) (came : List ℕ) (given 
 
     -- the line is whole
     pub line_found : (kept_reader : LineReader) → IsSameBut old kept_reader → HasLonger old kept_reader (old.from + n)
-        → HasCome (record kept_reader { from = kept_reader.from + 1; lines = kept_reader.lines + 1 }) left came (given ++ kept_reader.line.items ∷ []) [] × HasRoomFor given kept_reader.line.items
+        → HasCome (record kept_reader { from = kept_reader.from + 1; lines = kept_reader.lines + 1 }) source came (given ++ kept_reader.line.items ∷ []) [] × HasRoomFor given kept_reader.line.items
     line_found k same longer =
         let line_is : k.line.items ≡ unfinished a.looked ++ end = longer.line ∙ (ap (λ (bytes : List ℕ). old.line.items ++ bytes) end_is ∙ ap (λ (l : List ℕ). l ++ end) (sym a.left)) in
         let room = room_for (up_to old (old.from + n)) longer.room in
@@ -152,7 +148,7 @@ module _ (old : LineReader) (left : Option (List ℕ)) (came : List ℕ) (given 
             inside = let to = same.to in let less = h.inside in omega (arith, to, less);
             few = let bytes = same.bytes in let less = h.few in omega (arith, bytes, less);
             count = let lines = same.lines in let count = h.count in omega (arith, lines, count, length-append given (k.line.items ∷ []));
-            at = still_amid new left came (given ++ k.line.items ∷ []) [] (same.ended ∙ going) (record {
+            at = still_amid new source came (given ++ k.line.items ∷ []) [] (same.ended ∙ going) (record {
               looked = a.looked ++ ended_line end;
               whole = all ∙ ap (λ (bytes : List ℕ). (a.looked ++ ended_line end) ++ bytes) ahead_is;
               within = completed a.looked a.within end one (room_without_limit a.looked (unfinished a.looked ++ end) a.within (ap (λ (bytes : List ℕ). limit_in (length (whole_lines a.looked)) (unfinished a.looked ++ bytes)) (sym end_is) ∙ at_lines (up_to old (old.from + n)) None longer.room));
@@ -178,7 +174,7 @@ module _ (old : LineReader) (left : Option (List ℕ)) (came : List ℕ) (given 
     whole_one = no_end (ahead old) none
 
     -- the bytes are kept
-    pub bytes_kept : (k : LineReader) → IsSameBut old k → HasLonger old k old.to → HasCome k left came given k.line.items
+    pub bytes_kept : (k : LineReader) → IsSameBut old k → HasLonger old k old.to → HasCome k source came given k.line.items
     bytes_kept k same longer =
         let line_is : unfinished (a.looked ++ ahead old) ≡ k.line.items = (more_unfinished a.looked (ahead old) whole_one).1 ∙ (ap (λ (l : List ℕ). l ++ ahead old) a.left ∙ sym longer.line) in
         let nothing : ahead k ≡ [] = ap (λ p. drop k.from (take k.to p.items)) same.piece ∙ between_none old.piece.items k.from k.to (let from = longer.from in let to = same.to in omega (arith, from, to)) in
@@ -188,7 +184,7 @@ module _ (old : LineReader) (left : Option (List ℕ)) (came : List ℕ) (given 
           inside = let to = same.to in let less = h.inside in omega (arith, to, less);
           few = let bytes = same.bytes in let less = h.few in omega (arith, bytes, less);
           count = same.lines ∙ h.count;
-          at = still_amid k left came given k.line.items (same.ended ∙ going) (record {
+          at = still_amid k source came given k.line.items (same.ended ∙ going) (record {
             looked = a.looked ++ ahead old;
             whole = a.whole ∙ (sym (append-nil (a.looked ++ ahead old)) ∙ ap (λ (bytes : List ℕ). (a.looked ++ ahead old) ++ bytes) (sym nothing));
             within = kept a.looked a.within (ahead old) whole_one (room_without_limit a.looked (unfinished a.looked ++ ahead old) a.within (at_lines (ahead old) None longer.room));
@@ -249,7 +245,7 @@ module _ (old : LineReader) (left : Option (List ℕ)) (came : List ℕ) (given 
       pub last_room : (length old.line.items == 0) ≡ false → HasRoomFor given old.line.items
       last_room some = room_for_last given old.line.items (subst (λ (l : List ℕ). (l ≡ []) ⊎ HasRoomFor given l) a.left (subst (λ (ls : List (List ℕ)). (unfinished a.looked ≡ []) ⊎ HasRoomFor ls (unfinished a.looked)) a.lines a.within.room)) some
 
-      pub ended_with : (length old.line.items == 0) ≡ false → IsAtEnd left → HasCome (record old { has_ended = true; lines = old.lines + 1 }) left came (given ++ old.line.items ∷ []) []
+      pub ended_with : (length old.line.items == 0) ≡ false → source.ended ≡ true → HasCome (record old { has_ended = true; lines = old.lines + 1 }) source came (given ++ old.line.items ∷ []) []
       ended_with some at_end = record {
         size = h.size;
         placed = h.placed;

@@ -1,9 +1,9 @@
 -- A piece more of a script.
-use Rattle.std.proofs.Common.{◌≡◌, ◌⊎◌, inl, inr, ℕ, ◌+◌, ◌-◌, ◌≤◌, ◌<◌, min, Bool, true, false, nat_lt, List, [], ◌++◌, length, take, drop, Option, Ok, refl, ap, sym, ◌∙◌, subst, arith, append-nil, length-append, vec_len}
+use Rattle.std.proofs.Common.{◌≡◌, ◌⊎◌, inl, inr, ℕ, ◌+◌, ◌-◌, ◌≤◌, ◌<◌, min, Bool, true, false, nat_lt, ◌==◌, ◌&&◌, ◌||◌, List, [], ◌++◌, length, take, drop, Ok, refl, ap, sym, ◌∙◌, subst, arith, append-nil, length-append, vec_len}
+use Rattle.std.proofs.lemmas.Bool.Decides.{nat_tests}
 use Rattle.std.proofs.lemmas.List.{length-take, take-take, take_all}
 use Rattle.std.proofs.Math.Seq.{take-append-add}
-use Rattle.std.specs.Io.KnownBytes.{prepend_known, IsAtEnd}
-use Rattle.grid_edge.proofs.Told.{prepend_known-nil}
+use Rattle.grid_edge.specs.Given.{Given, found_end, after_piece}
 use Rattle.grid_cli.proofs.Tests.{within_limit, past_limit}
 use Rattle.script_lang.specs.Limits.{most_bytes}
 use Rattle.live_control.specs.declared.lines.LineReader.{LineReader}
@@ -28,7 +28,7 @@ cut_piece piece n room = Rattle.std.proofs.Common.⊎_elim
     (λ (e : nat_lt n room ≡ false). let less = is_within room n e in take-take room n piece less ∙ ap (λ k. take k piece) (let is : room ≡ min n room = omega (arith, less) in is))
     (test_cases (nat_lt n room))
 
-module _ (old : LineReader) (before after : Option (List ℕ)) (came : List ℕ) (given : List (List ℕ)) (h : HasCome old before came given old.line.items) (going : old.has_ended ≡ false) (spent : old.from ≡ old.to) (within : old.is_over ≡ false) where
+module _ (old : LineReader) (before after : Given) (came : List ℕ) (given : List (List ℕ)) (h : HasCome old before came given old.line.items) (going : old.has_ended ≡ false) (spent : old.from ≡ old.to) (within : old.is_over ≡ false) where
   -- the reader after a piece of n bytes
   module _ (new : LineReader) (n : ℕ) (same_line : new.line ≡ old.line) (same_lines : new.lines ≡ old.lines) (same_ended : new.has_ended ≡ old.has_ended) (size : vec_len new.piece ≡ vec_len old.piece) (fits : n ≤ length new.piece.items) (from : new.from ≡ 0) (to : new.to ≡ min n (most_bytes - old.bytes)) (bytes : new.bytes ≡ old.bytes + new.to) (over : new.is_over ≡ nat_lt (most_bytes - old.bytes) n) where
     abbrev a : IsAmid old came given old.line.items
@@ -92,18 +92,18 @@ module _ (old : LineReader) (before after : Option (List ℕ)) (came : List ℕ)
     }
 
     -- it is: the source has ended
-    pub no_more : n ≡ 0 → before ≡ prepend_known more after → IsAtEnd before → HasNoMore new before after came given
-    no_more none left at_end =
+    pub no_more : n ≡ 0 → (asked : ℕ) → 0 < asked → after ≡ after_piece before asked n more → HasNoMore new before after came given
+    no_more none asked some gave =
         let nothing : more ≡ [] = ap (λ k. take k new.piece.items) none in
-        let kept : before ≡ after = left ∙ (ap (λ (l : List ℕ). prepend_known l after) nothing ∙ prepend_known-nil after) in record {
-          kept = kept;
-          at_end = subst IsAtEnd kept at_end;
+        let found : found_end asked n ≡ true = grind (arith, nat_tests) in record {
+          kept = ap (λ (g : Given). g.bytes) gave ∙ (ap (λ (l : List ℕ). before.bytes ++ l) nothing ∙ append-nil before.bytes);
+          at_end = ap (λ (g : Given). g.ended) gave ∙ ap (λ b. b || before.ended) found;
           come = subst (λ (l : List ℕ). HasCome new after l given new.line.items) (ap (λ (l : List ℕ). came ++ l) nothing ∙ append-nil came) come_on;
           going = same_ended ∙ going;
           spent = omega (arith, from, to, none);
           within = over ∙ within_limit n room (omega (arith, none));
         }
 
-    pub has_read : (b : Bool) → nat_lt 0 n ≡ b → before ≡ prepend_known more after → (n ≡ 0 → IsAtEnd before) → HasRead (Ok b) old new before after came given
-    has_read true e left at_end = (more, left, come_further (is_past n 0 e))
-    has_read false e left at_end = let none : n ≡ 0 = (let few = is_within n 0 e in omega (arith, few)) in no_more none left (at_end none)
+    pub has_read : (b : Bool) → nat_lt 0 n ≡ b → (asked : ℕ) → 0 < asked → after ≡ after_piece before asked n more → HasRead (Ok b) old new before after came given
+    has_read true e asked some gave = (more, ap (λ (g : Given). g.bytes) gave, come_further (is_past n 0 e))
+    has_read false e asked some gave = let none : n ≡ 0 = (let few = is_within n 0 e in omega (arith, few)) in no_more none asked some gave

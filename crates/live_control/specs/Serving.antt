@@ -1,10 +1,11 @@
 -- How a control script ends, and what was run and written of it by then.
-use Rattle.std.specs.Prelude.{◌≡◌, ◌⊎◌, ℕ, ◌+◌, List, [], ◌∷◌, ◌++◌, length, Option, Some, Ok, Err}
+use Rattle.std.specs.Prelude.{◌≡◌, ◌⊎◌, ℕ, ◌+◌, false, List, [], ◌∷◌, ◌++◌, length, Option, Some, Ok, Err}
 use Rattle.std.specs.Io.KnownBytes.{append_known, prepend_known}
 use Rattle.partition_protocol.specs.Sequences.{IsFrontOf}
 use Rattle.script_lang.specs.Words.{whole_lines}
 use Rattle.script_lang.specs.declared.refusal.LineWhy.{LineWhy}
 use Rattle.script_lang.specs.declared.refusal.LineWhy.TheVariants.{NoEnd}
+use Rattle.grid_cli.specs.ReadScripts.{IsOfScript, ReadsWhatIsLeft}
 use Rattle.grid_cli.specs.Scripts.{cut, lines_of}
 use Rattle.grid_cli.specs.Transcripts.{refused_text, limit_text}
 use Rattle.grid_cli.specs.declared.status.LimitWhat.{LimitWhat}
@@ -15,10 +16,11 @@ use Rattle.live_grid.specs.declared.grid.LiveGrid.{LiveGrid}
 use Rattle.live_control.specs.declared.orders.Order.{Order}
 use Rattle.live_control.specs.declared.orders.Order.TheVariants.{End}
 use Rattle.live_control.specs.Orders.{order_in}
-use Rattle.live_control.specs.Reading.{AreLinesOf, told}
+use Rattle.live_control.specs.Reading.{AreLinesOf}
 use Rattle.live_control.specs.Running.{HasTried, HasRunLine, HasGoneOn, HaveRun}
 use Rattle.live_control.specs.declared.serving.Ran.{Ran}
 use Rattle.live_control.specs.declared.serving.Ran.TheVariants.{Goes, Ended, Refused}
+use Rattle.grid_edge.specs.Given.{Given}
 use Rattle.grid_edge.specs.Sink.{TakesFront}
 
 module _ (grid : LiveGrid) (members : ℕ) (script : List ℕ) (old new : GridPass) where
@@ -152,11 +154,15 @@ WritesLast text ended before after WriteFault = TakesFront before after text
 WritesLast text ended before after Memory = after ≡ before
 WritesLast text ended before after status = (status ≡ ended) × (after ≡ append_known before text)
 
--- The script is what was read of the source, and what the source tells that it has left. What was run and written of it is as
--- the status says
-pub record HasServed (grid : LiveGrid) (members : ℕ) (status : Status) (first left before after : Option (List ℕ)) (old new : GridPass) : Type 0 where
-  pub read : List ℕ
+-- What was run and written is what the status says, of each script that begins with what was read of the source and may go on so
+pub record HasServed (grid : LiveGrid) (members : ℕ) (status : Status) (first now : Given) (before after : Option (List ℕ)) (old new : GridPass) : Type 0 where
   pub written : List ℕ
-  pub read_is : first ≡ prepend_known read left
   pub written_is : after ≡ append_known before written
-  pub serves : ServesAs grid members (read ++ told left) old new status read written
+  pub script : IsOfScript first now (λ script read. ServesAs grid members script old new status read written)
+
+-- Where the source tells what it has left, and its script was read from its begin on, all this is said of that very script
+abbrev pub EveryScriptIsServedWhereTold : Type 0
+EveryScriptIsServedWhereTold = (grid : LiveGrid) (members : ℕ) (status : Status) (first now : Given) (had left before after : Option (List ℕ)) (old new : GridPass)
+    → first.ended ≡ false → ReadsWhatIsLeft first now had left → HasServed grid members status first now before after old new
+    → (script : List ℕ) → had ≡ Some script
+    → (read written : List ℕ) × (had ≡ prepend_known read left) × (after ≡ append_known before written) × ServesAs grid members script old new status read written

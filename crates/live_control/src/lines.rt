@@ -1,7 +1,8 @@
 //! The lines of a script, as they come.
-ghost use Rattle.std.specs.Prelude.{◌≡◌, ◌≢◌, ◌≤◌, ◌++◌, ◌<◌, ℕ, List, Option, [], ◌∷◌, drop, take, false, length, Some, IfOk, IfSome, IfErr, OnOk, vec_len};
-ghost use Rattle.std.specs.Io.KnownBytes.{IsAtEnd};
+ghost use Rattle.std.specs.Prelude.{◌≡◌, ◌≢◌, ◌≤◌, ◌++◌, ◌<◌, ℕ, List, Option, [], ◌∷◌, drop, take, false, true, length, Some, IfOk, IfSome, IfErr, OnOk, vec_len};
 ghost use Rattle.grid_edge.specs.Faults.{Rose, HasCause};
+ghost use Rattle.grid_edge.specs.Given.{Given};
+ghost use Rattle.grid_cli.specs.ReadScripts.{ReadsWhatIsLeft};
 ghost use Rattle.grid_cli.specs.Scripts.{limit_in};
 ghost use Rattle.script_lang.specs.Pieces.{IsOnePiece};
 ghost use Rattle.live_control.specs.Reading.{HasCome, HasLooked, ComesNext, LeadsTo, HasKept, HasRead, up_to};
@@ -55,7 +56,7 @@ pub(crate) struct LineReader {
 impl LineReader {
     /// Before the first line. Takes memory for a piece.
     pub(crate) fn new(alloc: Global) -> Result<LineReader, Memory>
-        ensures { (left : Option (List ℕ)) → IfOk result (λ reader. HasCome reader left [] [] []) }
+        ensures { (source : Given) → IfOk result (λ reader. HasCome reader source [] [] []) }
     {
         Ok(LineReader {
             piece: vec![in alloc; 0u8; PIECE]?,
@@ -118,10 +119,10 @@ impl LineReader {
 
     /// Looks for the next newline of the piece. Tells whether there is one; the line is then whole.
     fn look(&mut self) -> Result<bool, Came>
-        requires come { (left : Option (List ℕ)) × (came : List ℕ) × (given : List (List ℕ)) × HasCome self.old left came given self.old.line.items }
+        requires come { (source : Given) × (came : List ℕ) × (given : List (List ℕ)) × HasCome self.old source came given self.old.line.items }
         requires going { self.old.has_ended ≡ false }
-        ensures looked { (left : Option (List ℕ)) (came : List ℕ) (given : List (List ℕ)) → HasCome self.old left came given self.old.line.items
-            → HasLooked result self.new left came given }
+        ensures looked { (source : Given) (came : List ℕ) (given : List (List ℕ)) → HasCome self.old source came given self.old.line.items
+            → HasLooked result self.new source came given }
         ensures going { self.new.has_ended ≡ false }
         ensures measure { self.new.bytes ≡ self.old.bytes }
         ensures over { self.new.is_over ≡ self.old.is_over }
@@ -145,13 +146,14 @@ impl LineReader {
 
     /// Reads the next piece. Tells whether anything came. Bytes past the limit are left out.
     fn read<S: Source>(&mut self, script: &mut S) -> Result<bool, ReadFault>
-        requires come { (came : List ℕ) × (given : List (List ℕ)) × HasCome self.old (S.left script.old) came given self.old.line.items }
+        requires come { (came : List ℕ) × (given : List (List ℕ)) × HasCome self.old (S.given script.old) came given self.old.line.items }
         requires going { self.old.has_ended ≡ false }
         requires spent { self.old.from ≡ self.old.to }
         requires within { self.old.is_over ≡ false }
-        ensures read { (came : List ℕ) (given : List (List ℕ)) → HasCome self.old (S.left script.old) came given self.old.line.items
-            → HasRead result self.old self.new (S.left script.old) (S.left script.new) came given }
+        ensures read { (came : List ℕ) (given : List (List ℕ)) → HasCome self.old (S.given script.old) came given self.old.line.items
+            → HasRead result self.old self.new (S.given script.old) (S.given script.new) came given }
         ensures going { self.new.has_ended ≡ false }
+        ensures left { ReadsWhatIsLeft (S.given script.old) (S.given script.new) (S.left script.old) (S.left script.new) }
         ensures cause { HasCause (S.faults script.old) (S.faults script.new) result }
     {
         let Ok(count) = script.read(self.piece.as_mut_slice()) else {
@@ -167,12 +169,12 @@ impl LineReader {
 
     /// The line that the end of the script ends, if it has a byte.
     fn last(&mut self) -> Came
-        requires come { (left : Option (List ℕ)) × (came : List ℕ) × (given : List (List ℕ)) × HasCome self.old left came given self.old.line.items }
+        requires come { (source : Given) × (came : List ℕ) × (given : List (List ℕ)) × HasCome self.old source came given self.old.line.items }
         requires going { self.old.has_ended ≡ false }
         requires spent { self.old.from ≡ self.old.to }
         requires within { self.old.is_over ≡ false }
-        ensures came { (left : Option (List ℕ)) (came : List ℕ) (given : List (List ℕ)) → HasCome self.old left came given self.old.line.items
-            → IsAtEnd left → ComesNext result self.new left came given }
+        ensures came { (source : Given) (came : List ℕ) (given : List (List ℕ)) → HasCome self.old source came given self.old.line.items
+            → source.ended ≡ true → ComesNext result self.new source came given }
         ensures no_fault { result ≢ Came.Fault }
     {
         self.has_ended = true;
@@ -185,9 +187,10 @@ impl LineReader {
 
     /// Waits for the next line.
     pub(crate) fn next<S: Source>(&mut self, script: &mut S) -> Came
-        requires { (came : List ℕ) × (given : List (List ℕ)) × HasCome self.old (S.left script.old) came given [] }
-        ensures came { (came : List ℕ) (given : List (List ℕ)) → HasCome self.old (S.left script.old) came given []
-            → LeadsTo (S.left script.old) (S.left script.new) (λ more. ComesNext result self.new (S.left script.new) (came ++ more) given) }
+        requires { (came : List ℕ) × (given : List (List ℕ)) × HasCome self.old (S.given script.old) came given [] }
+        ensures came { (came : List ℕ) (given : List (List ℕ)) → HasCome self.old (S.given script.old) came given []
+            → LeadsTo (S.given script.old) (S.given script.new) (λ more. ComesNext result self.new (S.given script.new) (came ++ more) given) }
+        ensures left { ReadsWhatIsLeft (S.given script.old) (S.given script.new) (S.left script.old) (S.left script.new) }
         ensures never_falls { S.faults script.old ≤ S.faults script.new }
         ensures cause { result ≡ Came.Fault → Rose (S.faults script.old) (S.faults script.new) }
     {

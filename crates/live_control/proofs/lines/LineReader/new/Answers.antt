@@ -3,4 +3,4 @@ use Rattle.live_control.proofs.Looking.{at_start}
 use Rattle.live_control.proofs.lines.LineReader.new.Goals as goal
 
 pub returns : goal.returns
-returns c = λ left. at_start _ left c.in_ok-vec.ensures.len refl refl refl refl refl refl
+returns c = λ source. at_start _ source c.in_ok-vec.ensures.len refl refl refl refl refl refl
