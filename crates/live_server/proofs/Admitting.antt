@@ -6,12 +6,13 @@ use Rattle.std.proofs.lemmas.List.Elements.{All-push, All-weaker, All-nil}
 use Rattle.grid_base.specs.declared.calls.Request.{Request}
 use Rattle.grid_edge.specs.Doors.{Arrival, Return, Book, entered, after_arrival, after_return, IsOut}
 use Rattle.grid_edge.specs.MemoryDoors.{Telling, connection_of}
-use Rattle.grid_edge.proofs.Told.{prepend_known-nil, append_known-nil}
+use Rattle.grid_edge.proofs.Told.{append_known-nil}
 use Rattle.hand_cell.specs.declared.names.Key.{Key}
 use Rattle.hand_cell.specs.declared.names.Names.TheVariants.{One}
 use Rattle.hand_cell.specs.declared.outcome.LiveOutcome.{LiveOutcome}
 use Rattle.hand_cell.specs.Names.{has_number}
 use Rattle.hand_cell.specs.Told.{Told}
+use Rattle.message_frames.specs.Messages.{messages_of}
 use Rattle.partition_threads.specs.declared.workplace.Workplace.{Workplace}
 use Rattle.partition_threads.specs.Workplaces.{AreTokensAt}
 use Rattle.session_calls.specs.declared.session.SessionPass.{SessionPass}
@@ -20,13 +21,14 @@ use Rattle.session_calls.specs.Passes.{ArePassesOf, HaveNumber, giving_up, given
 use Rattle.session_core.specs.Items.{items_of}
 use Rattle.live_session.specs.Connections.{HasSeen, AreBelow, IsFresh, IsServedTo}
 use Rattle.live_session.proofs.Beginning.{no_messages}
+use Rattle.live_session.proofs.Calls.{none_called}
 use Rattle.live_session.proofs.Places.{get_front, get_seam, same_some}
 use Rattle.live_server.specs.declared.client.Client.{Client}
 use Rattle.live_server.specs.declared.connections.Connections.{Connections}
 use Rattle.live_server.specs.declared.connections.TheConstants.{ROOM}
-use Rattle.live_server.specs.Serving.{AreEntries, times_returned, WasServed}
+use Rattle.live_server.specs.Serving.{AreEntries, times_returned, SawNone, WasServed}
 use Rattle.live_server.specs.Clients.{IsServedSince}
-use Rattle.live_server.specs.Standing.{times_served, SawNone, IsServing}
+use Rattle.live_server.specs.Standing.{times_served, IsServing}
 use Rattle.live_server.proofs.Named.{still_named, named_one}
 use Rattle.live_server.proofs.Passing.{HaveGone, gave_up, get_some, get_map, still_unseen, still_was_served, seen_by, seen_there, seen_case, get_mapped}
 use Rattle.live_server.proofs.Tallies.{times_push, times_at, none_times, one_if, one_same, one_other, same_or_other}
@@ -133,7 +135,7 @@ module _ {T P E O F K : Type 0} (key_of : E → Key) (tells : P → List E → E
       read = [];
       written = [];
       moved = record {
-        read_is = ap telling.left (sym its_from) ∙ sym (prepend_known-nil (telling.left client.from));
+        read_is = ap (λ (f : F). (telling.given f).bytes) its_from ∙ sym (append-nil (telling.given from).bytes);
         written_is = ap telling.taken its_to ∙ sym (append_known-nil (telling.taken to));
         read_faults = let e : telling.read_faults client.from ≡ telling.read_faults from = ap telling.read_faults its_from in omega (arith, e);
         write_faults = let e : telling.write_faults client.to ≡ telling.write_faults to = ap telling.write_faults its_to in omega (arith, e);
@@ -235,7 +237,7 @@ module _ {T P E O F K : Type 0} (key_of : E → Key) (tells : P → List E → E
           read = [];
           written = [];
           moved = record {
-            read_is = sym (prepend_known-nil (telling.left from));
+            read_is = sym (append-nil (telling.given from).bytes);
             written_is = sym (append_known-nil (telling.taken to));
             read_faults = omega arith;
             write_faults = omega arith;
@@ -250,6 +252,9 @@ module _ {T P E O F K : Type 0} (key_of : E → Key) (tells : P → List E → E
             replies = [];
             each = record { as_many = refl; each = λ i item reply there said. absurd cc };
             bytes = refl;
+            calls = λ partition. none_called key_of tells call_of [] place (items_of book.accepted member (messages_of true [])) book.accepted member partition (seen_by old.passes.items (λ q. []) partition)
+                (seen_case old.passes.items (λ q. []) (λ l. AreBelow key_of book.accepted 0 l) partition (λ pass there. serving.unseen book.accepted (omega arith) partition pass there) tt);
+            in_order = λ i j first second less one two same at at' x y. absurd cc;
           };
           ended = inr (inl refl);
         };

@@ -1,12 +1,11 @@
 -- How a client goes on by a turn.
-use Rattle.std.proofs.Common.{◌≡◌, ◌⊎◌, inl, inr, ⊎_elim, ℕ, ◌<◌, ◌≤◌, Bool, true, false, List, [], ◌∷◌, ◌++◌, All, Option, Some, None, IfSome, IsSome, slice_get, refl, sym, ap, ◌∙◌, subst, append_assoc, arith}
+use Rattle.std.proofs.Common.{◌≡◌, ◌⊎◌, inl, inr, ⊎_elim, ℕ, ◌<◌, ◌≤◌, Bool, true, false, List, ◌++◌, All, Option, Some, None, IfSome, IsSome, slice_get, refl, sym, ap, ◌∙◌, subst, append_assoc, arith}
 use Rattle.std.proofs.lemmas.List.Elements.{All-cons}
-use Rattle.std.specs.Io.KnownBytes.{prepend_known, IsAtEnd}
 use Rattle.grid_base.specs.declared.calls.Request.{Request}
 use Rattle.grid_edge.specs.Doors.{Arrival}
 use Rattle.grid_edge.specs.Faults.{Rose}
 use Rattle.grid_edge.specs.MemoryDoors.{Telling}
-use Rattle.grid_edge.proofs.Told.{more_read, more_taken}
+use Rattle.grid_edge.proofs.Told.{more_taken}
 use Rattle.hand_cell.specs.declared.names.Key.{Key}
 use Rattle.hand_cell.specs.declared.outcome.LiveOutcome.{LiveOutcome}
 use Rattle.hand_cell.specs.declared.outcome.LiveOutcome.TheVariants.{MemberGone as IsGone}
@@ -20,8 +19,9 @@ use Rattle.live_session.specs.declared.turned.ConnectionEnd.{ConnectionEnd}
 use Rattle.live_session.specs.declared.turned.ConnectionEnd.TheVariants.{Ended, Closed, ReadFault, WriteFault, MemberGone, Memory}
 use Rattle.live_session.specs.declared.turned.Turned.{Turned}
 use Rattle.live_session.specs.declared.turned.Turned.TheVariants.{Moved, NotYet, Ended as Over}
-use Rattle.live_session.specs.Connections.{HasAnswered, IsServed, IsServedTo, HasEnded as SessionEnded}
-use Rattle.live_session.specs.Turns.{stream, with_moment, HasTurned, StandsAfter, IsOver, IsAllWritten}
+use Rattle.live_session.specs.Connections.{AreCallsOf, HasAnswered, IsServed, IsServedTo, HasEnded as SessionEnded}
+use Rattle.live_session.specs.Turns.{incoming, stream, with_moment, HasTurned, StandsAfter, IsOver, IsAllWritten}
+use Rattle.live_session.proofs.Calls.{calls_longer}
 use Rattle.live_server.specs.declared.client.Client.{Client}
 use Rattle.live_server.specs.Serving.{HaveMoved, IsComplete, IsCutShort, WasAnswered}
 use Rattle.live_server.specs.Clients.{is_memory, state_of, IsServedSince, HasEnded}
@@ -29,19 +29,6 @@ use Rattle.live_server.specs.Clients.{is_memory, state_of, IsServedSince, HasEnd
 -- a count that rose has risen since it was less
 pub rose_since : (first mid last : ℕ) → first ≤ mid → Rose mid last → Rose first last
 rose_since first mid last before rose = ⊎_elim (λ (l : mid < last). inl (omega (arith, before, l))) (λ full. inr full) rose
-
--- what is at its end stays so
-still_at_end : (before after : Option (List ℕ)) (piece : List ℕ) → before ≡ prepend_known piece after → IsAtEnd before → IsAtEnd after
-still_at_end before None piece e ended = tt
-still_at_end None (Some ys) piece e ended = absurd (cc)
-still_at_end (Some xs) (Some ys) piece e ended = none_behind piece ys (sym (same_bytes xs (piece ++ ys) e) ∙ ended)
-  where
-    same_bytes : (a b : List ℕ) → ◌≡◌ {A = Option (List ℕ)} (Some a) (Some b) → a ≡ b
-    same_bytes a b e = cc
-
-    none_behind : (a b : List ℕ) → a ++ b ≡ [] → b ≡ []
-    none_behind [] b e = e
-    none_behind (x ∷ a) b e = absurd (cc)
 
 is_some : {A : Type 0} (o : Option A) (x : A) → o ≡ Some x → IsSome o
 is_some {A = A} o x e = subst (λ (p : Option A). IsSome p) (sym e) refl
@@ -64,6 +51,10 @@ module _ {T P E O : Type 0} (key_of : E → Key) (tells : P → List E → E →
           replies = has.replies;
           each = has.each;
           bytes = has.bytes;
+          calls = λ partition. subst (λ (l : List Item). AreCallsOf key_of tells call_of moments place l conn member partition (seen partition))
+              (sym (ap (λ (l : List ℕ). items_of conn member (messages_of true l)) cut ∙ (ap (items_of conn member) later.1 ∙ more.1)))
+              (calls_longer key_of tells call_of moments place (items_of conn member (messages_of true heard)) more.0 conn member partition (seen partition) (has.calls partition));
+          in_order = has.in_order;
         },
       )
 
@@ -78,8 +69,8 @@ module _ {T P E O F K : Type 0} (key_of : E → Key) (tells : P → List E → E
     (same_number : new.number ≡ old.number) (same_conn : new.connection.pass.conn ≡ old.connection.pass.conn) (same_member : new.connection.pass.member ≡ old.connection.pass.member)
     (read_faults : telling.read_faults old.from ≤ telling.read_faults new.from) (write_faults : telling.write_faults old.to ≤ telling.write_faults new.to)
     (turn : HasTurned key_of tells call_of place gives old.connection.asked new.connection
-    (record { from = stream (telling.left old.from) (telling.read_faults old.from) was_unready; to = stream (telling.taken old.to) (telling.write_faults old.to) to_unready })
-    (record { from = stream (telling.left new.from) (telling.read_faults new.from) from_unready; to = stream (telling.taken new.to) (telling.write_faults new.to) now_unready })
+    (record { from = incoming (telling.given old.from) (telling.read_faults old.from) was_unready; to = stream (telling.taken old.to) (telling.write_faults old.to) to_unready })
+    (record { from = incoming (telling.given new.from) (telling.read_faults new.from) from_unready; to = stream (telling.taken new.to) (telling.write_faults new.to) now_unready })
     served.seen served.moments served.read served.written turned) where
   conn_now : new.connection.pass.conn ≡ new.number
   conn_now = same_conn ∙ (served.conn ∙ sym same_number)
@@ -92,7 +83,7 @@ module _ {T P E O F K : Type 0} (key_of : E → Key) (tells : P → List E → E
 
   moved_now : HaveMoved served.arrival.at (state_of telling new) (served.read ++ turn.moves.read) (served.written ++ turn.moves.written)
   moved_now = record {
-    read_is = more_read served.arrival.at.left (telling.left old.from) (telling.left new.from) served.read turn.moves.read served.moved.read_is turn.moved.read;
+    read_is = turn.moved.read ∙ ap (λ (l : List ℕ). l ++ turn.moves.read) served.moved.read_is ∙ append_assoc served.arrival.at.given.bytes served.read turn.moves.read;
     written_is = more_taken served.arrival.at.taken (telling.taken old.to) (telling.taken new.to) served.written turn.moves.written served.moved.written_is turn.moved.written;
     read_faults = let before : served.arrival.at.read_faults ≤ telling.read_faults old.from = served.moved.read_faults in omega (arith, before, read_faults);
     write_faults = let before : served.arrival.at.write_faults ≤ telling.write_faults old.to = served.moved.write_faults in omega (arith, before, write_faults);
@@ -150,14 +141,14 @@ module _ {T P E O F K : Type 0} (key_of : E → Key) (tells : P → List E → E
     })
 
   all_written : (memory : Bool) (all : IsAllWritten key_of tells call_of place (with_moment turn.started served.moments) new.connection turn.sees (served.read ++ turn.moves.read) (served.written ++ turn.moves.written))
-      → IsAtEnd (telling.left new.from) ⊎ IsSome (fault_of true (served.read ++ turn.moves.read)) → HasEnded key_of tells call_of place gives telling arrivals new memory
+      → ((telling.given new.from).ended ≡ true) ⊎ IsSome (fault_of true (served.read ++ turn.moves.read)) → HasEnded key_of tells call_of place gives telling arrivals new memory
   all_written memory all why = answered_with memory all.ended (inl (record { none_left = all.none_left; all_answered = all.all_answered; no_more = why }))
 
   pub has_ended : (end : ConnectionEnd) → IsOver key_of tells call_of place end (with_moment turn.started served.moments) new.connection turn.sees (served.read ++ turn.moves.read) (served.written ++ turn.moves.written)
-      (record { from = stream (telling.left old.from) (telling.read_faults old.from) was_unready; to = stream (telling.taken old.to) (telling.write_faults old.to) to_unready })
-      (record { from = stream (telling.left new.from) (telling.read_faults new.from) from_unready; to = stream (telling.taken new.to) (telling.write_faults new.to) now_unready })
+      (record { from = incoming (telling.given old.from) (telling.read_faults old.from) was_unready; to = stream (telling.taken old.to) (telling.write_faults old.to) to_unready })
+      (record { from = incoming (telling.given new.from) (telling.read_faults new.from) from_unready; to = stream (telling.taken new.to) (telling.write_faults new.to) now_unready })
       → HasEnded key_of tells call_of place gives telling arrivals new (is_memory end)
-  has_ended Ended over = all_written false over.0 (inl (still_at_end (telling.left old.from) (telling.left new.from) turn.moves.read turn.moved.read over.1))
+  has_ended Ended over = all_written false over.0 (inl over.1)
   has_ended (Closed fault) over = all_written false over.0 (inr (is_some (fault_of true (served.read ++ turn.moves.read)) fault over.1))
   has_ended ReadFault over = answered_with false over.0 (inr (inr (inl (rose_since served.arrival.at.read_faults (telling.read_faults old.from) (telling.read_faults new.from) served.moved.read_faults over.1))))
   has_ended WriteFault over = answered_with false over.0 (inr (inr (inr (inl (rose_since served.arrival.at.write_faults (telling.write_faults old.to) (telling.write_faults new.to) served.moved.write_faults over.1)))))
@@ -185,11 +176,11 @@ module _ {T P E O F K : Type 0} (key_of : E → Key) (tells : P → List E → E
 
   -- what the turn came to
   stands_at : (is : Turned) → turned ≡ is → StandsAfter key_of tells call_of place is (with_moment turn.started served.moments) old.connection.asked new.connection turn.sees (served.read ++ turn.moves.read) (served.written ++ turn.moves.written) turn.moves
-      (record { from = stream (telling.left old.from) (telling.read_faults old.from) was_unready; to = stream (telling.taken old.to) (telling.write_faults old.to) to_unready })
-      (record { from = stream (telling.left new.from) (telling.read_faults new.from) from_unready; to = stream (telling.taken new.to) (telling.write_faults new.to) now_unready })
+      (record { from = incoming (telling.given old.from) (telling.read_faults old.from) was_unready; to = stream (telling.taken old.to) (telling.write_faults old.to) to_unready })
+      (record { from = incoming (telling.given new.from) (telling.read_faults new.from) from_unready; to = stream (telling.taken new.to) (telling.write_faults new.to) now_unready })
   stands_at is e = subst (λ (t : Turned). StandsAfter key_of tells call_of place t (with_moment turn.started served.moments) old.connection.asked new.connection turn.sees (served.read ++ turn.moves.read) (served.written ++ turn.moves.written) turn.moves
-      (record { from = stream (telling.left old.from) (telling.read_faults old.from) was_unready; to = stream (telling.taken old.to) (telling.write_faults old.to) to_unready })
-      (record { from = stream (telling.left new.from) (telling.read_faults new.from) from_unready; to = stream (telling.taken new.to) (telling.write_faults new.to) now_unready })) e turn.stands
+      (record { from = incoming (telling.given old.from) (telling.read_faults old.from) was_unready; to = stream (telling.taken old.to) (telling.write_faults old.to) to_unready })
+      (record { from = incoming (telling.given new.from) (telling.read_faults new.from) from_unready; to = stream (telling.taken new.to) (telling.write_faults new.to) now_unready })) e turn.stands
 
   pub after_moved : turned ≡ Moved → IsServedSince key_of tells call_of place gives telling arrivals new
   after_moved e = still_served (stands_at Moved e).0

@@ -1,7 +1,7 @@
 -- What a server does with the connections that come through its doors.
-use Rattle.std.specs.Prelude.{◌≡◌, ◌⊎◌, ℕ, ◌<◌, ◌≤◌, ◌==◌, Bool, true, List, [], ◌∷◌, length, All, Option, Some, IfSome, IsSome, slice_get}
+use Rattle.std.specs.Prelude.{◌≡◌, ◌⊎◌, ℕ, ◌<◌, ◌≤◌, ◌==◌, Bool, true, List, [], ◌∷◌, ◌++◌, length, All, Option, Some, IfSome, IsSome, slice_get}
 use Rattle.std.specs.List.{count_by}
-use Rattle.std.specs.Io.KnownBytes.{prepend_known, append_known, IsAtEnd}
+use Rattle.std.specs.Io.KnownBytes.{append_known}
 use Rattle.grid_base.specs.declared.calls.Request.{Request}
 use Rattle.grid_edge.specs.Doors.{Connection, Arrival, Return, Book}
 use Rattle.grid_edge.specs.Faults.{Rose}
@@ -13,21 +13,21 @@ use Rattle.message_frames.specs.Messages.{fault_of}
 use Rattle.partition_threads.specs.declared.workplace.Workplace.{Workplace}
 use Rattle.session_core.specs.declared.item.Item.{Item}
 use Rattle.session_core.specs.declared.item.Item.TheVariants.{Call}
-use Rattle.live_session.specs.Connections.{IsServed, HasAnswered}
+use Rattle.live_session.specs.Connections.{AreBelow, IsServed, HasAnswered}
 
 -- A connection was as the first, and is as the second: these bytes were read from it, and those were written to it. Its counts of
 -- faults have not fallen
 pub record HaveMoved (was is : Connection) (read written : List ℕ) : Type 0 where
-  pub read_is : was.left ≡ prepend_known read is.left
+  pub read_is : is.given.bytes ≡ was.given.bytes ++ read
   pub written_is : is.taken ≡ append_known was.taken written
   pub read_faults : was.read_faults ≤ is.read_faults
   pub write_faults : was.write_faults ≤ is.write_faults
 
--- Nothing is left to write or to answer, and the client sent no more, or bytes at fault
+-- Nothing is left to write or to answer, and a read found the end of what the client sent, or the client sent bytes at fault
 pub record IsComplete (is : Connection) (read left : List ℕ) (rest : List Item) : Type 0 where
   pub none_left : left ≡ []
   pub all_answered : rest ≡ []
-  pub no_more : IsAtEnd is.left ⊎ IsSome (fault_of true read)
+  pub no_more : (is.given.ended ≡ true) ⊎ IsSome (fault_of true read)
 
 -- this was seen of each partition that there is a pass of
 abbrev pub AreSeen : {E : Type 0} → List (Told E) → (ℕ → List E) → Type 0
@@ -72,12 +72,16 @@ module _ {T P E O : Type 0} (key_of : E → Key) (tells : P → List E → E →
 abbrev pub AreEntries : {A : Type 0} → Option (List A) → List A → Type 0
 AreEntries told entries = IfSome told (λ list. list ≡ entries)
 
+-- none of the passes has seen a call of a connection with this number
+abbrev pub SawNone : {E : Type 0} → (E → Key) → ℕ → List (Told E) → Type 0
+SawNone key_of number passes = (partition : ℕ) (pass : Told _) → slice_get passes partition ≡ Some pass → AreBelow key_of number 0 pass.seen
+
 -- how many of these were the connection with this number
 abbrev pub times_returned : ℕ → List Return → ℕ
 times_returned number returns = count_by (λ given. given.number == number) returns
 
 module _ {T P E O : Type 0} (key_of : E → Key) (tells : P → List E → E → LiveOutcome → Type 0) (call_of : ℕ → Request → ℕ → E) (place : Workplace T P E O) (gives : ℕ → Type 0) where
-  -- Each connection that was accepted was served, and was given back once
+  -- Each connection that was accepted was served, and was given back once. No call of another number was seen
   pub record HasServedAll (passes : List (Told E)) (book : Book) : Type 0 where
     pub arrivals : List Arrival
     pub arrivals_are : AreEntries book.arrivals arrivals
@@ -86,3 +90,4 @@ module _ {T P E O : Type 0} (key_of : E → Key) (tells : P → List E → E →
     pub returns_are : AreEntries book.returns returns
     pub once : (number : ℕ) → number < book.accepted → times_returned number returns ≡ 1
     pub served : All (WasServed key_of tells call_of place gives passes arrivals) returns
+    pub no_other : (number : ℕ) → book.accepted ≤ number → SawNone key_of number passes

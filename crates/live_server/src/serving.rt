@@ -4,6 +4,7 @@ ghost use Rattle.grid_edge.specs.Faults.{HasCause};
 ghost use Rattle.live_session.specs.Connections.{ServesCalls};
 ghost use Rattle.live_server.specs.Clients.{telling_by};
 ghost use Rattle.live_server.specs.Serving.{HasServedAll};
+ghost use Rattle.live_server.specs.Rounds.{IsAfter, ComesTo};
 ghost use Rattle.live_server.specs.Standing.{MayServe, Rests, HasLetAllIn, IsSince, IsServing};
 
 use crate::admission::let_in;
@@ -27,7 +28,8 @@ const LONGEST_SLEEP: u32 = 1000;
 /// Serves the connections that come through the doors, which were opened before. Each is served at the member that it
 /// came to, with its number at the doors as the one of its session, and is given back once it has ended. At most 1,024
 /// are served at a time, and others wait outside; where there is no memory for a session, its connection is given back
-/// at once.
+/// at once. The calls of a connection are run in the order of its messages: of two in one partition, the event of the
+/// earlier one stands first in what was seen (`StandInOrder`).
 ///
 /// Once it is told to close it lets in who has come by then, and returns when the last connection has ended. A fault of
 /// the doors has the same effect, and is answered then. Where nothing is ready the thread sleeps at the doors, and
@@ -51,19 +53,87 @@ pub fn serve<T: Served, D: Doors, C: Clock, R: Wait>(
     ensures opening { (D.book doors.new).opening ≡ (D.book doors.old).opening }
     ensures cause { HasCause (D.faults doors.old) (D.faults doors.new) result }
 {
-    let mut entrance = Entrance::Open;
-    let mut idle = 0;
+    let mut rounds = Rounds::new(place, connections, doors, clock);
     for _ in rt.forever() {
-        let outside = look_outside(alloc, place, connections, doors, clock, closing, entrance);
-        let moved = go_round(rt, alloc, place, connections, doors, clock) || outside.came;
-        if connections.clients.is_empty() && !outside.entrance.is_open() {
-            return outside.entrance.told();
+        match serve_round(rt, alloc, place, connections, doors, clock, closing, rounds) {
+            Round::Next(next) => rounds = next,
+            Round::Last(ended) => return ended,
         }
-        let rested = rest(doors, moved, idle, connections.clients.len());
-        entrance = outside.entrance.after(&rested);
-        idle = rested.unwrap_or(0);
     }
     unreachable!()
+}
+
+/// What a server knows from one round to the next.
+#[derive(Clone, Copy, Debug)]
+pub struct Rounds {
+    pub(crate) entrance: Entrance,
+    /// How many looks in a row found nothing ready.
+    pub(crate) idle: usize,
+}
+
+/// What a round comes to.
+#[derive(Clone, Copy, Debug)]
+pub enum Round {
+    /// The server goes on.
+    Next(Rounds),
+    /// No more connections are let in, and the last one has ended.
+    Last(Result<(), DoorFault>),
+}
+
+impl Rounds {
+    /// Before the first round. No connection has come.
+    pub fn new<T: Served, D: Doors, C: Clock>(
+        place: &Workplace<T>,
+        connections: &Connections<T, D::From, D::To>,
+        doors: &D,
+        clock: &C,
+    ) -> Rounds
+        requires { MayServe T.key_of place.now connections.now (D.book doors.now) }
+        ensures serving { IsServing T.key_of T.tells T.call_of place.now (λ now. C.gives clock.now now) (telling_by D.From.given D.From.faults D.To.taken D.To.faults) connections.now (D.book doors.now) }
+        ensures since { (looks faults accepted : ℕ) → IsAfter result looks looks faults faults accepted }
+    {
+        let _ = place;
+        let _ = connections;
+        let _ = doors;
+        let _ = clock;
+        Rounds {
+            entrance: Entrance::Open,
+            idle: 0,
+        }
+    }
+}
+
+/// One round of `serve`: lets connections in, unless no more are let in, gives each connection its turns, and sleeps
+/// where nothing is ready. After it, as before, each connection that came is served, as far as it was heard, or was served
+/// to its end and given back.
+pub fn serve_round<T: Served, D: Doors, C: Clock, R: Wait>(
+    rt: &R,
+    alloc: Global,
+    place: &Workplace<T>,
+    connections: &mut Connections<T, D::From, D::To>,
+    doors: &mut D,
+    clock: &C,
+    closing: &Closing,
+    rounds: Rounds,
+) -> Round
+    requires calls { ServesCalls T.fits place.now }
+    requires serving { IsServing T.key_of T.tells T.call_of place.now (λ now. C.gives clock.now now) (telling_by D.From.given D.From.faults D.To.taken D.To.faults) connections.old (D.book doors.old) }
+    ensures serving { IsServing T.key_of T.tells T.call_of place.now (λ now. C.gives clock.now now) (telling_by D.From.given D.From.faults D.To.taken D.To.faults) connections.new (D.book doors.new) }
+    ensures since { (looks faults : ℕ) → IsAfter rounds looks (D.empty_looks doors.old) faults (D.faults doors.old) (D.book doors.old).accepted
+        → ComesTo result connections.new.clients.items looks (D.empty_looks doors.new) faults (D.faults doors.new) (D.book doors.new).accepted }
+    ensures opening { (D.book doors.new).opening ≡ (D.book doors.old).opening }
+{
+    let Rounds { entrance, idle } = rounds;
+    let outside = look_outside(alloc, place, connections, doors, clock, closing, entrance);
+    let moved = go_round(rt, alloc, place, connections, doors, clock) || outside.came;
+    if connections.clients.is_empty() && !outside.entrance.is_open() {
+        return Round::Last(outside.entrance.told());
+    }
+    let rested = rest(doors, moved, idle, connections.clients.len());
+    Round::Next(Rounds {
+        entrance: outside.entrance.after(&rested),
+        idle: rested.unwrap_or(0),
+    })
 }
 
 /// Lets connections in, where the entrance is open.
@@ -76,8 +146,8 @@ fn look_outside<T: Served, D: Doors, C: Clock>(
     closing: &Closing,
     entrance: Entrance,
 ) -> Outside
-    requires { IsServing T.key_of T.tells T.call_of place.now (λ now. C.gives clock.now now) (telling_by D.From.left D.From.faults D.To.taken D.To.faults) connections.old (D.book doors.old) }
-    ensures serving { IsServing T.key_of T.tells T.call_of place.now (λ now. C.gives clock.now now) (telling_by D.From.left D.From.faults D.To.taken D.To.faults) connections.new (D.book doors.new) }
+    requires { IsServing T.key_of T.tells T.call_of place.now (λ now. C.gives clock.now now) (telling_by D.From.given D.From.faults D.To.taken D.To.faults) connections.old (D.book doors.old) }
+    ensures serving { IsServing T.key_of T.tells T.call_of place.now (λ now. C.gives clock.now now) (telling_by D.From.given D.From.faults D.To.taken D.To.faults) connections.new (D.book doors.new) }
     ensures since { (looks faults : ℕ) → IsSince entrance looks (D.empty_looks doors.old) faults (D.faults doors.old) (D.book doors.old).accepted
         → IsSince result.entrance looks (D.empty_looks doors.new) faults (D.faults doors.new) (D.book doors.new).accepted }
     ensures opening { (D.book doors.new).opening ≡ (D.book doors.old).opening }

@@ -9,7 +9,7 @@ use Rattle.hand_cell.specs.declared.names.Key.TheVariants.{Call as CallKey}
 use Rattle.hand_cell.specs.declared.outcome.LiveOutcome.{LiveOutcome}
 use Rattle.hand_cell.specs.Names.{has_number, Lacks}
 use Rattle.hand_cell.specs.Told.{Told}
-use Rattle.grid_edge.proofs.Told.{prepend_known-nil, append_known-nil}
+use Rattle.grid_edge.proofs.Told.{append_known-nil}
 use Rattle.grid_base.specs.Errors.{want_of_memory}
 use Rattle.message_frames.specs.Messages.{messages_of}
 use Rattle.partition_threads.specs.declared.workplace.Workplace.{Workplace}
@@ -125,7 +125,7 @@ module _ {T P E O : Type 0} (key_of : E → Key) (tells : P → List E → E →
       pub has_started : HasTurned key_of tells call_of place (λ moment. moment ≡ now) None (record c { pass = pass_now; asked = Some asked }) streams streams seen moments read written Moved
       has_started = record {
         moves = unmoved;
-        moved = record { read = sym (prepend_known-nil streams.from.bytes); written = sym (append_known-nil streams.to.bytes) };
+        moved = record { read = sym (append-nil streams.from.given.bytes); written = sym (append_known-nil streams.to.bytes) };
         started = Some now;
         given = refl;
         sees = seen;
@@ -155,7 +155,7 @@ module _ {T P E O : Type 0} (key_of : E → Key) (tells : P → List E → E →
       kept_refused : (told out_now : List ℕ) → told ≡ unstarted_bytes request.correlation why → out_now ≡ c.out ++ told → Kept key_of tells call_of place moments pass_now.conn pass_now.member seen read written out_now c.items.items
       kept_refused told out_now is behind = kept_by key_of tells call_of place moments c.pass.conn pass_now.conn c.pass.member pass_now.member seen read written out_now c.items.items refused.same_conn refused.same_member
           (kept_more key_of tells call_of place moments c.pass.conn c.pass.member seen seen read written c.out (Call request) c.items.items had
-          (grows_not key_of tells call_of moments moments place c.pass.conn (length had.answers.answered) seen) told out_now behind (inr (answers_call told is)))
+          (grows_not key_of tells call_of moments moments place c.pass.conn (length had.answers.answered) c.pass.member (items_of c.pass.conn c.pass.member (messages_of true read)) seen) told out_now behind (inr (answers_call told is)))
 
       session : c.session ≡ session_after pass_now.conn pass_now.member read
       session = served.session ∙ (ap (λ (n : ℕ). session_after n c.pass.member read) (sym refused.same_conn) ∙ ap (λ (n : ℕ). session_after pass_now.conn n read) (sym refused.same_member))

@@ -37,7 +37,7 @@ impl<S: Source> ReadySource for Blocking<S> {
 
     ghost unready = { λ _. 0 };
 
-    ghost left = { λ s. S.left s };
+    ghost given = { λ s. S.given s };
 
     /// Costs a read of the stream.
     fn read_ready(&mut self, into: &mut [u8]) -> Result<Ready, ReadFault> {

@@ -2,7 +2,7 @@
 ghost use Rattle.std.specs.Prelude.{ℕ, List};
 ghost use Rattle.live_session.specs.Connections.{IsFresh, ServesCalls};
 ghost use Rattle.live_session.specs.Serving.{HasServed};
-ghost use Rattle.live_session.specs.Turns.{stream};
+ghost use Rattle.live_session.specs.Turns.{incoming, stream};
 
 use crate::blocking::Blocking;
 use crate::connection::Connection;
@@ -17,6 +17,9 @@ use std::thread;
 
 /// Serves a connection of this session to its end, over streams that wait, and gives the session back. It answers as
 /// `Connection::turn` does. While a call is under way it lets other threads run, and looks again.
+///
+/// Its calls are run in the order of its messages: of two in one partition, the event of the earlier one stands first in
+/// what was seen (`StandInOrder`).
 pub fn serve_connection<T: Served, S: Source, K: Sink, C: Clock, R: Wait>(
     rt: &R,
     alloc: Global,
@@ -30,8 +33,8 @@ pub fn serve_connection<T: Served, S: Source, K: Sink, C: Clock, R: Wait>(
     requires fresh { (seen : ℕ → List T.Event) × IsFresh T.key_of place.now pass seen }
     ensures { (seen : ℕ → List T.Event) → IsFresh T.key_of place.now pass seen
         → HasServed T.key_of T.tells T.call_of place.now (λ now. C.gives clock.now now) pass seen
-        (record { from = stream (S.left from.old) (S.faults from.old) 0; to = stream (K.taken to.old) (K.faults to.old) 0 })
-        (record { from = stream (S.left from.new) (S.faults from.new) 0; to = stream (K.taken to.new) (K.faults to.new) 0 })
+        (record { from = incoming (S.given from.old) (S.faults from.old) 0; to = stream (K.taken to.old) (K.faults to.old) 0 })
+        (record { from = incoming (S.given from.new) (S.faults from.new) 0; to = stream (K.taken to.new) (K.faults to.new) 0 })
         result.0 result.1 }
 {
     let mut connection = Connection::new(alloc, pass);
