@@ -8,27 +8,32 @@ use Rattle.grid_cli.specs.declared.status.Status.TheVariants.{DoorFault as Fault
 use Rattle.grid_edge.specs.Faults.{Rose}
 use Rattle.grid_edge.specs.declared.doors.DoorFault.{DoorFault}
 use Rattle.hand_cell.specs.declared.cell.Cell.{Cell}
+use Rattle.hand_cell.specs.Calls.{plan_of}
 use Rattle.hand_cell.specs.Told.{Told}
 use Rattle.job_queues.specs.Roster.{roster_of}
 use Rattle.partition_threads.specs.Workplaces.{AreTokensAt}
 use Rattle.partition_world.specs.declared.event.Event.{Event}
 use Rattle.partition_world.specs.declared.event.Happened.{Happened}
 use Rattle.session_calls.specs.Passes.{ArePassesOf, AreJoinedWith}
-use Rattle.session_calls.proofs.OfCells.{mapped}
+use Rattle.session_calls.proofs.OfCells.{came_from, mapped}
 use Rattle.live_grid.specs.declared.grid.GridPass.{GridPass}
 use Rattle.live_grid.specs.declared.grid.LiveGrid.{LiveGrid}
 use Rattle.live_grid.specs.declared.plan.GridPlan.{GridPlan}
 use Rattle.live_grid.specs.declared.world.LiveWorld.{LiveWorld}
 use Rattle.live_grid.specs.Grids.{AreCells, IsGridPassOf, place_of}
-use Rattle.live_grid.specs.Histories.{live_key}
+use Rattle.live_grid.specs.Histories.{live_key, live_call}
+use Rattle.live_grid.specs.Outcomes.{LiveTells}
 use Rattle.live_control.specs.Running.{MayServe as MayControl}
 use Rattle.live_server.specs.declared.connections.Connections.{Connections}
+use Rattle.live_server.specs.Laws.{StaysServed}
 use Rattle.live_server.specs.Standing.{Rests, HasLetAllIn}
+use Rattle.served_history_laws.specs.Histories.{HaveMembers, ServedTellsHistories}
 use Rattle.serve_options.specs.declared.options.ServeOptions.{ServeOptions}
 use Rattle.grid_server.specs.declared.setting.Setting.{Setting}
 use Rattle.grid_server.specs.Serving.{Operator, AtDoors, IsOpened, EndsAs, HasServed}
 use Rattle.grid_server.specs.Settings.{AreNew, IsSetting}
 use Rattle.grid_server.specs.Tasks.{HasServedClients, HasOperated}
+use Rattle.grid_server.proofs.Opening.{may_control_by}
 use Rattle.grid_server.proofs.Regained.{tables_of, still_controls}
 
 pub on_ok : {T E : Type 0} (P : Type 0) (r : Result T E) (x : T) → r ≡ Ok x → OnOk r P → P
@@ -69,7 +74,15 @@ module _ {F K : Type 0} where
       workers = subst (λ (g : LiveGrid). AreTokensAt (place_of g) setting.pass.tokens.items) (sym made_grid) is.tokens;
     })
 
-    pub has_served : (gives : ℕ → Type 0) (before after : Operator) (opened closed : AtDoors) (told status : Status) (ended : Result (Unit {0}) DoorFault) (stage_options : ServeOptions) (first last pass : GridPass) (connections : Connections LiveWorld F K GridPlan (Event Request) Happened)
+    -- each cell has members
+    have_members : 1 ≤ options.members → HaveMembers (place_of stage_grid)
+    have_members some partition plan there =
+        let made = subst (λ (g : LiveGrid). AreCells options.members options.backups forms options.capacity (place_of g).cells.items) (sym made_grid) is.cells in
+        let was = came_from (λ (c : Cell LiveWorld GridPlan (Event Request) Happened). plan_of c) (place_of stage_grid).cells.items partition plan there in
+        let members : (plan_of was.0).members ≡ options.members = (made partition was.0 was.1).members_are in
+        subst (λ (p : GridPlan). 1 ≤ p.members) (sym was.2) (omega (arith, some, members))
+
+    pub has_served : 1 ≤ options.members → (gives : ℕ → Type 0) → StaysServed live_key LiveTells live_call (place_of stage_grid) gives → ServedTellsHistories gives → (before after : Operator) (opened closed : AtDoors) (told status : Status) (ended : Result (Unit {0}) DoorFault) (stage_options : ServeOptions) (first last pass : GridPass) (connections : Connections LiveWorld F K GridPlan (Event Request) Happened)
         → stage_options ≡ options → first.passes.items ≡ setting.pass.passes.items
         → IsOpened options opened.book
         → HasServedClients stage_grid gives connections opened closed ended
@@ -78,19 +91,25 @@ module _ {F K : Type 0} where
         → IsGridPassOf grid pass
         → EndsAs told status opened closed
         → HasServed options forms gives before after opened closed status grid pass
-    has_served gives before after opened closed told status ended stage_options first last pass connections same_options same_first is_opened served operated joined whole ends =
+    has_served some gives stays tells before after opened closed told status ended stage_options first last pass connections same_options same_first is_opened served operated joined whole ends =
         subst (λ (g : LiveGrid). HasServed options forms gives before after opened closed status g pass) (sym same_grid) (record {
           opened = served.opening ∙ is_opened.opening;
           cells = subst (λ (g : LiveGrid). AreCells options.members options.backups forms options.capacity (place_of g).cells.items) (sym made_grid) is.cells;
           first = first;
+          may_begin = subst (λ (g : LiveGrid). MayControl g first) (sym made_grid) (may_control_by options forms setting is first same_first);
           new = subst AreNew (sym same_first) is.unseen;
           last = last;
+          may_end = operated.kept;
           told = told;
           control = (subst (λ (o : ServeOptions). HasOperated stage_grid o.members told before after first last) same_options operated).control;
           theirs = connections.passes.items;
+          of_grid = served.rests.passes;
           clients = served.clients;
           gathered = joined;
           may_go_on = regained stage_grid last pass connections.passes.items operated.kept served.rests.passes.as_long joined (subst (λ (g : LiveGrid). IsGridPassOf g pass) same_grid whole);
+          histories = tells (place_of stage_grid) pass.passes.items closed.book (have_members some)
+              (stays last.passes.items connections.passes.items pass.passes.items closed.book
+              (served.rests.passes.as_long ∙ sym (passes_of (place_of stage_grid).cells.items last.passes.items operated.kept.of_grid.tables).as_long) served.rests.named joined served.clients);
           ends = ends;
           read_fault = operated.read_fault;
           write_fault = operated.write_fault;
@@ -115,14 +134,18 @@ served_since options forms gives before after outside opened closed status grid 
   opened = served.opened;
   cells = served.cells;
   first = served.first;
+  may_begin = served.may_begin;
   new = served.new;
   last = served.last;
+  may_end = served.may_end;
   told = served.told;
   control = served.control;
   theirs = served.theirs;
+  of_grid = served.of_grid;
   clients = served.clients;
   gathered = served.gathered;
   may_go_on = served.may_go_on;
+  histories = served.histories;
   ends = ends_since served.told status outside opened closed looks faults served.ends;
   read_fault = served.read_fault;
   write_fault = served.write_fault;

@@ -1,8 +1,9 @@
 mod Beginning
 mod Ending
 mod Handing
-mod Heard
+mod Unheard
 mod Opening
 mod Regained
 mod Replayed
 mod SampleWords
+mod ServedHistories

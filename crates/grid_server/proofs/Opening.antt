@@ -51,14 +51,16 @@ module _ {F K : Type 0} (options : ServeOptions) (grid : LiveGrid) (connections 
     members = enough;
   }
 
--- What may be served from the beginning, on a stage with this grid and these options, and a pass that has the operator's passes
-module _ {F K : Type 0} (options : ServeOptions) (forms : List Form) (setting : Setting F K) (book : Book) (some : 1 ≤ options.members) (most : options.members ≤ 8) (is : IsSetting options forms setting) (opened : IsOpened options book) where
-  may_control_by : (pass : GridPass) → pass.passes.items ≡ setting.pass.passes.items → MayControl setting.grid pass
+module _ {F K : Type 0} (options : ServeOptions) (forms : List Form) (setting : Setting F K) (is : IsSetting options forms setting) where
+  -- the operator's pass of the setting, by its passes
+  pub may_control_by : (pass : GridPass) → pass.passes.items ≡ setting.pass.passes.items → MayControl setting.grid pass
   may_control_by pass same = record {
     of_grid = record { as_many = is.may_control.of_grid.as_many; tables = ap (map (λ (p : Told (Event Request)). p.table)) same ∙ is.may_control.of_grid.tables };
     control = λ partition p e. is.may_control.control partition p (subst (λ (ps : List (Told (Event Request))). slice_get ps partition ≡ Some p) same e);
   }
 
+-- What may be served from the beginning, on a stage with this grid and these options, and a pass that has the operator's passes
+module _ {F K : Type 0} (options : ServeOptions) (forms : List Form) (setting : Setting F K) (book : Book) (some : 1 ≤ options.members) (most : options.members ≤ 8) (is : IsSetting options forms setting) (opened : IsOpened options book) where
   pub may_meet : (o : ServeOptions) (grid : LiveGrid) (pass : GridPass) → o ≡ options → grid ≡ setting.grid → pass.passes.items ≡ setting.pass.passes.items → MayMeet o grid book setting.connections pass
   may_meet o grid pass same_options same_grid same_passes =
       subst (λ (o : ServeOptions). MayMeet o grid book setting.connections pass) (sym same_options)
@@ -66,7 +68,7 @@ module _ {F K : Type 0} (options : ServeOptions) (forms : List Form) (setting : 
       (record {
         some = some;
         most = most;
-        may_control = may_control_by pass same_passes;
+        may_control = may_control_by options forms setting is pass same_passes;
         calls = serves_calls setting.grid is.may_control.of_grid.as_many;
         may = may_serve options setting.grid setting.connections book is.connections opened;
       }))

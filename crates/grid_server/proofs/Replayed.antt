@@ -2,6 +2,7 @@
 use Rattle.std.proofs.Common.{◌≡◌, ℕ, List, Option, sym, subst}
 use Rattle.entry_processors.specs.declared.form.Form.{Form}
 use Rattle.entry_processors.specs.Processors.{ProcessorForm}
+use Rattle.grid_edge.specs.Given.{Given}
 use Rattle.grid_cli.specs.Commands.{PrintsHistories}
 use Rattle.grid_cli.specs.NearHits.{PrintsHits}
 use Rattle.grid_cli.specs.Decisions.{PrintsDecisions}
@@ -16,17 +17,17 @@ use Rattle.grid_server.specs.declared.ended.Ended.{Ended}
 pub replayed_as : (words : Words) (forms : List ProcessorForm) (told status : Status) (before after : Operator) → status ≡ told → HasReplayedBy words forms told before after → HasReplayedBy words forms status before after
 replayed_as words forms told status before after same replayed = subst (λ (s : Status). HasReplayedBy words forms s before after) (sym same) replayed
 
-pub printed_as : (forms : List ProcessorForm) (told status : Status) (first left before after : Option (List ℕ)) → status ≡ told → PrintsHistories forms told first left before after → PrintsHistories forms status first left before after
-printed_as forms told status first left before after same printed = subst (λ (s : Status). PrintsHistories forms s first left before after) (sym same) printed
+pub printed_as : (forms : List ProcessorForm) (told status : Status) (first now : Given) (before after : Option (List ℕ)) → status ≡ told → PrintsHistories forms told first now before after → PrintsHistories forms status first now before after
+printed_as forms told status first now before after same printed = subst (λ (s : Status). PrintsHistories forms s first now before after) (sym same) printed
 
-pub hit_as : (forms : List ProcessorForm) (told status : Status) (first left before after : Option (List ℕ)) → status ≡ told → PrintsHits forms told first left before after → PrintsHits forms status first left before after
-hit_as forms told status first left before after same printed = subst (λ (s : Status). PrintsHits forms s first left before after) (sym same) printed
+pub hit_as : (forms : List ProcessorForm) (told status : Status) (first now : Given) (before after : Option (List ℕ)) → status ≡ told → PrintsHits forms told first now before after → PrintsHits forms status first now before after
+hit_as forms told status first now before after same printed = subst (λ (s : Status). PrintsHits forms s first now before after) (sym same) printed
 
-pub decided_as : (forms : List ProcessorForm) (told status : Status) (first left before after : Option (List ℕ)) → status ≡ told → PrintsDecisions forms told first left before after → PrintsDecisions forms status first left before after
-decided_as forms told status first left before after same printed = subst (λ (s : Status). PrintsDecisions forms s first left before after) (sym same) printed
+pub decided_as : (forms : List ProcessorForm) (told status : Status) (first now : Given) (before after : Option (List ℕ)) → status ≡ told → PrintsDecisions forms told first now before after → PrintsDecisions forms status first now before after
+decided_as forms told status first now before after same printed = subst (λ (s : Status). PrintsDecisions forms s first now before after) (sym same) printed
 
-pub waited_as : (forms : List ProcessorForm) (told status : Status) (first left before after : Option (List ℕ)) → status ≡ told → PrintsWaits forms told first left before after → PrintsWaits forms status first left before after
-waited_as forms told status first left before after same printed = subst (λ (s : Status). PrintsWaits forms s first left before after) (sym same) printed
+pub waited_as : (forms : List ProcessorForm) (told status : Status) (first now : Given) (before after : Option (List ℕ)) → status ≡ told → PrintsWaits forms told first now before after → PrintsWaits forms status first now before after
+waited_as forms told status first now before after same printed = subst (λ (s : Status). PrintsWaits forms s first now before after) (sym same) printed
 
 -- the same of a sample, whose number is the one that the words give
 pub sampled_as : (asked number : ℕ) (forms : List Form) (before after : Operator) (outside closed : AtDoors) (ended : Ended) → asked ≡ number → after.script ≡ before.script → closed ≡ outside

@@ -1,5 +1,5 @@
 -- The program's commands, and what each comes to.
-use Rattle.std.specs.Prelude.{◌≡◌, ◌≢◌, ◌↔◌, ℕ, Bool, false, if◌then◌else◌, List, [], ◌∷◌, Option, Some, None, IfSome, IfNone, codes, string_bytes}
+use Rattle.std.specs.Prelude.{◌≡◌, ◌≢◌, ◌↔◌, ◌⊎◌, ℕ, Bool, false, if◌then◌else◌, List, [], ◌∷◌, Option, None, IfSome, IfNone, codes, string_bytes}
 use Rattle.entry_processors.specs.declared.form.Form.{Form}
 use Rattle.entry_processors.specs.Processors.{ProcessorForm}
 use Rattle.script_lang.specs.Words.{are_same, number_within}
@@ -7,9 +7,12 @@ use Rattle.grid_cli.specs.Commands.{is_replay}
 use Rattle.grid_cli.specs.Statuses.{ReadsAndWrites}
 use Rattle.grid_cli.specs.declared.status.Status.{Status}
 use Rattle.grid_cli.specs.declared.status.Status.TheVariants.{Usage, ReadFault, WriteFault, DoorFault, Memory}
+use Rattle.grid_edge.specs.Doors.{Book}
 use Rattle.grid_edge.specs.Faults.{Rose}
 use Rattle.live_grid.specs.declared.grid.GridPass.{GridPass}
 use Rattle.live_grid.specs.declared.grid.LiveGrid.{LiveGrid}
+use Rattle.live_grid.specs.Grids.{place_of}
+use Rattle.served_history_laws.specs.Histories.{TellsHistories}
 use Rattle.serve_options.specs.declared.options.ServeOptions.{ServeOptions}
 use Rattle.serve_options.specs.Options.{Words, AreOptions, faults}
 use Rattle.grid_sample.specs.Samples.{HasSampled}
@@ -37,8 +40,12 @@ pub record HasReplayedBy (words : Words) (forms : List ProcessorForm) (status : 
   -- a fault is told only where the source or the sink had one
   pub read_fault : status ≡ ReadFault → Rose before.script.faults after.script.faults
   pub write_fault : status ≡ WriteFault → Rose before.out.faults after.out.faults
-  -- what was written is the script's transcript, or as much of it as the status says
-  pub text : ReadsAndWrites forms status before.script.bytes after.script.bytes before.out.bytes after.out.bytes
+  -- what was written is the transcript of the script that was read, or as much of it as the status says
+  pub text : ReadsAndWrites forms status before.script.given after.script.given before.out.bytes after.out.bytes
+
+-- no connection has come through the doors since: they tell of none, or they are as they were
+abbrev pub NoneCame : (outside closed : AtDoors) → Type 0
+NoneCame outside closed = (closed.book.accepted ≡ 0) ⊎ (closed.book ≡ outside.book)
 
 -- Why no grid was made
 abbrev pub IsNoGridFor : Status → Words → (outside closed : AtDoors) → Type 0
@@ -47,15 +54,16 @@ IsNoGridFor DoorFault words outside closed = Rose outside.faults closed.faults
 IsNoGridFor Memory words outside closed = Unit {0}
 IsNoGridFor _ words outside closed = ⊥
 
--- Why doors weren't opened: there was no room for the threads of a server, and nobody touched the doors, or the doors had a fault
+-- Why no server begins at the doors: there was no room for its threads, and nobody touched the doors, or the doors had a fault
 abbrev pub IsShut : Status → (outside closed : AtDoors) → Type 0
 IsShut Memory outside closed = closed ≡ outside
 IsShut DoorFault outside closed = Rose outside.faults closed.faults
 IsShut _ outside closed = ⊥
 
--- No grid was made: the words are no options, or the doors had a fault when they were opened, or there was no memory. No script was read
+-- No grid serves: the words are no options, or the doors had a fault when they were opened, or there was no memory. No script was read, and no client served
 pub record IsNotBegun (words : Words) (status : Status) (before after : Operator) (outside closed : AtDoors) : Type 0 where
   pub untouched : after ≡ before
+  pub none_came : NoneCame outside closed
   pub cause : IsNoGridFor status words outside closed
 
 -- A grid was made by the options that the words give, and has served to its end
@@ -68,6 +76,10 @@ pub record HasServedFrom (words : Words) (forms : List Form) (gives : ℕ → Ty
 pub record HasEnded (words : Words) (forms : List Form) (gives : ℕ → Type 0) (before after : Operator) (outside closed : AtDoors) (ended : Ended) : Type 0 where
   pub served : IfSome ended.grid (λ held. HasServedFrom words forms gives before after outside closed ended.status held.0 held.1)
   pub not_begun : IfNone ended.grid (IsNotBegun words ended.status before after outside closed)
+
+-- The grid, if one is handed back with a pass, has served clients whose calls stand in the histories that the pass has seen
+abbrev pub ServesHistories : (gives : ℕ → Type 0) → Book → Option (LiveGrid × GridPass) → Type 0
+ServesHistories gives book grid = IfSome grid (λ held. TellsHistories (place_of held.0) gives held.1.passes.items book)
 
 -- What a sample of this number comes to: no script is read, and no door is opened
 pub record HasSampledBy (number : ℕ) (forms : List Form) (before after : Operator) (outside closed : AtDoors) (ended : Ended) : Type 0 where

@@ -6,9 +6,10 @@ use Rattle.grid_cli.specs.declared.status.Status.{Status}
 use Rattle.grid_cli.specs.declared.status.Status.TheVariants.{DoorFault, ReadFault, WriteFault}
 use Rattle.grid_edge.specs.Doors.{Book}
 use Rattle.grid_edge.specs.Faults.{Rose}
+use Rattle.grid_edge.specs.Given.{Given}
 use Rattle.hand_cell.specs.Told.{Told}
 use Rattle.partition_world.specs.declared.event.Event.{Event}
-use Rattle.session_calls.specs.Passes.{AreJoinedWith}
+use Rattle.session_calls.specs.Passes.{ArePassesOf, AreJoinedWith}
 use Rattle.live_grid.specs.declared.grid.GridPass.{GridPass}
 use Rattle.live_grid.specs.declared.grid.LiveGrid.{LiveGrid}
 use Rattle.live_grid.specs.Grids.{AreCells, place_of}
@@ -18,24 +19,27 @@ use Rattle.live_control.specs.Running.{MayServe as MayControl}
 use Rattle.live_control.specs.Serving.{HasServed as HasControlled}
 use Rattle.live_server.specs.Serving.{HasServedAll}
 use Rattle.live_server.specs.Standing.{HasLetAllIn}
+use Rattle.served_history_laws.specs.Histories.{TellsHistories}
 use Rattle.serve_options.specs.declared.options.ServeOptions.{ServeOptions}
 use Rattle.grid_server.specs.Settings.{AreNew}
 
--- A stream at one moment: the bytes that it tells, and its count of faults
+-- a source at one moment: what it has given, and its count of faults
+pub record Incoming : Type 0 where
+  pub given : Given
+  pub faults : ℕ
+
+-- a sink at one moment: the bytes that it has taken, and its count of faults
 pub record Stream : Type 0 where
   pub bytes : Option (List ℕ)
   pub faults : ℕ
 
-abbrev pub stream : Option (List ℕ) → ℕ → Stream
-stream bytes faults = record { bytes = bytes; faults = faults }
-
--- an operator's streams: the script that is left, and what was written
+-- an operator's streams: what was read of the script, and what was written
 pub record Operator : Type 0 where
-  pub script : Stream
+  pub script : Incoming
   pub out : Stream
 
-abbrev pub operator : (left : Option (List ℕ)) → (reads : ℕ) → (taken : Option (List ℕ)) → (writes : ℕ) → Operator
-operator left reads taken writes = record { script = stream left reads; out = stream taken writes }
+abbrev pub operator : (given : Given) → (reads : ℕ) → (taken : Option (List ℕ)) → (writes : ℕ) → Operator
+operator given reads taken writes = record { script = record { given = given; faults = reads }; out = record { bytes = taken; faults = writes } }
 
 -- doors at one moment
 pub record AtDoors : Type 0 where
@@ -60,20 +64,25 @@ pub record IsOpened (options : ServeOptions) (book : Book) : Type 0 where
 abbrev pub EndsAs : Status → Status → AtDoors → AtDoors → Type 0
 EndsAs told status outside closed = ((status ≡ told) × HasLetAllIn outside.looks closed.looks closed.book.accepted) ⊎ ((status ≡ DoorFault) × Rose outside.faults closed.faults)
 
--- A grid of these options and forms has served behind doors that were opened for its members. Its operator's script was run on it from the start, in the
--- histories that the pass has seen; each connection that came through the doors was answered by these histories. The pass may run an operator's events
+-- A grid of these options and forms has served behind doors that were opened for its members. Its operator's script was run on it from the start, with a
+-- pass of each of its cells; each connection that came through the doors was served with others, and the pass has taken these in. It may run an
+-- operator's events
 pub record HasServed (options : ServeOptions) (forms : List Form) (gives : ℕ → Type 0) (before after : Operator) (outside closed : AtDoors) (status : Status) (grid : LiveGrid) (pass : GridPass) : Type 0 where
   pub opened : IsOpenedFor options closed.book
   pub cells : AreCells options.members options.backups forms options.capacity (place_of grid).cells.items
   pub first : GridPass
+  pub may_begin : MayControl grid first
   pub new : AreNew first.passes.items
   pub last : GridPass
+  pub may_end : MayControl grid last
   pub told : Status
-  pub control : HasControlled grid options.members told before.script.bytes after.script.bytes before.out.bytes after.out.bytes first last
+  pub control : HasControlled grid options.members told before.script.given after.script.given before.out.bytes after.out.bytes first last
   pub theirs : List (Told (Event Request))
+  pub of_grid : ArePassesOf (place_of grid).cells.items theirs
   pub clients : HasServedAll live_key LiveTells live_call (place_of grid) gives theirs closed.book
   pub gathered : AreJoinedWith live_key last.passes.items (map (λ pass. Some pass) theirs) pass.passes.items
   pub may_go_on : MayControl grid pass
+  pub histories : TellsHistories (place_of grid) gives pass.passes.items closed.book
   pub ends : EndsAs told status outside closed
   -- a fault of the script or of what is written is told only where there was one
   pub read_fault : told ≡ ReadFault → Rose before.script.faults after.script.faults

@@ -43,18 +43,14 @@ pub record HasServedClients {F K : Type 0} (grid : LiveGrid) (gives : ℕ → Ty
 
 -- The control script was run, and each fault that it ended with was counted
 pub record HasOperated (grid : LiveGrid) (members : ℕ) (status : Status) (before after : Operator) (old new : GridPass) : Type 0 where
-  pub control : HasControlled grid members status before.script.bytes after.script.bytes before.out.bytes after.out.bytes old new
+  pub control : HasControlled grid members status before.script.given after.script.given before.out.bytes after.out.bytes old new
   pub read_fault : status ≡ ReadFault → Rose before.script.faults after.script.faults
   pub write_fault : status ≡ WriteFault → Rose before.out.faults after.out.faults
   pub kept : MayControl grid new
 
--- The operator was heard, and the control script run, or else nothing was read or written
-pub record HasHeard (grid : LiveGrid) (members : ℕ) (before after : Operator) (old new : GridPass) (told : Option Status) : Type 0 where
-  pub operated : IfSome told (λ status. HasOperated grid members status before after old new)
-  pub untouched : IfNone told (after ≡ before)
-
--- Clients were served and the operator heard, or else there were too few threads and the operator wasn't heard
+-- Clients were served and the operator heard, or else a worker had no thread, and nothing was done
 pub record HasMet {F K : Type 0} (grid : LiveGrid) (gives : ℕ → Type 0) (members : ℕ) (connections : Connections LiveWorld F K GridPlan (Event Request) Happened) (opened closed : AtDoors) (before after : Operator) (old new : GridPass) (met : Option (Result (Unit {0}) DoorFault × Status)) : Type 0 where
   pub served : IfSome met (λ ended. HasServedClients grid gives connections opened closed ended.0)
   pub operated : IfSome met (λ ended. HasOperated grid members ended.1 before after old new)
   pub untouched : IfNone met (after ≡ before)
+  pub none_came : IfNone met (closed ≡ opened)

@@ -1,8 +1,8 @@
 //! The side of a server that its operator meets.
-ghost use Rattle.std.specs.Prelude.{◌≡◌, ◌≤◌, IfSome, IfNone};
+ghost use Rattle.std.specs.Prelude.{◌≤◌};
 ghost use Rattle.live_control.specs.Running.{MayServe};
 ghost use Rattle.grid_server.specs.Serving.{operator};
-ghost use Rattle.grid_server.specs.Tasks.{HasOperated, HasHeard};
+ghost use Rattle.grid_server.specs.Tasks.{HasOperated};
 
 use crate::stage::Stage;
 use grid_cli::Status;
@@ -23,8 +23,8 @@ fn run_script<N: Environment, S: Source, K: Sink, W: Wakes, R: Wait>(
     requires most { stage.now.options.members ≤ 8 }
     requires pass { MayServe stage.now.grid pass.old }
     ensures { HasOperated stage.now.grid stage.now.options.members result
-        (operator (S.left script.old) (S.faults script.old) (K.taken out.old) (K.faults out.old))
-        (operator (S.left script.new) (S.faults script.new) (K.taken out.new) (K.faults out.new))
+        (operator (S.given script.old) (S.faults script.old) (K.taken out.old) (K.faults out.old))
+        (operator (S.given script.new) (S.faults script.new) (K.taken out.new) (K.faults out.new))
         pass.old pass.new }
 {
     let (grid, members) = (&stage.grid, stage.options.members);
@@ -40,39 +40,31 @@ fn run_script<N: Environment, S: Source, K: Sink, W: Wakes, R: Wait>(
     )
 }
 
-/// Runs the control script, if clients are served meanwhile, and has the server end behind it, unless it stays. Where they aren't, the
-/// script isn't looked at, and the server ends.
-fn run_or_close<N: Environment, S: Source, K: Sink, W: Wakes, R: Wait>(
+/// Runs the control script, if clients are served meanwhile. Where they aren't, it isn't looked at, as where memory is wanting.
+fn run_if_served<N: Environment, S: Source, K: Sink, W: Wakes, R: Wait>(
     rt: &R,
     stage: &Stage<N, W>,
     pass: &mut GridPass,
     script: &mut S,
     out: &mut K,
     is_served: bool,
-) -> Option<Status>
+) -> Status
     requires some { 1 ≤ stage.now.options.members }
     requires most { stage.now.options.members ≤ 8 }
     requires pass { MayServe stage.now.grid pass.old }
-    ensures operated { IfSome result (λ status. HasOperated stage.now.grid stage.now.options.members status
-        (operator (S.left script.old) (S.faults script.old) (K.taken out.old) (K.faults out.old))
-        (operator (S.left script.new) (S.faults script.new) (K.taken out.new) (K.faults out.new))
-        pass.old pass.new) }
-    ensures untouched { IfNone result (operator (S.left script.new) (S.faults script.new) (K.taken out.new) (K.faults out.new)
-        ≡ operator (S.left script.old) (S.faults script.old) (K.taken out.old) (K.faults out.old)) }
+    ensures { HasOperated stage.now.grid stage.now.options.members result
+        (operator (S.given script.old) (S.faults script.old) (K.taken out.old) (K.faults out.old))
+        (operator (S.given script.new) (S.faults script.new) (K.taken out.new) (K.faults out.new))
+        pass.old pass.new }
 {
-    let status = if is_served {
-        Some(run_script(rt, stage, pass, script, out))
-    } else {
-        None
-    };
-    if !is_served || !stage.options.stays {
-        stage.closing.close();
-        stage.waker.wake();
+    if is_served {
+        return run_script(rt, stage, pass, script, out);
     }
-    status
+    Status::Memory
 }
 
-/// Hears the operator, as `run_or_close` does.
+/// Hears the operator, as `run_if_served` does, and has the server end behind the script, unless it stays, and at once where no clients
+/// are served.
 pub(crate) fn operate<N: Environment, S: Source, K: Sink, W: Wakes, R: Wait>(
     rt: &R,
     stage: &Stage<N, W>,
@@ -80,14 +72,19 @@ pub(crate) fn operate<N: Environment, S: Source, K: Sink, W: Wakes, R: Wait>(
     script: &mut S,
     out: &mut K,
     is_served: bool,
-) -> Option<Status>
+) -> Status
     requires some { 1 ≤ stage.now.options.members }
     requires most { stage.now.options.members ≤ 8 }
     requires pass { MayServe stage.now.grid pass.old }
-    ensures { HasHeard stage.now.grid stage.now.options.members
-        (operator (S.left script.old) (S.faults script.old) (K.taken out.old) (K.faults out.old))
-        (operator (S.left script.new) (S.faults script.new) (K.taken out.new) (K.faults out.new))
-        pass.old pass.new result }
+    ensures { HasOperated stage.now.grid stage.now.options.members result
+        (operator (S.given script.old) (S.faults script.old) (K.taken out.old) (K.faults out.old))
+        (operator (S.given script.new) (S.faults script.new) (K.taken out.new) (K.faults out.new))
+        pass.old pass.new }
 {
-    run_or_close(rt, stage, pass, script, out, is_served)
+    let status = run_if_served(rt, stage, pass, script, out, is_served);
+    if !is_served || !stage.options.stays {
+        stage.closing.close();
+        stage.waker.wake();
+    }
+    status
 }

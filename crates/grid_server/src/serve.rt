@@ -1,12 +1,12 @@
 //! The command `serve`.
-ghost use Rattle.std.specs.Prelude.{◌≡◌, ◌≤◌, ◌+◌, ◌*◌, All, List, map, OnOk, IfErr, IfSome, IfNone};
+ghost use Rattle.std.specs.Prelude.{◌≡◌, ◌⊎◌, ◌≤◌, ◌+◌, ◌*◌, All, List, map, OnOk, OnErr, IfErr, IfSome, IfNone};
 ghost use Rattle.entry_processors.specs.Forms.{form_of};
 ghost use Rattle.entry_processors.specs.declared.form.Form.{Form as FormOf};
-ghost use Rattle.grid_edge.specs.Faults.{Rose, HasCause};
+ghost use Rattle.grid_edge.specs.Faults.{HasCause};
 ghost use Rattle.hand_cell.specs.Calls.{plan_of};
 ghost use Rattle.live_grid.specs.Grids.{place_of};
 ghost use Rattle.live_grid.specs.Plans.{settings_for};
-ghost use Rattle.grid_server.specs.Commands.{HasEnded, IsNoGridFor, IsShut};
+ghost use Rattle.grid_server.specs.Commands.{HasEnded, IsNoGridFor, IsShut, NoneCame};
 ghost use Rattle.grid_server.specs.Serving.{AtDoors, HasServed, IsOpened, operator, at_doors};
 ghost use Rattle.grid_server.specs.Settings.{IsSetting};
 ghost use Rattle.serve_options.specs.Options.{Words, IsRefusedFor, faults};
@@ -20,16 +20,18 @@ use call_engine::GridEnv;
 use entry_processors::{Form, Processor, Registry};
 use grid_cli::Status;
 use grid_edge::{Clock, DoorFault, Doors, Sink, Source};
-use live_grid::{Environment, GridPass, LiveGrid, Shared};
+use live_grid::{Environment, GridPass, LiveGrid, LiveWorld, Shared};
+use live_server::every_served_connection_stays_so;
 use partition_threads::{Gate, OpenGate, THREADS};
 use serve_options::{OptionsRefused, ServeOptions, read_options};
+use served_history_laws::every_served_call_stands_in_a_legal_history;
 use std::alloc::Global;
 use std::sync::Wait;
 use std::thread::Threads;
 use thread_crew::{Room, room_for};
 
 /// Runs a server on its threads to its end, in a setting in which nothing has happened. The doors were just opened. Where a thread
-/// can't be made it doesn't look at the script.
+/// can't be made it doesn't look at the script, and if it's one of a worker it does nothing.
 fn run<N, R, S, K, C, D, G>(
     rt: &R,
     alloc: Global,
@@ -57,13 +59,14 @@ where
     requires setting { (forms : List FormOf) × IsSetting options forms setting }
     requires doors { IsOpened options (D.book doors.old) }
     ensures served { IfSome result (λ ended. (forms : List FormOf) → IsSetting options forms setting → HasServed options forms (C.gives clock.now)
-        (operator (S.left script.old) (S.faults script.old) (K.taken out.old) (K.faults out.old))
-        (operator (S.left script.new) (S.faults script.new) (K.taken out.new) (K.faults out.new))
+        (operator (S.given script.old) (S.faults script.old) (K.taken out.old) (K.faults out.old))
+        (operator (S.given script.new) (S.faults script.new) (K.taken out.new) (K.faults out.new))
         (at_doors (D.book doors.old) (D.empty_looks doors.old) (D.faults doors.old))
         (at_doors (D.book doors.new) (D.empty_looks doors.new) (D.faults doors.new))
         ended.0 ended.1 ended.2) }
-    ensures untouched { IfNone result (operator (S.left script.new) (S.faults script.new) (K.taken out.new) (K.faults out.new)
-        ≡ operator (S.left script.old) (S.faults script.old) (K.taken out.old) (K.faults out.old)) }
+    ensures untouched { IfNone result (operator (S.given script.new) (S.faults script.new) (K.taken out.new) (K.faults out.new)
+        ≡ operator (S.given script.old) (S.faults script.old) (K.taken out.old) (K.faults out.old)) }
+    ensures none_came { IfNone result ((D.book doors.new).accepted ≡ 0) }
 {
     let Setting {
         grid,
@@ -100,6 +103,8 @@ where
     let mut pass = GridPass { passes, tokens };
     let (passes, tokens) = connections.into_parts();
     grid.gather(&mut pass, GridPass { passes, tokens });
+    every_served_connection_stays_so::<LiveWorld, C>();
+    every_served_call_stands_in_a_legal_history::<C>();
     let status = match ended {
         Ok(()) => told,
         Err(DoorFault) => Status::DoorFault,
@@ -114,6 +119,7 @@ fn open<D: Doors>(doors: &mut D, options: ServeOptions, _room: &Room) -> Result<
     requires most { options.members ≤ 8 }
     requires port { options.port ≤ 65528 }
     ensures ok { OnOk result (IsOpened options (D.book doors.new)) }
+    ensures err { OnErr result (((D.book doors.new).accepted ≡ 0) ⊎ (D.book doors.new ≡ D.book doors.old)) }
     ensures looks { D.empty_looks doors.new ≡ D.empty_looks doors.old }
     ensures cause { HasCause (D.faults doors.old) (D.faults doors.new) result }
 {
@@ -135,6 +141,9 @@ fn open_with_room<R: Threads + Wait + Sync, D: Doors>(
     ensures ok { OnOk result (IsOpened options (D.book doors.new)) }
     ensures looks { D.empty_looks doors.new ≡ D.empty_looks doors.old }
     ensures never_falls { D.faults doors.old ≤ D.faults doors.new }
+    ensures none_came { OnErr result (NoneCame
+        (at_doors (D.book doors.old) (D.empty_looks doors.old) (D.faults doors.old))
+        (at_doors (D.book doors.new) (D.empty_looks doors.new) (D.faults doors.new))) }
     ensures err { IfErr result (λ status. IsShut status
         (at_doors (D.book doors.old) (D.empty_looks doors.old) (D.faults doors.old))
         (at_doors (D.book doors.new) (D.empty_looks doors.new) (D.faults doors.new))) }
@@ -181,8 +190,8 @@ where
     G: Gate,
     requires forms { map form processors.items ≡ map form_of forms.now }
     ensures { HasEnded words.now forms.now (C.gives clock.now)
-        (operator (S.left script.old) (S.faults script.old) (K.taken out.old) (K.faults out.old))
-        (operator (S.left script.new) (S.faults script.new) (K.taken out.new) (K.faults out.new))
+        (operator (S.given script.old) (S.faults script.old) (K.taken out.old) (K.faults out.old))
+        (operator (S.given script.new) (S.faults script.new) (K.taken out.new) (K.faults out.new))
         (at_doors (D.book doors.old) (D.empty_looks doors.old) (D.faults doors.old))
         (at_doors (D.book doors.new) (D.empty_looks doors.new) (D.faults doors.new)) result }
 {
@@ -235,8 +244,8 @@ where
     D: Doors<From: Drop, To: Drop, Waker: Drop>,
     requires forms { map form processors.items ≡ map form_of forms.now }
     ensures { HasEnded words.now forms.now (C.gives clock.now)
-        (operator (S.left script.old) (S.faults script.old) (K.taken out.old) (K.faults out.old))
-        (operator (S.left script.new) (S.faults script.new) (K.taken out.new) (K.faults out.new))
+        (operator (S.given script.old) (S.faults script.old) (K.taken out.old) (K.faults out.old))
+        (operator (S.given script.new) (S.faults script.new) (K.taken out.new) (K.faults out.new))
         (at_doors (D.book doors.old) (D.empty_looks doors.old) (D.faults doors.old))
         (at_doors (D.book doors.new) (D.empty_looks doors.new) (D.faults doors.new)) result }
 {

@@ -8,7 +8,7 @@ ghost use Rattle.live_server.specs.Standing.{MayServe};
 ghost use Rattle.live_session.specs.Connections.{ServesCalls};
 ghost use Rattle.grid_server.specs.Settings.{IsWorker, AreWorkers};
 ghost use Rattle.grid_server.specs.Serving.{operator, at_doors};
-ghost use Rattle.grid_server.specs.Tasks.{MayMeet, HasServedClients, HasOperated, HasHeard, HasMet};
+ghost use Rattle.grid_server.specs.Tasks.{MayMeet, HasServedClients, HasOperated, HasMet};
 
 use crate::desk::operate;
 use crate::hall::serve_hall;
@@ -35,7 +35,7 @@ fn serve_both<N, R, S, K, C, D>(
     pass: &mut GridPass,
     script: &mut S,
     out: &mut K,
-) -> (Result<(), DoorFault>, Option<Status>)
+) -> (Result<(), DoorFault>, Status)
 where
     N: Environment,
     R: Threads + Wait + Sync,
@@ -47,15 +47,15 @@ where
     ensures served { HasServedClients stage.now.grid (C.gives clock.now) connections.new
         (at_doors (D.book doors.old) (D.empty_looks doors.old) (D.faults doors.old))
         (at_doors (D.book doors.new) (D.empty_looks doors.new) (D.faults doors.new)) result.0 }
-    ensures heard { HasHeard stage.now.grid stage.now.options.members
-        (operator (S.left script.old) (S.faults script.old) (K.taken out.old) (K.faults out.old))
-        (operator (S.left script.new) (S.faults script.new) (K.taken out.new) (K.faults out.new))
-        pass.old pass.new result.1 }
+    ensures operated { HasOperated stage.now.grid stage.now.options.members result.1
+        (operator (S.given script.old) (S.faults script.old) (K.taken out.old) (K.faults out.old))
+        (operator (S.given script.new) (S.faults script.new) (K.taken out.new) (K.faults out.new))
+        pass.old pass.new }
 {
     let mut serving = || -> Result<(), DoorFault>
         requires { ServesCalls RequestFits (place_of stage.now.grid) × MayServe live_key (place_of stage.now.grid) connections.now (D.book doors.now) }
     { serve_hall(rt, stage, clock, connections, doors) };
-    let mut operating = |is_served: bool| -> Option<Status>
+    let mut operating = |is_served: bool| -> Status
         requires { (1 ≤ stage.now.options.members) × (stage.now.options.members ≤ 8) × MayControl stage.now.grid pass.now }
     { operate(rt, stage, pass, script, out, is_served) };
     let (_, ended, told) = join_told(rt, &mut serving, &mut operating);
@@ -85,18 +85,14 @@ where
     ensures { HasMet stage.now.grid (C.gives clock.now) stage.now.options.members connections.new
         (at_doors (D.book doors.old) (D.empty_looks doors.old) (D.faults doors.old))
         (at_doors (D.book doors.new) (D.empty_looks doors.new) (D.faults doors.new))
-        (operator (S.left script.old) (S.faults script.old) (K.taken out.old) (K.faults out.old))
-        (operator (S.left script.new) (S.faults script.new) (K.taken out.new) (K.faults out.new))
+        (operator (S.given script.old) (S.faults script.old) (K.taken out.old) (K.faults out.old))
+        (operator (S.given script.new) (S.faults script.new) (K.taken out.new) (K.faults out.new))
         pass.old pass.new result }
 {
     if !is_whole {
         return None;
     }
-    let (ended, told) = serve_both(rt, stage, clock, connections, doors, pass, script, out);
-    match told {
-        Some(told) => Some((ended, told)),
-        None => None,
-    }
+    Some(serve_both(rt, stage, clock, connections, doors, pass, script, out))
 }
 
 /// Serves clients and the operator, if each worker runs, and then has the workers end.
@@ -122,8 +118,8 @@ where
     ensures { HasMet stage.now.grid (C.gives clock.now) stage.now.options.members connections.new
         (at_doors (D.book doors.old) (D.empty_looks doors.old) (D.faults doors.old))
         (at_doors (D.book doors.new) (D.empty_looks doors.new) (D.faults doors.new))
-        (operator (S.left script.old) (S.faults script.old) (K.taken out.old) (K.faults out.old))
-        (operator (S.left script.new) (S.faults script.new) (K.taken out.new) (K.faults out.new))
+        (operator (S.given script.old) (S.faults script.old) (K.taken out.old) (K.faults out.old))
+        (operator (S.given script.new) (S.faults script.new) (K.taken out.new) (K.faults out.new))
         pass.old pass.new result }
 {
     let ended = serve_if_whole(
@@ -167,8 +163,8 @@ where
     ensures { HasMet stage.now.grid (C.gives clock.now) stage.now.options.members connections.new
         (at_doors (D.book doors.old) (D.empty_looks doors.old) (D.faults doors.old))
         (at_doors (D.book doors.new) (D.empty_looks doors.new) (D.faults doors.new))
-        (operator (S.left script.old) (S.faults script.old) (K.taken out.old) (K.faults out.old))
-        (operator (S.left script.new) (S.faults script.new) (K.taken out.new) (K.faults out.new))
+        (operator (S.given script.old) (S.faults script.old) (K.taken out.old) (K.faults out.old))
+        (operator (S.given script.new) (S.faults script.new) (K.taken out.new) (K.faults out.new))
         pass.old pass.new result }
 {
     let work = |worker: Worker|
@@ -194,7 +190,7 @@ where
 }
 
 /// Runs the workers beside all that meets the outside. Where a thread can't be made the operator isn't heard, and if it's one of a worker
-/// no client is served.
+/// nothing is done.
 pub(crate) fn run_threads<N, R, S, K, C, D, G>(
     rt: &R,
     stage: &Stage<N, D::Waker>,
@@ -221,11 +217,13 @@ where
         (at_doors (D.book doors.old) (D.empty_looks doors.old) (D.faults doors.old))
         (at_doors (D.book doors.new) (D.empty_looks doors.new) (D.faults doors.new)) ended.0) }
     ensures operated { IfSome result (λ ended. HasOperated stage.now.grid stage.now.options.members ended.1
-        (operator (S.left script.old) (S.faults script.old) (K.taken out.old) (K.faults out.old))
-        (operator (S.left script.new) (S.faults script.new) (K.taken out.new) (K.faults out.new))
+        (operator (S.given script.old) (S.faults script.old) (K.taken out.old) (K.faults out.old))
+        (operator (S.given script.new) (S.faults script.new) (K.taken out.new) (K.faults out.new))
         pass.old pass.new) }
-    ensures untouched { IfNone result (operator (S.left script.new) (S.faults script.new) (K.taken out.new) (K.faults out.new)
-        ≡ operator (S.left script.old) (S.faults script.old) (K.taken out.old) (K.faults out.old)) }
+    ensures untouched { IfNone result (operator (S.given script.new) (S.faults script.new) (K.taken out.new) (K.faults out.new)
+        ≡ operator (S.given script.old) (S.faults script.old) (K.taken out.old) (K.faults out.old)) }
+    ensures none_came { IfNone result (at_doors (D.book doors.new) (D.empty_looks doors.new) (D.faults doors.new)
+        ≡ at_doors (D.book doors.old) (D.empty_looks doors.old) (D.faults doors.old)) }
 {
     run_crew(
         rt,

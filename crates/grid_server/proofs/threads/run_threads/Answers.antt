@@ -8,3 +8,6 @@ returns-clause-operated g c = c.run_crew.ensures.operated
 
 pub returns-clause-untouched : goal.returns-clause-untouched
 returns-clause-untouched g c = c.run_crew.ensures.untouched
+
+pub returns-clause-none_came : goal.returns-clause-none_came
+returns-clause-none_came g c = c.run_crew.ensures.none_came
