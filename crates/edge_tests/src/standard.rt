@@ -48,7 +48,8 @@ impl time::Clock for Standing {
 
 /// The moment where the system's clock shows this.
 fn moment_at(shown: Option<Duration>) -> u64 {
-    StdClock::new(Standing(shown)).moment()
+    let mut clock = StdClock::new(Standing(shown));
+    clock.moment()
 }
 
 #[test]
