@@ -84,8 +84,6 @@ impl<F, T> MemoryDoors<F, T> {
 }
 
 impl<F: ReadySource + Send + Drop, T: ReadySink + Send + Drop> Doors for MemoryDoors<F, T> {
-    ghost use Rattle.std.proofs.Common.{rules};
-    ghost use Rattle.std.proofs.lemmas.Grind.{common_steps};
     ghost use Rattle.grid_edge.specs.MemoryDoors.{book_of};
 
     type From = F;
@@ -99,8 +97,6 @@ impl<F: ReadySource + Send + Drop, T: ReadySink + Send + Drop> Doors for MemoryD
     ghost empty_looks = { λ d. d.looks };
 
     ghost book = { λ d. book_of (record { given = F.given; read_faults = F.faults; taken = T.taken; write_faults = T.faults }) d };
-
-    ghost counted = { λ d. Prim.search (rules, common_steps) };
 
     fn open(&mut self, members: u8, port: u16) -> Result<(), DoorFault>
         ensures step { HasFailed self.old self.new result ⊎ HasOpened self.old self.new (record { members = members; port = port }) result }

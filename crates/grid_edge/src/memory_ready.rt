@@ -1,6 +1,5 @@
 // Streams in memory that aren't always ready.
-ghost use Rattle.std.specs.Prelude.{◌≡◌, ◌↔◌, ◌⊎◌, ◌<◌, ◌≤◌, length, take, drop, OnSome, IsTrue, IsErr};
-ghost use Rattle.std.specs.Io.KnownBytes.{prepend_known, append_known, IsAtEnd};
+ghost use Rattle.std.specs.Prelude.{◌≡◌, ◌↔◌, ◌⊎◌, ◌<◌, ◌≤◌, [], ◌++◌, length, take, drop, IsTrue, IsErr};
 ghost use Rattle.grid_edge.specs.Faults.{Rose, count_after, HasCause};
 ghost use Rattle.grid_edge.specs.Given.{after_piece};
 ghost use Rattle.grid_edge.specs.Plan.{plan_of, FailsNext};
@@ -68,27 +67,27 @@ impl<S> MemoryReady<S> {
     }
 }
 
-impl<S: Source> ReadySource for MemoryReady<S> {
+impl ReadySource for MemoryReady<MemorySource> {
     ghost faults = { λ s. s.plan.faults };
 
     ghost unready = { λ s. s.moments };
 
-    ghost given = { λ s. S.given s.stream };
+    ghost given = { λ s. s.stream.given };
 
-    /// Where the stream tells what it has left, it gives the front of that. Costs a read of the stream, and a look
-    /// through the numbers of the calls.
+    /// It gives the front of what the stream has left. Costs a read of the stream, and a look through the numbers of
+    /// the calls.
     fn read_ready(&mut self, into: &mut [u8]) -> Result<Ready, ReadFault>
         ensures waits { IsNotYet result ↔ WaitsNext self.old }
         ensures failed { FailsNext self.old.plan → IsErr result ⊎ WaitsNext self.old }
         ensures after { self.new.plan.calls ≡ count_after self.old.plan.calls }
 
         ensures within { IfBytes result (λ n. n ≤ length into.new) }
-        ensures given { IfBytes result (λ n. S.given self.new.stream ≡ after_piece (S.given self.old.stream) (length into.new) n (take n into.new)) }
-        ensures none_given { UnlessBytes result (S.given self.new.stream ≡ S.given self.old.stream) }
-        ensures bytes { IfBytes result (λ n. S.left self.old.stream ≡ prepend_known (take n into.new) (S.left self.new.stream)) }
-        ensures end { IfBytes result (λ n. n ≡ 0 → 0 < length into.new → IsAtEnd (S.left self.old.stream)) }
-        ensures beyond { IfBytes result (λ n. OnSome (S.left self.old.stream) (drop n into.new ≡ drop n into.old)) }
-        ensures none { UnlessBytes result (S.left self.new.stream ≡ S.left self.old.stream) }
+        ensures given { IfBytes result (λ n. self.new.stream.given ≡ after_piece self.old.stream.given (length into.new) n (take n into.new)) }
+        ensures none_given { UnlessBytes result (self.new.stream.given ≡ self.old.stream.given) }
+        ensures bytes { IfBytes result (λ n. self.old.stream.left ≡ take n into.new ++ self.new.stream.left) }
+        ensures end { IfBytes result (λ n. n ≡ 0 → 0 < length into.new → self.old.stream.left ≡ []) }
+        ensures beyond { IfBytes result (λ n. drop n into.new ≡ drop n into.old) }
+        ensures none { UnlessBytes result (self.new.stream.left ≡ self.old.stream.left) }
         ensures cause { HasCause self.old.plan.faults self.new.plan.faults result }
         ensures waited { HasWaited self.old.moments self.new.moments result }
     {
@@ -128,7 +127,7 @@ impl<S: Sink> ReadySink for MemoryReady<S> {
 
         ensures within { IfBytes result (λ n. n ≤ length from.now) }
         ensures progress { IfBytes result (λ n. 0 < length from.now → 0 < n) }
-        ensures bytes { IfBytes result (λ n. S.taken self.new.stream ≡ append_known (S.taken self.old.stream) (take n from.now)) }
+        ensures bytes { IfBytes result (λ n. S.taken self.new.stream ≡ S.taken self.old.stream ++ take n from.now) }
         ensures none { UnlessBytes result (S.taken self.new.stream ≡ S.taken self.old.stream) }
         ensures cause { HasCause self.old.plan.faults self.new.plan.faults result }
         ensures waited { HasWaited self.old.moments self.new.moments result }
@@ -156,8 +155,6 @@ impl<S: Sink> ReadySink for MemoryReady<S> {
 
 /// It is ready at each call.
 impl ReadySource for MemorySource {
-    ghost use Rattle.std.specs.Prelude.{[], ◌++◌};
-
     ghost faults = { λ s. s.plan.faults };
 
     ghost unready = { λ _. 0 };
@@ -183,13 +180,11 @@ impl ReadySource for MemorySource {
 
 /// It is ready at each call.
 impl ReadySink for MemorySink {
-    ghost use Rattle.std.specs.Prelude.{Some};
-
     ghost faults = { λ s. s.plan.faults };
 
     ghost unready = { λ _. 0 };
 
-    ghost taken = { λ s. Some s.taken };
+    ghost taken = { λ s. s.taken };
 
     fn write_ready(&mut self, from: &[u8]) -> Result<Ready, WriteFault> {
         let count = self.write(from)?;

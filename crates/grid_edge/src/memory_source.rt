@@ -1,5 +1,5 @@
 // Sources over bytes in memory.
-ghost use Rattle.std.specs.Prelude.{◌≡◌, ◌↔◌, ℕ, ◌<◌, List, [], ◌++◌, length, take, drop, min, Some, IfOk, IsOk, IsErr, OnErr};
+ghost use Rattle.std.specs.Prelude.{◌≡◌, ◌↔◌, ℕ, ◌<◌, List, [], ◌++◌, length, take, drop, min, IfOk, IsOk, IsErr, OnErr};
 ghost use Rattle.grid_edge.specs.Faults.{HasCause};
 ghost use Rattle.grid_edge.specs.Given.{none_given};
 ghost use Rattle.grid_edge.specs.Plan.{plan_of, FailsNext};
@@ -61,8 +61,6 @@ impl Source for MemorySource {
 
     ghost given = { λ s. s.given };
 
-    ghost left = { λ s. Some s.left };
-
     /// Costs a copy of the bytes that it gives, and a look through the numbers of the failing calls.
     fn read(&mut self, into: &mut [u8]) -> Result<usize, ReadFault>
         // It fails at the calls of its plan and at no other.
@@ -121,8 +119,6 @@ impl Source for SteadySource {
     ghost faults = { λ _. 0 };
 
     ghost given = { λ s. s.given };
-
-    ghost left = { λ s. Some s.left };
 
     /// Costs a copy of the bytes that it gives.
     fn read(&mut self, into: &mut [u8]) -> Result<usize, ReadFault>

@@ -1,6 +1,5 @@
 // Streams that answer at once.
-ghost use Rattle.std.specs.Prelude.{◌≡◌, ℕ, ◌<◌, ◌≤◌, List, length, take, Option};
-ghost use Rattle.std.specs.Io.KnownBytes.{append_known};
+ghost use Rattle.std.specs.Prelude.{◌≡◌, ℕ, ◌<◌, ◌≤◌, List, ◌++◌, length, take};
 ghost use Rattle.grid_edge.specs.Faults.{HasCause};
 ghost use Rattle.grid_edge.specs.Given.{Given, after_piece};
 ghost use Rattle.grid_edge.specs.Ready.{IfBytes, UnlessBytes, HasWaited};
@@ -45,14 +44,14 @@ pub trait ReadySink {
     /// How often there was no room. It is such a count too.
     ghost unready: { Self → ℕ };
 
-    /// The bytes that were taken so far, where the sink tells them.
-    ghost taken: { Self → Option (List ℕ) };
+    /// The bytes that were taken so far.
+    ghost taken: { Self → List ℕ };
 
     /// As `Sink::write`, with `Bytes` for its count. Where it can take nothing yet the answer is `NotYet`.
     fn write_ready(&mut self, from: &[u8]) -> Result<Ready, WriteFault>
         ensures within { IfBytes result (λ n. n ≤ length from.now) }
         ensures progress { IfBytes result (λ n. 0 < length from.now → 0 < n) }
-        ensures bytes { IfBytes result (λ n. taken self.new ≡ append_known (taken self.old) (take n from.now)) }
+        ensures bytes { IfBytes result (λ n. taken self.new ≡ taken self.old ++ take n from.now) }
         ensures none { UnlessBytes result (taken self.new ≡ taken self.old) }
         ensures cause { HasCause (faults self.old) (faults self.new) result }
         ensures waited { HasWaited (unready self.old) (unready self.new) result };

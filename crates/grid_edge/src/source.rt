@@ -1,6 +1,5 @@
 // Where bytes come from.
-ghost use Rattle.std.specs.Prelude.{◌≡◌, ℕ, ◌<◌, ◌≤◌, List, length, take, drop, Option, IfOk, OnErr, OnSome};
-ghost use Rattle.std.specs.Io.KnownBytes.{prepend_known, IsAtEnd};
+ghost use Rattle.std.specs.Prelude.{◌≡◌, ℕ, ◌≤◌, length, take, IfOk, OnErr};
 ghost use Rattle.grid_edge.specs.Faults.{HasCause};
 ghost use Rattle.grid_edge.specs.Given.{Given, after_piece};
 
@@ -19,23 +18,11 @@ pub trait Source {
     /// What reads have given so far.
     ghost given: { Self → Given };
 
-    /// The bytes that are left to read, where the source tells them.
-    ghost left: { Self → Option (List ℕ) };
-
     /// Puts the next bytes at the front of `into`, and answers how many there are. A count of 0 for a
     /// buffer that isn't empty is the end. After a fault the buffer may hold anything.
     fn read(&mut self, into: &mut [u8]) -> Result<usize, ReadFault>
         ensures within { IfOk result (λ n. n ≤ length into.new) }
-
         ensures given { IfOk result (λ n. given self.new ≡ after_piece (given self.old) (length into.new) n (take n into.new)) }
         ensures none_given { OnErr result (given self.new ≡ given self.old) }
-
-        // What it gives is the front of what was left, and the rest is left. So a source that tells its bytes
-        // goes on telling them, and one that doesn't never begins to.
-        ensures bytes { IfOk result (λ n. left self.old ≡ prepend_known (take n into.new) (left self.new)) }
-        ensures end { IfOk result (λ n. n ≡ 0 → 0 < length into.new → IsAtEnd (left self.old)) }
-        ensures beyond { IfOk result (λ n. OnSome (left self.old) (drop n into.new ≡ drop n into.old)) }
-
-        ensures err { OnErr result (left self.new ≡ left self.old) }
         ensures cause { HasCause (faults self.old) (faults self.new) result };
 }

@@ -1,5 +1,5 @@
-// The process's standard streams. They tell what was read and written, and not what is left.
-ghost use Rattle.std.specs.Prelude.{◌≡◌, ◌≤◌, ◌<◌, ℕ, [], None, Some, IfOk, length};
+// The process's standard streams.
+ghost use Rattle.std.specs.Prelude.{◌≡◌, ◌≤◌, ◌<◌, [], IfOk, length};
 ghost use Rattle.grid_edge.specs.Given.{none_given};
 ghost use Rattle.std.specs.Io.KnownBytes.{ReadConsumes, WriteAppends};
 
@@ -42,8 +42,6 @@ impl Source for StdSource {
     ghost faults = { λ s. s.faults };
 
     ghost given = { λ s. s.given };
-
-    ghost left = { λ _. None };
 
     /// Costs a system call, and another one for each time that it is interrupted.
     fn read(&mut self, into: &mut [u8]) -> Result<usize, ReadFault> {
@@ -88,7 +86,7 @@ impl StdSink {
 impl Sink for StdSink {
     ghost faults = { λ s. s.faults };
 
-    ghost taken = { λ s. Some s.taken };
+    ghost taken = { λ s. s.taken };
 
     /// A write that takes nothing of a piece counts as a fault. Costs a system call, and another one for
     /// each time that it is interrupted.
