@@ -1,5 +1,5 @@
 -- What contracts see of the doors.
-use Rattle.std.specs.Prelude.{ℕ, List, [], length, Option, None, Some}
+use Rattle.std.specs.Prelude.{ℕ, List, [], Option, None, Some}
 use Rattle.grid_edge.specs.declared.doors.Opening.{Opening}
 use Rattle.grid_edge.specs.Doors.{Arrival, Return, Book}
 use Rattle.tcp_edge.specs.declared.hall.Hall.{Hall}
@@ -27,6 +27,6 @@ opening_of (Some hall) = Some hall.entrance.opening
 abbrev pub opened_for : TcpDoorway → Opening → TcpDoorway
 opened_for d opening = record d { opening = Some opening; listed = none_listed }
 
--- they tell which opening it was, how many came and which ones, and which were given back
+-- they tell which opening it was, which connections came, and which were given back
 abbrev pub book_of : TcpDoorway → Book
-book_of d = record { opening = d.opening; accepted = length d.listed.arrivals; arrivals = Some d.listed.arrivals; returns = Some d.listed.returns }
+book_of d = record { opening = d.opening; arrivals = d.listed.arrivals; returns = d.listed.returns }

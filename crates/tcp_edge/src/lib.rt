@@ -1,7 +1,7 @@
 //! Doors that clients come through over TCP, each to a member of this machine.
 //!
-//! One thread serves them: it accepts, reads and writes without waiting, and sleeps in `TcpDoors::wait`. Nothing is
-//! told of what comes and goes, since the system keeps it; faults and empty looks are counted.
+//! One thread serves them: it accepts, reads and writes without waiting, and sleeps in `TcpDoors::wait`. Contracts see
+//! what reads gave and writes took, which connections came and were given back, and the counts of faults and empty looks.
 #![tactic(auto)]
 
 mod doors;

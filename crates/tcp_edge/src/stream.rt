@@ -206,13 +206,11 @@ impl ReadySource for TcpSource {
 }
 
 impl ReadySink for TcpSink {
-    ghost use Rattle.std.specs.Prelude.{Some};
-
     ghost faults = { λ s. s.faults };
 
     ghost unready = { λ s. s.unready };
 
-    ghost taken = { λ s. Some s.taken };
+    ghost taken = { λ s. s.taken };
 
     /// A write that takes nothing of a piece counts as a fault. Costs a system call, and another one for each time
     /// that it is interrupted. Once there was no room it costs none, and comes to `NotYet`, until a `wait` at the doors
