@@ -1,16 +1,12 @@
 -- Which connections the doors tell were given back.
-use Rattle.std.proofs.Common.{◌≡◌, ◌≢◌, ℕ, ◌+◌, ◌<◌, List, [], ◌∷◌, ◌++◌, All, Option, None, Some, ap, arith}
+use Rattle.std.proofs.Common.{◌≡◌, ◌≢◌, ℕ, ◌+◌, ◌<◌, List, [], ◌∷◌, ◌++◌, All, ap, arith}
 use Rattle.std.proofs.lemmas.List.Elements.{All-push}
 use Rattle.grid_edge.specs.Doors.{Arrival, Return, Book, after_open, after_arrival, after_return}
 use Rattle.tcp_edge.specs.TcpDoors.{TcpDoorway, book_of}
 use Rattle.edge_tests.specs.Returns.{AreBelow}
 
-abbrev told : Option (List Return) → List Return
-told None = []
-told (Some returns) = returns
-
 abbrev returns_of : Book → List Return
-returns_of book = told book.returns
+returns_of book = book.returns
 
 module _ (before after : TcpDoorway) where
   pub kept : book_of after ≡ book_of before → after.listed.returns ≡ before.listed.returns
@@ -19,7 +15,7 @@ module _ (before after : TcpDoorway) where
   pub kept_at_arrival : (arrival : Arrival) → book_of after ≡ after_arrival (book_of before) arrival → after.listed.returns ≡ before.listed.returns
   kept_at_arrival arrival came = ap returns_of came
 
-  pub none_at_opening : (members port : ℕ) → book_of after ≡ after_open (book_of before) members port → AreBelow after.listed.returns 0
+  pub none_at_opening : (members port : ℕ) → book_of after ≡ after_open members port → AreBelow after.listed.returns 0
   none_at_opening members port opened =
       let none : after.listed.returns ≡ [] = ap returns_of opened in
       rw none (λ k d within. absurd (omega (arith, within)))

@@ -1,5 +1,5 @@
 //! Doors that connections in memory come through.
-ghost use Rattle.std.specs.Prelude.{◌≡◌, ◌≤◌, ◌+◌, [], IfSome};
+ghost use Rattle.std.specs.Prelude.{length, ◌≡◌, ◌≤◌, ◌+◌, [], IfSome};
 
 use grid_edge::{
     Accepted, DoorFault, Doors, MemoryDoors, MemorySink, MemorySource, Ready, ReadySink,
@@ -36,8 +36,8 @@ fn look_once<D: Doors>(doors: &mut D) -> Look
 where
     D::From: Drop,
     D::To: Drop,
-    requires { (D.book doors.old).accepted ≤ 100 }
-    ensures { (D.book doors.new).accepted ≤ (D.book doors.old).accepted + 1 }
+    requires { length (D.book doors.old).arrivals ≤ 100 }
+    ensures { length (D.book doors.new).arrivals ≤ length (D.book doors.old).arrivals + 1 }
 {
     match doors.accept() {
         Ok(Accepted::Come { member, .. }) => Look::Came(member),
@@ -154,7 +154,7 @@ where
     D::From: Drop,
     D::To: Drop,
     D::Waker: Drop,
-    requires { (D.book doors.old).accepted ≡ 0 }
+    requires { (D.book doors.old).arrivals ≡ [] }
 {
     let found = look_once(doors);
     if let Ok(waker) = doors.waker() {

@@ -21,8 +21,8 @@ fn finds_none<D: Doors>(doors: &mut D) -> bool
 where
     D::From: Drop,
     D::To: Drop,
-    requires { (D.book doors.old).accepted ≤ 1000 }
-    ensures { (D.book doors.new).accepted ≤ (D.book doors.old).accepted + 1 }
+    requires { length (D.book doors.old).arrivals ≤ 1000 }
+    ensures { length (D.book doors.new).arrivals ≤ length (D.book doors.old).arrivals + 1 }
 {
     matches!(doors.accept(), Ok(Accepted::NotYet))
 }
@@ -92,7 +92,7 @@ where
     D::From: Drop,
     D::To: Drop,
     D::Waker: Drop,
-    requires { (D.book doors.old).accepted ≡ 0 }
+    requires { length (D.book doors.old).arrivals ≡ 0 }
 {
     finds_none(doors) && doors.wait(0) == Err(DoorFault) && doors.waker().is_err()
 }
