@@ -245,9 +245,9 @@ tells_histories forms status skips script read text replayed = record {
   closes = λ done. done_closes forms skips script read text (subst (λ s. Writes forms s skips script read text) done replayed.writes);
 }
 
-pub prints_histories : (forms : List ProcessorForm) (status : Status) (first now : Given) (before after : Option (List ℕ)) → ReadsAndWrites forms status first now before after → PrintsHistories forms status first now before after
+pub prints_histories : (forms : List ProcessorForm) (status : Status) (first now : Given) (before after : List ℕ) → ReadsAndWrites forms status first now before after → PrintsHistories forms status first now before after
 prints_histories forms status = prints_also (HasReplayed forms status) (TellsHistories forms status) (tells_histories forms status)
 
 -- where the words are no command
-pub nothing_printed : (forms : List ProcessorForm) (first : Given) (before : Option (List ℕ)) → PrintsHistories forms Usage first first before before
+pub nothing_printed : (forms : List ProcessorForm) (first : Given) (before : List ℕ) → PrintsHistories forms Usage first first before before
 nothing_printed forms first before = prints_histories forms Usage first first before before (nothing_said forms first before)

@@ -132,5 +132,5 @@ tells_decisions forms status skips script read text replayed = record {
   goes_on = all_go_on forms skips (lines_of script);
 }
 
-pub prints_decisions : (forms : List ProcessorForm) (status : Status) (first now : Given) (before after : Option (List ℕ)) → ReadsAndWrites forms status first now before after → PrintsDecisions forms status first now before after
+pub prints_decisions : (forms : List ProcessorForm) (status : Status) (first now : Given) (before after : List ℕ) → ReadsAndWrites forms status first now before after → PrintsDecisions forms status first now before after
 prints_decisions forms status = prints_also (HasReplayed forms status) (TellsDecisions forms status) (tells_decisions forms status)

@@ -8,6 +8,7 @@ pub mod ReplayLaws
 pub mod ReplaySteps
 pub mod ReplayEnds
 pub mod ReadLaws
+pub mod MemoryScripts
 pub mod ReplayRuns
 pub mod CommandLaws
 pub mod Parts

@@ -194,5 +194,5 @@ first_stand forms skips (text ∷ texts) (suc lines) short = run_stands forms sk
 tells_hits : (forms : List ProcessorForm) (status : Status) (skips : List CallId) (script read text : List ℕ) → HasReplayed forms status skips script read text → TellsHits forms status skips script read text
 tells_hits forms status skips script read text replayed = record { replayed = replayed; hits = λ lines. first_stand forms skips (lines_of script) lines (lines_short script) }
 
-pub prints_hits : (forms : List ProcessorForm) (status : Status) (first now : Given) (before after : Option (List ℕ)) → ReadsAndWrites forms status first now before after → PrintsHits forms status first now before after
+pub prints_hits : (forms : List ProcessorForm) (status : Status) (first now : Given) (before after : List ℕ) → ReadsAndWrites forms status first now before after → PrintsHits forms status first now before after
 prints_hits forms status = prints_also (HasReplayed forms status) (TellsHits forms status) (tells_hits forms status)

@@ -1,9 +1,7 @@
 -- Where the run of a script's lines stops, whatever the script has behind the bytes that were read.
 use Rattle.std.proofs.Common.{◌≡◌, ◌≢◌, ℕ, ◌<◌, ◌==◌, Bool, true, false, List, [], ◌∷◌, ◌++◌, length, Option, Some, None, ap, sym, ◌∙◌, subst, arith, append-nil, append_assoc}
 use Rattle.std.proofs.lemmas.Bool.Decides.{nat_tests}
-use Rattle.std.specs.Io.KnownBytes.{append_known}
 use Rattle.grid_base.specs.declared.names.CallId.{CallId}
-use Rattle.grid_edge.proofs.Told.{append_known-nil}
 use Rattle.partition_protocol.specs.Sequences.{IsFrontOf}
 use Rattle.script_lang.specs.Limits.{most_lines}
 use Rattle.script_lang.specs.Words.{newline, pieces_at, whole_lines, unfinished}
@@ -94,7 +92,7 @@ stops_at_limit {forms = forms} what status skips done read written passed h = re
 }
 
 -- Nothing more is written.
-pub stops_for_memory : {V : Type 0} {T : V → Type 0} {form : FormOf V T} (replay : Replay V T) (bytes : List ℕ) (taken : Option (List ℕ)) → StopsIn form replay Memory bytes taken taken
+pub stops_for_memory : {V : Type 0} {T : V → Type 0} {form : FormOf V T} (replay : Replay V T) (bytes taken : List ℕ) → StopsIn form replay Memory bytes taken taken
 stops_for_memory {form = form} replay bytes taken forms skips read written has = (
   [],
   [],
@@ -108,7 +106,7 @@ stops_for_memory {form = form} replay bytes taken forms skips read written has =
     doorless = λ is. absurd (cc is);
     reads = λ is. absurd (cc is);
   }),
-  sym (append_known-nil taken),
+  sym (append-nil taken),
 )
 
 -- room for a line without a limit in it
@@ -134,11 +132,11 @@ line_stops status skips read written text end within one none text_is h =
     (lines_completed read end one ∙ ap (λ t. whole_lines read ++ t ∷ []) (sym text_is)) h
 
 -- what the call that stops at a limit says
-abbrev pub ConcludesBehind : {V : Type 0} {T : V → Type 0} → FormOf V T → Replay V T → LimitWhat → Status → Option (List ℕ) → Option (List ℕ) → Type 0
+abbrev pub ConcludesBehind : {V : Type 0} {T : V → Type 0} → FormOf V T → Replay V T → LimitWhat → Status → List ℕ → List ℕ → Type 0
 ConcludesBehind form replay what status had has = (forms : List ProcessorForm) (skips : List CallId) (read written : List ℕ) → HasRead form forms replay skips read written
-    → (added : List ℕ) × Concludes forms (Some what) status skips (whole_lines read) (written ++ added) × (has ≡ append_known had added)
+    → (added : List ℕ) × Concludes forms (Some what) status skips (whole_lines read) (written ++ added) × (has ≡ had ++ added)
 
-pub limit_at_newline : {V : Type 0} {T : V → Type 0} {form : FormOf V T} (replay : Replay V T) (what : LimitWhat) (status : Status) (end : List ℕ) (had has : Option (List ℕ)) → IsOnePiece end
+pub limit_at_newline : {V : Type 0} {T : V → Type 0} {form : FormOf V T} (replay : Replay V T) (what : LimitWhat) (status : Status) (end had has : List ℕ) → IsOnePiece end
     → ((forms : List ProcessorForm) (skips : List CallId) (read written : List ℕ) → HasRead form forms replay skips read written → limit_in (length (whole_lines read)) (unfinished read ++ end) ≡ Some what)
     → ConcludesBehind form replay what status had has → StopsIn form replay status (ended_line end) had has
 limit_at_newline replay what status end had has one passed ends forms skips read written reads =
@@ -149,7 +147,7 @@ limit_at_newline replay what status end had has one passed ends forms skips read
       e.2,
     )
 
-pub limit_in_line : {V : Type 0} {T : V → Type 0} {form : FormOf V T} (replay : Replay V T) (what : LimitWhat) (status : Status) (more : List ℕ) (had has : Option (List ℕ)) → IsOnePiece more → 0 < length more
+pub limit_in_line : {V : Type 0} {T : V → Type 0} {form : FormOf V T} (replay : Replay V T) (what : LimitWhat) (status : Status) (more had has : List ℕ) → IsOnePiece more → 0 < length more
     → ((forms : List ProcessorForm) (skips : List CallId) (read written : List ℕ) → HasRead form forms replay skips read written → limit_in (length (whole_lines read)) (unfinished read ++ more) ≡ Some what)
     → ConcludesBehind form replay what status had has → StopsIn form replay status more had has
 limit_in_line replay what status more had has one some passed ends forms skips read written reads =
@@ -161,7 +159,7 @@ limit_in_line replay what status more had has one some passed ends forms skips r
     )
 
 -- bytes of a line that are kept
-pub line_kept : {V : Type 0} {T : V → Type 0} {form : FormOf V T} (replay new : Replay V T) (more : List ℕ) (taken : Option (List ℕ)) → IsOnePiece more → new.transcriber.stage ≡ replay.transcriber.stage → new.unfinished.items ≡ replay.unfinished.items ++ more
+pub line_kept : {V : Type 0} {T : V → Type 0} {form : FormOf V T} (replay new : Replay V T) (more taken : List ℕ) → IsOnePiece more → new.transcriber.stage ≡ replay.transcriber.stage → new.unfinished.items ≡ replay.unfinished.items ++ more
     → ((forms : List ProcessorForm) (skips : List CallId) (read written : List ℕ) → HasRead form forms replay skips read written → limit_in (length (whole_lines read)) (unfinished read ++ more) ≡ None)
     → Takes form replay new more taken taken
 line_kept {form = form} replay new more taken one stage items none forms skips read written has =
@@ -173,18 +171,18 @@ line_kept {form = form} replay new more taken one stage items none forms skips r
         rest = items ∙ ap (λ bytes. bytes ++ more) has.rest ∙ sym stay.1;
         within = kept read has.within more one (room_without_limit read (unfinished read ++ more) has.within (none forms skips read written has));
       }),
-      sym (append_known-nil taken),
+      sym (append-nil taken),
     )
 
-pub nothing_taken : {V : Type 0} {T : V → Type 0} {form : FormOf V T} (replay : Replay V T) (taken : Option (List ℕ)) → Takes form replay replay [] taken taken
+pub nothing_taken : {V : Type 0} {T : V → Type 0} {form : FormOf V T} (replay : Replay V T) (taken : List ℕ) → Takes form replay replay [] taken taken
 nothing_taken {form = form} replay taken forms skips read written has = (
   [],
   [],
   subst (λ bytes. HasRead form forms replay skips bytes (written ++ [])) (sym (append-nil read)) (subst (λ text. HasRead form forms replay skips read text) (sym (append-nil written)) has),
-  sym (append_known-nil taken),
+  sym (append-nil taken),
 )
 
-pub taken_empty : {V : Type 0} {T : V → Type 0} {form : FormOf V T} (replay : Replay V T) (more : List ℕ) (taken : Option (List ℕ)) → (length more == 0) ≡ true → Takes form replay replay more taken taken
+pub taken_empty : {V : Type 0} {T : V → Type 0} {form : FormOf V T} (replay : Replay V T) (more taken : List ℕ) → (length more == 0) ≡ true → Takes form replay replay more taken taken
 taken_empty replay [] taken e = nothing_taken replay taken
 taken_empty replay (x ∷ xs) taken e = absurd (grind (arith, nat_tests))
 

@@ -3,9 +3,8 @@ use Rattle.std.proofs.Common.{◌≡◌, ℕ, ◌+◌, ◌-◌, ◌≤◌, ◌<�
 use Rattle.std.proofs.lemmas.Bool.Decides.{nat_tests}
 use Rattle.std.proofs.lemmas.List.{take-append-drop, length-take, take-take, take_at}
 use Rattle.std.proofs.Math.Seq.{take-append-add}
-use Rattle.std.specs.Io.KnownBytes.{append_known}
 use Rattle.grid_base.specs.declared.names.CallId.{CallId}
-use Rattle.grid_edge.proofs.Told.{append_known-nil, more_taken}
+use Rattle.grid_edge.proofs.Told.{more_taken}
 use Rattle.grid_edge.specs.Given.{Given, found_end, after_piece}
 use Rattle.partition_protocol.specs.Sequences.{IsFrontOf}
 use Rattle.script_lang.specs.Limits.{most_bytes}
@@ -27,17 +26,17 @@ use Rattle.grid_cli.proofs.ReplayLaws.{concluded}
 use Rattle.grid_cli.proofs.TranscriberLaws.{stop_of_lines}
 
 -- What was read and written so far. The source had given the first bytes, and has given all now; the sink had before, and has after.
-pub record HasPlayed {V : Type 0} {T : V → Type 0} (form : FormOf V T) (forms : List ProcessorForm) (replay : Replay V T) (count : ℕ) (first now : Given) (before after : Option (List ℕ)) : Type 0 where
+pub record HasPlayed {V : Type 0} {T : V → Type 0} (form : FormOf V T) (forms : List ProcessorForm) (replay : Replay V T) (count : ℕ) (first now : Given) (before after : List ℕ) : Type 0 where
   pub skips : List CallId
   pub read : List ℕ
   pub written : List ℕ
   pub has : HasRead form forms replay skips read written
   pub read_is : now.bytes ≡ first.bytes ++ read
-  pub taken : after ≡ append_known before written
+  pub taken : after ≡ before ++ written
   pub size : length read ≡ count
 
-pub at_first : {V : Type 0} {T : V → Type 0} {form : FormOf V T} {forms : List ProcessorForm} (replay : Replay V T) (first : Given) (before : Option (List ℕ)) → HasRead form forms replay [] [] [] → HasPlayed form forms replay 0 first first before before
-at_first replay first before has = record { skips = []; read = []; written = []; has = has; read_is = sym (append-nil first.bytes); taken = sym (append_known-nil before); size = refl }
+pub at_first : {V : Type 0} {T : V → Type 0} {form : FormOf V T} {forms : List ProcessorForm} (replay : Replay V T) (first : Given) (before : List ℕ) → HasRead form forms replay [] [] [] → HasPlayed form forms replay 0 first first before before
+at_first replay first before has = record { skips = []; read = []; written = []; has = has; read_is = sym (append-nil first.bytes); taken = sym (append-nil before); size = refl }
 
 -- before anything was read
 nothing_stops : (forms : List ProcessorForm) (script : List ℕ) → StopsInLastPiece forms [] script [] []
@@ -54,11 +53,11 @@ nothing_stops forms script = record {
   front = ([], refl);
 }
 
-nothing_read : (forms : List ProcessorForm) (status : Status) (first : Given) (before : Option (List ℕ)) → ((script : List ℕ) → Writes forms status [] script [] []) → ReadsAndWrites forms status first first before before
+nothing_read : (forms : List ProcessorForm) (status : Status) (first : Given) (before : List ℕ) → ((script : List ℕ) → Writes forms status [] script [] []) → ReadsAndWrites forms status first first before before
 nothing_read forms status first before writes = record {
   skips = [];
   text = [];
-  text_is = sym (append_known-nil before);
+  text_is = sym (append-nil before);
   script = record {
     read = [];
     read_is = sym (append-nil first.bytes);
@@ -66,10 +65,10 @@ nothing_read forms status first before writes = record {
   };
 }
 
-pub nothing_played : (forms : List ProcessorForm) (first : Given) (before : Option (List ℕ)) → ReadsAndWrites forms Memory first first before before
+pub nothing_played : (forms : List ProcessorForm) (first : Given) (before : List ℕ) → ReadsAndWrites forms Memory first first before before
 nothing_played forms first before = nothing_read forms Memory first before (λ script. ((transcript forms [] script).text, refl))
 
-pub nothing_said : (forms : List ProcessorForm) (first : Given) (before : Option (List ℕ)) → ReadsAndWrites forms Usage first first before before
+pub nothing_said : (forms : List ProcessorForm) (first : Given) (before : List ℕ) → ReadsAndWrites forms Usage first first before before
 nothing_said forms first before = nothing_read forms Usage first before (λ script. (refl, refl))
 
 -- A front of a script is one of the bytes that are looked at, if they are no more.
@@ -111,7 +110,7 @@ piece_size : (buffer : List ℕ) (n : ℕ) → length buffer ≤ most_piece → 
 piece_size buffer n size = omega (arith, size, length-take n buffer)
 
 -- The source failed, and gave nothing.
-pub read_failed : {V : Type 0} {T : V → Type 0} {form : FormOf V T} {forms : List ProcessorForm} (replay : Replay V T) (count : ℕ) (first now later : Given) (before after : Option (List ℕ)) → HasPlayed form forms replay count first now before after → later ≡ now → count ≤ most_bytes
+pub read_failed : {V : Type 0} {T : V → Type 0} {form : FormOf V T} {forms : List ProcessorForm} (replay : Replay V T) (count : ℕ) (first now later : Given) (before after : List ℕ) → HasPlayed form forms replay count first now before after → later ≡ now → count ≤ most_bytes
     → ReadsAndWrites forms ReadFault first later before after
 read_failed {forms = forms} replay count first now later before after played same few =
     let within : length played.read ≤ most_bytes = omega (arith, few, played.size) in
@@ -135,10 +134,10 @@ read_failed {forms = forms} replay count first now later before after played sam
 ended_here : (now later : Given) (room n : ℕ) (piece : List ℕ) → later ≡ after_piece now room n piece → n ≡ 0 → 0 < room → later.ended ≡ true
 ended_here now later room n piece came none some = ap (λ (g : Given). g.ended) came ∙ ap (λ b. b || now.ended) (let found : found_end room n ≡ true = grind (arith, nat_tests) in found)
 
-pub script_read : {V : Type 0} {T : V → Type 0} {form : FormOf V T} {forms : List ProcessorForm} (replay : Replay V T) (count : ℕ) (first now later : Given) (before after last : Option (List ℕ)) (status : Status) (buffer : List ℕ) (n : ℕ)
+pub script_read : {V : Type 0} {T : V → Type 0} {form : FormOf V T} {forms : List ProcessorForm} (replay : Replay V T) (count : ℕ) (first now later : Given) (before after last : List ℕ) (status : Status) (buffer : List ℕ) (n : ℕ)
     → HasPlayed form forms replay count first now before after → later ≡ after_piece now (length buffer) n (take n buffer) → length buffer ≤ most_piece → 0 < length buffer → n ≡ 0 → count ≤ most_bytes
     → ((skips : List CallId) (read written : List ℕ) → HasRead form forms replay skips read written
-    → (more : List CallId) × (added : List ℕ) × Concludes forms None status (more ++ skips) (whole_lines read ++ last_line (unfinished read)) (written ++ added) × (last ≡ append_known after added))
+    → (more : List CallId) × (added : List ℕ) × Concludes forms None status (more ++ skips) (whole_lines read ++ last_line (unfinished read)) (written ++ added) × (last ≡ after ++ added))
     → ReadsAndWrites forms status first later before last
 script_read {forms = forms} replay count first now later before after last status buffer n played came size some none few ends =
     let within : length played.read ≤ most_bytes = omega (arith, few, played.size) in
@@ -174,7 +173,7 @@ rest_of_piece read buffer rest count m within =
     ∙ ap (λ bytes. read ++ bytes) (append_assoc (take m buffer) (drop m (take count buffer)) rest)
     ∙ sym (append_assoc read (take m buffer) (drop m (take count buffer) ++ rest))
 
-pub stopped_in_piece : {V : Type 0} {T : V → Type 0} {form : FormOf V T} {forms : List ProcessorForm} (replay : Replay V T) (count : ℕ) (first now later : Given) (before after last : Option (List ℕ)) (status : Status) (buffer : List ℕ) (n m : ℕ)
+pub stopped_in_piece : {V : Type 0} {T : V → Type 0} {form : FormOf V T} {forms : List ProcessorForm} (replay : Replay V T) (count : ℕ) (first now later : Given) (before after last : List ℕ) (status : Status) (buffer : List ℕ) (n m : ℕ)
     → HasPlayed form forms replay count first now before after → later ≡ after_piece now (length buffer) n (take n buffer) → length buffer ≤ most_piece → m ≤ n → count + m ≤ most_bytes → StopsIn form replay status (take m buffer) after last
     → ReadsAndWrites forms status first later before last
 stopped_in_piece {forms = forms} replay count first now later before after last status buffer n m played came size within room stops =
@@ -204,7 +203,7 @@ stopped_in_piece {forms = forms} replay count first now later before after last 
     }
 
 -- The piece was taken whole, and the run goes on.
-pub played_on : {V : Type 0} {T : V → Type 0} {form : FormOf V T} {forms : List ProcessorForm} (replay next : Replay V T) (count : ℕ) (first now later : Given) (before after last : Option (List ℕ)) (buffer : List ℕ) (n : ℕ)
+pub played_on : {V : Type 0} {T : V → Type 0} {form : FormOf V T} {forms : List ProcessorForm} (replay next : Replay V T) (count : ℕ) (first now later : Given) (before after last : List ℕ) (buffer : List ℕ) (n : ℕ)
     → HasPlayed form forms replay count first now before after → later ≡ after_piece now (length buffer) n (take n buffer) → n ≤ length buffer → Takes form replay next (take n buffer) after last
     → HasPlayed form forms next (count + n) first later before last
 played_on {forms = forms} replay next count first now later before after last buffer n played came within goes =
@@ -220,11 +219,11 @@ played_on {forms = forms} replay next count first now later before after last bu
     }
 
 -- The script has more bytes than it may.
-pub limit_was_passed : {V : Type 0} {T : V → Type 0} {form : FormOf V T} {forms : List ProcessorForm} (replay next : Replay V T) (count : ℕ) (first now later : Given) (before after mid last : Option (List ℕ)) (status : Status) (buffer : List ℕ) (n m : ℕ)
+pub limit_was_passed : {V : Type 0} {T : V → Type 0} {form : FormOf V T} {forms : List ProcessorForm} (replay next : Replay V T) (count : ℕ) (first now later : Given) (before after mid last : List ℕ) (status : Status) (buffer : List ℕ) (n m : ℕ)
     → HasPlayed form forms replay count first now before after → later ≡ after_piece now (length buffer) n (take n buffer) → length buffer ≤ most_piece → n ≤ length buffer → count ≤ most_bytes → m ≡ most_bytes - count → m < n
     → Takes form replay next (take m buffer) after mid
     → ((skips : List CallId) (read written : List ℕ) → HasRead form forms next skips read written
-    → (added : List ℕ) × Concludes forms (Some Bytes) status skips (whole_lines read) (written ++ added) × (last ≡ append_known mid added))
+    → (added : List ℕ) × Concludes forms (Some Bytes) status skips (whole_lines read) (written ++ added) × (last ≡ mid ++ added))
     → ReadsAndWrites forms status first later before last
 limit_was_passed {forms = forms} replay next count first now later before after mid last status buffer n m played came fits within count_within room past goes ends =
     let front : List ℕ = played.read ++ take m buffer in
@@ -256,6 +255,6 @@ limit_was_passed {forms = forms} replay next count first now later before after 
       };
     }
 
-pub all_taken : {V : Type 0} {T : V → Type 0} {form : FormOf V T} (replay next : Replay V T) (buffer : List ℕ) (n m : ℕ) (after last : Option (List ℕ)) → m ≡ n → Takes form replay next (take m buffer) after last
+pub all_taken : {V : Type 0} {T : V → Type 0} {form : FormOf V T} (replay next : Replay V T) (buffer : List ℕ) (n m : ℕ) (after last : List ℕ) → m ≡ n → Takes form replay next (take m buffer) after last
     → Takes form replay next (take n buffer) after last
 all_taken {form = form} replay next buffer n m after last all takes = subst (λ k. Takes form replay next (take k buffer) after last) all takes

@@ -49,7 +49,7 @@ split_at_line xs k within here = append_assoc (take k xs) (newline ∷ []) (drop
 
 -- bytes taken one after the other
 
-leads_both : {V : Type 0} {T : V → Type 0} {form : FormOf V T} (There : List ProcessorForm → List CallId → List ℕ → List ℕ → Type 0) (start now : Replay V T) (first then : List ℕ) (before after last : Option (List ℕ))
+leads_both : {V : Type 0} {T : V → Type 0} {form : FormOf V T} (There : List ProcessorForm → List CallId → List ℕ → List ℕ → Type 0) (start now : Replay V T) (first then before after last : List ℕ)
     → Takes form start now first before after → LeadsTo form There now then after last → LeadsTo form There start (first ++ then) before last
 leads_both There start now first then before after last one two forms skips read written has =
     let a = one forms skips read written has in
@@ -62,7 +62,7 @@ leads_both There start now first then before after last one two forms skips read
       more_taken before after last a.1 b.1 a.3 b.3,
     )
 
-stops_sooner : {V : Type 0} {T : V → Type 0} {form : FormOf V T} (start : Replay V T) (status : Status) (first then : List ℕ) (before last : Option (List ℕ)) → StopsIn form start status first before last → StopsIn form start status (first ++ then) before last
+stops_sooner : {V : Type 0} {T : V → Type 0} {form : FormOf V T} (start : Replay V T) (status : Status) (first then before last : List ℕ) → StopsIn form start status first before last → StopsIn form start status (first ++ then) before last
 stops_sooner start status first then before last one forms skips read written has =
     let a = one forms skips read written has in (
       a.0,
@@ -72,19 +72,19 @@ stops_sooner start status first then before last one forms skips read written ha
     )
 
 -- What was taken of a piece: its front, of which the rest is left.
-pub record HasTaken {V : Type 0} {T : V → Type 0} (form : FormOf V T) (start now : Replay V T) (before after : Option (List ℕ)) (piece rest : List ℕ) : Type 0 where
+pub record HasTaken {V : Type 0} {T : V → Type 0} (form : FormOf V T) (start now : Replay V T) (before after piece rest : List ℕ) : Type 0 where
   pub front : List ℕ
   pub is_front : front ++ rest ≡ piece
   pub takes : Takes form start now front before after
 
-pub taken_none : {V : Type 0} {T : V → Type 0} {form : FormOf V T} (replay : Replay V T) (before : Option (List ℕ)) (piece : List ℕ) → HasTaken form replay replay before before piece piece
+pub taken_none : {V : Type 0} {T : V → Type 0} {form : FormOf V T} (replay : Replay V T) (before piece : List ℕ) → HasTaken form replay replay before before piece piece
 taken_none replay before piece = record {
   front = [];
   is_front = refl;
   takes = nothing_taken replay before;
 }
 
-pub taken_more : {V : Type 0} {T : V → Type 0} {form : FormOf V T} (start now next : Replay V T) (before after last : Option (List ℕ)) (piece rest left : List ℕ) (k : ℕ) → HasTaken form start now before after piece rest
+pub taken_more : {V : Type 0} {T : V → Type 0} {form : FormOf V T} (start now next : Replay V T) (before after last piece rest left : List ℕ) (k : ℕ) → HasTaken form start now before after piece rest
     → k < length rest → Passes (is_byte newline) rest k → left ≡ drop (k + 1) rest → Takes form now next (ended_line (take k rest)) after last → HasTaken form start next before last piece left
 taken_more {form = form} start now next before after last piece rest left k has within here left_is takes = record {
   front = has.front ++ ended_line (take k rest);
@@ -96,12 +96,12 @@ taken_more {form = form} start now next before after last piece rest left k has 
 }
 
 -- the last bytes of the piece end no line
-pub taken_end : {V : Type 0} {T : V → Type 0} {form : FormOf V T} (start now next : Replay V T) (before after last : Option (List ℕ)) (piece rest : List ℕ) → HasTaken form start now before after piece rest → Takes form now next rest after last → Takes form start next piece before last
+pub taken_end : {V : Type 0} {T : V → Type 0} {form : FormOf V T} (start now next : Replay V T) (before after last piece rest : List ℕ) → HasTaken form start now before after piece rest → Takes form now next rest after last → Takes form start next piece before last
 taken_end {form = form} start now next before after last piece rest has takes =
     subst (λ bytes. Takes form start next bytes before last) has.is_front (leads_both (λ forms. HasRead form forms next) start now has.front rest before after last has.takes takes)
 
 -- the run stopped within the piece
-pub stopped_at_line : {V : Type 0} {T : V → Type 0} {form : FormOf V T} (start now : Replay V T) (before after last : Option (List ℕ)) (piece rest : List ℕ) (k : ℕ) (status : Status) → HasTaken form start now before after piece rest
+pub stopped_at_line : {V : Type 0} {T : V → Type 0} {form : FormOf V T} (start now : Replay V T) (before after last piece rest : List ℕ) (k : ℕ) (status : Status) → HasTaken form start now before after piece rest
     → k < length rest → Passes (is_byte newline) rest k → StopsIn form now status (ended_line (take k rest)) after last → StopsIn form start status piece before last
 stopped_at_line {form = form} start now before after last piece rest k status has within here stops =
     let all = ap (λ bytes. has.front ++ bytes) (split_at_line rest k within here) ∙ has.is_front in
@@ -109,13 +109,13 @@ stopped_at_line {form = form} start now before after last piece rest k status ha
     (leads_both (λ forms. StopsWithin forms status) start now has.front (ended_line (take k rest) ++ drop (k + 1) rest) before after last has.takes
     (stops_sooner now status (ended_line (take k rest)) (drop (k + 1) rest) after last stops))
 
-pub stopped_at_end : {V : Type 0} {T : V → Type 0} {form : FormOf V T} (start now : Replay V T) (before after last : Option (List ℕ)) (piece rest : List ℕ) (status : Status) → HasTaken form start now before after piece rest
+pub stopped_at_end : {V : Type 0} {T : V → Type 0} {form : FormOf V T} (start now : Replay V T) (before after last piece rest : List ℕ) (status : Status) → HasTaken form start now before after piece rest
     → StopsIn form now status rest after last → StopsIn form start status piece before last
 stopped_at_end {form = form} start now before after last piece rest status has stops =
     subst (λ bytes. StopsIn form start status bytes before last) has.is_front (leads_both (λ forms. StopsWithin forms status) start now has.front rest before after last has.takes stops)
 
 -- what was read goes on
-pub read_on : {V : Type 0} {T : V → Type 0} {form : FormOf V T} (start now : Replay V T) (before after : Option (List ℕ)) (piece rest : List ℕ) → HasTaken form start now before after piece rest
+pub read_on : {V : Type 0} {T : V → Type 0} {form : FormOf V T} (start now : Replay V T) (before after piece rest : List ℕ) → HasTaken form start now before after piece rest
     → (forms : List ProcessorForm) × (skips : List CallId) × (read written : List ℕ) × HasRead form forms start skips read written → (forms : List ProcessorForm) × (skips : List CallId) × (read written : List ℕ) × HasRead form forms now skips read written
 read_on start now before after piece rest has given =
     let a = has.takes given.0 given.1 given.2 given.3 given.4 in (given.0, a.0 ++ given.1, given.2 ++ has.front, given.3 ++ a.1, a.2)

@@ -123,5 +123,5 @@ module _ (forms : List ProcessorForm) (skips : List CallId) where
 tells_waits : (forms : List ProcessorForm) (status : Status) (skips : List CallId) (script read text : List ℕ) → HasReplayed forms status skips script read text → TellsWaits forms status skips script read text
 tells_waits forms status skips script read text replayed = record { replayed = replayed; waits = all_wait forms skips (lines_of script); goes_on = all_go_on forms skips (lines_of script) }
 
-pub prints_waits : (forms : List ProcessorForm) (status : Status) (first now : Given) (before after : Option (List ℕ)) → ReadsAndWrites forms status first now before after → PrintsWaits forms status first now before after
+pub prints_waits : (forms : List ProcessorForm) (status : Status) (first now : Given) (before after : List ℕ) → ReadsAndWrites forms status first now before after → PrintsWaits forms status first now before after
 prints_waits forms status = prints_also (HasReplayed forms status) (TellsWaits forms status) (tells_waits forms status)

@@ -47,5 +47,5 @@ pub record TellsHistories (forms : List ProcessorForm) (status : Status) (skips 
   pub closes : status ≡ Done → (lines : ℕ) × ClosesWith (settings_in forms script) (run_of_script forms skips script lines).run text
 
 -- What was written tells histories of the script that was read, for some calls that found no memory.
-abbrev pub PrintsHistories : List ProcessorForm → Status → (first now : Given) → (before after : Option (List ℕ)) → Type 0
+abbrev pub PrintsHistories : List ProcessorForm → Status → (first now : Given) → (before after : List ℕ) → Type 0
 PrintsHistories forms status = Prints (TellsHistories forms status)

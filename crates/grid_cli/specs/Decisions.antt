@@ -21,5 +21,5 @@ pub record TellsDecisions (forms : List ProcessorForm) (status : Status) (skips 
   pub goes_on : (lines later : ℕ) → lines ≤ later → AllGoOn (settings_in forms script) (run_of_script forms skips script lines) (run_of_script forms skips script later)
 
 -- What was written tells decisions of the script that was read, for some calls that found no memory.
-abbrev pub PrintsDecisions : List ProcessorForm → Status → (first now : Given) → (before after : Option (List ℕ)) → Type 0
+abbrev pub PrintsDecisions : List ProcessorForm → Status → (first now : Given) → (before after : List ℕ) → Type 0
 PrintsDecisions forms status = Prints (TellsDecisions forms status)

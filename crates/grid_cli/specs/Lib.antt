@@ -1,5 +1,6 @@
 pub mod Commands
 pub mod Decisions
+pub mod MemoryScripts
 pub mod NearHits
 pub mod PrintedRuns
 pub mod Progress
@@ -8,7 +9,6 @@ pub mod Replays
 pub mod Scripts
 pub mod SkippedCalls
 pub mod Statuses
-pub mod ToldScripts
 pub mod Transcribing
 pub mod Transcripts
 pub mod Waits

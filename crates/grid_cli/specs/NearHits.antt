@@ -16,5 +16,5 @@ pub record TellsHits (forms : List ProcessorForm) (status : Status) (skips : Lis
   pub hits : (lines : ℕ) → HitsStand (settings_in forms script) (run_of_script forms skips script lines)
 
 -- What was written tells hits of the script that was read, for some calls that found no memory.
-abbrev pub PrintsHits : List ProcessorForm → Status → (first now : Given) → (before after : Option (List ℕ)) → Type 0
+abbrev pub PrintsHits : List ProcessorForm → Status → (first now : Given) → (before after : List ℕ) → Type 0
 PrintsHits forms status = Prints (TellsHits forms status)

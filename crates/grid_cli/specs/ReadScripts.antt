@@ -1,6 +1,6 @@
 -- A script of which a source gives the bytes: what is said of it by those that were read.
 use Rattle.std.specs.Prelude.{◌≡◌, ℕ, true, false, List, [], ◌++◌, Option}
-use Rattle.std.specs.Io.KnownBytes.{append_known, prepend_known, IsAtEnd}
+use Rattle.std.specs.Io.KnownBytes.{prepend_known, IsAtEnd}
 use Rattle.grid_base.specs.declared.names.CallId.{CallId}
 use Rattle.grid_edge.specs.Given.{Given}
 
@@ -19,15 +19,8 @@ pub record IsOfScript (first now : Given) (Holds : (script read : List ℕ) → 
   pub holds : (rest : List ℕ) → MayFollow now rest → Holds (read ++ rest) read
 
 -- The sink has taken a text since, which tells this of the script that was read, for some calls that found no memory.
-pub record Prints (Tells : Claim) (first now : Given) (before after : Option (List ℕ)) : Type 0 where
+pub record Prints (Tells : Claim) (first now : Given) (before after : List ℕ) : Type 0 where
   pub skips : List CallId
   pub text : List ℕ
-  pub text_is : after ≡ append_known before text
+  pub text_is : after ≡ before ++ text
   pub script : IsOfScript first now (λ script read. Tells skips script read text)
-
--- What was read of a source that tells what it has left was left before and no longer is, and once a read has found the end, nothing is.
-pub record ReadsWhatIsLeft (first now : Given) (had left : Option (List ℕ)) : Type 0 where
-  pub read : List ℕ
-  pub read_is : now.bytes ≡ first.bytes ++ read
-  pub left_is : had ≡ prepend_known read left
-  pub nothing : first.ended ≡ false → now.ended ≡ true → IsAtEnd left

@@ -1,6 +1,5 @@
 -- What the code that reads a script has done: it has run the lines that are whole in the bytes so far.
 use Rattle.std.specs.Prelude.{◌≡◌, ◌≢◌, ℕ, ◌-◌, ◌≤◌, ◌⊎◌, Bool, Option, List, [], ◌∷◌, ◌++◌, length, take}
-use Rattle.std.specs.Io.KnownBytes.{append_known}
 use Rattle.grid_base.specs.declared.names.CallId.{CallId}
 use Rattle.partition_protocol.specs.Sequences.{IsFrontOf}
 use Rattle.entry_processors.specs.Processors.{ProcessorForm}
@@ -35,16 +34,16 @@ pub record StopsWithin (forms : List ProcessorForm) (status : Status) (skips : L
   pub reads : status ≢ ReadFault
 
 -- From what was read and written these bytes lead there, whatever it was: some calls more may have found no memory, and the sink took what was added to the text.
-abbrev pub LeadsTo : {V : Type 0} {T : V → Type 0} → FormOf V T → (List ProcessorForm → List CallId → List ℕ → List ℕ → Type 0) → Replay V T → List ℕ → Option (List ℕ) → Option (List ℕ) → Type 0
+abbrev pub LeadsTo : {V : Type 0} {T : V → Type 0} → FormOf V T → (List ProcessorForm → List CallId → List ℕ → List ℕ → Type 0) → Replay V T → List ℕ → List ℕ → List ℕ → Type 0
 LeadsTo form There before bytes had has = (forms : List ProcessorForm) (skips : List CallId) (read written : List ℕ) → HasRead form forms before skips read written
-    → (more : List CallId) × (added : List ℕ) × There forms (more ++ skips) (read ++ bytes) (written ++ added) × (has ≡ append_known had added)
+    → (more : List CallId) × (added : List ℕ) × There forms (more ++ skips) (read ++ bytes) (written ++ added) × (has ≡ had ++ added)
 
 -- The bytes were taken,
-abbrev pub Takes : {V : Type 0} {T : V → Type 0} → FormOf V T → Replay V T → Replay V T → List ℕ → Option (List ℕ) → Option (List ℕ) → Type 0
+abbrev pub Takes : {V : Type 0} {T : V → Type 0} → FormOf V T → Replay V T → Replay V T → List ℕ → List ℕ → List ℕ → Type 0
 Takes form before after bytes had has = LeadsTo form (λ forms. HasRead form forms after) before bytes had has
 
 -- or the run stopped within them.
-abbrev pub StopsIn : {V : Type 0} {T : V → Type 0} → FormOf V T → Replay V T → Status → List ℕ → Option (List ℕ) → Option (List ℕ) → Type 0
+abbrev pub StopsIn : {V : Type 0} {T : V → Type 0} → FormOf V T → Replay V T → Status → List ℕ → List ℕ → List ℕ → Type 0
 StopsIn form before status bytes had has = LeadsTo form (λ forms. StopsWithin forms status) before bytes had has
 
 -- what stands after the last newline is a line if it has a byte

@@ -67,5 +67,5 @@ pub record HasReplayed (forms : List ProcessorForm) (status : Status) (skips : L
   pub stops : StopsInLastPiece forms skips script read text
 
 -- What was read and what was written is what a run of the script has, for some calls that found no memory.
-abbrev pub ReadsAndWrites : List ProcessorForm → Status → (first now : Given) → (before after : Option (List ℕ)) → Type 0
+abbrev pub ReadsAndWrites : List ProcessorForm → Status → (first now : Given) → (before after : List ℕ) → Type 0
 ReadsAndWrites forms status = Prints (HasReplayed forms status)

@@ -38,5 +38,5 @@ pub record TellsWaits (forms : List ProcessorForm) (status : Status) (skips : Li
       last.run.full ≡ false → GoOnByTheRule (settings_in forms script) skips first.run last.run
 
 -- What was written is of the script that was read, whose calls wait by the rule, for some calls that found no memory.
-abbrev pub PrintsWaits : List ProcessorForm → Status → (first now : Given) → (before after : Option (List ℕ)) → Type 0
+abbrev pub PrintsWaits : List ProcessorForm → Status → (first now : Given) → (before after : List ℕ) → Type 0
 PrintsWaits forms status = Prints (TellsWaits forms status)

@@ -1,6 +1,5 @@
 ghost use Rattle.std.specs.Prelude.{◌≡◌, ◌≢◌, ◌↔◌, ℕ, List, map, Some, false, true};
 ghost use Rattle.grid_edge.specs.Faults.{Rose};
-ghost use Rattle.grid_cli.specs.ReadScripts.{ReadsWhatIsLeft};
 ghost use Rattle.grid_cli.specs.Statuses.{ReadsAndWrites};
 ghost use Rattle.grid_cli.specs.Commands.{is_replay, PrintsHistories};
 ghost use Rattle.grid_cli.specs.NearHits.{PrintsHits};
@@ -43,8 +42,6 @@ pub fn replay_command<S: Source, K: Sink>(
     // What was written is a transcript, or as much of it as the status says: that of each script that begins with what was
     // read, or of that alone where the source has ended. No piece more was read than the one in which the run came to its end.
     ensures text { ReadsAndWrites (map form processors.items) result (S.given script.old) (S.given script.new) (K.taken out.old) (K.taken out.new) }
-    // A source in memory also tells what it has left: what was read, it has no longer.
-    ensures left { ReadsWhatIsLeft (S.given script.old) (S.given script.new) (S.left script.old) (S.left script.new) }
     // What is printed for each entry of a map and each queue is the history of one that one thread used, with every answered
     // call in it once.
     // Whatever the status, and whichever line prints it.

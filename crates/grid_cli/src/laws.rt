@@ -1,8 +1,8 @@
 //! What holds of every transcript, and of every claim of a replay. Nothing runs here.
 
+ghost use Rattle.grid_cli.specs.MemoryScripts.{EveryClaimHoldsInMemory};
 ghost use Rattle.grid_cli.specs.PrintedRuns.{EveryMessageIsPrinted};
 ghost use Rattle.grid_cli.specs.SkippedCalls.{EveryTranscriptThatTellsOfNoSkipHasNone};
-ghost use Rattle.grid_cli.specs.ToldScripts.{EveryClaimHoldsWhereTold};
 
 /// Each message of the run that a transcript prints stands in its text.
 pub fn every_message_is_printed()
@@ -15,8 +15,8 @@ pub fn every_transcript_that_tells_of_no_skip_has_none()
     ensures { EveryTranscriptThatTellsOfNoSkipHasNone }
 {}
 
-/// Where a source tells what it has left, as one in memory does, each claim of a replay that read it from its begin on is one
-/// of the very script that it had: what was read, and what is left.
-pub fn every_claim_holds_where_told()
-    ensures { EveryClaimHoldsWhereTold }
+/// Each claim of a replay that read a source in memory from its begin on is one of the very script that it had: what was read,
+/// and what is left.
+pub fn every_claim_holds_in_memory()
+    ensures { EveryClaimHoldsInMemory }
 {}

@@ -10,7 +10,7 @@ mod transcriber;
 
 pub use command::replay_command;
 pub use laws::{
-    every_claim_holds_where_told, every_message_is_printed,
+    every_claim_holds_in_memory, every_message_is_printed,
     every_transcript_that_tells_of_no_skip_has_none,
 };
 pub use print::{push_limit, push_refused};

@@ -1,12 +1,10 @@
 ghost use Rattle.std.specs.Prelude.{◌≡◌, ◌≤◌, ◌<◌, [], List, ℕ, ◌++◌, Some, length, map, None, OnOk, IfErr, IsErrOf, ◌≢◌};
-ghost use Rattle.std.specs.Io.KnownBytes.{append_known};
 ghost use Rattle.grid_base.specs.declared.names.CallId.{CallId};
 ghost use Rattle.grid_edge.specs.Faults.{Rose};
 ghost use Rattle.entry_processors.specs.Processors.{ProcessorForm};
 ghost use Rattle.script_lang.specs.Words.{whole_lines, unfinished};
 ghost use Rattle.script_lang.specs.Pieces.{IsOnePiece};
 ghost use Rattle.grid_cli.specs.Scripts.{limit_in};
-ghost use Rattle.grid_cli.specs.ReadScripts.{ReadsWhatIsLeft};
 ghost use Rattle.grid_cli.specs.Statuses.{ReadsAndWrites, most_piece};
 ghost use Rattle.grid_cli.specs.Transcribing.{Concludes};
 ghost use Rattle.grid_cli.specs.Replays.{HasRead, Takes, StopsIn, ended_line, last_line};
@@ -130,7 +128,7 @@ impl Replay {
         requires { (forms : List ProcessorForm) × (skips : List CallId) × (read written : List ℕ) × HasRead form forms self.old skips read written }
         ensures concludes { (forms : List ProcessorForm) (skips : List CallId) (read written : List ℕ) → HasRead form forms self.old skips read written
             → (more : List CallId) × (added : List ℕ) × Concludes forms None result (more ++ skips) (whole_lines read ++ last_line (unfinished read)) (written ++ added)
-            × (K.taken out.new ≡ append_known (K.taken out.old) added) }
+            × (K.taken out.new ≡ K.taken out.old ++ added) }
         ensures never_falls { K.faults out.old ≤ K.faults out.new }
         ensures cause { result ≡ Status.WriteFault → Rose (K.faults out.old) (K.faults out.new) }
     {
@@ -156,7 +154,6 @@ fn run_pieces<S: Source, K: Sink>(
     requires some { 0 < length buffer.old }
     requires size { length buffer.old ≤ most_piece }
     ensures text { ReadsAndWrites (map form processors.items) result (S.given script.old) (S.given script.new) (K.taken out.old) (K.taken out.new) }
-    ensures left { ReadsWhatIsLeft (S.given script.old) (S.given script.new) (S.left script.old) (S.left script.new) }
     ensures runs { result ≢ Status.Usage }
     ensures doorless { result ≢ Status.DoorFault }
     ensures read_fault { result ≡ Status.ReadFault → Rose (S.faults script.old) (S.faults script.new) }
@@ -191,7 +188,6 @@ pub(crate) fn run_script<S: Source, K: Sink>(
     out: &mut K,
 ) -> Status
     ensures text { ReadsAndWrites (map form processors.items) result (S.given script.old) (S.given script.new) (K.taken out.old) (K.taken out.new) }
-    ensures left { ReadsWhatIsLeft (S.given script.old) (S.given script.new) (S.left script.old) (S.left script.new) }
     ensures headline { PrintsHistories (map form processors.items) result (S.given script.old) (S.given script.new) (K.taken out.old) (K.taken out.new) }
     ensures hits { PrintsHits (map form processors.items) result (S.given script.old) (S.given script.new) (K.taken out.old) (K.taken out.new) }
     ensures decisions { PrintsDecisions (map form processors.items) result (S.given script.old) (S.given script.new) (K.taken out.old) (K.taken out.new) }

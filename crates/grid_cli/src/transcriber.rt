@@ -1,5 +1,4 @@
 ghost use Rattle.std.specs.Prelude.{◌≡◌, ◌<◌, ◌≤◌, ◌++◌, ◌∷◌, [], List, ℕ, length, map, OnOk, IfOk, IfErr, IsErrOf, Option, Some, None, false, Ok as Okay};
-ghost use Rattle.std.specs.Io.KnownBytes.{append_known};
 ghost use Rattle.grid_base.specs.declared.names.CallId.{CallId};
 ghost use Rattle.grid_edge.specs.Faults.{Rose};
 ghost use Rattle.entry_processors.specs.Processors.{ProcessorForm};
@@ -190,10 +189,10 @@ impl Transcriber {
         requires follows { (forms : List ProcessorForm) × (skips : List CallId) × (done : List (List ℕ)) × (written : List ℕ) × Follows form forms self.old.stage skips done written × HasRoomFor done text.now }
         ensures goes { (forms : List ProcessorForm) (skips : List CallId) (done : List (List ℕ)) (written : List ℕ) → Follows form forms self.old.stage skips done written
             → OnOk result ((more : List CallId) × (added : List ℕ) × Follows form forms self.new.stage (more ++ skips) (done ++ text.now ∷ []) (written ++ added)
-            × (K.taken out.new ≡ append_known (K.taken out.old) added)) }
+            × (K.taken out.new ≡ K.taken out.old ++ added)) }
         ensures stops { (forms : List ProcessorForm) (skips : List CallId) (done : List (List ℕ)) (written : List ℕ) → Follows form forms self.old.stage skips done written
             → IfErr result (λ status. (more : List CallId) × (added : List ℕ) × StopsAs forms status (more ++ skips) done text.now (written ++ added)
-            × (K.taken out.new ≡ append_known (K.taken out.old) added)) }
+            × (K.taken out.new ≡ K.taken out.old ++ added)) }
         ensures never_falls { K.faults out.old ≤ K.faults out.new }
         ensures cause { IsErrOf result Status.WriteFault → Rose (K.faults out.old) (K.faults out.new) }
     {
@@ -226,7 +225,7 @@ impl Transcriber {
     /// Ends a script that stopped without a line `end`.
     pub(crate) fn refuse_end<K: Sink>(&mut self, out: &mut K) -> Status
         ensures concludes { (forms : List ProcessorForm) (skips : List CallId) (done : List (List ℕ)) (written : List ℕ) → Follows form forms self.old.stage skips done written
-            → (added : List ℕ) × Concludes forms None result skips done (written ++ added) × (K.taken out.new ≡ append_known (K.taken out.old) added) }
+            → (added : List ℕ) × Concludes forms None result skips done (written ++ added) × (K.taken out.new ≡ K.taken out.old ++ added) }
         ensures never_falls { K.faults out.old ≤ K.faults out.new }
         ensures cause { result ≡ Status.WriteFault → Rose (K.faults out.old) (K.faults out.new) }
     {
@@ -248,7 +247,7 @@ impl Transcriber {
     pub(crate) fn stop_at_limit<K: Sink>(&mut self, what: LimitWhat, out: &mut K) -> Status
         requires { (forms : List ProcessorForm) × (skips : List CallId) × (done : List (List ℕ)) × (written : List ℕ) × Follows form forms self.old.stage skips done written × (length done ≤ most_lines) }
         ensures concludes { (forms : List ProcessorForm) (skips : List CallId) (done : List (List ℕ)) (written : List ℕ) → Follows form forms self.old.stage skips done written
-            → (added : List ℕ) × Concludes forms (Some what) result skips done (written ++ added) × (K.taken out.new ≡ append_known (K.taken out.old) added) }
+            → (added : List ℕ) × Concludes forms (Some what) result skips done (written ++ added) × (K.taken out.new ≡ K.taken out.old ++ added) }
         ensures never_falls { K.faults out.old ≤ K.faults out.new }
         ensures cause { result ≡ Status.WriteFault → Rose (K.faults out.old) (K.faults out.new) }
     {

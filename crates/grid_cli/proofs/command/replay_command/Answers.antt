@@ -1,16 +1,12 @@
 use Rattle.grid_cli.proofs.CommandLaws.{nothing_printed}
 use Rattle.grid_cli.proofs.Decisions.{prints_decisions}
 use Rattle.grid_cli.proofs.NearHits.{prints_hits}
-use Rattle.grid_cli.proofs.ReadLaws.{none_read}
 use Rattle.grid_cli.proofs.ReplayRuns.{nothing_said}
 use Rattle.grid_cli.proofs.Waits.{prints_waits}
 use Rattle.grid_cli.proofs.command.replay_command.Goals as goal
 
 pub returns-then-not-is_replay_command-clause-text : goal.returns-then-not-is_replay_command-clause-text
 returns-then-not-is_replay_command-clause-text g c = nothing_said _ _ _
-
-pub returns-then-not-is_replay_command-clause-left : goal.returns-then-not-is_replay_command-clause-left
-returns-then-not-is_replay_command-clause-left g c = none_read _ _
 
 pub returns-then-not-is_replay_command-clause-headline : goal.returns-then-not-is_replay_command-clause-headline
 returns-then-not-is_replay_command-clause-headline g c = nothing_printed _ _ _

@@ -2,12 +2,11 @@ use Rattle.std.proofs.Common.{◌≡◌, ◌++◌, take, arith, None, Some}
 use Rattle.script_lang.specs.Words.{whole_lines}
 use Rattle.grid_cli.specs.declared.status.LimitWhat.TheVariants.{Bytes}
 use Rattle.grid_cli.proofs.ReplayLaws.{not_usage, not_door_fault, not_read_fault}
-use Rattle.grid_cli.proofs.ReadLaws.{none_read, reads_on, piece_read, fault_read}
 use Rattle.grid_cli.proofs.ReplayRuns.{at_first, all_taken, played_on, read_failed, script_read, stopped_in_piece, limit_was_passed}
 use Rattle.grid_cli.proofs.replay.run_pieces.Goals as goal
 
 pub pieces-init : goal.pieces-init
-pieces-init g c = (at_first c.new-replay.result _ _ c.new-replay.ensures, omega arith, omega arith, omega arith, c.requires.some, c.requires.size, none_read _ _)
+pieces-init g c = (at_first c.new-replay.result _ _ c.new-replay.ensures, omega arith, omega arith, omega arith, c.requires.some, c.requires.size)
 
 pub returns-then-count-eq0-clause-text : goal.returns-then-count-eq0-clause-text
 returns-then-count-eq0-clause-text g c =
@@ -101,17 +100,4 @@ pieces-preserved g c =
       omega (arith, c.pieces.invariant.3, c.take.ensures.never_falls),
       omega (arith, c.pieces.invariant.4, c.read.auto.into),
       omega (arith, c.pieces.invariant.5, c.read.auto.into),
-      reads_on _ _ _ _ _ _ c.pieces.invariant.6 (piece_read _ _ _ _ _ c.in-Ok.count _ c.in-Ok.ensures.given c.in-Ok.ensures.bytes c.in-Ok.ensures.end),
     )
-
-pub returns-then-count-eq0-clause-left : goal.returns-then-count-eq0-clause-left
-returns-then-count-eq0-clause-left g c = reads_on _ _ _ _ _ _ c.pieces.invariant.6 (piece_read _ _ _ _ _ c.in-Ok.count _ c.in-Ok.ensures.given c.in-Ok.ensures.bytes c.in-Ok.ensures.end)
-
-pub returns-in-Err-clause-left : goal.returns-in-Err-clause-left
-returns-in-Err-clause-left g c = reads_on _ _ _ _ _ _ c.pieces.invariant.6 (piece_read _ _ _ _ _ c.in-Ok.count _ c.in-Ok.ensures.given c.in-Ok.ensures.bytes c.in-Ok.ensures.end)
-
-pub returns-then-count-room-clause-left : goal.returns-then-count-room-clause-left
-returns-then-count-room-clause-left g c = reads_on _ _ _ _ _ _ c.pieces.invariant.6 (piece_read _ _ _ _ _ c.in-Ok.count _ c.in-Ok.ensures.given c.in-Ok.ensures.bytes c.in-Ok.ensures.end)
-
-pub returns-in_default-clause-left : goal.returns-in_default-clause-left
-returns-in_default-clause-left g c = reads_on _ _ _ _ _ _ c.pieces.invariant.6 (fault_read _ _ _ _ c.in_default.ensures.none_given c.in_default.ensures.err)

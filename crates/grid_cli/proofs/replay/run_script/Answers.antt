@@ -1,16 +1,12 @@
 use Rattle.grid_cli.proofs.CommandLaws.{prints_histories}
 use Rattle.grid_cli.proofs.Decisions.{prints_decisions}
 use Rattle.grid_cli.proofs.NearHits.{prints_hits}
-use Rattle.grid_cli.proofs.ReadLaws.{none_read}
 use Rattle.grid_cli.proofs.ReplayRuns.{nothing_played}
 use Rattle.grid_cli.proofs.Waits.{prints_waits}
 use Rattle.grid_cli.proofs.replay.run_script.Goals as goal
 
 pub returns-in_default-clause-text : goal.returns-in_default-clause-text
 returns-in_default-clause-text g c = nothing_played _ _ _
-
-pub returns-in_default-clause-left : goal.returns-in_default-clause-left
-returns-in_default-clause-left g c = none_read _ _
 
 pub returns-in_default-clause-headline : goal.returns-in_default-clause-headline
 returns-in_default-clause-headline g c = prints_histories _ _ _ _ _ _ (nothing_played _ _ _)
@@ -26,9 +22,6 @@ returns-in_default-clause-waits g c = prints_waits _ _ _ _ _ _ (nothing_played _
 
 pub returns-clause-text : goal.returns-clause-text
 returns-clause-text g c = c.run_pieces.ensures.text
-
-pub returns-clause-left : goal.returns-clause-left
-returns-clause-left g c = c.run_pieces.ensures.left
 
 pub returns-clause-headline : goal.returns-clause-headline
 returns-clause-headline g c = prints_histories _ c.run_pieces.result _ _ _ _ c.run_pieces.ensures.text

@@ -1,6 +1,4 @@
-use Rattle.std.proofs.Common.{List, [], ℕ, ◌+◌, ◌++◌, take, sym, ◌∙◌, ap, Some, arith}
-use Rattle.std.specs.Io.KnownBytes.{append_known}
-use Rattle.grid_edge.proofs.Told.{append_known-nil}
+use Rattle.std.proofs.Common.{List, [], ℕ, ◌+◌, ◌++◌, take, sym, ◌∙◌, ap, Some, arith, append-nil}
 use Rattle.grid_cli.specs.Transcripts.{TooLong, limit_text}
 use Rattle.grid_cli.proofs.TranscriberLaws.{limit_passed, front_written, nothing_written}
 use Rattle.grid_cli.proofs.transcriber.Transcriber.stop_at_limit.Goals as goal
@@ -13,7 +11,7 @@ overflow_add-line g c =
 
 pub returns-in_default-clause-concludes : goal.returns-in_default-clause-concludes
 returns-in_default-clause-concludes g c = λ forms skips done written follows.
-    ([], nothing_written _ forms c.args.self.now.stage skips done written follows (Some c.args.what), sym (append_known-nil (g.K.Sink.taken c.args.out.now)))
+    ([], nothing_written _ forms c.args.self.now.stage skips done written follows (Some c.args.what), sym (append-nil (g.K.Sink.taken c.args.out.now)))
 
 pub returns-in_default-write_all-clause-concludes : goal.returns-in_default-write_all-clause-concludes
 returns-in_default-write_all-clause-concludes g c = λ forms skips done written follows.
@@ -23,7 +21,7 @@ returns-in_default-write_all-clause-concludes g c = λ forms skips done written 
       front_written written text (TooLong (c.lines-line.result + 1) c.args.what) _ n.0
           (limit_passed _ forms c.args.what c.args.self.now.stage skips done written text (c.lines-line.result + 1) follows (ap (λ k. k + 1) (c.lines-line.ensures forms skips done written follows))
           (c.in-Ok.ensures ∙ ap (λ xs. xs ++ limit_text (c.lines-line.result + 1) c.args.what) c.clear.ensures.items)),
-      n.2 ∙ ap (λ t. append_known (g.K.Sink.taken c.args.out.now) (take n.0 t)) c.as_slice.ensures.value,
+      n.2 ∙ ap (λ t. g.K.Sink.taken c.args.out.now ++ take n.0 t) c.as_slice.ensures.value,
     )
 
 pub returns-clause-concludes : goal.returns-clause-concludes
@@ -35,5 +33,5 @@ returns-clause-concludes g c = λ forms skips done written follows.
         limit_passed _ forms c.args.what c.args.self.now.stage skips done written text (c.lines-line.result + 1) follows (ap (λ k. k + 1) (c.lines-line.ensures forms skips done written follows))
             (c.in-Ok.ensures ∙ ap (λ xs. xs ++ limit_text (c.lines-line.result + 1) c.args.what) c.clear.ensures.items),
       ),
-      c.in-Ok-write_all.ensures.ok ∙ ap (append_known (g.K.Sink.taken c.args.out.now)) c.as_slice.ensures.value,
+      c.in-Ok-write_all.ensures.ok ∙ ap (λ more. g.K.Sink.taken c.args.out.now ++ more) c.as_slice.ensures.value,
     )
