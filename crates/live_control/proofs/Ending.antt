@@ -1,8 +1,7 @@
 -- The lines of a script that were run, and how it ends.
 use Rattle.std.proofs.Common.{◌≡◌, ◌⊎◌, inl, inr, ℕ, ◌+◌, true, List, [], ◌∷◌, ◌++◌, length, take, drop, Option, Some, refl, ap, sym, ◌∙◌, subst, arith, append-nil, append_assoc, length-append}
 use Rattle.std.proofs.lemmas.List.{take-append-drop}
-use Rattle.std.specs.Io.KnownBytes.{append_known}
-use Rattle.grid_edge.proofs.Told.{more_taken, append_known-nil}
+use Rattle.grid_edge.proofs.Told.{more_taken}
 use Rattle.grid_edge.specs.Given.{Given}
 use Rattle.partition_protocol.specs.Sequences.{IsFrontOf}
 use Rattle.script_lang.specs.Words.{whole_lines}
@@ -40,27 +39,27 @@ module _ (grid : LiveGrid) (members : ℕ) where
       (h.0, h.1, h.2 ++ own, h.3, next, ap (λ (l : List ℕ). l ++ own) h.5 ∙ append_assoc h.1 h.2 own)
 
   -- What was read, run and written so far
-  pub record IsServing (reader : LineReader) (first source : Given) (before after : Option (List ℕ)) (old now : GridPass) : Type 0 where
+  pub record IsServing (reader : LineReader) (first source : Given) (before after : List ℕ) (old now : GridPass) : Type 0 where
     pub read : List ℕ
     pub written : List ℕ
     pub lines : List (List ℕ)
     pub come : HasCome reader source read lines []
     pub read_is : source.bytes ≡ first.bytes ++ read
-    pub written_is : after ≡ append_known before written
+    pub written_is : after ≡ before ++ written
     pub ran : HaveRun grid members 1 lines old now written
 
-  pub at_first : (reader : LineReader) (first : Given) (before : Option (List ℕ)) (old : GridPass) → HasCome reader first [] [] [] → IsServing reader first first before before old old
+  pub at_first : (reader : LineReader) (first : Given) (before : List ℕ) (old : GridPass) → HasCome reader first [] [] [] → IsServing reader first first before before old old
   at_first reader first before old come = record {
     read = [];
     written = [];
     lines = [];
     come = come;
     read_is = sym (append-nil first.bytes);
-    written_is = sym (append_known-nil before);
+    written_is = sym (append-nil before);
     ran = (refl, refl);
   }
 
-  module _ (reader : LineReader) (first source : Given) (before after : Option (List ℕ)) (old now : GridPass) (s : IsServing reader first source before after old now) where
+  module _ (reader : LineReader) (first source : Given) (before after : List ℕ) (old now : GridPass) (s : IsServing reader first source before after old now) where
     module _ (next : LineReader) (later : Given) (more : List ℕ) (came : later.bytes ≡ source.bytes ++ more) where
       read_on : later.bytes ≡ first.bytes ++ (s.read ++ more)
       read_on = more_given first.bytes source.bytes later.bytes s.read more s.read_is came
@@ -70,7 +69,7 @@ module _ (grid : LiveGrid) (members : ℕ) where
       ServesSo status new written = (rest : List ℕ) → MayFollow later rest → ServesAs grid members ((s.read ++ more) ++ rest) old new status (s.read ++ more) written
 
       -- the script ended with these statuses, and this was written more
-      served : (status : Status) (last : Option (List ℕ)) (new : GridPass) (own : List ℕ) → last ≡ append_known after own → ServesSo status new (s.written ++ own) → HasServed grid members status first later before last old new
+      served : (status : Status) (last : List ℕ) (new : GridPass) (own : List ℕ) → last ≡ after ++ own → ServesSo status new (s.written ++ own) → HasServed grid members status first later before last old new
       served status last new own taken serves = record {
         written = s.written ++ own;
         written_is = more_taken before after last s.written own s.written_is taken;
@@ -90,7 +89,7 @@ module _ (grid : LiveGrid) (members : ℕ) where
         number_is : next.lines ≡ 1 + length s.lines
         number_is = let count = come.count in omega (arith, count, length-append s.lines (line ∷ []))
 
-        pub went_on : (new : GridPass) (last : Option (List ℕ)) → Serves grid members next.lines line now new after last → IsServing next first later before last old new
+        pub went_on : (new : GridPass) (last : List ℕ) → Serves grid members next.lines line now new after last → IsServing next first later before last old new
         went_on new last g = record {
           read = s.read ++ more;
           written = s.written ++ g.0;
@@ -171,17 +170,17 @@ module _ (grid : LiveGrid) (members : ℕ) where
               tried (inr t) = inr (record { line = line; order = t.0; next = front; ordered = t.1; tried = t.2 })
 
         -- the script stopped at the line
-        pub stopped : (status : Status) (new : GridPass) (last : Option (List ℕ)) → StopsAs grid members next.lines line now new after last status → HasServed grid members status first later before last old new
+        pub stopped : (status : Status) (new : GridPass) (last : List ℕ) → StopsAs grid members next.lines line now new after last status → HasServed grid members status first later before last old new
         stopped status.Done new last h = served status.Done last new h.0 h.2 (λ rest may. ended rest may new h.0 h.1)
         stopped (status.ScriptRefused at why) new last h =
             served (status.ScriptRefused at why) last new h.1.0 h.1.2
             (λ rest may. inl (subst (λ (k : ℕ). HasMetRefused grid members ((s.read ++ more) ++ rest) old new k why (s.written ++ h.1.0)) (sym h.0) (refused rest may new why h.1.0 h.1.1)))
         stopped status.WriteFault new last h = served status.WriteFault last new (take h.3.0 h.1) h.3.2 (λ rest may. broken_off rest may new h.0 h.1 h.3.0 h.2)
-        stopped status.Memory new last h = subst (λ (z : Option (List ℕ)). HasServed grid members status.Memory first later before z old new) (sym h.1) (served_so status.Memory new (λ rest may. run_short rest may new h.0))
+        stopped status.Memory new last h = subst (λ (z : List ℕ). HasServed grid members status.Memory first later before z old new) (sym h.1) (served_so status.Memory new (λ rest may. run_short rest may new h.0))
         stopped other new last h = absurd h
 
       -- the last text of a script whose lines were all run
-      closed : (text : List ℕ) (ends : Status) (status : Status) (last : Option (List ℕ)) → ((rest : List ℕ) → MayFollow later rest → IsFrontOf s.lines (lines_of ((s.read ++ more) ++ rest)))
+      closed : (text : List ℕ) (ends : Status) (status : Status) (last : List ℕ) → ((rest : List ℕ) → MayFollow later rest → IsFrontOf s.lines (lines_of ((s.read ++ more) ++ rest)))
           → ((rest : List ℕ) → MayFollow later rest → IsWhole grid members ((s.read ++ more) ++ rest) old now (s.written ++ text)) → ServesSo ends now (s.written ++ text)
           → WritesLast text ends after last status → HasServed grid members status first later before last old now
       closed text ends status.WriteFault last begins is serves h = served status.WriteFault last now (take h.0 text) h.2 (λ rest may. record {
@@ -196,7 +195,7 @@ module _ (grid : LiveGrid) (members : ℕ) where
         front = (drop h.0 text, take-append-drop h.0 text);
         broken = inr (is rest may);
       })
-      closed text ends status.Memory last begins is serves h = subst (λ (z : Option (List ℕ)). HasServed grid members status.Memory first later before z old now) (sym h) (served_so status.Memory now (λ rest may. record {
+      closed text ends status.Memory last begins is serves h = subst (λ (z : List ℕ). HasServed grid members status.Memory first later before z old now) (sym h) (served_so status.Memory now (λ rest may. record {
         done = s.lines;
         mid = now;
         first = begins rest may;
@@ -206,7 +205,7 @@ module _ (grid : LiveGrid) (members : ℕ) where
       closed text ends other last begins is serves h =
           served other last now text h.1 (subst (λ (z : Status). ServesSo z now (s.written ++ text)) (sym h.0) serves)
 
-      pub no_end : (number : ℕ) (ends : Status) (last : Option (List ℕ)) → number ≡ length s.lines → AreLinesOf s.lines (s.read ++ more) → later.ended ≡ true
+      pub no_end : (number : ℕ) (ends : Status) (last : List ℕ) → number ≡ length s.lines → AreLinesOf s.lines (s.read ++ more) → later.ended ≡ true
           → WritesLast (refused_text number NoEnd) (status.ScriptRefused number NoEnd) after last ends → HasServed grid members ends first later before last old now
       no_end number ends last count_is all at_end h =
           closed (refused_text number NoEnd) (status.ScriptRefused number NoEnd) ends last (λ rest may. ([], append-nil s.lines ∙ sym (ap (λ (c : Cut). c.lines) (lines_are rest may)))) (λ rest may. inr (inl (number, NoEnd, inr (met rest may)))) (λ rest may. inr (met rest may)) h
@@ -225,7 +224,7 @@ module _ (grid : LiveGrid) (members : ℕ) where
             text = refl;
           }
 
-      pub past_limit : (number : ℕ) (what : LimitWhat) (ends : Status) (last : Option (List ℕ)) → number ≡ length s.lines → ((rest : List ℕ) → cut ((s.read ++ more) ++ rest) ≡ record { lines = s.lines; limit = Some what })
+      pub past_limit : (number : ℕ) (what : LimitWhat) (ends : Status) (last : List ℕ) → number ≡ length s.lines → ((rest : List ℕ) → cut ((s.read ++ more) ++ rest) ≡ record { lines = s.lines; limit = Some what })
           → WritesLast (limit_text (number + 1) what) (status.Limit what) after last ends → HasServed grid members ends first later before last old now
       past_limit number what ends last count_is past h =
           closed (limit_text (number + 1) what) (status.Limit what) ends last (λ rest may. ([], append-nil s.lines ∙ sym (ap (λ (c : Cut). c.lines) (past rest)))) (λ rest may. inr (inr (what, met rest))) (λ rest may. met rest) h
@@ -249,10 +248,10 @@ module _ (grid : LiveGrid) (members : ℕ) where
       no_memory begins = served_so status.Memory now (λ rest may. record { done = s.lines; mid = now; first = begins rest may; ran = s.ran; further = inl refl })
 
 -- before anything was read
-pub nothing_served : (grid : LiveGrid) (members : ℕ) (first : Given) (before : Option (List ℕ)) (old : GridPass) → HasServed grid members status.Memory first first before before old old
+pub nothing_served : (grid : LiveGrid) (members : ℕ) (first : Given) (before : List ℕ) (old : GridPass) → HasServed grid members status.Memory first first before before old old
 nothing_served grid members first before old = record {
   written = [];
-  written_is = sym (append_known-nil before);
+  written_is = sym (append-nil before);
   script = record {
     read = [];
     read_is = sym (append-nil first.bytes);

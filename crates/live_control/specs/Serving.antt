@@ -1,11 +1,11 @@
 -- How a control script ends, and what was run and written of it by then.
-use Rattle.std.specs.Prelude.{◌≡◌, ◌⊎◌, ℕ, ◌+◌, false, List, [], ◌∷◌, ◌++◌, length, Option, Some, Ok, Err}
-use Rattle.std.specs.Io.KnownBytes.{append_known, prepend_known}
+use Rattle.std.specs.Prelude.{◌≡◌, ◌⊎◌, ℕ, ◌+◌, ◌<◌, false, List, [], ◌∷◌, ◌++◌, length, Option, Some, Ok, Err}
 use Rattle.partition_protocol.specs.Sequences.{IsFrontOf}
 use Rattle.script_lang.specs.Words.{whole_lines}
 use Rattle.script_lang.specs.declared.refusal.LineWhy.{LineWhy}
 use Rattle.script_lang.specs.declared.refusal.LineWhy.TheVariants.{NoEnd}
-use Rattle.grid_cli.specs.ReadScripts.{IsOfScript, ReadsWhatIsLeft}
+use Rattle.grid_cli.specs.MemoryScripts.{HasReadOn}
+use Rattle.grid_cli.specs.ReadScripts.{IsOfScript}
 use Rattle.grid_cli.specs.Scripts.{cut, lines_of}
 use Rattle.grid_cli.specs.Transcripts.{refused_text, limit_text}
 use Rattle.grid_cli.specs.declared.status.LimitWhat.{LimitWhat}
@@ -21,6 +21,7 @@ use Rattle.live_control.specs.Running.{HasTried, HasRunLine, HasGoneOn, HaveRun}
 use Rattle.live_control.specs.declared.serving.Ran.{Ran}
 use Rattle.live_control.specs.declared.serving.Ran.TheVariants.{Goes, Ended, Refused}
 use Rattle.grid_edge.specs.Given.{Given}
+use Rattle.grid_edge.specs.Memory.{Input}
 use Rattle.grid_edge.specs.Sink.{TakesFront}
 
 module _ (grid : LiveGrid) (members : ℕ) (script : List ℕ) (old new : GridPass) where
@@ -136,33 +137,32 @@ abbrev pub HasFailed : LiveGrid → ℕ → List ℕ → GridPass → GridPass �
 HasFailed grid members line old new = (new ≡ old) ⊎ ((order : Order) × (order_in members line ≡ Ok order) × HasTried grid old new order)
 
 -- A line was run that doesn't end the script, and its text was written
-abbrev pub Serves : LiveGrid → ℕ → ℕ → List ℕ → GridPass → GridPass → Option (List ℕ) → Option (List ℕ) → Type 0
-Serves grid members number line old new before after = (text : List ℕ) × HasGoneOn grid members number line old new text × (after ≡ append_known before text)
+abbrev pub Serves : LiveGrid → ℕ → ℕ → List ℕ → GridPass → GridPass → List ℕ → List ℕ → Type 0
+Serves grid members number line old new before after = (text : List ℕ) × HasGoneOn grid members number line old new text × (after ≡ before ++ text)
 
 -- with which status the script stops at a line
-abbrev pub StopsAs : LiveGrid → ℕ → ℕ → List ℕ → GridPass → GridPass → Option (List ℕ) → Option (List ℕ) → Status → Type 0
-StopsAs grid members number line old new before after Done = (text : List ℕ) × HasRunAs grid members number line old new text Ended × (after ≡ append_known before text)
+abbrev pub StopsAs : LiveGrid → ℕ → ℕ → List ℕ → GridPass → GridPass → List ℕ → List ℕ → Status → Type 0
+StopsAs grid members number line old new before after Done = (text : List ℕ) × HasRunAs grid members number line old new text Ended × (after ≡ before ++ text)
 StopsAs grid members number line old new before after (ScriptRefused at why) =
-    (at ≡ number) × ((text : List ℕ) × HasRunAs grid members number line old new text (Refused why) × (after ≡ append_known before text))
+    (at ≡ number) × ((text : List ℕ) × HasRunAs grid members number line old new text (Refused why) × (after ≡ before ++ text))
 StopsAs grid members number line old new before after WriteFault = (ran : Ran) × (text : List ℕ) × HasRunAs grid members number line old new text ran × TakesFront before after text
 StopsAs grid members number line old new before after Memory = HasFailed grid members line old new × (after ≡ before)
 StopsAs grid members number line old new before after _ = ⊥
 
 -- the last text was written, and this is the status; or a front of it, for a fault; or nothing, for want of memory
-abbrev pub WritesLast : List ℕ → Status → Option (List ℕ) → Option (List ℕ) → Status → Type 0
+abbrev pub WritesLast : List ℕ → Status → List ℕ → List ℕ → Status → Type 0
 WritesLast text ended before after WriteFault = TakesFront before after text
 WritesLast text ended before after Memory = after ≡ before
-WritesLast text ended before after status = (status ≡ ended) × (after ≡ append_known before text)
+WritesLast text ended before after status = (status ≡ ended) × (after ≡ before ++ text)
 
 -- What was run and written is what the status says, of each script that begins with what was read of the source and may go on so
-pub record HasServed (grid : LiveGrid) (members : ℕ) (status : Status) (first now : Given) (before after : Option (List ℕ)) (old new : GridPass) : Type 0 where
+pub record HasServed (grid : LiveGrid) (members : ℕ) (status : Status) (first now : Given) (before after : List ℕ) (old new : GridPass) : Type 0 where
   pub written : List ℕ
-  pub written_is : after ≡ append_known before written
+  pub written_is : after ≡ before ++ written
   pub script : IsOfScript first now (λ script read. ServesAs grid members script old new status read written)
 
--- Where the source tells what it has left, and its script was read from its begin on, all this is said of that very script
-abbrev pub EveryScriptIsServedWhereTold : Type 0
-EveryScriptIsServedWhereTold = (grid : LiveGrid) (members : ℕ) (status : Status) (first now : Given) (had left before after : Option (List ℕ)) (old new : GridPass)
-    → first.ended ≡ false → ReadsWhatIsLeft first now had left → HasServed grid members status first now before after old new
-    → (script : List ℕ) → had ≡ Some script
-    → (read written : List ℕ) × (had ≡ prepend_known read left) × (after ≡ append_known before written) × ServesAs grid members script old new status read written
+-- Where the script was in memory, and was read from its begin on, all this is said of that very script
+abbrev pub EveryScriptInMemoryIsServed : Type 0
+EveryScriptInMemoryIsServed = (grid : LiveGrid) (members : ℕ) (status : Status) (reads : ℕ) (first now : Input) (before after : List ℕ) (old new : GridPass)
+    → 0 < first.most → first.given.ended ≡ false → HasReadOn reads first now → HasServed grid members status first.given now.given before after old new
+    → (read written : List ℕ) × (first.left ≡ read ++ now.left) × (after ≡ before ++ written) × ServesAs grid members first.left old new status read written

@@ -7,5 +7,5 @@ mod orders;
 mod running;
 mod serving;
 
-pub use laws::every_script_is_served_where_told;
+pub use laws::every_script_in_memory_is_served;
 pub use serving::serve_control;

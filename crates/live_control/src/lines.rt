@@ -2,7 +2,6 @@
 ghost use Rattle.std.specs.Prelude.{◌≡◌, ◌≢◌, ◌≤◌, ◌++◌, ◌<◌, ℕ, List, Option, [], ◌∷◌, drop, take, false, true, length, Some, IfOk, IfSome, IfErr, OnOk, vec_len};
 ghost use Rattle.grid_edge.specs.Faults.{Rose, HasCause};
 ghost use Rattle.grid_edge.specs.Given.{Given};
-ghost use Rattle.grid_cli.specs.ReadScripts.{ReadsWhatIsLeft};
 ghost use Rattle.grid_cli.specs.Scripts.{limit_in};
 ghost use Rattle.script_lang.specs.Pieces.{IsOnePiece};
 ghost use Rattle.live_control.specs.Reading.{HasCome, HasLooked, ComesNext, LeadsTo, HasKept, HasRead, up_to};
@@ -153,7 +152,6 @@ impl LineReader {
         ensures read { (came : List ℕ) (given : List (List ℕ)) → HasCome self.old (S.given script.old) came given self.old.line.items
             → HasRead result self.old self.new (S.given script.old) (S.given script.new) came given }
         ensures going { self.new.has_ended ≡ false }
-        ensures left { ReadsWhatIsLeft (S.given script.old) (S.given script.new) (S.left script.old) (S.left script.new) }
         ensures cause { HasCause (S.faults script.old) (S.faults script.new) result }
     {
         let Ok(count) = script.read(self.piece.as_mut_slice()) else {
@@ -190,7 +188,6 @@ impl LineReader {
         requires { (came : List ℕ) × (given : List (List ℕ)) × HasCome self.old (S.given script.old) came given [] }
         ensures came { (came : List ℕ) (given : List (List ℕ)) → HasCome self.old (S.given script.old) came given []
             → LeadsTo (S.given script.old) (S.given script.new) (λ more. ComesNext result self.new (S.given script.new) (came ++ more) given) }
-        ensures left { ReadsWhatIsLeft (S.given script.old) (S.given script.new) (S.left script.old) (S.left script.new) }
         ensures never_falls { S.faults script.old ≤ S.faults script.new }
         ensures cause { result ≡ Came.Fault → Rose (S.faults script.old) (S.faults script.new) }
     {

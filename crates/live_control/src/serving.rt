@@ -1,11 +1,9 @@
 //! How a control script is served.
 ghost use Rattle.std.specs.Prelude.{◌≡◌, ◌≤◌, ◌++◌, ◌+◌, ◌<◌, ℕ, List, [], All, IfOk, IfErr, OnOk, OnErr, IsErrOf};
-ghost use Rattle.std.specs.Io.KnownBytes.{append_known};
 ghost use Rattle.grid_edge.specs.Faults.{Rose};
 ghost use Rattle.grid_edge.specs.Sink.{TakesFront};
 ghost use Rattle.hand_cell.specs.Calls.{plan_of};
 ghost use Rattle.live_grid.specs.Grids.{place_of};
-ghost use Rattle.grid_cli.specs.ReadScripts.{ReadsWhatIsLeft};
 ghost use Rattle.grid_cli.specs.Transcripts.{refused_text, limit_text};
 ghost use Rattle.script_lang.specs.Limits.{most_lines};
 ghost use Rattle.live_control.specs.Running.{MayServe};
@@ -175,8 +173,6 @@ where
     // What was run and written is what the status says, of each script that begins with what was read, or of that alone where
     // the source has ended.
     ensures served { HasServed grid.now members result (S.given script.old) (S.given script.new) (K.taken out.old) (K.taken out.new) pass.old pass.new }
-    // A source in memory also tells what it has left: what was read, it has no longer.
-    ensures left { ReadsWhatIsLeft (S.given script.old) (S.given script.new) (S.left script.old) (S.left script.new) }
     // A fault is told only where the source or the sink had one.
     ensures read_fault { result ≡ Status.ReadFault → Rose (S.faults script.old) (S.faults script.new) }
     ensures write_fault { result ≡ Status.WriteFault → Rose (K.faults out.old) (K.faults out.new) }

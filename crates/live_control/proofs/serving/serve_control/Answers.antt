@@ -1,5 +1,4 @@
 use Rattle.std.proofs.Common.{◌≡◌, ℕ, List, subst, ◌∙◌, arith}
-use Rattle.grid_cli.proofs.ReadLaws.{none_read, reads_on}
 use Rattle.live_control.specs.Serving.{Serves, StopsAs}
 use Rattle.live_control.proofs.Ending.{nothing_served, at_first, went_on, stopped, no_end, past_limit, failed, no_memory}
 use Rattle.live_control.proofs.serving.serve_control.Goals as goal
@@ -11,7 +10,6 @@ pub loop-init : goal.loop-init
 loop-init g c = record {
   serving = at_first c.args.grid.now c.args.members c.in-Ok.reader (g.S.Source.given c.args.script.now) (g.K.Sink.taken c.args.out.now) c.args.pass.now (c.in-Ok.ensures (g.S.Source.given c.args.script.now));
   may = c.requires.pass;
-  left = none_read _ _;
   reads = omega arith;
   writes = omega arith;
 }
@@ -29,7 +27,6 @@ loop-preserved g c =
           went_on c.args.grid.now c.args.members c.loop.reader (g.S.Source.given c.args.script.now) (g.S.Source.given c.loop.script) (g.K.Sink.taken c.args.out.now) before c.args.pass.now c.loop.pass s
           next (g.S.Source.given c.next-in-loop.new.script) n.0 n.1 next.line.items n.2.0 c.serve_line.new.pass after goes;
       may = c.serve_line.ensures.kept;
-      left = reads_on _ _ _ _ _ _ c.loop.invariant.left c.next-in-loop.ensures.left;
       reads = omega (arith, c.loop.invariant.reads, c.next-in-loop.ensures.never_falls);
       writes = omega (arith, c.loop.invariant.writes, c.serve_line.ensures.never_falls);
     }
@@ -80,21 +77,3 @@ returns-in-NoMemory-clause-served g c =
     let n = c.in-NoMemory.ensures.came s.read s.lines s.come in
     no_memory c.args.grid.now c.args.members c.loop.reader (g.S.Source.given c.args.script.now) (g.S.Source.given c.loop.script) (g.K.Sink.taken c.args.out.now) (g.K.Sink.taken c.loop.out) c.args.pass.now c.loop.pass s
     c.next-in-loop.new.self (g.S.Source.given c.next-in-loop.new.script) n.0 n.1 n.2
-
-pub returns-in_default-clause-left : goal.returns-in_default-clause-left
-returns-in_default-clause-left g c = none_read _ _
-
-pub returns-in-Err-clause-left : goal.returns-in-Err-clause-left
-returns-in-Err-clause-left g c = reads_on _ _ _ _ _ _ c.loop.invariant.left c.next-in-loop.ensures.left
-
-pub returns-in-Nothing-clause-left : goal.returns-in-Nothing-clause-left
-returns-in-Nothing-clause-left g c = reads_on _ _ _ _ _ _ c.loop.invariant.left c.next-in-loop.ensures.left
-
-pub returns-in-Limit-clause-left : goal.returns-in-Limit-clause-left
-returns-in-Limit-clause-left g c = reads_on _ _ _ _ _ _ c.loop.invariant.left c.next-in-loop.ensures.left
-
-pub returns-in-Fault-clause-left : goal.returns-in-Fault-clause-left
-returns-in-Fault-clause-left g c = reads_on _ _ _ _ _ _ c.loop.invariant.left c.next-in-loop.ensures.left
-
-pub returns-in-NoMemory-clause-left : goal.returns-in-NoMemory-clause-left
-returns-in-NoMemory-clause-left g c = reads_on _ _ _ _ _ _ c.loop.invariant.left c.next-in-loop.ensures.left

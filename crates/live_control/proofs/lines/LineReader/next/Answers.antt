@@ -1,6 +1,5 @@
 use Rattle.std.proofs.Common.{ℕ, Bool, List, [], ◌++◌, Ok, refl, sym, subst, ap, ◌∙◌, arith, append-nil, append_assoc}
 use Rattle.grid_edge.specs.Given.{Given}
-use Rattle.grid_cli.proofs.ReadLaws.{none_read, reads_on}
 use Rattle.live_control.specs.Reading.{HasCome, HasLooked, HasRead, AreLinesOf}
 use Rattle.live_control.proofs.Ahead.{more_given}
 use Rattle.live_control.proofs.Looking.{ended_at, other_line, no_line, past_bytes}
@@ -15,7 +14,6 @@ returns-then-self-clause-came g c = λ came given h.
 pub pieces-init : goal.pieces-init
 pieces-init g c = record {
   going = c.if-self.false;
-  left = none_read _ _;
   never_falls = omega arith;
   come = λ came given h.
       let source = g.S.Source.given c.args.script.now in
@@ -43,7 +41,6 @@ returns-then-self-2-clause-came g c = λ came given h.
 pub pieces-preserved : goal.pieces-preserved
 pieces-preserved g c = record {
   going = c.read.ensures.going;
-  left = reads_on _ _ _ _ _ _ c.pieces.invariant.left c.read.ensures.left;
   never_falls = omega (arith, c.pieces.invariant.never_falls, c.read.ensures.cause.never_falls);
   come = λ came given h.
       let i = c.pieces.invariant.come came given h in
@@ -73,12 +70,3 @@ returns-in-Err-read-clause-came g c = λ came given h.
     let l = subst (λ (b : Bool). HasLooked (Ok b) c.look.new.self source (came ++ i.0) given) c.in-Ok-false.field-0-test (c.in-Ok-false.ensures.looked source (came ++ i.0) given i.2) in
     let r = c.in-Err-read.ensures.read (came ++ i.0) given l.0 in
     (i.0, ap (λ (given : Given). given.bytes) r.0 ∙ i.1, (r.1, r.2))
-
-pub returns-then-self-clause-left : goal.returns-then-self-clause-left
-returns-then-self-clause-left g c = none_read _ _
-
-pub returns-in-Ok-false-read-clause-left : goal.returns-in-Ok-false-read-clause-left
-returns-in-Ok-false-read-clause-left g c = reads_on _ _ _ _ _ _ c.pieces.invariant.left c.read.ensures.left
-
-pub returns-in-Err-read-clause-left : goal.returns-in-Err-read-clause-left
-returns-in-Err-read-clause-left g c = reads_on _ _ _ _ _ _ c.pieces.invariant.left c.read.ensures.left

@@ -1,13 +1,11 @@
 use Rattle.std.proofs.Common.{◌≡◌, ◌≤◌, ◌+◌, ◌-◌, ℕ, false, if◌then◌else◌, List, [], ◌++◌}
 use Rattle.script_lang.specs.Limits.{most_bytes}
-use Rattle.grid_cli.specs.ReadScripts.{ReadsWhatIsLeft}
 use Rattle.live_control.specs.Reading.{HasCome, LeadsTo}
 use Rattle.live_control.proofs.lines.LineReader.next.Given as goal
 
 abbrev pub invariant-pieces : goal.invariant-pieces
 invariant-pieces g l = record {
   going : l.self.has_ended ≡ false;
-  left : ReadsWhatIsLeft (g.S.Source.given l.fn.script) (g.S.Source.given l.script) (g.S.Source.left l.fn.script) (g.S.Source.left l.script);
   never_falls : g.S.Source.faults l.fn.script ≤ g.S.Source.faults l.script;
   come : (came : List ℕ) (given : List (List ℕ)) → HasCome l.fn.self (g.S.Source.given l.fn.script) came given []
       → LeadsTo (g.S.Source.given l.fn.script) (g.S.Source.given l.script) (λ more. HasCome l.self (g.S.Source.given l.script) (came ++ more) given l.self.line.items);

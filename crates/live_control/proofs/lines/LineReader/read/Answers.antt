@@ -2,7 +2,6 @@ use Rattle.std.proofs.Common.{◌≡◌, ◌<◌, ◌≤◌, ◌+◌, ◌-◌, �
 use Rattle.std.specs.Vec.{with_items}
 use Rattle.std.proofs.lemmas.List.{take_at}
 use Rattle.grid_edge.specs.Given.{Given, after_piece}
-use Rattle.grid_cli.proofs.ReadLaws.{piece_read, fault_read}
 use Rattle.live_control.specs.Reading.{AreFirst}
 use Rattle.live_control.specs.declared.lines.LineReader.{LineReader}
 use Rattle.live_control.proofs.Looking.{first_lines, lines_so_far}
@@ -41,9 +40,3 @@ returns-clause-read g c = λ came given h.
     let room : ℕ = length c.read.new.into in
     has_read r before after came given h c.requires.going c.requires.spent c.requires.within
     new n refl refl refl refl fits refl c.min-self.ensures refl refl (nat_lt 0 n) refl room some (subst (λ (l : List ℕ). after ≡ after_piece before room n (take n l)) (sym items) c.in-Ok.ensures.given)
-
-pub returns-in_default-clause-left : goal.returns-in_default-clause-left
-returns-in_default-clause-left g c = fault_read _ _ _ _ c.in_default.ensures.none_given c.in_default.ensures.err
-
-pub returns-clause-left : goal.returns-clause-left
-returns-clause-left g c = piece_read _ _ _ _ _ c.in-Ok.count _ c.in-Ok.ensures.given c.in-Ok.ensures.bytes c.in-Ok.ensures.end
