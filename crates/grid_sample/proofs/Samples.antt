@@ -23,8 +23,8 @@ rose_since old mid new up rose = ⊎_elim
     (λ (last : new ≡ 2 ^ 64 - 1). inr last)
     rose
 
-module _ (number : ℕ) (forms : List Form) (before : Option (List ℕ)) (faults : ℕ) where
-  module _ (mid : Option (List ℕ)) (faults_mid : ℕ) (told : Writes before mid (IsSummaryText number)) (up : faults ≤ faults_mid) (after : Option (List ℕ)) (faults_after : ℕ) where
+module _ (number : ℕ) (forms : List Form) (before : List ℕ) (faults : ℕ) where
+  module _ (mid : List ℕ) (faults_mid : ℕ) (told : Writes before mid (IsSummaryText number)) (up : faults ≤ faults_mid) (after : List ℕ) (faults_after : ℕ) where
     -- it stopped in its second part
     pub stopped_at_counts : (status : Status) → Writes mid after (StopsAtCounts forms status) → (status ≡ WriteFault → Rose faults_mid faults_after)
         → HasSampled number forms status None before after faults faults_after

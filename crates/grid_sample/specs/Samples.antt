@@ -1,7 +1,6 @@
 -- What a sample prints, and what it has done.
 use Rattle.std.specs.Prelude.{◌≡◌, ◌⊎◌, ℕ, ℤ, pos, List, [], ◌∷◌, ◌++◌, Option, Some, None, IfSome, IfNone, codes}
 use Rattle.std.specs.Fmt.{signed_decimal}
-use Rattle.std.specs.Io.KnownBytes.{append_known}
 use Rattle.entry_processors.specs.declared.form.Form.{Form}
 use Rattle.partition_protocol.specs.Sequences.{IsFrontOf}
 use Rattle.script_lang.specs.Words.{space, newline}
@@ -71,9 +70,9 @@ StopsAtCounts forms WriteFault text = (grid : LiveGrid) × (pass : GridPass) × 
 StopsAtCounts forms Memory text = text ≡ []
 StopsAtCounts forms _ text = ⊥
 
--- a text was written, where the sink tells it, of which this holds
-abbrev pub Writes : Option (List ℕ) → Option (List ℕ) → (List ℕ → Type 0) → Type 0
-Writes before after P = (text : List ℕ) × (after ≡ append_known before text) × P text
+-- a text was written of which this holds
+abbrev pub Writes : List ℕ → List ℕ → (List ℕ → Type 0) → Type 0
+Writes before after P = (text : List ℕ) × (after ≡ before ++ text) × P text
 
 -- the sample
 
@@ -99,9 +98,9 @@ StopsWith number forms status text = StopsAtScript number status text ⊎ StopsB
 
 -- A sample of this number ended with this status: it is done exactly where it hands a grid back, on which the calls were counted. What was
 -- written is then the whole text, and else as much of it as the status says. Writing failed only where the sink counted a fault
-pub record HasSampled (number : ℕ) (forms : List Form) (status : Status) (held : Option (LiveGrid × GridPass)) (before after : Option (List ℕ)) (faults faults_after : ℕ) : Type 0 where
+pub record HasSampled (number : ℕ) (forms : List Form) (status : Status) (held : Option (LiveGrid × GridPass)) (before after : List ℕ) (faults faults_after : ℕ) : Type 0 where
   pub text : List ℕ
-  pub taken : after ≡ append_known before text
+  pub taken : after ≡ before ++ text
   pub done : IfSome held (λ made. (status ≡ IsDone) × IsWhole number forms made.0 made.1 text)
   pub stops : IfNone held (StopsWith number forms status text)
   pub write_fault : status ≡ WriteFault → Rose faults faults_after
