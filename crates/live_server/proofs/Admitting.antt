@@ -19,7 +19,10 @@ use Rattle.session_calls.specs.declared.session.SessionPass.{SessionPass}
 use Rattle.session_calls.specs.Openings.{IsOpened}
 use Rattle.session_calls.specs.Passes.{ArePassesOf, HaveNumber, giving_up, given}
 use Rattle.session_core.specs.Items.{items_of}
+use Rattle.live_session.specs.declared.connection.Asked.{Asked}
+use Rattle.live_session.specs.declared.note.CallNote.{CallNote}
 use Rattle.live_session.specs.Connections.{HasSeen, AreBelow, IsFresh, IsServedTo}
+use Rattle.live_session.specs.Next.{noted_call}
 use Rattle.live_session.proofs.Beginning.{no_messages}
 use Rattle.live_session.proofs.Calls.{none_called}
 use Rattle.live_session.proofs.Places.{get_front, get_seam, same_some}
@@ -29,6 +32,8 @@ use Rattle.live_server.specs.declared.connections.TheConstants.{ROOM}
 use Rattle.live_server.specs.Serving.{AreEntries, times_returned, SawNone, WasServed}
 use Rattle.live_server.specs.Clients.{IsServedSince}
 use Rattle.live_server.specs.Standing.{times_served, IsServing}
+use Rattle.live_server.specs.Order.{Mark, IsMarked, KeepsMarks, AreMarks, seen_of}
+use Rattle.live_server.proofs.Marks.{keeps_none, marks_seen, rested_on}
 use Rattle.live_server.proofs.Named.{still_named, named_one}
 use Rattle.live_server.proofs.Passing.{HaveGone, gave_up, get_some, get_map, still_unseen, still_was_served, seen_by, seen_there, seen_case, get_mapped}
 use Rattle.live_server.proofs.Tallies.{times_push, times_at, none_times, one_if, one_same, one_other, same_or_other}
@@ -85,7 +90,8 @@ module _ {T P E O F K : Type 0} (key_of : E → Key) (tells : P → List E → E
   came_last : slice_get (serving.arrivals ++ arrival ∷ []) book.accepted ≡ Some arrival
   came_last = subst (λ (n : ℕ). slice_get (serving.arrivals ++ arrival ∷ []) n ≡ Some arrival) serving.accepted (get_seam serving.arrivals arrival [])
 
-  others_came : (client : Client T F K P E O) → IsServedSince key_of tells call_of place gives telling serving.arrivals client → IsServedSince key_of tells call_of place gives telling (serving.arrivals ++ arrival ∷ []) client
+  others_came : (client : Client T F K P E O) → IsServedSince key_of tells call_of place gives telling serving.arrivals serving.marks client
+      → IsServedSince key_of tells call_of place gives telling (serving.arrivals ++ arrival ∷ []) serving.marks client
   others_came client served = record {
     arrival = served.arrival;
     came = get_front serving.arrivals (arrival ∷ []) client.number served.arrival served.came;
@@ -98,6 +104,8 @@ module _ {T P E O F K : Type 0} (key_of : E → Key) (tells : P → List E → E
     by_clock = served.by_clock;
     seen = served.seen;
     served = served.served;
+    marked = served.marked;
+    under_way = served.under_way;
   }
 
   more_arrivals : length (serving.arrivals ++ arrival ∷ []) ≡ book.accepted + 1
@@ -125,9 +133,10 @@ module _ {T P E O F K : Type 0} (key_of : E → Key) (tells : P → List E → E
     }
 
     -- the client is served from now on
-    pub began : (client : Client T F K P E O) → client.number ≡ number → client.from ≡ from → client.to ≡ to → client.connection.pass ≡ session
-        → IsServedTo key_of tells call_of [] place client.connection (seen_by old.passes.items (λ q. [])) [] [] → IsServedSince key_of tells call_of place gives telling (serving.arrivals ++ arrival ∷ []) client
-    began client has_number its_from its_to its_pass served = record {
+    pub began : (client : Client T F K P E O) → client.number ≡ number → client.from ≡ from → client.to ≡ to → client.connection.pass ≡ session → client.connection.asked ≡ None
+        → IsServedTo key_of tells call_of [] place client.connection (seen_by old.passes.items (λ q. [])) [] []
+        → IsServedSince key_of tells call_of place gives telling (serving.arrivals ++ arrival ∷ []) serving.marks client
+    began client has_number its_from its_to its_pass idle served = record {
       arrival = arrival;
       came = subst (λ (n : ℕ). slice_get (serving.arrivals ++ arrival ∷ []) n ≡ Some arrival) (sym (has_number ∙ number_is)) came_last;
       conn = ap (λ (s : SessionPass T P E O). s.conn) its_pass ∙ (opened.conn_is ∙ sym has_number);
@@ -144,14 +153,17 @@ module _ {T P E O F K : Type 0} (key_of : E → Key) (tells : P → List E → E
       by_clock = All-nil gives;
       seen = seen_by old.passes.items (λ q. []);
       served = served;
+      marked = keeps_none key_of serving.marks client.number (seen_by old.passes.items (λ q. [])) (λ p. subst (λ (n : ℕ). AreBelow key_of n 0 (seen_by old.passes.items (λ q. []) p)) (sym (has_number ∙ number_is))
+          (seen_case old.passes.items (λ q. []) (λ l. AreBelow key_of book.accepted 0 l) p (serving.unseen book.accepted (omega arith) p) tt));
+      under_way = subst (λ (a : Option (Asked T P E O)). IfSome a (λ asked. IsMarked serving.marks (noted_call asked) (length (seen_by old.passes.items (λ q. []) asked.started.partition)))) (sym idle) tt;
     }
 
   -- A connection came, and is served
-  admitted : (new : Connections T F K P E O) (client : Client T F K P E O) → client.number ≡ book.accepted → IsServedSince key_of tells call_of place gives telling (serving.arrivals ++ arrival ∷ []) client
+  admitted : (new : Connections T F K P E O) (client : Client T F K P E O) → client.number ≡ book.accepted → IsServedSince key_of tells call_of place gives telling (serving.arrivals ++ arrival ∷ []) serving.marks client → new.notes ≡ old.notes
       → new.passes.items ≡ map (giving_up (One book.accepted)) old.passes.items → new.tokens.items ≡ old.tokens.items → new.clients.items ≡ old.clients.items ++ client ∷ []
       → vec_capacity new.clients ≡ vec_capacity old.clients → new.accepted ≡ old.accepted + 1 → ArePassesOf place.cells.items new.passes.items
       → IsServing key_of tells call_of place gives telling new (after_arrival book (record { member = member; at = connection_of telling from to }))
-  admitted new client its_number served passes_are tokens_are clients_are room accepted of_cells = record {
+  admitted new client its_number served notes_are passes_are tokens_are clients_are room accepted of_cells = record {
     arrivals = serving.arrivals ++ arrival ∷ [];
     arrivals_are = entries_more book.arrivals serving.arrivals arrival serving.arrivals_are;
     accepted = more_arrivals;
@@ -167,15 +179,20 @@ module _ {T P E O F K : Type 0} (key_of : E → Key) (tells : P → List E → E
         (λ (other : book.accepted ≢ number). let c = times_now number in let zero = one_other client.number number (λ e. other (sym its_number ∙ e)) in let e = serving.once number (omega (arith, less, other)) in omega (arith, c, zero, e))
         (same_or_other book.accepted number);
     no_more = λ number more. let c = times_now number in let zero = one_other client.number number (λ e. let s : book.accepted ≡ number = sym its_number ∙ e in omega (arith, more, s)) in let e = serving.no_more number (omega (arith, more)) in omega (arith, c, zero, e);
-    clients = subst (λ l. All (IsServedSince key_of tells call_of place gives telling (serving.arrivals ++ arrival ∷ [])) l) (sym clients_are)
-        (All-push (IsServedSince key_of tells call_of place gives telling (serving.arrivals ++ arrival ∷ [])) old.clients.items client
-        (All-weaker (IsServedSince key_of tells call_of place gives telling serving.arrivals) (IsServedSince key_of tells call_of place gives telling (serving.arrivals ++ arrival ∷ [])) others_came old.clients.items serving.clients) served);
+    marks = serving.marks;
+    are_marks = subst (λ (n : List CallNote). AreMarks key_of serving.marks n new.passes.items) (sym notes_are) (marks_seen key_of serving.marks old.notes old.passes.items new.passes.items gone serving.are_marks);
+    clients = subst (λ l. All (IsServedSince key_of tells call_of place gives telling (serving.arrivals ++ arrival ∷ []) serving.marks) l) (sym clients_are)
+        (All-push (IsServedSince key_of tells call_of place gives telling (serving.arrivals ++ arrival ∷ []) serving.marks) old.clients.items client
+        (All-weaker (IsServedSince key_of tells call_of place gives telling serving.arrivals serving.marks) (IsServedSince key_of tells call_of place gives telling (serving.arrivals ++ arrival ∷ []) serving.marks)
+        others_came old.clients.items serving.clients) served);
     given_back = given_back_on key_of tells call_of place gives telling old book serving new.passes.items gone (arrival ∷ []);
     named = λ number none. let c = times_now number in
         let other : ¬ (number ≡ book.accepted) = λ same. let one = one_same client.number number (its_number ∙ sym same) in omega (arith, c, one, none) in
         subst (HaveNumber number) (sym passes_are) (still_have number other (serving.named number (omega (arith, c, none))));
     unseen = λ number more. still_unseen key_of number old.passes.items new.passes.items gone
         (serving.named number (let e = serving.no_more number (omega (arith, more)) in omega (arith, e))) (serving.unseen number (omega (arith, more)));
+    marked = λ number none. let c = times_now number in subst (λ (l : List Mark). KeepsMarks key_of l number (seen_of new.passes.items)) (append-nil serving.marks)
+        (rested_on key_of serving.marks [] number old.passes.items new.passes.items gone (serving.named number (omega (arith, c, none))) (serving.marked number (omega (arith, c, none))));
   }
     where
       times_now : (number : ℕ) → times_served number new.clients.items ≡ times_served number old.clients.items + one_if client.number number
@@ -190,10 +207,10 @@ module _ {T P E O F K : Type 0} (key_of : E → Key) (tells : P → List E → E
           subst (λ (t : Told E). has_number t.names.numbers number ≡ true) (sym was.2) (still_named book.accepted number was.0.names.numbers other (have p was.0 was.1))
 
   -- A connection came, and there was no memory for it: it was given back
-  refused : (new : Connections T F K P E O) → new.passes.items ≡ old.passes.items → new.tokens.items ≡ old.tokens.items → new.clients ≡ old.clients → new.accepted ≡ old.accepted + 1
+  refused : (new : Connections T F K P E O) → new.notes ≡ old.notes → new.passes.items ≡ old.passes.items → new.tokens.items ≡ old.tokens.items → new.clients ≡ old.clients → new.accepted ≡ old.accepted + 1
       → IsServing key_of tells call_of place gives telling new
       (after_return (after_arrival book (record { member = member; at = connection_of telling from to })) (record { number = book.accepted; at = connection_of telling from to; memory = true }))
-  refused new passes_are tokens_are clients_are accepted = record {
+  refused new notes_are passes_are tokens_are clients_are accepted = record {
     arrivals = serving.arrivals ++ arrival ∷ [];
     arrivals_are = entries_more book.arrivals serving.arrivals arrival serving.arrivals_are;
     accepted = more_arrivals;
@@ -209,13 +226,17 @@ module _ {T P E O F K : Type 0} (key_of : E → Key) (tells : P → List E → E
         (λ (other : book.accepted ≢ number). let c = times_now number in let d = times_back number in let zero = one_other book.accepted number other in let e = serving.once number (omega (arith, less, other)) in omega (arith, c, d, zero, e))
         (same_or_other book.accepted number);
     no_more = λ number more. let c = times_now number in let d = times_back number in let zero = one_other book.accepted number (λ same. omega (arith, more, same)) in let e = serving.no_more number (omega (arith, more)) in omega (arith, c, d, zero, e);
-    clients = subst (λ l. All (IsServedSince key_of tells call_of place gives telling (serving.arrivals ++ arrival ∷ [])) l) (sym (ap (λ v. v.items) clients_are))
-        (All-weaker (IsServedSince key_of tells call_of place gives telling serving.arrivals) (IsServedSince key_of tells call_of place gives telling (serving.arrivals ++ arrival ∷ [])) others_came old.clients.items serving.clients);
+    marks = serving.marks;
+    are_marks = subst (λ (n : List CallNote). AreMarks key_of serving.marks n new.passes.items) (sym notes_are) (subst (AreMarks key_of serving.marks old.notes) (sym passes_are) serving.are_marks);
+    clients = subst (λ l. All (IsServedSince key_of tells call_of place gives telling (serving.arrivals ++ arrival ∷ []) serving.marks) l) (sym (ap (λ v. v.items) clients_are))
+        (All-weaker (IsServedSince key_of tells call_of place gives telling serving.arrivals serving.marks) (IsServedSince key_of tells call_of place gives telling (serving.arrivals ++ arrival ∷ []) serving.marks)
+        others_came old.clients.items serving.clients);
     given_back = subst (λ l. All (WasServed key_of tells call_of place gives l (serving.arrivals ++ arrival ∷ [])) (serving.returns ++ back ∷ [])) (sym passes_are)
         (All-push (WasServed key_of tells call_of place gives old.passes.items (serving.arrivals ++ arrival ∷ [])) serving.returns back
         (given_back_on key_of tells call_of place gives telling old book serving old.passes.items (stays key_of old.passes.items) (arrival ∷ [])) at_once);
     named = λ number none. subst (HaveNumber number) (sym passes_are) (serving.named number (sym (times_now number) ∙ none));
     unseen = λ number more. subst (SawNone key_of number) (sym passes_are) (serving.unseen number (omega (arith, more)));
+    marked = λ number none. subst (λ l. KeepsMarks key_of serving.marks number (seen_of l)) (sym passes_are) (serving.marked number (sym (times_now number) ∙ none));
   }
     where
       back : Return
@@ -263,22 +284,22 @@ module _ {T P E O F K : Type 0} (key_of : E → Key) (tells : P → List E → E
   -- So it is at the books that tell of it
 
   module _ (now : Book) (now_is : now ≡ after_arrival book (record { member = member; at = connection_of telling from to })) (number : ℕ) (number_is : number ≡ book.accepted) where
-    pub came_in : (new : Connections T F K P E O) (client : Client T F K P E O) → client.number ≡ number → IsServedSince key_of tells call_of place gives telling (serving.arrivals ++ arrival ∷ []) client
-        → new.passes.items ≡ map (giving_up (One number)) old.passes.items → new.tokens.items ≡ old.tokens.items → new.clients.items ≡ old.clients.items ++ client ∷ []
+    pub came_in : (new : Connections T F K P E O) (client : Client T F K P E O) → client.number ≡ number → IsServedSince key_of tells call_of place gives telling (serving.arrivals ++ arrival ∷ []) serving.marks client
+        → new.notes ≡ old.notes → new.passes.items ≡ map (giving_up (One number)) old.passes.items → new.tokens.items ≡ old.tokens.items → new.clients.items ≡ old.clients.items ++ client ∷ []
         → vec_capacity new.clients ≡ vec_capacity old.clients → new.accepted ≡ old.accepted + 1 → ArePassesOf place.cells.items new.passes.items
         → IsServing key_of tells call_of place gives telling new now
-    came_in new client its_number served passes_are tokens_are clients_are room accepted of_cells =
+    came_in new client its_number served notes_are passes_are tokens_are clients_are room accepted of_cells =
         subst (λ (b : Book). IsServing key_of tells call_of place gives telling new b) (sym now_is)
-        (admitted new client (its_number ∙ number_is) served (passes_are ∙ ap (λ (n : ℕ). map (giving_up (One n)) old.passes.items) number_is) tokens_are clients_are room accepted of_cells)
+        (admitted new client (its_number ∙ number_is) served notes_are (passes_are ∙ ap (λ (n : ℕ). map (giving_up (One n)) old.passes.items) number_is) tokens_are clients_are room accepted of_cells)
 
     pub turned_away : (last : Book) → last ≡ after_return now (record { number = number; at = connection_of telling from to; memory = true })
-        → (new : Connections T F K P E O) → new.passes.items ≡ old.passes.items → new.tokens.items ≡ old.tokens.items → new.clients ≡ old.clients → new.accepted ≡ old.accepted + 1
+        → (new : Connections T F K P E O) → new.notes ≡ old.notes → new.passes.items ≡ old.passes.items → new.tokens.items ≡ old.tokens.items → new.clients ≡ old.clients → new.accepted ≡ old.accepted + 1
         → IsServing key_of tells call_of place gives telling new last
-    turned_away last last_is new passes_are tokens_are clients_are accepted =
+    turned_away last last_is new notes_are passes_are tokens_are clients_are accepted =
         subst (λ (b : Book). IsServing key_of tells call_of place gives telling new b)
         (sym (last_is ∙ (ap (λ (b : Book). after_return b (record { number = number; at = connection_of telling from to; memory = true })) now_is
         ∙ ap (λ (n : ℕ). after_return (after_arrival book (record { member = member; at = connection_of telling from to })) (record { number = n; at = connection_of telling from to; memory = true })) number_is)))
-        (refused new passes_are tokens_are clients_are accepted)
+        (refused new notes_are passes_are tokens_are clients_are accepted)
 
     -- and it may be given back
     pub may_go_back : IsOut now number

@@ -1,5 +1,5 @@
 -- How a client goes on by a turn.
-use Rattle.std.proofs.Common.{◌≡◌, ◌⊎◌, inl, inr, ⊎_elim, ℕ, ◌<◌, ◌≤◌, Bool, true, false, List, ◌++◌, All, Option, Some, None, IfSome, IsSome, slice_get, refl, sym, ap, ◌∙◌, subst, append_assoc, arith}
+use Rattle.std.proofs.Common.{◌≡◌, ◌⊎◌, inl, inr, ⊎_elim, ℕ, ◌<◌, ◌≤◌, Bool, true, false, List, [], ◌++◌, length, All, Option, Some, None, IfSome, IsSome, slice_get, refl, sym, ap, ◌∙◌, subst, append_assoc, append-nil, arith}
 use Rattle.std.proofs.lemmas.List.Elements.{All-cons}
 use Rattle.grid_base.specs.declared.calls.Request.{Request}
 use Rattle.grid_edge.specs.Doors.{Arrival}
@@ -11,6 +11,7 @@ use Rattle.hand_cell.specs.declared.outcome.LiveOutcome.{LiveOutcome}
 use Rattle.hand_cell.specs.declared.outcome.LiveOutcome.TheVariants.{MemberGone as IsGone}
 use Rattle.message_frames.specs.Messages.{messages_of, fault_of}
 use Rattle.message_frames.proofs.Staying.{heard_messages_stay}
+use Rattle.hand_cell.specs.Told.{Told}
 use Rattle.partition_threads.specs.declared.workplace.Workplace.{Workplace}
 use Rattle.session_core.specs.Items.{items_of}
 use Rattle.session_core.specs.declared.item.Item.{Item}
@@ -20,11 +21,19 @@ use Rattle.live_session.specs.declared.turned.ConnectionEnd.TheVariants.{Ended, 
 use Rattle.live_session.specs.declared.turned.Turned.{Turned}
 use Rattle.live_session.specs.declared.turned.Turned.TheVariants.{Moved, NotYet, Ended as Over}
 use Rattle.live_session.specs.Connections.{AreCallsOf, HasAnswered, IsServed, IsServedTo, HasEnded as SessionEnded}
+use Rattle.live_session.specs.declared.note.CallNote.{CallNote}
+use Rattle.live_session.specs.Among.{HasTurnedAmong}
+use Rattle.live_session.specs.Next.{noted_call}
 use Rattle.live_session.specs.Turns.{incoming, stream, with_moment, HasTurned, StandsAfter, IsOver, IsAllWritten}
 use Rattle.live_session.proofs.Calls.{calls_longer}
 use Rattle.live_server.specs.declared.client.Client.{Client}
+use Rattle.live_server.specs.Order.{Mark, IsMarked, KeepsMarks, AreMarks}
 use Rattle.live_server.specs.Serving.{HaveMoved, IsComplete, IsCutShort, WasAnswered}
-use Rattle.live_server.specs.Clients.{is_memory, state_of, IsServedSince, HasEnded}
+use Rattle.live_server.specs.declared.client.Progress.{Progress}
+use Rattle.live_server.specs.declared.client.Progress.TheVariants.{Going, Ended as IsEnded}
+use Rattle.live_server.specs.Clients.{is_memory, state_of, IsServedSince, HasEnded, IsProgress, HasGoneOn}
+use Rattle.live_server.proofs.Marks.{learned_none, learned_both, still_marked}
+use Rattle.live_server.proofs.Noting.{TurnMarks, turn_marks}
 
 -- a count that rose has risen since it was less
 pub rose_since : (first mid last : ℕ) → first ≤ mid → Rose mid last → Rose first last
@@ -65,13 +74,15 @@ module _ {T P E O : Type 0} (key_of : E → Key) (tells : P → List E → E →
       (subst (λ (m : ℕ). HasAnswered key_of tells call_of moments place conn m seen read written left rest) same_member has)
 
 module _ {T P E O F K : Type 0} (key_of : E → Key) (tells : P → List E → E → LiveOutcome → Type 0) (call_of : ℕ → Request → ℕ → E) (place : Workplace T P E O) (gives : ℕ → Type 0) (telling : Telling F K)
-    (arrivals : List Arrival) (old new : Client T F K P E O) (was_unready from_unready to_unready now_unready : ℕ) (turned : Turned) (served : IsServedSince key_of tells call_of place gives telling arrivals old)
+    (arrivals : List Arrival) (marks marks_now : List Mark) (old new : Client T F K P E O) (was_unready from_unready to_unready now_unready : ℕ) (turned : Turned) (served : IsServedSince key_of tells call_of place gives telling arrivals marks old)
     (same_number : new.number ≡ old.number) (same_conn : new.connection.pass.conn ≡ old.connection.pass.conn) (same_member : new.connection.pass.member ≡ old.connection.pass.member)
     (read_faults : telling.read_faults old.from ≤ telling.read_faults new.from) (write_faults : telling.write_faults old.to ≤ telling.write_faults new.to)
     (turn : HasTurned key_of tells call_of place gives old.connection.asked new.connection
     (record { from = incoming (telling.given old.from) (telling.read_faults old.from) was_unready; to = stream (telling.taken old.to) (telling.write_faults old.to) to_unready })
     (record { from = incoming (telling.given new.from) (telling.read_faults new.from) from_unready; to = stream (telling.taken new.to) (telling.write_faults new.to) now_unready })
-    served.seen served.moments served.read served.written turned) where
+    served.seen served.moments served.read served.written turned)
+    (marked : KeepsMarks key_of marks_now new.number turn.sees)
+    (under_way : IfSome new.connection.asked (λ asked. IsMarked marks_now (noted_call asked) (length (turn.sees asked.started.partition)))) where
   conn_now : new.connection.pass.conn ≡ new.number
   conn_now = same_conn ∙ (served.conn ∙ sym same_number)
 
@@ -94,7 +105,7 @@ module _ {T P E O F K : Type 0} (key_of : E → Key) (tells : P → List E → E
 
   -- where it goes on, it is served as before
   pub still_served : IsServedTo key_of tells call_of (with_moment turn.started served.moments) place new.connection turn.sees (served.read ++ turn.moves.read) (served.written ++ turn.moves.written)
-      → IsServedSince key_of tells call_of place gives telling arrivals new
+      → IsServedSince key_of tells call_of place gives telling arrivals marks_now new
   still_served now = record {
     arrival = served.arrival;
     came = came_now;
@@ -107,12 +118,14 @@ module _ {T P E O F K : Type 0} (key_of : E → Key) (tells : P → List E → E
     by_clock = by_clock_now;
     seen = turn.sees;
     served = now;
+    marked = marked;
+    under_way = under_way;
   }
 
   -- and else it has ended
   ended_with : (memory : Bool) (heard : List ℕ) (ended : SessionEnded key_of tells call_of (with_moment turn.started served.moments) place new.connection turn.sees heard (served.written ++ turn.moves.written))
       → WasAnswered key_of tells call_of place gives new.number served.arrival.member served.arrival.at (state_of telling new) memory turn.sees
-      → HasEnded key_of tells call_of place gives telling arrivals new memory
+      → HasEnded key_of tells call_of place gives telling arrivals marks_now new memory
   ended_with memory heard ended answered = record {
     arrival = served.arrival;
     came = came_now;
@@ -121,12 +134,13 @@ module _ {T P E O F K : Type 0} (key_of : E → Key) (tells : P → List E → E
     seen = turn.sees;
     passes = ended.passes;
     answered = answered;
+    marked = marked;
   }
 
   module _ (memory : Bool) (ended : SessionEnded key_of tells call_of (with_moment turn.started served.moments) place new.connection turn.sees (served.read ++ turn.moves.read) (served.written ++ turn.moves.written)) where
     answered_with : IsComplete (state_of telling new) (served.read ++ turn.moves.read) new.connection.out ended.rest
         ⊎ IsCutShort key_of tells call_of place gives served.arrival.member served.arrival.at (state_of telling new) memory (with_moment turn.started served.moments) turn.sees ended.rest
-        → HasEnded key_of tells call_of place gives telling arrivals new memory
+        → HasEnded key_of tells call_of place gives telling arrivals marks_now new memory
     answered_with why = ended_with memory (served.read ++ turn.moves.read) ended (record {
       read = served.read ++ turn.moves.read;
       written = served.written ++ turn.moves.written;
@@ -141,13 +155,13 @@ module _ {T P E O F K : Type 0} (key_of : E → Key) (tells : P → List E → E
     })
 
   all_written : (memory : Bool) (all : IsAllWritten key_of tells call_of place (with_moment turn.started served.moments) new.connection turn.sees (served.read ++ turn.moves.read) (served.written ++ turn.moves.written))
-      → ((telling.given new.from).ended ≡ true) ⊎ IsSome (fault_of true (served.read ++ turn.moves.read)) → HasEnded key_of tells call_of place gives telling arrivals new memory
+      → ((telling.given new.from).ended ≡ true) ⊎ IsSome (fault_of true (served.read ++ turn.moves.read)) → HasEnded key_of tells call_of place gives telling arrivals marks_now new memory
   all_written memory all why = answered_with memory all.ended (inl (record { none_left = all.none_left; all_answered = all.all_answered; no_more = why }))
 
   pub has_ended : (end : ConnectionEnd) → IsOver key_of tells call_of place end (with_moment turn.started served.moments) new.connection turn.sees (served.read ++ turn.moves.read) (served.written ++ turn.moves.written)
       (record { from = incoming (telling.given old.from) (telling.read_faults old.from) was_unready; to = stream (telling.taken old.to) (telling.write_faults old.to) to_unready })
       (record { from = incoming (telling.given new.from) (telling.read_faults new.from) from_unready; to = stream (telling.taken new.to) (telling.write_faults new.to) now_unready })
-      → HasEnded key_of tells call_of place gives telling arrivals new (is_memory end)
+      → HasEnded key_of tells call_of place gives telling arrivals marks_now new (is_memory end)
   has_ended Ended over = all_written false over.0 (inl over.1)
   has_ended (Closed fault) over = all_written false over.0 (inr (is_some (fault_of true (served.read ++ turn.moves.read)) fault over.1))
   has_ended ReadFault over = answered_with false over.0 (inr (inr (inl (rose_since served.arrival.at.read_faults (telling.read_faults old.from) (telling.read_faults new.from) served.moved.read_faults over.1))))
@@ -182,11 +196,76 @@ module _ {T P E O F K : Type 0} (key_of : E → Key) (tells : P → List E → E
       (record { from = incoming (telling.given old.from) (telling.read_faults old.from) was_unready; to = stream (telling.taken old.to) (telling.write_faults old.to) to_unready })
       (record { from = incoming (telling.given new.from) (telling.read_faults new.from) from_unready; to = stream (telling.taken new.to) (telling.write_faults new.to) now_unready })) e turn.stands
 
-  pub after_moved : turned ≡ Moved → IsServedSince key_of tells call_of place gives telling arrivals new
+  pub after_moved : turned ≡ Moved → IsServedSince key_of tells call_of place gives telling arrivals marks_now new
   after_moved e = still_served (stands_at Moved e).0
 
-  pub after_not_yet : turned ≡ NotYet → IsServedSince key_of tells call_of place gives telling arrivals new
+  pub after_not_yet : turned ≡ NotYet → IsServedSince key_of tells call_of place gives telling arrivals marks_now new
   after_not_yet e = still_served (stands_at NotYet e).0
 
-  pub after_end : (end : ConnectionEnd) → turned ≡ Over end → HasEnded key_of tells call_of place gives telling arrivals new (is_memory end)
+  pub after_end : (end : ConnectionEnd) → turned ≡ Over end → HasEnded key_of tells call_of place gives telling arrivals marks_now new (is_memory end)
   after_end end e = has_ended end (stands_at (Over end) e).1
+
+module _ {T P E O F K : Type 0} (key_of : E → Key) (tells : P → List E → E → LiveOutcome → Type 0) (call_of : ℕ → Request → ℕ → E) (place : Workplace T P E O) (gives : ℕ → Type 0) (telling : Telling F K)
+    (arrivals : List Arrival) (marks : List Mark) where
+  -- a client that had no turn yet
+  pub gone_not : (client : Client T F K P E O) (known : List (Told E)) (notes : List CallNote) → AreMarks key_of marks notes known → IsServedSince key_of tells call_of place gives telling arrivals marks client
+      → HasGoneOn key_of tells call_of place gives telling (Going false) arrivals marks client known known notes
+  gone_not client known notes are served = record {
+    more = [];
+    are_marks = subst (λ (l : List Mark). AreMarks key_of l notes known) (sym (append-nil marks)) are;
+    learned = learned_none key_of known;
+    progress_is = still_marked key_of tells call_of place gives telling arrivals marks [] client served;
+  }
+
+  -- whether anything moved says no more
+  pub going_by : (moved : Bool) (client : Client T F K P E O) (known known_now : List (Told E)) (notes : List CallNote)
+      → HasGoneOn key_of tells call_of place gives telling (Going false) arrivals marks client known known_now notes → HasGoneOn key_of tells call_of place gives telling (Going moved) arrivals marks client known known_now notes
+  going_by moved client known known_now notes gone = record { more = gone.more; are_marks = gone.are_marks; learned = gone.learned; progress_is = gone.progress_is }
+
+  module _ (old new : Client T F K P E O) (was_unready from_unready to_unready now_unready : ℕ) (turned : Turned) (first known known_now : List (Told E)) (notes notes_now : List CallNote)
+      (gone : HasGoneOn key_of tells call_of place gives telling (Going false) arrivals marks old first known notes)
+      (same_number : new.number ≡ old.number) (same_conn : new.connection.pass.conn ≡ old.connection.pass.conn) (same_member : new.connection.pass.member ≡ old.connection.pass.member)
+      (read_faults : telling.read_faults old.from ≤ telling.read_faults new.from) (write_faults : telling.write_faults old.to ≤ telling.write_faults new.to) (as_long : length known ≡ length place.cells.items)
+      (among : HasTurnedAmong key_of tells call_of place gives old.connection.asked new.connection
+      (record { from = incoming (telling.given old.from) (telling.read_faults old.from) was_unready; to = stream (telling.taken old.to) (telling.write_faults old.to) to_unready })
+      (record { from = incoming (telling.given new.from) (telling.read_faults new.from) from_unready; to = stream (telling.taken new.to) (telling.write_faults new.to) now_unready })
+      gone.progress_is.seen gone.progress_is.moments gone.progress_is.read gone.progress_is.written turned known known_now notes notes_now) where
+    abbrev before : List Mark
+    before = marks ++ gone.more
+
+    conn_is : new.connection.pass.conn ≡ new.number
+    conn_is = same_conn ∙ (gone.progress_is.conn ∙ sym same_number)
+
+    keeps : KeepsMarks key_of before new.number gone.progress_is.seen
+    keeps = subst (λ (n : ℕ). KeepsMarks key_of before n gone.progress_is.seen) (sym same_number) gone.progress_is.marked
+
+    abbrev its : TurnMarks key_of tells call_of place gives old.connection.asked new.connection
+        (record { from = incoming (telling.given old.from) (telling.read_faults old.from) was_unready; to = stream (telling.taken old.to) (telling.write_faults old.to) to_unready })
+        (record { from = incoming (telling.given new.from) (telling.read_faults new.from) from_unready; to = stream (telling.taken new.to) (telling.write_faults new.to) now_unready })
+        gone.progress_is.seen gone.progress_is.moments gone.progress_is.read gone.progress_is.written turned known known_now notes notes_now among as_long new.number conn_is before gone.are_marks keeps
+    its = turn_marks key_of tells call_of place gives old.connection.asked new.connection
+        (record { from = incoming (telling.given old.from) (telling.read_faults old.from) was_unready; to = stream (telling.taken old.to) (telling.write_faults old.to) to_unready })
+        (record { from = incoming (telling.given new.from) (telling.read_faults new.from) from_unready; to = stream (telling.taken new.to) (telling.write_faults new.to) now_unready })
+        gone.progress_is.seen gone.progress_is.moments gone.progress_is.read gone.progress_is.written turned known known_now notes notes_now among as_long new.number conn_is before gone.are_marks keeps
+        gone.progress_is.under_way
+
+    gone_on : (progress : Progress) → IsProgress key_of tells call_of place gives telling progress arrivals (before ++ its.more) new
+        → HasGoneOn key_of tells call_of place gives telling progress arrivals marks new first known_now notes_now
+    gone_on progress is = record {
+      more = gone.more ++ its.more;
+      are_marks = subst (λ (l : List Mark). AreMarks key_of l notes_now known_now) (append_assoc marks gone.more its.more) its.are_marks;
+      learned = learned_both key_of first known known_now gone.learned its.learned;
+      progress_is = subst (λ (l : List Mark). IsProgress key_of tells call_of place gives telling progress arrivals l new) (append_assoc marks gone.more its.more) is;
+    }
+
+    pub then_moved : turned ≡ Moved → HasGoneOn key_of tells call_of place gives telling (Going false) arrivals marks new first known_now notes_now
+    then_moved e = gone_on (Going false) (after_moved key_of tells call_of place gives telling arrivals before (before ++ its.more) old new was_unready from_unready to_unready now_unready turned gone.progress_is
+        same_number same_conn same_member read_faults write_faults among.turn its.marked its.under_way e)
+
+    pub then_not_yet : (moved : Bool) → turned ≡ NotYet → HasGoneOn key_of tells call_of place gives telling (Going moved) arrivals marks new first known_now notes_now
+    then_not_yet moved e = gone_on (Going moved) (after_not_yet key_of tells call_of place gives telling arrivals before (before ++ its.more) old new was_unready from_unready to_unready now_unready turned gone.progress_is
+        same_number same_conn same_member read_faults write_faults among.turn its.marked its.under_way e)
+
+    pub then_end : (end : ConnectionEnd) → turned ≡ Over end → HasGoneOn key_of tells call_of place gives telling (IsEnded (is_memory end)) arrivals marks new first known_now notes_now
+    then_end end e = gone_on (IsEnded (is_memory end)) (after_end key_of tells call_of place gives telling arrivals before (before ++ its.more) old new was_unready from_unready to_unready now_unready turned gone.progress_is
+        same_number same_conn same_member read_faults write_faults among.turn its.marked its.under_way end e)

@@ -3,6 +3,7 @@ ghost use Rattle.std.specs.Prelude.{◌≡◌, ℕ, OnOk};
 ghost use Rattle.grid_edge.specs.Faults.{HasCause};
 ghost use Rattle.live_session.specs.Connections.{ServesCalls};
 ghost use Rattle.live_server.specs.Clients.{telling_by};
+ghost use Rattle.live_server.specs.Order.{KeepsOrder};
 ghost use Rattle.live_server.specs.Serving.{HasServedAll};
 ghost use Rattle.live_server.specs.Rounds.{IsAfter, ComesTo};
 ghost use Rattle.live_server.specs.Standing.{MayServe, Rests, HasLetAllIn, IsSince, IsServing};
@@ -14,6 +15,7 @@ use crate::entrance::{Entrance, Outside};
 use crate::rounds::go_round;
 use grid_edge::{Clock, DoorFault, Doors};
 use hand_cell::Served;
+use live_session::CallNotes;
 use partition_threads::Workplace;
 use std::alloc::Global;
 use std::sync::Wait;
@@ -35,6 +37,11 @@ const LONGEST_SLEEP: u32 = 1000;
 /// the doors has the same effect, and is answered then. Where nothing is ready the thread sleeps at the doors, and
 /// whoever answers a call or closes the server wakes it there.
 ///
+/// Calls of different connections keep an order too: where one call's outcome was found before another call of its
+/// partition was started, its event stands first (`KeepsOrder`). Both moments are noted as the loop comes to them, by
+/// `Connection::turn_among` alone. That an answer is written after its outcome was found, and a call started after it was
+/// read, is the order of the program's steps: no clause says it. Nothing is said of calls of two servers.
+///
 /// A round costs a turn of each connection that isn't ready, and up to eight of one that is.
 pub fn serve<T: Served, D: Doors, C: Clock, R: Wait>(
     rt: &R,
@@ -48,6 +55,7 @@ pub fn serve<T: Served, D: Doors, C: Clock, R: Wait>(
     requires calls { ServesCalls T.fits place.now }
     requires may { MayServe T.key_of place.now connections.old (D.book doors.old) }
     ensures served { HasServedAll T.key_of T.tells T.call_of place.now (λ now. C.gives clock.now now) connections.new.passes.items (D.book doors.new) }
+    ensures in_order { KeepsOrder T.key_of connections.new.notes connections.new.passes.items }
     ensures all_in { OnOk result (HasLetAllIn (D.empty_looks doors.old) (D.empty_looks doors.new) (D.book doors.new).accepted) }
     ensures rests { Rests place.now connections.new }
     ensures opening { (D.book doors.new).opening ≡ (D.book doors.old).opening }
@@ -81,21 +89,21 @@ pub enum Round {
 }
 
 impl Rounds {
-    /// Before the first round. No connection has come.
+    /// Before the first round. No connection has come, and no call is noted.
     pub fn new<T: Served, D: Doors, C: Clock>(
         place: &Workplace<T>,
-        connections: &Connections<T, D::From, D::To>,
+        connections: &mut Connections<T, D::From, D::To>,
         doors: &D,
         clock: &C,
     ) -> Rounds
-        requires { MayServe T.key_of place.now connections.now (D.book doors.now) }
-        ensures serving { IsServing T.key_of T.tells T.call_of place.now (λ now. C.gives clock.now now) (telling_by D.From.given D.From.faults D.To.taken D.To.faults) connections.now (D.book doors.now) }
+        requires { MayServe T.key_of place.now connections.old (D.book doors.now) }
+        ensures serving { IsServing T.key_of T.tells T.call_of place.now (λ now. C.gives clock.now now) (telling_by D.From.given D.From.faults D.To.taken D.To.faults) connections.new (D.book doors.now) }
         ensures since { (looks faults accepted : ℕ) → IsAfter result looks looks faults faults accepted }
     {
         let _ = place;
-        let _ = connections;
         let _ = doors;
         let _ = clock;
+        connections.notes = CallNotes::new();
         Rounds {
             entrance: Entrance::Open,
             idle: 0,

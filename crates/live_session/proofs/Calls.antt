@@ -1,15 +1,14 @@
 -- The calls that a connection's passes have seen are those of its messages.
-use Rattle.std.proofs.Common.{◌≡◌, ℕ, zero, suc, ◌<◌, ◌⊎◌, inl, inr, ⊎_elim, Bool, true, false, List, [], ◌∷◌, ◌++◌, Contains, refl, sym, ap, ◌∙◌, subst, arith}
+use Rattle.std.proofs.Common.{◌≡◌, ℕ, zero, suc, ◌<◌, ◌⊎◌, inl, inr, ⊎_elim, List, [], ◌∷◌, ◌++◌, Contains, refl, sym, ap, ◌∙◌, subst, arith}
 use Rattle.grid_base.specs.declared.names.CallId.{CallId}
 use Rattle.grid_base.specs.declared.calls.Request.{Request}
 use Rattle.hand_cell.specs.declared.names.Key.{Key}
 use Rattle.hand_cell.specs.declared.names.Key.TheVariants.{Call as CallKey, Control, Free}
-use Rattle.hand_cell.specs.declared.names.NameSet.{NameSet}
 use Rattle.hand_cell.specs.declared.outcome.LiveOutcome.{LiveOutcome}
-use Rattle.hand_cell.specs.Names.{has, has_number, NoneOf}
 use Rattle.partition_threads.specs.declared.workplace.Workplace.{Workplace}
 use Rattle.session_core.specs.declared.item.Item.{Item}
 use Rattle.live_session.specs.Connections.{IsBelow, AreBelow, IsCallOf, AreCallsOf}
+use Rattle.live_session.proofs.Numbers.{below_both}
 use Rattle.live_session.proofs.Places.{get_front}
 
 -- Where an element of two lists stands
@@ -51,23 +50,6 @@ module _ {E : Type 0} (key_of : E → Key) (conn : ℕ) where
       one (CallKey id) under = λ mine. let l : id.number < least = under mine in ⊎_elim (λ (m : least < number). omega (arith, l, m)) (λ (m : least ≡ number). omega (arith, l, m)) less
       one Control under = tt
       one Free under = tt
-
-  pub below_both : (number : ℕ) (xs ys : List E) → AreBelow key_of conn number xs → AreBelow key_of conn number ys → AreBelow key_of conn number (xs ++ ys)
-  below_both number [] ys p q = q
-  below_both number (x ∷ xs) ys p q = (p.0, below_both number xs ys p.1 q)
-
-  -- of events that have no name of a pass of the connection none is a call of it
-  pub none_below : (names : NameSet) (events : List E) → has_number names.numbers conn ≡ true → NoneOf key_of names events → AreBelow key_of conn 0 events
-  none_below names [] named none = tt
-  none_below names (event ∷ events) named none = (one (key_of event) none.0, none_below names events named none.1)
-    where
-      differ : ◌≡◌ {A = Bool} false true → ⊥
-      differ e = cc
-
-      one : (key : Key) → has names key ≡ false → IsBelow conn 0 key
-      one (CallKey id) lacks = λ same. absurd (differ (sym lacks ∙ ap (has_number names.numbers) same ∙ named))
-      one Control lacks = tt
-      one Free lacks = tt
 
   -- none of them is a call of the connection
   pub none_there : (before after : List E) (event : E) (id : CallId) → AreBelow key_of conn 0 (before ++ event ∷ after) → key_of event ≡ CallKey id → id.conn ≡ conn → ⊥

@@ -33,7 +33,7 @@ use Rattle.live_session.specs.Replies.{busy, unstarted_bytes}
 use Rattle.live_session.specs.Connections.{HasSeen, HaveSeen, HasAnswered, IsNotRun, IsServedWith, IsServedTo, ServesCalls}
 use Rattle.live_session.specs.Turns.{Streams, StandsAfter, HasTurned}
 use Rattle.live_session.proofs.Places.{get_seam, set_there, same_some}
-use Rattle.live_session.proofs.Numbers.{below_lacks}
+use Rattle.live_session.proofs.Numbers.{below_lacks, stands_within}
 use Rattle.live_session.proofs.Answering.{next_number, grows_not, Kept, kept_by, kept_more, kept_since}
 use Rattle.live_session.proofs.Passes.{others_stay}
 use Rattle.live_session.proofs.Turning.{unmoved, none_moved}
@@ -130,6 +130,7 @@ module _ {T P E O : Type 0} (key_of : E → Key) (tells : P → List E → E →
         given = refl;
         sees = seen;
         more = λ partition. ([], sym (append-nil (seen partition)));
+        anew = λ id partition at mine is past. absurd (past (stands_within key_of id (seen partition) at is));
         stands = subst (λ (r : List ℕ). StandsAfter key_of tells call_of place Moved (now ∷ moments) None (record c { pass = pass_now; asked = Some asked }) seen r (written ++ []) unmoved streams streams) (sym (append-nil read))
             (subst (λ (w : List ℕ). StandsAfter key_of tells call_of place Moved (now ∷ moments) None (record c { pass = pass_now; asked = Some asked }) seen read w unmoved streams streams) (sym (append-nil written))
             (under_way, inr (inr tt)));
@@ -174,7 +175,7 @@ module _ {T P E O : Type 0} (key_of : E → Key) (tells : P → List E → E →
       pub refused_no_memory : (out_now : List ℕ) → out_now ≡ c.out → (streams : Streams)
           → HasTurned key_of tells call_of place (λ moment. ⊥) None (record c { pass = pass_now; out = out_now }) streams streams seen moments read written (Over Memory)
       refused_no_memory out_now same streams =
-          none_moved key_of tells call_of place None (record c { pass = pass_now; out = out_now }) seen moments read written (Over Memory) streams seen (λ partition. ([], sym (append-nil (seen partition)))) (
+          none_moved key_of tells call_of place None (record c { pass = pass_now; out = out_now }) seen moments read written (Over Memory) streams seen (λ partition. ([], sym (append-nil (seen partition)))) (λ id partition at mine is past. absurd (past (stands_within key_of id (seen partition) at is))) (
             idle,
             record {
               heard = read;

@@ -1,0 +1,26 @@
+-- The call that is under way, and the one that is started next.
+use Rattle.std.specs.Prelude.{◌≡◌, ℕ, List, [], ◌∷◌, Option, Some}
+use Rattle.grid_base.specs.declared.calls.Request.{Request}
+use Rattle.session_core.specs.declared.item.Item.{Item}
+use Rattle.session_core.specs.declared.item.Item.TheVariants.{Call}
+use Rattle.live_session.specs.declared.connection.Asked.{Asked}
+use Rattle.live_session.specs.declared.connection.Connection.{Connection}
+use Rattle.live_session.specs.declared.note.NotedCall.{NotedCall}
+
+-- Nothing is left to write, and what waits first is a call of this partition
+pub record IsNext {T P E O : Type 0} (connection : Connection T P E O) (partition : ℕ) : Type 0 where
+  pub none_left : connection.out ≡ []
+  pub request : Request
+  pub behind : List Item
+  pub first : connection.items.items ≡ Call request ∷ behind
+  pub partition_is : request.partition ≡ partition
+
+module _ {T P E O : Type 0} where
+  -- the call that is under way, as it is noted
+  abbrev pub noted_call : Asked T P E O → NotedCall
+  noted_call asked = record { id = asked.started.id; partition = asked.started.partition }
+
+  -- a call that was under way, and still is, is the same
+  abbrev pub IsStill : (was is : Option (Asked T P E O)) → Type 0
+  IsStill (Some was) (Some is) = noted_call is ≡ noted_call was
+  IsStill _ _ = Unit {0}
