@@ -9,7 +9,6 @@ use Rattle.hand_cell.specs.declared.names.Key.TheVariants.{Call as CallKey}
 use Rattle.hand_cell.specs.declared.outcome.LiveOutcome.{LiveOutcome}
 use Rattle.hand_cell.specs.Names.{has_number, Lacks}
 use Rattle.hand_cell.specs.Told.{Told}
-use Rattle.grid_edge.proofs.Told.{append_known-nil}
 use Rattle.grid_base.specs.Errors.{want_of_memory}
 use Rattle.message_frames.specs.Messages.{messages_of}
 use Rattle.partition_threads.specs.declared.workplace.Workplace.{Workplace}
@@ -37,18 +36,19 @@ use Rattle.live_session.proofs.Numbers.{below_lacks, stands_within}
 use Rattle.live_session.proofs.Answering.{next_number, grows_not, Kept, kept_by, kept_more, kept_since}
 use Rattle.live_session.proofs.Passes.{others_stay}
 use Rattle.live_session.proofs.Turning.{unmoved, none_moved}
+use Rattle.live_session.specs.Starts.{Start, start_of}
 
-module _ {T P E O : Type 0} (key_of : E → Key) (tells : P → List E → E → LiveOutcome → Type 0) (call_of : ℕ → Request → ℕ → E) (moments : List ℕ) (place : Workplace T P E O)
-    (c : Connection T P E O) (request : Request) (seen : ℕ → List E) (read written : List ℕ) (served : IsServedWith key_of tells call_of moments place c None (Call request ∷ c.items.items) seen read written) where
-  had : Kept key_of tells call_of place moments c.pass.conn c.pass.member seen read written c.out (Call request ∷ c.items.items)
-  had = subst (λ (r : List Item). Kept key_of tells call_of place moments c.pass.conn c.pass.member seen read written c.out r) served.remains.rest_is (record { answers = served.answers; below = served.below })
+module _ {T P E O : Type 0} (key_of : E → Key) (tells : P → List E → E → LiveOutcome → Type 0) (call_of : ℕ → Request → ℕ → E) (starts : List Start) (place : Workplace T P E O)
+    (c : Connection T P E O) (request : Request) (seen : ℕ → List E) (read written : List ℕ) (served : IsServedWith key_of tells call_of starts place c None (Call request ∷ c.items.items) seen read written) where
+  had : Kept key_of tells call_of place starts c.pass.conn c.pass.member seen read written c.out (Call request ∷ c.items.items)
+  had = subst (λ (r : List Item). Kept key_of tells call_of place starts c.pass.conn c.pass.member seen read written c.out r) served.remains.rest_is (record { answers = served.answers; below = served.below })
 
   number : ℕ
   number = length had.answers.answered
 
   id_is : request.id ≡ record { conn = c.pass.conn; number = number }
   unfolding number
-  id_is = next_number key_of tells call_of moments moments place c.pass.conn c.pass.member seen seen read written c.out (Call request) c.items.items had.answers request refl
+  id_is = next_number key_of tells call_of starts starts place c.pass.conn c.pass.member seen seen read written c.out (Call request) c.items.items had.answers request refl
 
   here : slice_get (items_of c.pass.conn c.pass.member (messages_of true read)) number ≡ Some (Call request)
   unfolding number
@@ -87,14 +87,14 @@ module _ {T P E O : Type 0} (key_of : E → Key) (tells : P → List E → E →
       first_is : start.terms.first ≡ at_place.pass
       first_is = same_some start.terms.first at_place.pass (same_some (Some start.terms.first) (Some at_place.pass) (sym start.pass ∙ at_place.there))
 
-      older : (moment : ℕ) → Contains moments moment → Contains (now ∷ moments) moment
-      older moment there = let less : there.0 < length moments = there.1 in (suc there.0, omega (arith, less), there.2)
+      older : (one : Start) → Contains starts one → Contains (start_of request now ∷ starts) one
+      older one there = let less : there.0 < length starts = there.1 in (suc there.0, omega (arith, less), there.2)
 
-      kept_now : Kept key_of tells call_of place (now ∷ moments) pass_now.conn pass_now.member seen read written c.out (Call request ∷ c.items.items)
-      kept_now = kept_by key_of tells call_of place (now ∷ moments) c.pass.conn pass_now.conn c.pass.member pass_now.member seen read written c.out (Call request ∷ c.items.items) start.away.same_conn start.away.same_member
-          (kept_since key_of tells call_of place moments (now ∷ moments) (λ moment there. older moment there) c.pass.conn c.pass.member seen read written c.out (Call request ∷ c.items.items) had)
+      kept_now : Kept key_of tells call_of place (start_of request now ∷ starts) pass_now.conn pass_now.member seen read written c.out (Call request ∷ c.items.items)
+      kept_now = kept_by key_of tells call_of place (start_of request now ∷ starts) c.pass.conn pass_now.conn c.pass.member pass_now.member seen read written c.out (Call request ∷ c.items.items) start.away.same_conn start.away.same_member
+          (kept_since key_of tells call_of place starts (start_of request now ∷ starts) older c.pass.conn c.pass.member seen read written c.out (Call request ∷ c.items.items) had)
 
-      under_way : IsServedWith key_of tells call_of (now ∷ moments) place (record c { pass = pass_now; asked = Some asked }) (Some asked) c.items.items seen read written
+      under_way : IsServedWith key_of tells call_of (start_of request now ∷ starts) place (record c { pass = pass_now; asked = Some asked }) (Some asked) c.items.items seen read written
       under_way = record {
         pass = kept;
         session = served.session ∙ (ap (λ (n : ℕ). session_after n c.pass.member read) (sym start.away.same_conn) ∙ ap (λ (n : ℕ). session_after pass_now.conn n read) (sym start.away.same_member));
@@ -122,17 +122,17 @@ module _ {T P E O : Type 0} (key_of : E → Key) (tells : P → List E → E →
         below = kept_now.below;
       }
 
-      pub has_started : HasTurned key_of tells call_of place (λ moment. moment ≡ now) None (record c { pass = pass_now; asked = Some asked }) streams streams seen moments read written Moved
-      has_started = record {
+      pub has_started : (given : List ℕ) → HasTurned key_of tells call_of place given (given ++ now ∷ []) None (record c { pass = pass_now; asked = Some asked }) streams streams seen starts read written Moved
+      has_started given = record {
         moves = unmoved;
-        moved = record { read = sym (append-nil streams.from.given.bytes); written = sym (append_known-nil streams.to.bytes) };
-        started = Some now;
-        given = refl;
+        moved = record { read = sym (append-nil streams.from.given.bytes); written = sym (append-nil streams.to.bytes) };
+        started = Some (start_of request now);
+        asks = (ap (λ (i : CallId). i.number) start.id, refl);
         sees = seen;
         more = λ partition. ([], sym (append-nil (seen partition)));
         anew = λ id partition at mine is past. absurd (past (stands_within key_of id (seen partition) at is));
-        stands = subst (λ (r : List ℕ). StandsAfter key_of tells call_of place Moved (now ∷ moments) None (record c { pass = pass_now; asked = Some asked }) seen r (written ++ []) unmoved streams streams) (sym (append-nil read))
-            (subst (λ (w : List ℕ). StandsAfter key_of tells call_of place Moved (now ∷ moments) None (record c { pass = pass_now; asked = Some asked }) seen read w unmoved streams streams) (sym (append-nil written))
+        stands = subst (λ (r : List ℕ). StandsAfter key_of tells call_of place Moved (start_of request now ∷ starts) None (record c { pass = pass_now; asked = Some asked }) seen r (written ++ []) unmoved streams streams) (sym (append-nil read))
+            (subst (λ (w : List ℕ). StandsAfter key_of tells call_of place Moved (start_of request now ∷ starts) None (record c { pass = pass_now; asked = Some asked }) seen read w unmoved streams streams) (sym (append-nil written))
             (under_way, inr (inr tt)));
       }
 
@@ -146,24 +146,24 @@ module _ {T P E O : Type 0} (key_of : E → Key) (tells : P → List E → E →
         named = ap (has_number was.pass.names.numbers) refused.same_conn ∙ was.named;
       }
 
-      answers_call : (told : List ℕ) → told ≡ unstarted_bytes request.correlation why → IsNotRun key_of tells call_of moments place request (seen request.partition) told
+      answers_call : (told : List ℕ) → told ≡ unstarted_bytes request.correlation why → IsNotRun key_of tells call_of starts place request (seen request.partition) told
       answers_call told is = go why is
         where
-          go : (w : Unstarted) → told ≡ unstarted_bytes request.correlation w → IsNotRun key_of tells call_of moments place request (seen request.partition) told
+          go : (w : Unstarted) → told ≡ unstarted_bytes request.correlation w → IsNotRun key_of tells call_of starts place request (seen request.partition) told
           go Busy e = record { nowhere = is_new; code = busy; why = inl refl; reply_is = e }
           go NoMemory e = record { nowhere = is_new; code = want_of_memory; why = inr (inl refl); reply_is = e }
 
-      kept_refused : (told out_now : List ℕ) → told ≡ unstarted_bytes request.correlation why → out_now ≡ c.out ++ told → Kept key_of tells call_of place moments pass_now.conn pass_now.member seen read written out_now c.items.items
-      kept_refused told out_now is behind = kept_by key_of tells call_of place moments c.pass.conn pass_now.conn c.pass.member pass_now.member seen read written out_now c.items.items refused.same_conn refused.same_member
-          (kept_more key_of tells call_of place moments c.pass.conn c.pass.member seen seen read written c.out (Call request) c.items.items had
-          (grows_not key_of tells call_of moments moments place c.pass.conn (length had.answers.answered) c.pass.member (items_of c.pass.conn c.pass.member (messages_of true read)) seen) told out_now behind (inr (answers_call told is)))
+      kept_refused : (told out_now : List ℕ) → told ≡ unstarted_bytes request.correlation why → out_now ≡ c.out ++ told → Kept key_of tells call_of place starts pass_now.conn pass_now.member seen read written out_now c.items.items
+      kept_refused told out_now is behind = kept_by key_of tells call_of place starts c.pass.conn pass_now.conn c.pass.member pass_now.member seen read written out_now c.items.items refused.same_conn refused.same_member
+          (kept_more key_of tells call_of place starts c.pass.conn c.pass.member seen seen read written c.out (Call request) c.items.items had
+          (grows_not key_of tells call_of starts starts place c.pass.conn (length had.answers.answered) c.pass.member (items_of c.pass.conn c.pass.member (messages_of true read)) seen) told out_now behind (inr (answers_call told is)))
 
       session : c.session ≡ session_after pass_now.conn pass_now.member read
       session = served.session ∙ (ap (λ (n : ℕ). session_after n c.pass.member read) (sym refused.same_conn) ∙ ap (λ (n : ℕ). session_after pass_now.conn n read) (sym refused.same_member))
 
-      pub is_refused : (told out_now : List ℕ) → told ≡ unstarted_bytes request.correlation why → out_now ≡ c.out ++ told → IsServedTo key_of tells call_of moments place (record c { pass = pass_now; out = out_now }) seen read written
+      pub is_refused : (told out_now : List ℕ) → told ≡ unstarted_bytes request.correlation why → out_now ≡ c.out ++ told → IsServedTo key_of tells call_of starts place (record c { pass = pass_now; out = out_now }) seen read written
       is_refused told out_now is behind = let now = kept_refused told out_now is behind in
-          subst (λ (a : Option (Asked T P E O)). IsServedWith key_of tells call_of moments place (record c { pass = pass_now; out = out_now }) a c.items.items seen read written) (sym idle) (record {
+          subst (λ (a : Option (Asked T P E O)). IsServedWith key_of tells call_of starts place (record c { pass = pass_now; out = out_now }) a c.items.items seen read written) (sym idle) (record {
             pass = kept;
             session = session;
             rest = c.items.items;
@@ -172,10 +172,10 @@ module _ {T P E O : Type 0} (key_of : E → Key) (tells : P → List E → E →
             below = now.below;
           })
 
-      pub refused_no_memory : (out_now : List ℕ) → out_now ≡ c.out → (streams : Streams)
-          → HasTurned key_of tells call_of place (λ moment. ⊥) None (record c { pass = pass_now; out = out_now }) streams streams seen moments read written (Over Memory)
+      pub refused_no_memory : {given : List ℕ} (out_now : List ℕ) → out_now ≡ c.out → (streams : Streams)
+          → HasTurned key_of tells call_of place given given None (record c { pass = pass_now; out = out_now }) streams streams seen starts read written (Over Memory)
       refused_no_memory out_now same streams =
-          none_moved key_of tells call_of place None (record c { pass = pass_now; out = out_now }) seen moments read written (Over Memory) streams seen (λ partition. ([], sym (append-nil (seen partition)))) (λ id partition at mine is past. absurd (past (stands_within key_of id (seen partition) at is))) (
+          none_moved key_of tells call_of place None (record c { pass = pass_now; out = out_now }) seen starts read written (Over Memory) streams seen (λ partition. ([], sym (append-nil (seen partition)))) (λ id partition at mine is past. absurd (past (stands_within key_of id (seen partition) at is))) (
             idle,
             record {
               heard = read;
@@ -184,8 +184,8 @@ module _ {T P E O : Type 0} (key_of : E → Key) (tells : P → List E → E →
               ended = record {
                 pass = kept;
                 rest = Call request ∷ c.items.items;
-                answers = subst (λ (l : List ℕ). HasAnswered key_of tells call_of moments place pass_now.conn pass_now.member seen read written l (Call request ∷ c.items.items)) (sym same)
-                    (kept_by key_of tells call_of place moments c.pass.conn pass_now.conn c.pass.member pass_now.member seen read written c.out (Call request ∷ c.items.items) refused.same_conn refused.same_member had).answers;
+                answers = subst (λ (l : List ℕ). HasAnswered key_of tells call_of starts place pass_now.conn pass_now.member seen read written l (Call request ∷ c.items.items)) (sym same)
+                    (kept_by key_of tells call_of place starts c.pass.conn pass_now.conn c.pass.member pass_now.member seen read written c.out (Call request ∷ c.items.items) refused.same_conn refused.same_member had).answers;
                 passes = passes;
               };
             },

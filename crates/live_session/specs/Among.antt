@@ -17,6 +17,7 @@ use Rattle.live_session.specs.declared.turned.Turned.{Turned}
 use Rattle.live_session.specs.Connections.{StandsAt, IsServedTo}
 use Rattle.live_session.specs.Next.{IsNext, noted_call}
 use Rattle.live_session.specs.Turns.{Streams, HasTurned}
+use Rattle.live_session.specs.Starts.{Start}
 
 -- what is noted by the calls that were under way before and after a turn: one that was started, or one that was finished
 abbrev pub HasNotedOf : (was is : Option NotedCall) → (notes now : List CallNote) → Type 0
@@ -72,16 +73,16 @@ module _ {T P E O : Type 0} where
 module _ {T P E O : Type 0} (key_of : E → Key) (tells : P → List E → E → LiveOutcome → Type 0) (call_of : ℕ → Request → ℕ → E) (place : Workplace T P E O) where
   -- The connection is served as before by more that it has seen, none of which is a call of its own; a call that comes next stands behind what these
   -- passes have seen
-  pub record IsPrepared (old new : Connection T P E O) (seen : ℕ → List E) (moments read written : List ℕ) (known : List (Told E)) : Type 0 where
+  pub record IsPrepared (old new : Connection T P E O) (seen : ℕ → List E) (starts : List Start) (read written : List ℕ) (known : List (Told E)) : Type 0 where
     pub sees : ℕ → List E
     pub more : (partition : ℕ) → Begins (seen partition) (sees partition)
     pub own : (id : CallId) (partition at : ℕ) → id.conn ≡ old.pass.conn → StandsAt key_of id (sees partition) at → StandsAt key_of id (seen partition) at
-    pub served : IsServedTo key_of tells call_of moments place new sees read written
+    pub served : IsServedTo key_of tells call_of starts place new sees read written
     pub behind : old.asked ≡ None → (partition : ℕ) → IsNext old partition → StandsBehind known partition (sees partition)
 
   -- A turn among connections of one loop: what it came to, what it did to the loop's passes, and what it noted
-  pub record HasTurnedAmong (gives : ℕ → Type 0) (was : Option (Asked T P E O)) (new : Connection T P E O) (before after : Streams) (seen : ℕ → List E)
-      (moments read written : List ℕ) (turned : Turned) (known known_now : List (Told E)) (notes notes_now : List CallNote) : Type 0 where
-    pub turn : HasTurned key_of tells call_of place gives was new before after seen moments read written turned
+  pub record HasTurnedAmong (given given_now : List ℕ) (was : Option (Asked T P E O)) (new : Connection T P E O) (before after : Streams) (seen : ℕ → List E)
+      (starts : List Start) (read written : List ℕ) (turned : Turned) (known known_now : List (Told E)) (notes notes_now : List CallNote) : Type 0 where
+    pub turn : HasTurned key_of tells call_of place given given_now was new before after seen starts read written turned
     pub keeps : KeepsKnown key_of (noted_of was) (noted_of new.asked) turn.sees known known_now
     pub noted : HasNotedOf (noted_of was) (noted_of new.asked) notes notes_now

@@ -4,6 +4,7 @@ ghost use Rattle.hand_cell.specs.declared.names.Key.{Key};
 ghost use Rattle.live_session.specs.Among.{IsPrepared, MaySettle, HasSettled, HasNotedOf, HasTurnedAmong, noted_of};
 ghost use Rattle.live_session.specs.Connections.{IsServedTo, ServesCalls};
 ghost use Rattle.live_session.specs.Turns.{incoming, stream};
+ghost use Rattle.live_session.specs.Starts.{Start};
 ghost use Rattle.session_calls.specs.Passes.{ArePassesOf};
 ghost use Rattle.session_calls.specs.Sessions.{IsSessionOf};
 
@@ -31,19 +32,19 @@ impl<T: Served> Connection<T> {
         place: &Workplace<T>,
         from: &mut F,
         to: &mut K,
-        clock: &C,
+        clock: &mut C,
         known: &mut Vec<Pass<T>>,
         notes: &mut CallNotes,
     ) -> Turned
         requires calls { ServesCalls T.fits place.now }
-        requires served { (seen : ℕ → List T.Event) × (moments read written : List ℕ) × IsServedTo T.key_of T.tells T.call_of moments place.now self.old seen read written }
+        requires served { (seen : ℕ → List T.Event) × (starts : List Start) × (read written : List ℕ) × IsServedTo T.key_of T.tells T.call_of starts place.now self.old seen read written }
         requires known { ArePassesOf place.now.cells.items known.old.items }
-        ensures turned { (seen : ℕ → List T.Event) (moments read written : List ℕ)
-            → IsServedTo T.key_of T.tells T.call_of moments place.now self.old seen read written
-            → HasTurnedAmong T.key_of T.tells T.call_of place.now (λ now. C.gives clock.now now) self.old.asked self.new
+        ensures turned { (seen : ℕ → List T.Event) (starts : List Start) (read written : List ℕ)
+            → IsServedTo T.key_of T.tells T.call_of starts place.now self.old seen read written
+            → HasTurnedAmong T.key_of T.tells T.call_of place.now (C.given clock.old) (C.given clock.new) self.old.asked self.new
             (record { from = incoming (F.given from.old) (F.faults from.old) (F.unready from.old); to = stream (K.taken to.old) (K.faults to.old) (K.unready to.old) })
             (record { from = incoming (F.given from.new) (F.faults from.new) (F.unready from.new); to = stream (K.taken to.new) (K.faults to.new) (K.unready to.new) })
-            seen moments read written result known.old.items known.new.items notes.old notes.new }
+            seen starts read written result known.old.items known.new.items notes.old notes.new }
         ensures same_conn { self.new.pass.conn ≡ self.old.pass.conn }
         ensures same_member { self.new.pass.member ≡ self.old.pass.member }
         ensures read_faults { F.faults from.old ≤ F.faults from.new }
@@ -73,11 +74,11 @@ impl<T: Served> Connection<T> {
     /// Lets the session see what these passes have seen of the partition of the call that is started next, if one is.
     fn prepare(&mut self, place: &Workplace<T>, known: &mut Vec<Pass<T>>)
         requires calls { ServesCalls T.fits place.now }
-        requires served { (seen : ℕ → List T.Event) × (moments read written : List ℕ) × IsServedTo T.key_of T.tells T.call_of moments place.now self.old seen read written }
+        requires served { (seen : ℕ → List T.Event) × (starts : List Start) × (read written : List ℕ) × IsServedTo T.key_of T.tells T.call_of starts place.now self.old seen read written }
         requires known { ArePassesOf place.now.cells.items known.old.items }
-        ensures prepared { (seen : ℕ → List T.Event) (moments read written : List ℕ)
-            → IsServedTo T.key_of T.tells T.call_of moments place.now self.old seen read written
-            → IsPrepared T.key_of T.tells T.call_of place.now self.old self.new seen moments read written known.old.items }
+        ensures prepared { (seen : ℕ → List T.Event) (starts : List Start) (read written : List ℕ)
+            → IsServedTo T.key_of T.tells T.call_of starts place.now self.old seen read written
+            → IsPrepared T.key_of T.tells T.call_of place.now self.old self.new seen starts read written known.old.items }
         ensures same { self.new ≡ record self.old { pass = self.new.pass } }
         ensures same_conn { self.new.pass.conn ≡ self.old.pass.conn }
         ensures same_member { self.new.pass.member ≡ self.old.pass.member }

@@ -27,12 +27,12 @@ pub fn serve_connection<T: Served, S: Source, K: Sink, C: Clock, R: Wait>(
     pass: SessionPass<T>,
     from: &mut Blocking<S>,
     to: &mut Blocking<K>,
-    clock: &C,
+    clock: &mut C,
 ) -> (ConnectionEnd, SessionPass<T>)
     requires calls { ServesCalls T.fits place.now }
     requires fresh { (seen : ℕ → List T.Event) × IsFresh T.key_of place.now pass seen }
     ensures { (seen : ℕ → List T.Event) → IsFresh T.key_of place.now pass seen
-        → HasServed T.key_of T.tells T.call_of place.now (λ now. C.gives clock.now now) pass seen
+        → HasServed T.key_of T.tells T.call_of place.now (C.given clock.new) pass seen
         (record { from = incoming (S.given from.old) (S.faults from.old) 0; to = stream (K.taken to.old) (K.faults to.old) 0 })
         (record { from = incoming (S.given from.new) (S.faults from.new) 0; to = stream (K.taken to.new) (K.faults to.new) 0 })
         result.0 result.1 }

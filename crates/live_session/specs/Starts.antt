@@ -1,0 +1,29 @@
+-- When the calls of a connection were started.
+use Rattle.std.specs.Prelude.{◌≡◌, ◌⊎◌, ℕ, List, [], ◌∷◌, ◌++◌, Option, Some, None, IsSomeAnd}
+use Rattle.grid_base.specs.declared.calls.Request.{Request}
+use Rattle.live_session.specs.declared.connection.Asked.{Asked}
+
+-- the start of a call: its number, and the moment that the clock gave for it
+pub record Start : Type 0 where
+  pub number : ℕ
+  pub moment : ℕ
+
+abbrev pub start_of : Request → ℕ → Start
+start_of request moment = record { number = request.id.number; moment = moment }
+
+-- with the start of a call, if one was started
+abbrev pub with_start : Option Start → List Start → List Start
+with_start None starts = starts
+with_start (Some start) starts = start ∷ starts
+
+-- The clock gave these starts, the latest first, their moments, in their order and each by a reading of its own
+abbrev pub AreGiven : List Start → (given : List ℕ) → Type 0
+AreGiven [] given = Unit {0}
+AreGiven (start ∷ earlier) given = (before after : List ℕ) × (given ≡ before ++ start.moment ∷ after) × AreGiven earlier before
+
+module _ {T P E O : Type 0} where
+  -- What a turn asked the clock for: the moment of the call that it started, which is under way then; and else nothing, or the moment of a call that
+  -- couldn't be started
+  abbrev pub AsksClock : Option Start → (is : Option (Asked T P E O)) → (given given_now : List ℕ) → Type 0
+  AsksClock None is given given_now = (given_now ≡ given) ⊎ ((moment : ℕ) × (given_now ≡ given ++ moment ∷ []))
+  AsksClock (Some start) is given given_now = IsSomeAnd is (λ asked. asked.started.id.number ≡ start.number) × (given_now ≡ given ++ start.moment ∷ [])
