@@ -2,11 +2,10 @@
 use Rattle.std.proofs.Common.{◌≡◌, ◌≢◌, ◌⊎◌, inl, inr, ⊎_elim, ℕ, ◌+◌, ◌<◌, ◌≤◌, true, List, [], ◌∷◌, ◌++◌, length, map, get_or, All, Option, Some, None, IfSome, slice_get, refl, sym, ap, ◌∙◌, subst, append-nil, arith}
 use Rattle.std.specs.Vec.{vec_capacity}
 use Rattle.std.proofs.lemmas.List.{length-append, length-map}
-use Rattle.std.proofs.lemmas.List.Elements.{All-push, All-weaker, All-nil}
+use Rattle.std.proofs.lemmas.List.Elements.{All-push, All-weaker}
 use Rattle.grid_base.specs.declared.calls.Request.{Request}
-use Rattle.grid_edge.specs.Doors.{Arrival, Return, Book, entered, after_arrival, after_return, IsOut}
+use Rattle.grid_edge.specs.Doors.{Arrival, Return, Book, after_arrival, after_return, IsOut}
 use Rattle.grid_edge.specs.MemoryDoors.{Telling, connection_of}
-use Rattle.grid_edge.proofs.Told.{append_known-nil}
 use Rattle.hand_cell.specs.declared.names.Key.{Key}
 use Rattle.hand_cell.specs.declared.names.Names.TheVariants.{One}
 use Rattle.hand_cell.specs.declared.outcome.LiveOutcome.{LiveOutcome}
@@ -17,7 +16,7 @@ use Rattle.partition_threads.specs.declared.workplace.Workplace.{Workplace}
 use Rattle.partition_threads.specs.Workplaces.{AreTokensAt}
 use Rattle.session_calls.specs.declared.session.SessionPass.{SessionPass}
 use Rattle.session_calls.specs.Openings.{IsOpened}
-use Rattle.session_calls.specs.Passes.{ArePassesOf, HaveNumber, giving_up, given}
+use Rattle.session_calls.specs.Passes.{ArePassesOf, HaveNumber, giving_up, given as given_names}
 use Rattle.session_core.specs.Items.{items_of}
 use Rattle.live_session.specs.declared.connection.Asked.{Asked}
 use Rattle.live_session.specs.declared.note.CallNote.{CallNote}
@@ -29,7 +28,7 @@ use Rattle.live_session.proofs.Places.{get_front, get_seam, same_some}
 use Rattle.live_server.specs.declared.client.Client.{Client}
 use Rattle.live_server.specs.declared.connections.Connections.{Connections}
 use Rattle.live_server.specs.declared.connections.TheConstants.{ROOM}
-use Rattle.live_server.specs.Serving.{AreEntries, times_returned, SawNone, WasServed}
+use Rattle.live_server.specs.Serving.{times_returned, SawNone, WasServed}
 use Rattle.live_server.specs.Clients.{IsServedSince}
 use Rattle.live_server.specs.Standing.{times_served, IsServing}
 use Rattle.live_server.specs.Order.{Mark, IsMarked, KeepsMarks, AreMarks, seen_of}
@@ -38,13 +37,8 @@ use Rattle.live_server.proofs.Named.{still_named, named_one}
 use Rattle.live_server.proofs.Passing.{HaveGone, gave_up, get_some, get_map, still_unseen, still_was_served, seen_by, seen_there, seen_case, get_mapped}
 use Rattle.live_server.proofs.Tallies.{times_push, times_at, none_times, one_if, one_same, one_other, same_or_other}
 
-pub entries_more : {A : Type 0} (told : Option (List A)) (entries : List A) (entry : A) → AreEntries told entries → AreEntries (entered told entry) (entries ++ entry ∷ [])
-entries_more None entries entry are = tt
-entries_more (Some list) entries entry are = ap (λ l. l ++ entry ∷ []) are
-
-pub is_out : (number : ℕ) (told : Option (List Return)) (returns : List Return) → AreEntries told returns → times_returned number returns ≡ 0 → IfSome told (λ list. All (λ each. each.number ≢ number) list)
-is_out number None returns are none = tt
-is_out number (Some list) returns are none = subst (λ l. All (λ (each : Return). each.number ≢ number) l) (sym are) (none_times (λ (each : Return). each.number) number returns none)
+pub is_out : (number : ℕ) (book : Book) → times_returned number book.returns ≡ 0 → IsOut book number
+is_out number book none = none_times (λ (each : Return). each.number) number book.returns none
 
 -- passes that stay as they are
 pub stays : {E : Type 0} (key_of : E → Key) (passes : List (Told E)) → HaveGone key_of passes passes
@@ -53,54 +47,54 @@ stays key_of passes = record {
   each = λ p pass now before after. ([], ap (λ (t : Told _). t.seen) (same_some now pass (sym after ∙ before)) ∙ sym (append-nil pass.seen), tt);
 }
 
-module _ {T P E O F K : Type 0} (key_of : E → Key) (tells : P → List E → E → LiveOutcome → Type 0) (call_of : ℕ → Request → ℕ → E) (place : Workplace T P E O) (gives : ℕ → Type 0) (telling : Telling F K)
-    (old : Connections T F K P E O) (book : Book) (serving : IsServing key_of tells call_of place gives telling old book) where
+module _ {T P E O F K : Type 0} (key_of : E → Key) (tells : P → List E → E → LiveOutcome → Type 0) (call_of : ℕ → Request → ℕ → E) (place : Workplace T P E O) (given : List ℕ) (telling : Telling F K)
+    (old : Connections T F K P E O) (book : Book) (serving : IsServing key_of tells call_of place given telling old book) where
   -- a number that was given back isn't served any more
-  pub returned_rests : (k : ℕ) (d : Return) → k < length serving.returns → times_served (get_or serving.returns k d).number old.clients.items ≡ 0
+  pub returned_rests : (k : ℕ) (d : Return) → k < length book.returns → times_served (get_or book.returns k d).number old.clients.items ≡ 0
   returned_rests k d within = ⊎_elim
-      (λ (less : number < book.accepted). let e = serving.once number less in omega (arith, there, e))
-      (λ (more : book.accepted ≤ number). let e = serving.no_more number more in omega (arith, there, e))
-      (less_or_more number book.accepted)
+      (λ (less : number < length book.arrivals). let e = serving.once number less in omega (arith, there, e))
+      (λ (more : length book.arrivals ≤ number). let e = serving.no_more number more in omega (arith, there, e))
+      (less_or_more number (length book.arrivals))
     where
       number : ℕ
-      number = (get_or serving.returns k d).number
+      number = (get_or book.returns k d).number
 
-      there : 1 ≤ times_returned number serving.returns
-      there = times_at (λ (each : Return). each.number) number serving.returns k d within refl
+      there : 1 ≤ times_returned number book.returns
+      there = times_at (λ (each : Return). each.number) number book.returns k d within refl
 
       less_or_more : (n m : ℕ) → (n < m) ⊎ (m ≤ n)
       less_or_more n m = grind arith
 
   -- what was given back stays as it was served, where the passes have seen more
   pub given_back_on : (passes : List (Told E)) → HaveGone key_of old.passes.items passes → (later : List Arrival)
-      → All (WasServed key_of tells call_of place gives passes (serving.arrivals ++ later)) serving.returns
+      → All (WasServed key_of tells call_of place given passes (book.arrivals ++ later)) book.returns
   given_back_on passes gone later k d within =
-      still_was_served key_of tells call_of place gives old.passes.items passes gone serving.arrivals later (get_or serving.returns k d)
-      (serving.named (get_or serving.returns k d).number (returned_rests k d within)) (serving.given_back k d within)
+      still_was_served key_of tells call_of place given old.passes.items passes gone book.arrivals later (get_or book.returns k d)
+      (serving.named (get_or book.returns k d).number (returned_rests k d within)) (serving.given_back k d within)
 
   -- nobody is served yet by the next number
-  pub next_rests : (times_served book.accepted old.clients.items ≡ 0) × (times_returned book.accepted serving.returns ≡ 0)
-  next_rests = let e = serving.no_more book.accepted (omega arith) in (omega (arith, e), omega (arith, e))
+  pub next_rests : (times_served (length book.arrivals) old.clients.items ≡ 0) × (times_returned (length book.arrivals) book.returns ≡ 0)
+  next_rests = let e = serving.no_more (length book.arrivals) (omega arith) in (omega (arith, e), omega (arith, e))
 
-module _ {T P E O F K : Type 0} (key_of : E → Key) (tells : P → List E → E → LiveOutcome → Type 0) (call_of : ℕ → Request → ℕ → E) (place : Workplace T P E O) (gives : ℕ → Type 0) (telling : Telling F K)
-    (old : Connections T F K P E O) (book : Book) (serving : IsServing key_of tells call_of place gives telling old book) (member : ℕ) (from : F) (to : K) where
+module _ {T P E O F K : Type 0} (key_of : E → Key) (tells : P → List E → E → LiveOutcome → Type 0) (call_of : ℕ → Request → ℕ → E) (place : Workplace T P E O) (given : List ℕ) (telling : Telling F K)
+    (old : Connections T F K P E O) (book : Book) (serving : IsServing key_of tells call_of place given telling old book) (member : ℕ) (from : F) (to : K) where
   abbrev pub arrival : Arrival
   arrival = record { member = member; at = connection_of telling from to }
 
-  came_last : slice_get (serving.arrivals ++ arrival ∷ []) book.accepted ≡ Some arrival
-  came_last = subst (λ (n : ℕ). slice_get (serving.arrivals ++ arrival ∷ []) n ≡ Some arrival) serving.accepted (get_seam serving.arrivals arrival [])
+  came_last : slice_get (book.arrivals ++ arrival ∷ []) (length book.arrivals) ≡ Some arrival
+  came_last = get_seam book.arrivals arrival []
 
-  others_came : (client : Client T F K P E O) → IsServedSince key_of tells call_of place gives telling serving.arrivals serving.marks client
-      → IsServedSince key_of tells call_of place gives telling (serving.arrivals ++ arrival ∷ []) serving.marks client
+  others_came : (client : Client T F K P E O) → IsServedSince key_of tells call_of place given telling book.arrivals serving.marks client
+      → IsServedSince key_of tells call_of place given telling (book.arrivals ++ arrival ∷ []) serving.marks client
   others_came client served = record {
     arrival = served.arrival;
-    came = get_front serving.arrivals (arrival ∷ []) client.number served.arrival served.came;
+    came = get_front book.arrivals (arrival ∷ []) client.number served.arrival served.came;
     conn = served.conn;
     member = served.member;
     read = served.read;
     written = served.written;
     moved = served.moved;
-    moments = served.moments;
+    starts = served.starts;
     by_clock = served.by_clock;
     seen = served.seen;
     served = served.served;
@@ -108,19 +102,19 @@ module _ {T P E O F K : Type 0} (key_of : E → Key) (tells : P → List E → E
     under_way = served.under_way;
   }
 
-  more_arrivals : length (serving.arrivals ++ arrival ∷ []) ≡ book.accepted + 1
-  more_arrivals = let e : length serving.arrivals ≡ book.accepted = serving.accepted in let l = length-append serving.arrivals (arrival ∷ []) in omega (arith, e, l)
+  more_arrivals : length (book.arrivals ++ arrival ∷ []) ≡ length book.arrivals + 1
+  more_arrivals = length-append book.arrivals (arrival ∷ [])
 
-  module _ (session : SessionPass T P E O) (number : ℕ) (number_is : number ≡ book.accepted) (opened : IsOpened place old.passes.items number member session) where
+  module _ (session : SessionPass T P E O) (number : ℕ) (number_is : number ≡ length book.arrivals) (opened : IsOpened place old.passes.items number member session) where
     has_seen : (p : ℕ) → p < length session.passes.items → HasSeen session p (seen_by old.passes.items (λ q. []) p)
     has_seen p within =
-        let long : length session.passes.items ≡ length old.passes.items = ap (λ (l : List (Option (Told E))). length l) opened.passes_are ∙ length-map old.passes.items (λ pass. Some (given (One number) pass)) in
+        let long : length session.passes.items ≡ length old.passes.items = ap (λ (l : List (Option (Told E))). length l) opened.passes_are ∙ length-map old.passes.items (λ pass. Some (given_names (One number) pass)) in
         let there = get_some old.passes.items p (subst (λ (n : ℕ). p < n) long within) in
         record {
-          pass = given (One number) there.0;
-          there = ap (λ (l : List (Option (Told E))). slice_get l p) opened.passes_are ∙ get_mapped (λ pass. Some (given (One number) pass)) old.passes.items p there.0 there.1;
+          pass = given_names (One number) there.0;
+          there = ap (λ (l : List (Option (Told E))). slice_get l p) opened.passes_are ∙ get_mapped (λ pass. Some (given_names (One number) pass)) old.passes.items p there.0 there.1;
           seen_is = sym (seen_there old.passes.items (λ q. []) p there.0 there.1);
-          named = subst (λ (n : ℕ). has_number (given (One number) there.0).names.numbers n ≡ true) (sym opened.conn_is) (named_one number);
+          named = subst (λ (n : ℕ). has_number (given_names (One number) there.0).names.numbers n ≡ true) (sym opened.conn_is) (named_one number);
         }
 
     -- its session is fresh
@@ -129,68 +123,63 @@ module _ {T P E O F K : Type 0} (key_of : E → Key) (tells : P → List E → E
       of_place = opened.of_place;
       passes = λ p within none. has_seen p within;
       no_calls = λ p. subst (λ (n : ℕ). AreBelow key_of n 0 (seen_by old.passes.items (λ q. []) p)) (sym (opened.conn_is ∙ number_is))
-          (seen_case old.passes.items (λ q. []) (λ l. AreBelow key_of book.accepted 0 l) p (serving.unseen book.accepted (omega arith) p) tt);
+          (seen_case old.passes.items (λ q. []) (λ l. AreBelow key_of (length book.arrivals) 0 l) p (serving.unseen (length book.arrivals) (omega arith) p) tt);
     }
 
     -- the client is served from now on
     pub began : (client : Client T F K P E O) → client.number ≡ number → client.from ≡ from → client.to ≡ to → client.connection.pass ≡ session → client.connection.asked ≡ None
         → IsServedTo key_of tells call_of [] place client.connection (seen_by old.passes.items (λ q. [])) [] []
-        → IsServedSince key_of tells call_of place gives telling (serving.arrivals ++ arrival ∷ []) serving.marks client
+        → IsServedSince key_of tells call_of place given telling (book.arrivals ++ arrival ∷ []) serving.marks client
     began client has_number its_from its_to its_pass idle served = record {
       arrival = arrival;
-      came = subst (λ (n : ℕ). slice_get (serving.arrivals ++ arrival ∷ []) n ≡ Some arrival) (sym (has_number ∙ number_is)) came_last;
+      came = subst (λ (n : ℕ). slice_get (book.arrivals ++ arrival ∷ []) n ≡ Some arrival) (sym (has_number ∙ number_is)) came_last;
       conn = ap (λ (s : SessionPass T P E O). s.conn) its_pass ∙ (opened.conn_is ∙ sym has_number);
       member = ap (λ (s : SessionPass T P E O). s.member) its_pass ∙ opened.member_is;
       read = [];
       written = [];
       moved = record {
         read_is = ap (λ (f : F). (telling.given f).bytes) its_from ∙ sym (append-nil (telling.given from).bytes);
-        written_is = ap telling.taken its_to ∙ sym (append_known-nil (telling.taken to));
+        written_is = ap telling.taken its_to ∙ sym (append-nil (telling.taken to));
         read_faults = let e : telling.read_faults client.from ≡ telling.read_faults from = ap telling.read_faults its_from in omega (arith, e);
         write_faults = let e : telling.write_faults client.to ≡ telling.write_faults to = ap telling.write_faults its_to in omega (arith, e);
       };
-      moments = [];
-      by_clock = All-nil gives;
+      starts = [];
+      by_clock = tt;
       seen = seen_by old.passes.items (λ q. []);
       served = served;
       marked = keeps_none key_of serving.marks client.number (seen_by old.passes.items (λ q. [])) (λ p. subst (λ (n : ℕ). AreBelow key_of n 0 (seen_by old.passes.items (λ q. []) p)) (sym (has_number ∙ number_is))
-          (seen_case old.passes.items (λ q. []) (λ l. AreBelow key_of book.accepted 0 l) p (serving.unseen book.accepted (omega arith) p) tt));
+          (seen_case old.passes.items (λ q. []) (λ l. AreBelow key_of (length book.arrivals) 0 l) p (serving.unseen (length book.arrivals) (omega arith) p) tt));
       under_way = subst (λ (a : Option (Asked T P E O)). IfSome a (λ asked. IsMarked serving.marks (noted_call asked) (length (seen_by old.passes.items (λ q. []) asked.started.partition)))) (sym idle) tt;
     }
 
   -- A connection came, and is served
-  admitted : (new : Connections T F K P E O) (client : Client T F K P E O) → client.number ≡ book.accepted → IsServedSince key_of tells call_of place gives telling (serving.arrivals ++ arrival ∷ []) serving.marks client → new.notes ≡ old.notes
-      → new.passes.items ≡ map (giving_up (One book.accepted)) old.passes.items → new.tokens.items ≡ old.tokens.items → new.clients.items ≡ old.clients.items ++ client ∷ []
+  admitted : (new : Connections T F K P E O) (client : Client T F K P E O) → client.number ≡ length book.arrivals → IsServedSince key_of tells call_of place given telling (book.arrivals ++ arrival ∷ []) serving.marks client → new.notes ≡ old.notes
+      → new.passes.items ≡ map (giving_up (One (length book.arrivals))) old.passes.items → new.tokens.items ≡ old.tokens.items → new.clients.items ≡ old.clients.items ++ client ∷ []
       → vec_capacity new.clients ≡ vec_capacity old.clients → new.accepted ≡ old.accepted + 1 → ArePassesOf place.cells.items new.passes.items
-      → IsServing key_of tells call_of place gives telling new (after_arrival book (record { member = member; at = connection_of telling from to }))
+      → IsServing key_of tells call_of place given telling new (after_arrival book (record { member = member; at = connection_of telling from to }))
   admitted new client its_number served notes_are passes_are tokens_are clients_are room accepted of_cells = record {
-    arrivals = serving.arrivals ++ arrival ∷ [];
-    arrivals_are = entries_more book.arrivals serving.arrivals arrival serving.arrivals_are;
-    accepted = more_arrivals;
-    numbered = accepted ∙ ap (λ (n : ℕ). n + 1) serving.numbered;
-    returns = serving.returns;
-    returns_are = serving.returns_are;
+    numbered = accepted ∙ (ap (λ (n : ℕ). n + 1) serving.numbered ∙ sym more_arrivals);
     room = subst (λ (n : ℕ). ROOM ≤ n) (sym room) serving.room;
     passes = of_cells;
     tokens = subst (AreTokensAt place) (sym tokens_are) serving.tokens;
     members = λ m opened. let many = serving.members m opened in let same : length new.tokens.items ≡ length old.tokens.items = ap (λ l. length l) tokens_are in omega (arith, many, same);
     once = λ number less. ⊎_elim
-        (λ (same : book.accepted ≡ number). let c = times_now number in let one = one_same client.number number (its_number ∙ same) in let e = serving.no_more number (omega (arith, same)) in omega (arith, c, one, e))
-        (λ (other : book.accepted ≢ number). let c = times_now number in let zero = one_other client.number number (λ e. other (sym its_number ∙ e)) in let e = serving.once number (omega (arith, less, other)) in omega (arith, c, zero, e))
-        (same_or_other book.accepted number);
-    no_more = λ number more. let c = times_now number in let zero = one_other client.number number (λ e. let s : book.accepted ≡ number = sym its_number ∙ e in omega (arith, more, s)) in let e = serving.no_more number (omega (arith, more)) in omega (arith, c, zero, e);
+        (λ (same : length book.arrivals ≡ number). let c = times_now number in let one = one_same client.number number (its_number ∙ same) in let e = serving.no_more number (omega (arith, same)) in omega (arith, c, one, e))
+        (λ (other : length book.arrivals ≢ number). let c = times_now number in let zero = one_other client.number number (λ e. other (sym its_number ∙ e)) in let m = more_arrivals in let e = serving.once number (omega (arith, less, other, m)) in omega (arith, c, zero, e))
+        (same_or_other (length book.arrivals) number);
+    no_more = λ number more. let m = more_arrivals in let c = times_now number in let zero = one_other client.number number (λ e. let s : length book.arrivals ≡ number = sym its_number ∙ e in omega (arith, more, s, m)) in let e = serving.no_more number (omega (arith, more, m)) in omega (arith, c, zero, e);
     marks = serving.marks;
     are_marks = subst (λ (n : List CallNote). AreMarks key_of serving.marks n new.passes.items) (sym notes_are) (marks_seen key_of serving.marks old.notes old.passes.items new.passes.items gone serving.are_marks);
-    clients = subst (λ l. All (IsServedSince key_of tells call_of place gives telling (serving.arrivals ++ arrival ∷ []) serving.marks) l) (sym clients_are)
-        (All-push (IsServedSince key_of tells call_of place gives telling (serving.arrivals ++ arrival ∷ []) serving.marks) old.clients.items client
-        (All-weaker (IsServedSince key_of tells call_of place gives telling serving.arrivals serving.marks) (IsServedSince key_of tells call_of place gives telling (serving.arrivals ++ arrival ∷ []) serving.marks)
+    clients = subst (λ l. All (IsServedSince key_of tells call_of place given telling (book.arrivals ++ arrival ∷ []) serving.marks) l) (sym clients_are)
+        (All-push (IsServedSince key_of tells call_of place given telling (book.arrivals ++ arrival ∷ []) serving.marks) old.clients.items client
+        (All-weaker (IsServedSince key_of tells call_of place given telling book.arrivals serving.marks) (IsServedSince key_of tells call_of place given telling (book.arrivals ++ arrival ∷ []) serving.marks)
         others_came old.clients.items serving.clients) served);
-    given_back = given_back_on key_of tells call_of place gives telling old book serving new.passes.items gone (arrival ∷ []);
+    given_back = given_back_on key_of tells call_of place given telling old book serving new.passes.items gone (arrival ∷ []);
     named = λ number none. let c = times_now number in
-        let other : ¬ (number ≡ book.accepted) = λ same. let one = one_same client.number number (its_number ∙ sym same) in omega (arith, c, one, none) in
+        let other : ¬ (number ≡ length book.arrivals) = λ same. let one = one_same client.number number (its_number ∙ sym same) in omega (arith, c, one, none) in
         subst (HaveNumber number) (sym passes_are) (still_have number other (serving.named number (omega (arith, c, none))));
     unseen = λ number more. still_unseen key_of number old.passes.items new.passes.items gone
-        (serving.named number (let e = serving.no_more number (omega (arith, more)) in omega (arith, e))) (serving.unseen number (omega (arith, more)));
+        (serving.named number (let m = more_arrivals in let e = serving.no_more number (omega (arith, more, m)) in omega (arith, e))) (serving.unseen number (let m = more_arrivals in omega (arith, more, m)));
     marked = λ number none. let c = times_now number in subst (λ (l : List Mark). KeepsMarks key_of l number (seen_of new.passes.items)) (append-nil serving.marks)
         (rested_on key_of serving.marks [] number old.passes.items new.passes.items gone (serving.named number (omega (arith, c, none))) (serving.marked number (omega (arith, c, none))));
   }
@@ -199,56 +188,51 @@ module _ {T P E O F K : Type 0} (key_of : E → Key) (tells : P → List E → E
       times_now number = ap (times_served number) clients_are ∙ times_push (λ (c : Client T F K P E O). c.number) number old.clients.items client
 
       gone : HaveGone key_of old.passes.items new.passes.items
-      gone = subst (HaveGone key_of old.passes.items) (sym passes_are) (gave_up key_of (One book.accepted) old.passes.items)
+      gone = subst (HaveGone key_of old.passes.items) (sym passes_are) (gave_up key_of (One (length book.arrivals)) old.passes.items)
 
-      still_have : (number : ℕ) → ¬ (number ≡ book.accepted) → HaveNumber number old.passes.items → HaveNumber number (map (giving_up (One book.accepted)) old.passes.items)
+      still_have : (number : ℕ) → ¬ (number ≡ length book.arrivals) → HaveNumber number old.passes.items → HaveNumber number (map (giving_up (One (length book.arrivals))) old.passes.items)
       still_have number other have p pass there =
-          let was = get_map (giving_up (One book.accepted)) old.passes.items p pass there in
-          subst (λ (t : Told E). has_number t.names.numbers number ≡ true) (sym was.2) (still_named book.accepted number was.0.names.numbers other (have p was.0 was.1))
+          let was = get_map (giving_up (One (length book.arrivals))) old.passes.items p pass there in
+          subst (λ (t : Told E). has_number t.names.numbers number ≡ true) (sym was.2) (still_named (length book.arrivals) number was.0.names.numbers other (have p was.0 was.1))
 
   -- A connection came, and there was no memory for it: it was given back
   refused : (new : Connections T F K P E O) → new.notes ≡ old.notes → new.passes.items ≡ old.passes.items → new.tokens.items ≡ old.tokens.items → new.clients ≡ old.clients → new.accepted ≡ old.accepted + 1
-      → IsServing key_of tells call_of place gives telling new
-      (after_return (after_arrival book (record { member = member; at = connection_of telling from to })) (record { number = book.accepted; at = connection_of telling from to; memory = true }))
+      → IsServing key_of tells call_of place given telling new
+      (after_return (after_arrival book (record { member = member; at = connection_of telling from to })) (record { number = length book.arrivals; at = connection_of telling from to; memory = true }))
   refused new notes_are passes_are tokens_are clients_are accepted = record {
-    arrivals = serving.arrivals ++ arrival ∷ [];
-    arrivals_are = entries_more book.arrivals serving.arrivals arrival serving.arrivals_are;
-    accepted = more_arrivals;
-    numbered = accepted ∙ ap (λ (n : ℕ). n + 1) serving.numbered;
-    returns = serving.returns ++ back ∷ [];
-    returns_are = entries_more book.returns serving.returns back serving.returns_are;
+    numbered = accepted ∙ (ap (λ (n : ℕ). n + 1) serving.numbered ∙ sym more_arrivals);
     room = subst (λ (n : ℕ). ROOM ≤ n) (sym (ap (λ v. vec_capacity v) clients_are)) serving.room;
     passes = subst (ArePassesOf place.cells.items) (sym passes_are) serving.passes;
     tokens = subst (AreTokensAt place) (sym tokens_are) serving.tokens;
     members = λ m opened. let many = serving.members m opened in let same : length new.tokens.items ≡ length old.tokens.items = ap (λ l. length l) tokens_are in omega (arith, many, same);
     once = λ number less. ⊎_elim
-        (λ (same : book.accepted ≡ number). let c = times_now number in let d = times_back number in let one = one_same book.accepted number same in let e = serving.no_more number (omega (arith, same)) in omega (arith, c, d, one, e))
-        (λ (other : book.accepted ≢ number). let c = times_now number in let d = times_back number in let zero = one_other book.accepted number other in let e = serving.once number (omega (arith, less, other)) in omega (arith, c, d, zero, e))
-        (same_or_other book.accepted number);
-    no_more = λ number more. let c = times_now number in let d = times_back number in let zero = one_other book.accepted number (λ same. omega (arith, more, same)) in let e = serving.no_more number (omega (arith, more)) in omega (arith, c, d, zero, e);
+        (λ (same : length book.arrivals ≡ number). let c = times_now number in let d = times_back number in let one = one_same (length book.arrivals) number same in let e = serving.no_more number (omega (arith, same)) in omega (arith, c, d, one, e))
+        (λ (other : length book.arrivals ≢ number). let c = times_now number in let d = times_back number in let zero = one_other (length book.arrivals) number other in let m = more_arrivals in let e = serving.once number (omega (arith, less, other, m)) in omega (arith, c, d, zero, e))
+        (same_or_other (length book.arrivals) number);
+    no_more = λ number more. let m = more_arrivals in let c = times_now number in let d = times_back number in let zero = one_other (length book.arrivals) number (λ same. omega (arith, more, same, m)) in let e = serving.no_more number (omega (arith, more, m)) in omega (arith, c, d, zero, e);
     marks = serving.marks;
     are_marks = subst (λ (n : List CallNote). AreMarks key_of serving.marks n new.passes.items) (sym notes_are) (subst (AreMarks key_of serving.marks old.notes) (sym passes_are) serving.are_marks);
-    clients = subst (λ l. All (IsServedSince key_of tells call_of place gives telling (serving.arrivals ++ arrival ∷ []) serving.marks) l) (sym (ap (λ v. v.items) clients_are))
-        (All-weaker (IsServedSince key_of tells call_of place gives telling serving.arrivals serving.marks) (IsServedSince key_of tells call_of place gives telling (serving.arrivals ++ arrival ∷ []) serving.marks)
+    clients = subst (λ l. All (IsServedSince key_of tells call_of place given telling (book.arrivals ++ arrival ∷ []) serving.marks) l) (sym (ap (λ v. v.items) clients_are))
+        (All-weaker (IsServedSince key_of tells call_of place given telling book.arrivals serving.marks) (IsServedSince key_of tells call_of place given telling (book.arrivals ++ arrival ∷ []) serving.marks)
         others_came old.clients.items serving.clients);
-    given_back = subst (λ l. All (WasServed key_of tells call_of place gives l (serving.arrivals ++ arrival ∷ [])) (serving.returns ++ back ∷ [])) (sym passes_are)
-        (All-push (WasServed key_of tells call_of place gives old.passes.items (serving.arrivals ++ arrival ∷ [])) serving.returns back
-        (given_back_on key_of tells call_of place gives telling old book serving old.passes.items (stays key_of old.passes.items) (arrival ∷ [])) at_once);
+    given_back = subst (λ l. All (WasServed key_of tells call_of place given l (book.arrivals ++ arrival ∷ [])) (book.returns ++ back ∷ [])) (sym passes_are)
+        (All-push (WasServed key_of tells call_of place given old.passes.items (book.arrivals ++ arrival ∷ [])) book.returns back
+        (given_back_on key_of tells call_of place given telling old book serving old.passes.items (stays key_of old.passes.items) (arrival ∷ [])) at_once);
     named = λ number none. subst (HaveNumber number) (sym passes_are) (serving.named number (sym (times_now number) ∙ none));
-    unseen = λ number more. subst (SawNone key_of number) (sym passes_are) (serving.unseen number (omega (arith, more)));
+    unseen = λ number more. subst (SawNone key_of number) (sym passes_are) (serving.unseen number (let m = more_arrivals in omega (arith, more, m)));
     marked = λ number none. subst (λ l. KeepsMarks key_of serving.marks number (seen_of l)) (sym passes_are) (serving.marked number (sym (times_now number) ∙ none));
   }
     where
       back : Return
-      back = record { number = book.accepted; at = connection_of telling from to; memory = true }
+      back = record { number = length book.arrivals; at = connection_of telling from to; memory = true }
 
       times_now : (number : ℕ) → times_served number new.clients.items ≡ times_served number old.clients.items
       times_now number = ap (λ v. times_served number v.items) clients_are
 
-      times_back : (number : ℕ) → times_returned number (serving.returns ++ back ∷ []) ≡ times_returned number serving.returns + one_if book.accepted number
-      times_back number = times_push (λ (each : Return). each.number) number serving.returns back
+      times_back : (number : ℕ) → times_returned number (book.returns ++ back ∷ []) ≡ times_returned number book.returns + one_if (length book.arrivals) number
+      times_back number = times_push (λ (each : Return). each.number) number book.returns back
 
-      at_once : WasServed key_of tells call_of place gives old.passes.items (serving.arrivals ++ arrival ∷ []) back
+      at_once : WasServed key_of tells call_of place given old.passes.items (book.arrivals ++ arrival ∷ []) back
       at_once = record {
         arrival = arrival;
         came = came_last;
@@ -259,22 +243,22 @@ module _ {T P E O F K : Type 0} (key_of : E → Key) (tells : P → List E → E
           written = [];
           moved = record {
             read_is = sym (append-nil (telling.given from).bytes);
-            written_is = sym (append_known-nil (telling.taken to));
+            written_is = sym (append-nil (telling.taken to));
             read_faults = omega arith;
             write_faults = omega arith;
           };
-          moments = [];
-          by_clock = All-nil gives;
+          starts = [];
+          by_clock = tt;
           left = [];
           rest = [];
           answers = record {
             answered = [];
-            whole = ap (items_of book.accepted member) no_messages;
+            whole = ap (items_of (length book.arrivals) member) no_messages;
             replies = [];
             each = record { as_many = refl; each = λ i item reply there said. absurd cc };
             bytes = refl;
-            calls = λ partition. none_called key_of tells call_of [] place (items_of book.accepted member (messages_of true [])) book.accepted member partition (seen_by old.passes.items (λ q. []) partition)
-                (seen_case old.passes.items (λ q. []) (λ l. AreBelow key_of book.accepted 0 l) partition (λ pass there. serving.unseen book.accepted (omega arith) partition pass there) tt);
+            calls = λ partition. none_called key_of tells call_of [] place (items_of (length book.arrivals) member (messages_of true [])) (length book.arrivals) member partition (seen_by old.passes.items (λ q. []) partition)
+                (seen_case old.passes.items (λ q. []) (λ l. AreBelow key_of (length book.arrivals) 0 l) partition (λ pass there. serving.unseen (length book.arrivals) (omega arith) partition pass there) tt);
             in_order = λ i j first second less one two same at at' x y. absurd cc;
           };
           ended = inr (inl refl);
@@ -283,20 +267,20 @@ module _ {T P E O F K : Type 0} (key_of : E → Key) (tells : P → List E → E
 
   -- So it is at the books that tell of it
 
-  module _ (now : Book) (now_is : now ≡ after_arrival book (record { member = member; at = connection_of telling from to })) (number : ℕ) (number_is : number ≡ book.accepted) where
-    pub came_in : (new : Connections T F K P E O) (client : Client T F K P E O) → client.number ≡ number → IsServedSince key_of tells call_of place gives telling (serving.arrivals ++ arrival ∷ []) serving.marks client
+  module _ (now : Book) (now_is : now ≡ after_arrival book (record { member = member; at = connection_of telling from to })) (number : ℕ) (number_is : number ≡ length book.arrivals) where
+    pub came_in : (new : Connections T F K P E O) (client : Client T F K P E O) → client.number ≡ number → IsServedSince key_of tells call_of place given telling (book.arrivals ++ arrival ∷ []) serving.marks client
         → new.notes ≡ old.notes → new.passes.items ≡ map (giving_up (One number)) old.passes.items → new.tokens.items ≡ old.tokens.items → new.clients.items ≡ old.clients.items ++ client ∷ []
         → vec_capacity new.clients ≡ vec_capacity old.clients → new.accepted ≡ old.accepted + 1 → ArePassesOf place.cells.items new.passes.items
-        → IsServing key_of tells call_of place gives telling new now
+        → IsServing key_of tells call_of place given telling new now
     came_in new client its_number served notes_are passes_are tokens_are clients_are room accepted of_cells =
-        subst (λ (b : Book). IsServing key_of tells call_of place gives telling new b) (sym now_is)
+        subst (λ (b : Book). IsServing key_of tells call_of place given telling new b) (sym now_is)
         (admitted new client (its_number ∙ number_is) served notes_are (passes_are ∙ ap (λ (n : ℕ). map (giving_up (One n)) old.passes.items) number_is) tokens_are clients_are room accepted of_cells)
 
     pub turned_away : (last : Book) → last ≡ after_return now (record { number = number; at = connection_of telling from to; memory = true })
         → (new : Connections T F K P E O) → new.notes ≡ old.notes → new.passes.items ≡ old.passes.items → new.tokens.items ≡ old.tokens.items → new.clients ≡ old.clients → new.accepted ≡ old.accepted + 1
-        → IsServing key_of tells call_of place gives telling new last
+        → IsServing key_of tells call_of place given telling new last
     turned_away last last_is new notes_are passes_are tokens_are clients_are accepted =
-        subst (λ (b : Book). IsServing key_of tells call_of place gives telling new b)
+        subst (λ (b : Book). IsServing key_of tells call_of place given telling new b)
         (sym (last_is ∙ (ap (λ (b : Book). after_return b (record { number = number; at = connection_of telling from to; memory = true })) now_is
         ∙ ap (λ (n : ℕ). after_return (after_arrival book (record { member = member; at = connection_of telling from to })) (record { number = n; at = connection_of telling from to; memory = true })) number_is)))
         (refused new notes_are passes_are tokens_are clients_are accepted)
@@ -304,4 +288,4 @@ module _ {T P E O F K : Type 0} (key_of : E → Key) (tells : P → List E → E
     -- and it may be given back
     pub may_go_back : IsOut now number
     may_go_back = subst (λ (b : Book). IsOut b number) (sym now_is) (subst (λ (n : ℕ). IsOut book n) (sym number_is)
-        (is_out book.accepted book.returns serving.returns serving.returns_are (next_rests key_of tells call_of place gives telling old book serving).1))
+        (is_out (length book.arrivals) book (next_rests key_of tells call_of place given telling old book serving).1))

@@ -252,10 +252,10 @@ module _ {E : Type 0} (key_of : E → Key) where
       as_noted : (at : ℕ) (mark : Mark) → slice_get marks at ≡ Some mark → slice_get notes at ≡ Some mark.note
       as_noted at mark there = ap (λ (l : List CallNote). slice_get l at) are.notes_are ∙ mapped marks at mark there
 
-module _ {T P E O F K : Type 0} (key_of : E → Key) (tells : P → List E → E → LiveOutcome → Type 0) (call_of : ℕ → Request → ℕ → E) (place : Workplace T P E O) (gives : ℕ → Type 0) (telling : Telling F K) where
+module _ {T P E O F K : Type 0} (key_of : E → Key) (tells : P → List E → E → LiveOutcome → Type 0) (call_of : ℕ → Request → ℕ → E) (place : Workplace T P E O) (given : List ℕ) (telling : Telling F K) where
   -- a client is served as before, as more is noted
-  pub still_marked : (arrivals : List Arrival) (marks more : List Mark) (client : Client T F K P E O) → IsServedSince key_of tells call_of place gives telling arrivals marks client
-      → IsServedSince key_of tells call_of place gives telling arrivals (marks ++ more) client
+  pub still_marked : (arrivals : List Arrival) (marks more : List Mark) (client : Client T F K P E O) → IsServedSince key_of tells call_of place given telling arrivals marks client
+      → IsServedSince key_of tells call_of place given telling arrivals (marks ++ more) client
   still_marked arrivals marks more client served = record {
     arrival = served.arrival;
     came = served.came;
@@ -264,7 +264,7 @@ module _ {T P E O F K : Type 0} (key_of : E → Key) (tells : P → List E → E
     read = served.read;
     written = served.written;
     moved = served.moved;
-    moments = served.moments;
+    starts = served.starts;
     by_clock = served.by_clock;
     seen = served.seen;
     served = served.served;

@@ -26,6 +26,7 @@ use Rattle.live_session.proofs.Places.{get_front, get_seam}
 use Rattle.live_server.specs.Order.{Mark, IsBetween, IsMarked, KeepsMarks, AreMarks, HaveLearned}
 use Rattle.live_server.proofs.Marks.{between_more, marked_more, keeps_on, learned_gone, learned_none, knows_learned, knows_there, marks_seen, marks_more}
 use Rattle.live_server.proofs.Passing.{get_some}
+use Rattle.live_session.specs.Starts.{Start}
 
 less_or_more : (n m : ℕ) → (n < m) ⊎ (m ≤ n)
 less_or_more n m = grind arith
@@ -33,10 +34,10 @@ less_or_more n m = grind arith
 begins_length : {E : Type 0} (a b : List E) → Begins a b → length a ≤ length b
 begins_length {E = E} a b begins = let l : length b ≡ length a + length begins.0 = ap (λ (x : List E). length x) begins.1 ∙ length-append a begins.0 in omega (arith, l)
 
-module _ {T P E O : Type 0} (key_of : E → Key) (tells : P → List E → E → LiveOutcome → Type 0) (call_of : ℕ → Request → ℕ → E) (place : Workplace T P E O) (gives : ℕ → Type 0)
-    (was : Option (Asked T P E O)) (new : Connection T P E O) (before after : Streams) (seen : ℕ → List E) (moments read written : List ℕ) (turned : Turned)
+module _ {T P E O : Type 0} (key_of : E → Key) (tells : P → List E → E → LiveOutcome → Type 0) (call_of : ℕ → Request → ℕ → E) (place : Workplace T P E O) (given given_now : List ℕ)
+    (was : Option (Asked T P E O)) (new : Connection T P E O) (before after : Streams) (seen : ℕ → List E) (starts : List Start) (read written : List ℕ) (turned : Turned)
     (known known_now : List (Told E)) (notes notes_now : List CallNote)
-    (among : HasTurnedAmong key_of tells call_of place gives was new before after seen moments read written turned known known_now notes notes_now)
+    (among : HasTurnedAmong key_of tells call_of place given given_now was new before after seen starts read written turned known known_now notes notes_now)
     (as_long : length known ≡ length place.cells.items) (number : ℕ) (conn_now : new.pass.conn ≡ number) (marks : List Mark) (are : AreMarks key_of marks notes known)
     (keeps : KeepsMarks key_of marks number seen) where
   abbrev sees : ℕ → List E
@@ -67,8 +68,8 @@ module _ {T P E O : Type 0} (key_of : E → Key) (tells : P → List E → E →
   none_learned : known_now ≡ known → HaveLearned key_of known known_now
   none_learned same = subst (HaveLearned key_of known) (sym same) (learned_none key_of known)
 
-  within_at : (asked : Asked T P E O) → new.asked ≡ Some asked → (is : Turned) (moves : Moves) (now_read now_written now_moments : List ℕ)
-      → StandsAfter key_of tells call_of place is now_moments was new sees now_read now_written moves before after → asked.started.partition < length place.cells.items
+  within_at : (asked : Asked T P E O) → new.asked ≡ Some asked → (is : Turned) (moves : Moves) (now_read now_written : List ℕ) (now_starts : List Start)
+      → StandsAfter key_of tells call_of place is now_starts was new sees now_read now_written moves before after → asked.started.partition < length place.cells.items
   within_at asked is_asked Moved moves r w m stands = under_way_within key_of tells call_of place new asked m sees r w is_asked stands.0
   within_at asked is_asked NotYet moves r w m stands = under_way_within key_of tells call_of place new asked m sees r w is_asked stands.0
   within_at asked is_asked (Over end) moves r w m stands = let none : ◌≡◌ {A = Option (Asked T P E O)} None (Some asked) = sym stands.0 ∙ is_asked in absurd cc

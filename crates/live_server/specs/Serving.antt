@@ -1,7 +1,6 @@
 -- What a server does with the connections that come through its doors.
-use Rattle.std.specs.Prelude.{◌≡◌, ◌⊎◌, ℕ, ◌<◌, ◌≤◌, ◌==◌, Bool, true, List, [], ◌∷◌, ◌++◌, length, All, Option, Some, IfSome, IsSome, slice_get}
+use Rattle.std.specs.Prelude.{◌≡◌, ◌⊎◌, ℕ, ◌<◌, ◌≤◌, ◌==◌, Bool, true, List, [], ◌∷◌, ◌++◌, length, All, Some, IsSome, slice_get}
 use Rattle.std.specs.List.{count_by}
-use Rattle.std.specs.Io.KnownBytes.{append_known}
 use Rattle.grid_base.specs.declared.calls.Request.{Request}
 use Rattle.grid_edge.specs.Doors.{Connection, Arrival, Return, Book}
 use Rattle.grid_edge.specs.Faults.{Rose}
@@ -14,12 +13,13 @@ use Rattle.partition_threads.specs.declared.workplace.Workplace.{Workplace}
 use Rattle.session_core.specs.declared.item.Item.{Item}
 use Rattle.session_core.specs.declared.item.Item.TheVariants.{Call}
 use Rattle.live_session.specs.Connections.{AreBelow, IsServed, HasAnswered}
+use Rattle.live_session.specs.Starts.{Start, AreGiven}
 
 -- A connection was as the first, and is as the second: these bytes were read from it, and those were written to it. Its counts of
 -- faults have not fallen
 pub record HaveMoved (was is : Connection) (read written : List ℕ) : Type 0 where
   pub read_is : is.given.bytes ≡ was.given.bytes ++ read
-  pub written_is : is.taken ≡ append_known was.taken written
+  pub written_is : is.taken ≡ was.taken ++ written
   pub read_faults : was.read_faults ≤ is.read_faults
   pub write_faults : was.write_faults ≤ is.write_faults
 
@@ -33,44 +33,41 @@ pub record IsComplete (is : Connection) (read left : List ℕ) (rest : List Item
 abbrev pub AreSeen : {E : Type 0} → List (Told E) → (ℕ → List E) → Type 0
 AreSeen passes seen = (partition : ℕ) (pass : Told _) → slice_get passes partition ≡ Some pass → seen partition ≡ pass.seen
 
--- `gives` says which moments the clock gives
-module _ {T P E O : Type 0} (key_of : E → Key) (tells : P → List E → E → LiveOutcome → Type 0) (call_of : ℕ → Request → ℕ → E) (place : Workplace T P E O) (gives : ℕ → Type 0) where
+module _ {T P E O : Type 0} (key_of : E → Key) (tells : P → List E → E → LiveOutcome → Type 0) (call_of : ℕ → Request → ℕ → E) (place : Workplace T P E O) where
   -- The next message is a call whose member has crashed before it was answered
-  pub record HasLostMember (member : ℕ) (moments : List ℕ) (seen : ℕ → List E) (rest : List Item) : Type 0 where
+  pub record HasLostMember (member : ℕ) (starts : List Start) (seen : ℕ → List E) (rest : List Item) : Type 0 where
     pub request : Request
     pub behind : List Item
     pub next : rest ≡ Call request ∷ behind
-    pub gone : IsServed key_of tells call_of moments place member request (seen request.partition) MemberGone
+    pub gone : IsServed key_of tells call_of starts place member request (seen request.partition) MemberGone
 
   -- Why a connection ended before all was answered and written: there was no memory, its source or its sink had a fault, or its member is gone
-  abbrev pub IsCutShort : ℕ → (was is : Connection) → (memory : Bool) → List ℕ → (ℕ → List E) → List Item → Type 0
-  IsCutShort member was is memory moments seen rest =
-      (memory ≡ true) ⊎ Rose was.read_faults is.read_faults ⊎ Rose was.write_faults is.write_faults ⊎ HasLostMember member moments seen rest
+  abbrev pub IsCutShort : ℕ → (was is : Connection) → (memory : Bool) → List Start → (ℕ → List E) → List Item → Type 0
+  IsCutShort member was is memory starts seen rest =
+      (memory ≡ true) ⊎ Rose was.read_faults is.read_faults ⊎ Rose was.write_faults is.write_faults ⊎ HasLostMember member starts seen rest
 
+-- The clock has given these moments by now
+module _ {T P E O : Type 0} (key_of : E → Key) (tells : P → List E → E → LiveOutcome → Type 0) (call_of : ℕ → Request → ℕ → E) (place : Workplace T P E O) (given : List ℕ) where
   -- A connection of this number to this member was as the first, and has ended as the second. What was written are the answers to the messages
   -- that were read, in their order, by what was seen of each partition: the beginning of them, or all
   pub record WasAnswered (number member : ℕ) (was is : Connection) (memory : Bool) (seen : ℕ → List E) : Type 0 where
     pub read : List ℕ
     pub written : List ℕ
     pub moved : HaveMoved was is read written
-    pub moments : List ℕ
-    pub by_clock : All gives moments
+    pub starts : List Start
+    pub by_clock : AreGiven starts given
     pub left : List ℕ
     pub rest : List Item
-    pub answers : HasAnswered key_of tells call_of moments place number member seen read written left rest
-    pub ended : IsComplete is read left rest ⊎ IsCutShort member was is memory moments seen rest
+    pub answers : HasAnswered key_of tells call_of starts place number member seen read written left rest
+    pub ended : IsComplete is read left rest ⊎ IsCutShort key_of tells call_of place member was is memory starts seen rest
 
   -- It came as one of these, and was answered before it was given back, by what these passes have seen
-  pub record WasServed (passes : List (Told E)) (arrivals : List Arrival) (given : Return) : Type 0 where
+  pub record WasServed (passes : List (Told E)) (arrivals : List Arrival) (back : Return) : Type 0 where
     pub arrival : Arrival
-    pub came : slice_get arrivals given.number ≡ Some arrival
+    pub came : slice_get arrivals back.number ≡ Some arrival
     pub seen : ℕ → List E
     pub seen_is : AreSeen passes seen
-    pub answered : WasAnswered given.number arrival.member arrival.at given.at given.memory seen
-
--- these are the entries of a list, where it is told
-abbrev pub AreEntries : {A : Type 0} → Option (List A) → List A → Type 0
-AreEntries told entries = IfSome told (λ list. list ≡ entries)
+    pub answered : WasAnswered back.number arrival.member arrival.at back.at back.memory seen
 
 -- none of the passes has seen a call of a connection with this number
 abbrev pub SawNone : {E : Type 0} → (E → Key) → ℕ → List (Told E) → Type 0
@@ -78,16 +75,11 @@ SawNone key_of number passes = (partition : ℕ) (pass : Told _) → slice_get p
 
 -- how many of these were the connection with this number
 abbrev pub times_returned : ℕ → List Return → ℕ
-times_returned number returns = count_by (λ given. given.number == number) returns
+times_returned number returns = count_by (λ back. back.number == number) returns
 
-module _ {T P E O : Type 0} (key_of : E → Key) (tells : P → List E → E → LiveOutcome → Type 0) (call_of : ℕ → Request → ℕ → E) (place : Workplace T P E O) (gives : ℕ → Type 0) where
+module _ {T P E O : Type 0} (key_of : E → Key) (tells : P → List E → E → LiveOutcome → Type 0) (call_of : ℕ → Request → ℕ → E) (place : Workplace T P E O) (given : List ℕ) where
   -- Each connection that was accepted was served, and was given back once. No call of another number was seen
   pub record HasServedAll (passes : List (Told E)) (book : Book) : Type 0 where
-    pub arrivals : List Arrival
-    pub arrivals_are : AreEntries book.arrivals arrivals
-    pub accepted : length arrivals ≡ book.accepted
-    pub returns : List Return
-    pub returns_are : AreEntries book.returns returns
-    pub once : (number : ℕ) → number < book.accepted → times_returned number returns ≡ 1
-    pub served : All (WasServed key_of tells call_of place gives passes arrivals) returns
-    pub no_other : (number : ℕ) → book.accepted ≤ number → SawNone key_of number passes
+    pub once : (number : ℕ) → number < length book.arrivals → times_returned number book.returns ≡ 1
+    pub served : All (WasServed key_of tells call_of place given passes book.arrivals) book.returns
+    pub no_other : (number : ℕ) → length book.arrivals ≤ number → SawNone key_of number passes

@@ -1,5 +1,5 @@
 //! The loop of a server.
-ghost use Rattle.std.specs.Prelude.{◌≡◌, ℕ, OnOk};
+ghost use Rattle.std.specs.Prelude.{◌≡◌, ℕ, length, OnOk};
 ghost use Rattle.grid_edge.specs.Faults.{HasCause};
 ghost use Rattle.live_session.specs.Connections.{ServesCalls};
 ghost use Rattle.live_server.specs.Clients.{telling_by};
@@ -38,7 +38,7 @@ const LONGEST_SLEEP: u32 = 1000;
 /// whoever answers a call or closes the server wakes it there.
 ///
 /// Calls of different connections keep an order too: where one call's outcome was found before another call of its
-/// partition was started, its event stands first (`KeepsOrder`). Both moments are noted as the loop comes to them, by
+/// partition was started, its event stands first (`KeepsOrder`). Both starts are noted as the loop comes to them, by
 /// `Connection::turn_among` alone. That an answer is written after its outcome was found, and a call started after it was
 /// read, is the order of the program's steps: no clause says it. Nothing is said of calls of two servers.
 ///
@@ -49,14 +49,14 @@ pub fn serve<T: Served, D: Doors, C: Clock, R: Wait>(
     place: &Workplace<T>,
     connections: &mut Connections<T, D::From, D::To>,
     doors: &mut D,
-    clock: &C,
+    clock: &mut C,
     closing: &Closing,
 ) -> Result<(), DoorFault>
     requires calls { ServesCalls T.fits place.now }
     requires may { MayServe T.key_of place.now connections.old (D.book doors.old) }
-    ensures served { HasServedAll T.key_of T.tells T.call_of place.now (λ now. C.gives clock.now now) connections.new.passes.items (D.book doors.new) }
+    ensures served { HasServedAll T.key_of T.tells T.call_of place.now (C.given clock.new) connections.new.passes.items (D.book doors.new) }
     ensures in_order { KeepsOrder T.key_of connections.new.notes connections.new.passes.items }
-    ensures all_in { OnOk result (HasLetAllIn (D.empty_looks doors.old) (D.empty_looks doors.new) (D.book doors.new).accepted) }
+    ensures all_in { OnOk result (HasLetAllIn (D.empty_looks doors.old) (D.empty_looks doors.new) (length (D.book doors.new).arrivals)) }
     ensures rests { Rests place.now connections.new }
     ensures opening { (D.book doors.new).opening ≡ (D.book doors.old).opening }
     ensures cause { HasCause (D.faults doors.old) (D.faults doors.new) result }
@@ -97,7 +97,7 @@ impl Rounds {
         clock: &C,
     ) -> Rounds
         requires { MayServe T.key_of place.now connections.old (D.book doors.now) }
-        ensures serving { IsServing T.key_of T.tells T.call_of place.now (λ now. C.gives clock.now now) (telling_by D.From.given D.From.faults D.To.taken D.To.faults) connections.new (D.book doors.now) }
+        ensures serving { IsServing T.key_of T.tells T.call_of place.now (C.given clock.now) (telling_by D.From.given D.From.faults D.To.taken D.To.faults) connections.new (D.book doors.now) }
         ensures since { (looks faults accepted : ℕ) → IsAfter result looks looks faults faults accepted }
     {
         let _ = place;
@@ -120,15 +120,15 @@ pub fn serve_round<T: Served, D: Doors, C: Clock, R: Wait>(
     place: &Workplace<T>,
     connections: &mut Connections<T, D::From, D::To>,
     doors: &mut D,
-    clock: &C,
+    clock: &mut C,
     closing: &Closing,
     rounds: Rounds,
 ) -> Round
     requires calls { ServesCalls T.fits place.now }
-    requires serving { IsServing T.key_of T.tells T.call_of place.now (λ now. C.gives clock.now now) (telling_by D.From.given D.From.faults D.To.taken D.To.faults) connections.old (D.book doors.old) }
-    ensures serving { IsServing T.key_of T.tells T.call_of place.now (λ now. C.gives clock.now now) (telling_by D.From.given D.From.faults D.To.taken D.To.faults) connections.new (D.book doors.new) }
-    ensures since { (looks faults : ℕ) → IsAfter rounds looks (D.empty_looks doors.old) faults (D.faults doors.old) (D.book doors.old).accepted
-        → ComesTo result connections.new.clients.items looks (D.empty_looks doors.new) faults (D.faults doors.new) (D.book doors.new).accepted }
+    requires serving { IsServing T.key_of T.tells T.call_of place.now (C.given clock.old) (telling_by D.From.given D.From.faults D.To.taken D.To.faults) connections.old (D.book doors.old) }
+    ensures serving { IsServing T.key_of T.tells T.call_of place.now (C.given clock.new) (telling_by D.From.given D.From.faults D.To.taken D.To.faults) connections.new (D.book doors.new) }
+    ensures since { (looks faults : ℕ) → IsAfter rounds looks (D.empty_looks doors.old) faults (D.faults doors.old) (length (D.book doors.old).arrivals)
+        → ComesTo result connections.new.clients.items looks (D.empty_looks doors.new) faults (D.faults doors.new) (length (D.book doors.new).arrivals) }
     ensures opening { (D.book doors.new).opening ≡ (D.book doors.old).opening }
 {
     let Rounds { entrance, idle } = rounds;
@@ -154,10 +154,10 @@ fn look_outside<T: Served, D: Doors, C: Clock>(
     closing: &Closing,
     entrance: Entrance,
 ) -> Outside
-    requires { IsServing T.key_of T.tells T.call_of place.now (λ now. C.gives clock.now now) (telling_by D.From.given D.From.faults D.To.taken D.To.faults) connections.old (D.book doors.old) }
-    ensures serving { IsServing T.key_of T.tells T.call_of place.now (λ now. C.gives clock.now now) (telling_by D.From.given D.From.faults D.To.taken D.To.faults) connections.new (D.book doors.new) }
-    ensures since { (looks faults : ℕ) → IsSince entrance looks (D.empty_looks doors.old) faults (D.faults doors.old) (D.book doors.old).accepted
-        → IsSince result.entrance looks (D.empty_looks doors.new) faults (D.faults doors.new) (D.book doors.new).accepted }
+    requires { IsServing T.key_of T.tells T.call_of place.now (C.given clock.now) (telling_by D.From.given D.From.faults D.To.taken D.To.faults) connections.old (D.book doors.old) }
+    ensures serving { IsServing T.key_of T.tells T.call_of place.now (C.given clock.now) (telling_by D.From.given D.From.faults D.To.taken D.To.faults) connections.new (D.book doors.new) }
+    ensures since { (looks faults : ℕ) → IsSince entrance looks (D.empty_looks doors.old) faults (D.faults doors.old) (length (D.book doors.old).arrivals)
+        → IsSince result.entrance looks (D.empty_looks doors.new) faults (D.faults doors.new) (length (D.book doors.new).arrivals) }
     ensures opening { (D.book doors.new).opening ≡ (D.book doors.old).opening }
 {
     if !entrance.is_open() {

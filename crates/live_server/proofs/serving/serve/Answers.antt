@@ -15,7 +15,7 @@ loop-preserved g c = record {
 
 pub returns-in-Last-clause-served : goal.returns-in-Last-clause-served
 returns-in-Last-clause-served g c =
-    has_served g.T.Stands.key_of g.T.Served.tells g.T.Served.call_of c.args.place.now (λ now. g.C.Clock.gives c.args.clock.now now) (telling_by g.D.From.ReadySource.given g.D.From.ReadySource.faults g.D.To.ReadySink.taken g.D.To.ReadySink.faults)
+    has_served g.T.Stands.key_of g.T.Served.tells g.T.Served.call_of c.args.place.now (g.C.Clock.given c.serve_round.new.clock) (telling_by g.D.From.ReadySource.given g.D.From.ReadySource.faults g.D.To.ReadySink.taken g.D.To.ReadySink.faults)
     c.serve_round.new.connections (g.D.Doors.book c.serve_round.new.doors) c.serve_round.ensures.serving (c.in-Last.ensures.since _ _ c.loop.invariant.since).none_left
 
 pub returns-in-Last-clause-all_in : goal.returns-in-Last-clause-all_in
@@ -23,7 +23,7 @@ returns-in-Last-clause-all_in g c = (c.in-Last.ensures.since _ _ c.loop.invarian
 
 pub returns-in-Last-clause-rests : goal.returns-in-Last-clause-rests
 returns-in-Last-clause-rests g c =
-    rests g.T.Stands.key_of g.T.Served.tells g.T.Served.call_of c.args.place.now (λ now. g.C.Clock.gives c.args.clock.now now) (telling_by g.D.From.ReadySource.given g.D.From.ReadySource.faults g.D.To.ReadySink.taken g.D.To.ReadySink.faults)
+    rests g.T.Stands.key_of g.T.Served.tells g.T.Served.call_of c.args.place.now (g.C.Clock.given c.serve_round.new.clock) (telling_by g.D.From.ReadySource.given g.D.From.ReadySource.faults g.D.To.ReadySink.taken g.D.To.ReadySink.faults)
     c.serve_round.new.connections (g.D.Doors.book c.serve_round.new.doors) c.serve_round.ensures.serving (c.in-Last.ensures.since _ _ c.loop.invariant.since).none_left
 
 pub returns-in-Last-clause-opening : goal.returns-in-Last-clause-opening
@@ -34,5 +34,5 @@ returns-in-Last-clause-cause g c = (c.in-Last.ensures.since _ _ c.loop.invariant
 
 pub returns-in-Last-clause-in_order : goal.returns-in-Last-clause-in_order
 returns-in-Last-clause-in_order g c =
-    keeps_the_order g.T.Stands.key_of g.T.Served.tells g.T.Served.call_of c.args.place.now (λ now. g.C.Clock.gives c.args.clock.now now) (telling_by g.D.From.ReadySource.given g.D.From.ReadySource.faults g.D.To.ReadySink.taken g.D.To.ReadySink.faults)
+    keeps_the_order g.T.Stands.key_of g.T.Served.tells g.T.Served.call_of c.args.place.now (g.C.Clock.given c.serve_round.new.clock) (telling_by g.D.From.ReadySource.given g.D.From.ReadySource.faults g.D.To.ReadySink.taken g.D.To.ReadySink.faults)
     c.serve_round.new.connections (g.D.Doors.book c.serve_round.new.doors) c.serve_round.ensures.serving (c.in-Last.ensures.since _ _ c.loop.invariant.since).none_left

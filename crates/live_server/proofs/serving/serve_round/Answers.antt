@@ -1,4 +1,4 @@
-use Rattle.std.proofs.Common.{rules, ◌≡◌, false, ap, arith}
+use Rattle.std.proofs.Common.{rules, ◌≡◌, false, length, ap, arith}
 use Rattle.std.proofs.lemmas.List.{nil_from_length}
 use Rattle.grid_edge.specs.Doors.{Book}
 use Rattle.live_server.proofs.Beginning.{still_since, after_rest, is_over}
@@ -12,12 +12,12 @@ returns-then-not-is_open-clause-since g c = λ looks faults since.
     let same_looks = c.go_round.ensures.looks in
     let same_faults = c.go_round.ensures.faults in
     let outside = c.look_outside-outside.result.entrance in
-    is_over clients.items looks (g.D.Doors.empty_looks c.go_round.new.doors) faults (g.D.Doors.faults c.go_round.new.doors) (g.D.Doors.book c.go_round.new.doors).accepted
+    is_over clients.items looks (g.D.Doors.empty_looks c.go_round.new.doors) faults (g.D.Doors.faults c.go_round.new.doors) (length (g.D.Doors.book c.go_round.new.doors).arrivals)
     outside _ c.told.ensures c.is_open.result c.is_open.ensures closed (nil_from_length clients.items (omega (arith, clients.ok.0, empty)))
     (still_since looks (g.D.Doors.empty_looks c.look_outside-outside.new.doors) (g.D.Doors.empty_looks c.go_round.new.doors)
     faults (g.D.Doors.faults c.look_outside-outside.new.doors) (g.D.Doors.faults c.go_round.new.doors)
-    (g.D.Doors.book c.look_outside-outside.new.doors).accepted (g.D.Doors.book c.go_round.new.doors).accepted
-    outside (omega (arith, same_looks)) (omega (arith, same_faults)) c.go_round.ensures.accepted (c.look_outside-outside.ensures.since looks faults since))
+    (length (g.D.Doors.book c.look_outside-outside.new.doors).arrivals) (length (g.D.Doors.book c.go_round.new.doors).arrivals)
+    outside (omega (arith, same_looks)) (omega (arith, same_faults)) (ap (λ l. length l) c.go_round.ensures.arrivals) (c.look_outside-outside.ensures.since looks faults since))
 
 pub returns-clause-serving : goal.returns-clause-serving
 returns-clause-serving g c = rw c.rest-rested.ensures.book c.go_round.ensures.serving
@@ -29,10 +29,10 @@ returns-clause-since g c = λ looks faults since.
     let outside = c.look_outside-outside.result.entrance in
     after_rest looks (g.D.Doors.empty_looks c.go_round.new.doors) (g.D.Doors.empty_looks c.rest-rested.new.doors)
     faults (g.D.Doors.faults c.go_round.new.doors) (g.D.Doors.faults c.rest-rested.new.doors)
-    (g.D.Doors.book c.go_round.new.doors).accepted (g.D.Doors.book c.rest-rested.new.doors).accepted
+    (length (g.D.Doors.book c.go_round.new.doors).arrivals) (length (g.D.Doors.book c.rest-rested.new.doors).arrivals)
     c.rest-rested.result outside c.after.result c.after.ensures.ok c.after.ensures.err c.rest-rested.ensures.looks c.rest-rested.ensures.cause
-    (ap (λ (b : Book). b.accepted) c.rest-rested.ensures.book)
+    (ap (λ (b : Book). length b.arrivals) c.rest-rested.ensures.book)
     (still_since looks (g.D.Doors.empty_looks c.look_outside-outside.new.doors) (g.D.Doors.empty_looks c.go_round.new.doors)
     faults (g.D.Doors.faults c.look_outside-outside.new.doors) (g.D.Doors.faults c.go_round.new.doors)
-    (g.D.Doors.book c.look_outside-outside.new.doors).accepted (g.D.Doors.book c.go_round.new.doors).accepted
-    outside (omega (arith, same_looks)) (omega (arith, same_faults)) c.go_round.ensures.accepted (c.look_outside-outside.ensures.since looks faults since))
+    (length (g.D.Doors.book c.look_outside-outside.new.doors).arrivals) (length (g.D.Doors.book c.go_round.new.doors).arrivals)
+    outside (omega (arith, same_looks)) (omega (arith, same_faults)) (ap (λ l. length l) c.go_round.ensures.arrivals) (c.look_outside-outside.ensures.since looks faults since))

@@ -1,0 +1,82 @@
+-- How a server's work stands as its clock gives more.
+use Rattle.std.proofs.Common.{ℕ, Bool, List}
+use Rattle.std.proofs.lemmas.List.Elements.{All-weaker}
+use Rattle.grid_base.specs.declared.calls.Request.{Request}
+use Rattle.grid_edge.specs.Doors.{Connection, Arrival, Return, Book}
+use Rattle.grid_edge.specs.MemoryDoors.{Telling}
+use Rattle.hand_cell.specs.declared.names.Key.{Key}
+use Rattle.hand_cell.specs.declared.outcome.LiveOutcome.{LiveOutcome}
+use Rattle.hand_cell.specs.Told.{Told}
+use Rattle.partition_threads.specs.declared.workplace.Workplace.{Workplace}
+use Rattle.session_calls.specs.Learning.{Begins}
+use Rattle.live_session.proofs.Given.{given_since}
+use Rattle.live_server.specs.declared.client.Client.{Client}
+use Rattle.live_server.specs.declared.connections.Connections.{Connections}
+use Rattle.live_server.specs.Order.{Mark}
+use Rattle.live_server.specs.Serving.{WasAnswered, WasServed}
+use Rattle.live_server.specs.Clients.{IsServedSince}
+use Rattle.live_server.specs.Standing.{IsServing}
+
+module _ {T P E O : Type 0} (key_of : E → Key) (tells : P → List E → E → LiveOutcome → Type 0) (call_of : ℕ → Request → ℕ → E) (place : Workplace T P E O) (given given_now : List ℕ) (gave : Begins given given_now) where
+  pub answered_later : (number member : ℕ) (was is : Connection) (memory : Bool) (seen : ℕ → List E) → WasAnswered key_of tells call_of place given number member was is memory seen
+      → WasAnswered key_of tells call_of place given_now number member was is memory seen
+  answered_later number member was is memory seen answered = record {
+    read = answered.read;
+    written = answered.written;
+    moved = answered.moved;
+    starts = answered.starts;
+    by_clock = given_since answered.starts given given_now gave answered.by_clock;
+    left = answered.left;
+    rest = answered.rest;
+    answers = answered.answers;
+    ended = answered.ended;
+  }
+
+  pub served_later : (passes : List (Told E)) (arrivals : List Arrival) (back : Return) → WasServed key_of tells call_of place given passes arrivals back → WasServed key_of tells call_of place given_now passes arrivals back
+  served_later passes arrivals back served = record {
+    arrival = served.arrival;
+    came = served.came;
+    seen = served.seen;
+    seen_is = served.seen_is;
+    answered = answered_later back.number served.arrival.member served.arrival.at back.at back.memory served.seen served.answered;
+  }
+
+  module _ {F K : Type 0} (telling : Telling F K) where
+    pub client_later : (arrivals : List Arrival) (marks : List Mark) (client : Client T F K P E O) → IsServedSince key_of tells call_of place given telling arrivals marks client
+        → IsServedSince key_of tells call_of place given_now telling arrivals marks client
+    client_later arrivals marks client served = record {
+      arrival = served.arrival;
+      came = served.came;
+      conn = served.conn;
+      member = served.member;
+      read = served.read;
+      written = served.written;
+      moved = served.moved;
+      starts = served.starts;
+      by_clock = given_since served.starts given given_now gave served.by_clock;
+      seen = served.seen;
+      served = served.served;
+      marked = served.marked;
+      under_way = served.under_way;
+    }
+
+    -- each connection is served as before
+    unfoldable pub serving_later : (connections : Connections T F K P E O) (book : Book) → IsServing key_of tells call_of place given telling connections book → IsServing key_of tells call_of place given_now telling connections book
+    serving_later connections book serving = record {
+      numbered = serving.numbered;
+      room = serving.room;
+      passes = serving.passes;
+      tokens = serving.tokens;
+      members = serving.members;
+      once = serving.once;
+      no_more = serving.no_more;
+      marks = serving.marks;
+      are_marks = serving.are_marks;
+      clients = All-weaker (IsServedSince key_of tells call_of place given telling book.arrivals serving.marks) (IsServedSince key_of tells call_of place given_now telling book.arrivals serving.marks)
+          (client_later book.arrivals serving.marks) connections.clients.items serving.clients;
+      given_back = All-weaker (WasServed key_of tells call_of place given connections.passes.items book.arrivals) (WasServed key_of tells call_of place given_now connections.passes.items book.arrivals)
+          (served_later connections.passes.items book.arrivals) book.returns serving.given_back;
+      named = serving.named;
+      unseen = serving.unseen;
+      marked = serving.marked;
+    }
