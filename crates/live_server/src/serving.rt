@@ -1,5 +1,5 @@
 //! The loop of a server.
-ghost use Rattle.std.specs.Prelude.{◌≡◌, ℕ, length, OnOk};
+ghost use Rattle.std.specs.Prelude.{◌≡◌, ℕ, length, IfOk};
 ghost use Rattle.grid_edge.specs.Faults.{HasCause};
 ghost use Rattle.live_session.specs.Connections.{ServesCalls};
 ghost use Rattle.live_server.specs.Clients.{telling_by};
@@ -9,7 +9,7 @@ ghost use Rattle.live_server.specs.Rounds.{IsAfter, ComesTo};
 ghost use Rattle.live_server.specs.Standing.{MayServe, Rests, HasLetAllIn, IsSince, IsServing};
 
 use crate::admission::let_in;
-use crate::closing::Closing;
+use crate::closing::{Closed, Closing};
 use crate::connections::{Connections, MOST_NUMBERS};
 use crate::entrance::{Entrance, Outside};
 use crate::rounds::go_round;
@@ -33,7 +33,8 @@ const LONGEST_SLEEP: u32 = 1000;
 /// at once. The calls of a connection are run in the order of its messages: of two in one partition, the event of the
 /// earlier one stands first in what was seen (`StandInOrder`).
 ///
-/// Once it is told to close it lets in who has come by then, and returns when the last connection has ended. A fault of
+/// Once it is told to close it lets in who has come by then, and returns when the last connection has ended. It answers
+/// the closing as it was seen: after that the doors were found empty, or no number was left for a connection. A fault of
 /// the doors has the same effect, and is answered then. Where nothing is ready the thread sleeps at the doors, and
 /// whoever answers a call or closes the server wakes it there.
 ///
@@ -51,12 +52,12 @@ pub fn serve<T: Served, D: Doors, C: Clock, R: Wait>(
     doors: &mut D,
     clock: &mut C,
     closing: &Closing,
-) -> Result<(), DoorFault>
+) -> Result<Closed<D>, DoorFault>
     requires calls { ServesCalls T.fits place.now }
     requires may { MayServe T.key_of place.now connections.old (D.book doors.old) }
     ensures served { HasServedAll T.key_of T.tells T.call_of place.now (C.given clock.new) connections.new.passes.items (D.book doors.new) }
     ensures in_order { KeepsOrder T.key_of connections.new.notes connections.new.passes.items }
-    ensures all_in { OnOk result (HasLetAllIn (D.empty_looks doors.old) (D.empty_looks doors.new) (length (D.book doors.new).arrivals)) }
+    ensures all_in { IfOk result (λ closed. HasLetAllIn (D.empty_looks doors.old) (D.empty_looks closed) (D.empty_looks doors.new) (length (D.book doors.new).arrivals)) }
     ensures rests { Rests place.now connections.new }
     ensures opening { (D.book doors.new).opening ≡ (D.book doors.old).opening }
     ensures cause { HasCause (D.faults doors.old) (D.faults doors.new) result }
@@ -72,33 +73,33 @@ pub fn serve<T: Served, D: Doors, C: Clock, R: Wait>(
 }
 
 /// What a server knows from one round to the next.
-#[derive(Clone, Copy, Debug)]
-pub struct Rounds {
-    pub(crate) entrance: Entrance,
+#[derive(Drop)]
+pub struct Rounds<D> {
+    pub(crate) entrance: Entrance<D>,
     /// How many looks in a row found nothing ready.
     pub(crate) idle: usize,
 }
 
 /// What a round comes to.
-#[derive(Clone, Copy, Debug)]
-pub enum Round {
+#[derive(Drop)]
+pub enum Round<D> {
     /// The server goes on.
-    Next(Rounds),
+    Next(Rounds<D>),
     /// No more connections are let in, and the last one has ended.
-    Last(Result<(), DoorFault>),
+    Last(Result<Closed<D>, DoorFault>),
 }
 
-impl Rounds {
+impl<D: Doors> Rounds<D> {
     /// Before the first round. No connection has come, and no call is noted.
-    pub fn new<T: Served, D: Doors, C: Clock>(
+    pub fn new<T: Served, C: Clock>(
         place: &Workplace<T>,
         connections: &mut Connections<T, D::From, D::To>,
         doors: &D,
         clock: &C,
-    ) -> Rounds
+    ) -> Rounds<D>
         requires { MayServe T.key_of place.now connections.old (D.book doors.now) }
         ensures serving { IsServing T.key_of T.tells T.call_of place.now (C.given clock.now) (telling_by D.From.given D.From.faults D.To.taken D.To.faults) connections.new (D.book doors.now) }
-        ensures since { (looks faults accepted : ℕ) → IsAfter result looks looks faults faults accepted }
+        ensures since { (looks faults accepted : ℕ) → IsAfter D.empty_looks result looks looks faults faults accepted }
     {
         let _ = place;
         let _ = doors;
@@ -122,13 +123,13 @@ pub fn serve_round<T: Served, D: Doors, C: Clock, R: Wait>(
     doors: &mut D,
     clock: &mut C,
     closing: &Closing,
-    rounds: Rounds,
-) -> Round
+    rounds: Rounds<D>,
+) -> Round<D>
     requires calls { ServesCalls T.fits place.now }
     requires serving { IsServing T.key_of T.tells T.call_of place.now (C.given clock.old) (telling_by D.From.given D.From.faults D.To.taken D.To.faults) connections.old (D.book doors.old) }
     ensures serving { IsServing T.key_of T.tells T.call_of place.now (C.given clock.new) (telling_by D.From.given D.From.faults D.To.taken D.To.faults) connections.new (D.book doors.new) }
-    ensures since { (looks faults : ℕ) → IsAfter rounds looks (D.empty_looks doors.old) faults (D.faults doors.old) (length (D.book doors.old).arrivals)
-        → ComesTo result connections.new.clients.items looks (D.empty_looks doors.new) faults (D.faults doors.new) (length (D.book doors.new).arrivals) }
+    ensures since { (looks faults : ℕ) → IsAfter D.empty_looks rounds looks (D.empty_looks doors.old) faults (D.faults doors.old) (length (D.book doors.old).arrivals)
+        → ComesTo D.empty_looks result connections.new.clients.items looks (D.empty_looks doors.new) faults (D.faults doors.new) (length (D.book doors.new).arrivals) }
     ensures opening { (D.book doors.new).opening ≡ (D.book doors.old).opening }
 {
     let Rounds { entrance, idle } = rounds;
@@ -152,12 +153,12 @@ fn look_outside<T: Served, D: Doors, C: Clock>(
     doors: &mut D,
     clock: &C,
     closing: &Closing,
-    entrance: Entrance,
-) -> Outside
+    entrance: Entrance<D>,
+) -> Outside<D>
     requires { IsServing T.key_of T.tells T.call_of place.now (C.given clock.now) (telling_by D.From.given D.From.faults D.To.taken D.To.faults) connections.old (D.book doors.old) }
     ensures serving { IsServing T.key_of T.tells T.call_of place.now (C.given clock.now) (telling_by D.From.given D.From.faults D.To.taken D.To.faults) connections.new (D.book doors.new) }
-    ensures since { (looks faults : ℕ) → IsSince entrance looks (D.empty_looks doors.old) faults (D.faults doors.old) (length (D.book doors.old).arrivals)
-        → IsSince result.entrance looks (D.empty_looks doors.new) faults (D.faults doors.new) (length (D.book doors.new).arrivals) }
+    ensures since { (looks faults : ℕ) → IsSince D.empty_looks entrance looks (D.empty_looks doors.old) faults (D.faults doors.old) (length (D.book doors.old).arrivals)
+        → IsSince D.empty_looks result.entrance looks (D.empty_looks doors.new) faults (D.faults doors.new) (length (D.book doors.new).arrivals) }
     ensures opening { (D.book doors.new).opening ≡ (D.book doors.old).opening }
 {
     if !entrance.is_open() {
@@ -166,15 +167,14 @@ fn look_outside<T: Served, D: Doors, C: Clock>(
             came: false,
         };
     }
-    let closed = closing.is_closed();
+    let closed = closing.seen(doors);
     match let_in(alloc, place, connections, doors, clock) {
         Ok(looks) => {
             let all_in = looks.empty || connections.accepted == MOST_NUMBERS;
             Outside {
-                entrance: if closed && all_in {
-                    Entrance::Closed
-                } else {
-                    Entrance::Open
+                entrance: match closed {
+                    Some(closed) if all_in => Entrance::Closed(closed),
+                    _ => Entrance::Open,
                 },
                 came: looks.came,
             }

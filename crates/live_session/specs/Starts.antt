@@ -22,8 +22,7 @@ AreGiven [] given = Unit {0}
 AreGiven (start ∷ earlier) given = (before after : List ℕ) × (given ≡ before ++ start.moment ∷ after) × AreGiven earlier before
 
 module _ {T P E O : Type 0} where
-  -- What a turn asked the clock for: the moment of the call that it started, which is under way then; and else nothing, or the moment of a call that
-  -- couldn't be started
+  -- What a turn asked the clock for: the moment of the call that it started, which is under way then; and else no more than one moment
   abbrev pub AsksClock : Option Start → (is : Option (Asked T P E O)) → (given given_now : List ℕ) → Type 0
   AsksClock None is given given_now = (given_now ≡ given) ⊎ ((moment : ℕ) × (given_now ≡ given ++ moment ∷ []))
   AsksClock (Some start) is given given_now = IsSomeAnd is (λ asked. asked.started.id.number ≡ start.number) × (given_now ≡ given ++ start.moment ∷ [])

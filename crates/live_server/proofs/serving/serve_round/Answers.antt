@@ -1,4 +1,4 @@
-use Rattle.std.proofs.Common.{rules, ◌≡◌, false, length, ap, arith}
+use Rattle.std.proofs.Common.{rules, ◌≡◌, length, ap, arith}
 use Rattle.std.proofs.lemmas.List.{nil_from_length}
 use Rattle.grid_edge.specs.Doors.{Book}
 use Rattle.live_server.proofs.Beginning.{still_since, after_rest, is_over}
@@ -8,13 +8,12 @@ pub returns-then-not-is_open-clause-since : goal.returns-then-not-is_open-clause
 returns-then-not-is_open-clause-since g c = λ looks faults since.
     let clients = c.go_round.new.connections.clients in
     let empty : clients.len ≡ 0 = search rules in
-    let closed : c.is_open.result ≡ false = search rules in
     let same_looks = c.go_round.ensures.looks in
     let same_faults = c.go_round.ensures.faults in
     let outside = c.look_outside-outside.result.entrance in
-    is_over clients.items looks (g.D.Doors.empty_looks c.go_round.new.doors) faults (g.D.Doors.faults c.go_round.new.doors) (length (g.D.Doors.book c.go_round.new.doors).arrivals)
-    outside _ c.told.ensures c.is_open.result c.is_open.ensures closed (nil_from_length clients.items (omega (arith, clients.ok.0, empty)))
-    (still_since looks (g.D.Doors.empty_looks c.look_outside-outside.new.doors) (g.D.Doors.empty_looks c.go_round.new.doors)
+    is_over g.D.Doors.empty_looks clients.items looks (g.D.Doors.empty_looks c.go_round.new.doors) faults (g.D.Doors.faults c.go_round.new.doors) (length (g.D.Doors.book c.go_round.new.doors).arrivals)
+    outside c.told.result c.told.ensures.closed c.told.ensures.failed (nil_from_length clients.items (omega (arith, clients.ok.0, empty)))
+    (still_since g.D.Doors.empty_looks looks (g.D.Doors.empty_looks c.look_outside-outside.new.doors) (g.D.Doors.empty_looks c.go_round.new.doors)
     faults (g.D.Doors.faults c.look_outside-outside.new.doors) (g.D.Doors.faults c.go_round.new.doors)
     (length (g.D.Doors.book c.look_outside-outside.new.doors).arrivals) (length (g.D.Doors.book c.go_round.new.doors).arrivals)
     outside (omega (arith, same_looks)) (omega (arith, same_faults)) (ap (λ l. length l) c.go_round.ensures.arrivals) (c.look_outside-outside.ensures.since looks faults since))
@@ -27,12 +26,12 @@ returns-clause-since g c = λ looks faults since.
     let same_looks = c.go_round.ensures.looks in
     let same_faults = c.go_round.ensures.faults in
     let outside = c.look_outside-outside.result.entrance in
-    after_rest looks (g.D.Doors.empty_looks c.go_round.new.doors) (g.D.Doors.empty_looks c.rest-rested.new.doors)
+    after_rest g.D.Doors.empty_looks looks (g.D.Doors.empty_looks c.go_round.new.doors) (g.D.Doors.empty_looks c.rest-rested.new.doors)
     faults (g.D.Doors.faults c.go_round.new.doors) (g.D.Doors.faults c.rest-rested.new.doors)
     (length (g.D.Doors.book c.go_round.new.doors).arrivals) (length (g.D.Doors.book c.rest-rested.new.doors).arrivals)
     c.rest-rested.result outside c.after.result c.after.ensures.ok c.after.ensures.err c.rest-rested.ensures.looks c.rest-rested.ensures.cause
     (ap (λ (b : Book). length b.arrivals) c.rest-rested.ensures.book)
-    (still_since looks (g.D.Doors.empty_looks c.look_outside-outside.new.doors) (g.D.Doors.empty_looks c.go_round.new.doors)
+    (still_since g.D.Doors.empty_looks looks (g.D.Doors.empty_looks c.look_outside-outside.new.doors) (g.D.Doors.empty_looks c.go_round.new.doors)
     faults (g.D.Doors.faults c.look_outside-outside.new.doors) (g.D.Doors.faults c.go_round.new.doors)
     (length (g.D.Doors.book c.look_outside-outside.new.doors).arrivals) (length (g.D.Doors.book c.go_round.new.doors).arrivals)
     outside (omega (arith, same_looks)) (omega (arith, same_faults)) (ap (λ l. length l) c.go_round.ensures.arrivals) (c.look_outside-outside.ensures.since looks faults since))
