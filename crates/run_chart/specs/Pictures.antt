@@ -1,14 +1,13 @@
 -- What a sink took of a picture, by the status with which its command ended.
-use Rattle.std.specs.Prelude.{◌≡◌, ℕ, List, Option}
-use Rattle.std.specs.Io.KnownBytes.{append_known}
+use Rattle.std.specs.Prelude.{◌≡◌, ℕ, List, Option, ◌++◌}
 use Rattle.grid_edge.specs.Sink.{TakesFront}
 use Rattle.grid_cli.specs.declared.status.Status.{Status}
 use Rattle.grid_cli.specs.declared.status.Status.TheVariants.{Done, Usage, ScriptRefused, ReadFault, WriteFault, Limit, DoorFault, Memory}
 use Rattle.svg_picture.specs.Markup.{IsDocument}
 
 -- The sink took one picture.
-abbrev pub TakesPicture : Option (List ℕ) → Option (List ℕ) → Type 0
-TakesPicture before after = (picture : List ℕ) × IsDocument picture × (after ≡ append_known before picture)
+abbrev pub TakesPicture : List ℕ → List ℕ → Type 0
+TakesPicture before after = (picture : List ℕ) × IsDocument picture × (after ≡ before ++ picture)
 
 -- A run that ended so has a picture: it came to its end, or to a line that doesn't run.
 abbrev pub HasPicture : Status → Type 0
@@ -23,7 +22,7 @@ HasPicture Memory = ⊥
 
 -- One picture where the run came to an end or to a line that doesn't run; some front of one where writing failed, and else
 -- nothing.
-abbrev pub WritesPicture : Status → Option (List ℕ) → Option (List ℕ) → Type 0
+abbrev pub WritesPicture : Status → List ℕ → List ℕ → Type 0
 WritesPicture Done before after = TakesPicture before after
 WritesPicture Usage before after = ⊥
 WritesPicture (ScriptRefused line why) before after = TakesPicture before after
